@@ -1,0 +1,96 @@
+-- Entries judged one after another.
+use Rattle.std.proofs.Common.{◌≡◌, ℕ, zero, suc, ◌+◌, ◌<◌, ◌≤◌, ◌&&◌, List, [], ◌∷◌, ◌++◌, length, get_or, true, false, cond, not, nat_le, Option, Some, None, Result, Ok, Err, refl, sym, ap, ◌∙◌, inl, inr, arith, append-nil, add-one, ◌-◌, zero-add, suc-add, map}
+use Rattle.std.proofs.lemmas.Bool.{cases_Bool}
+use Rattle.serde_json.specs.Data.{Data, null}
+use Rattle.serde_json.specs.View.{view, items_view}
+use Rattle.serde_json.specs.declared.value.Value.{Value}
+use Rattle.spiffe_doc.specs.Judgement.{judge}
+use Rattle.spiffe_doc.specs.Document.{elements, distinct, given_by, outcome, given_before, fault_after, fault_at, least_fault, authorities_of}
+use Rattle.spiffe_doc.specs.Bundle.{is_among, is_kid_taken}
+use Rattle.spiffe_doc.specs.AuthoritySet.{admitted, taken}
+use Rattle.spiffe_doc.specs.declared.authority.Authority.{Authority}
+use Rattle.spiffe_doc.specs.declared.error.DocError.{DocError}
+use Rattle.spiffe_doc.proofs.FirstPlaces.{list_any-firsts, firsts_push}
+
+-- ---- one entry, after those that gave the authorities before it
+
+taken_ok : (place : ℕ) (before : List Authority) (v : Result (Option Authority) DocError) (new : List Authority)
+    → taken place (distinct before) v ≡ Ok new → (fault_after place before v ≡ None) × (new ≡ distinct (before ++ given_by v))
+taken_ok place before (Err e) new h = cc h
+taken_ok place before (Ok None) new h = (refl, rw append-nil (cc h))
+taken_ok place before (Ok (Some a)) new h =
+    let tested = rw (list_any-firsts, list_any-firsts) at h in
+    elim (cases_Bool (is_kid_taken before a)) [
+      | inl used ↦ cc (rw used at tested)
+      | inr free ↦ elim (cases_Bool (is_among before a)) [
+        | inl there ↦ (rw (free, there) refl, rw (firsts_push before a, there) (cc (rw (free, there) at tested)))
+        | inr apart ↦ elim (cases_Bool (nat_le 1024 (length (distinct before)))) [
+          | inl full ↦ cc (rw (free, apart, full) at tested)
+          | inr room ↦ (rw (free, apart, room) refl, rw (firsts_push before a, apart) (cc (rw (free, apart, room) at tested)))
+        ]
+      ]
+    ]
+
+taken_err : (place : ℕ) (before : List Authority) (v : Result (Option Authority) DocError) (e : DocError)
+    → taken place (distinct before) v ≡ Err e → fault_after place before v ≡ Some e
+taken_err place before (Err d) e h = cc h
+taken_err place before (Ok None) e h = cc h
+taken_err place before (Ok (Some a)) e h =
+    let tested = rw (list_any-firsts, list_any-firsts) at h in
+    elim (cases_Bool (is_kid_taken before a)) [
+      | inl used ↦ rw used (cc (rw used at tested))
+      | inr free ↦ elim (cases_Bool (is_among before a)) [
+        | inl there ↦ cc (rw (free, there) at tested)
+        | inr apart ↦ elim (cases_Bool (nat_le 1024 (length (distinct before)))) [
+          | inl full ↦ rw (free, apart, full) (cc (rw (free, apart, full) at tested))
+          | inr room ↦ cc (rw (free, apart, room) at tested)
+        ]
+      ]
+    ]
+
+-- ---- the entries below a place
+
+-- no entry below the place stands out, and these are the authorities given there, each once
+pub record IsReadTo (entries : List Data) (place : ℕ) (kept : List Authority) : Type 0 where
+  pub faultless : least_fault entries place ≡ None
+  pub once : kept ≡ distinct (given_before entries place)
+
+pub read_none : (entries : List Data) → IsReadTo entries 0 []
+unfolding least_fault given_before distinct
+read_none entries = record { faultless = refl; once = refl }
+
+pub read_one_more : (entries : List Data) (place : ℕ) (kept new : List Authority) → IsReadTo entries place kept → taken place kept (outcome entries place) ≡ Ok new → IsReadTo entries (place + 1) new
+unfolding least_fault given_before
+read_one_more entries place kept new h ok =
+    let step = taken_ok place (given_before entries place) (outcome entries place) new (rw h.once at ok) in
+    rw add-one (record { faultless = rw (h.faultless) step.0; once = step.1 })
+
+fault_stays : (entries : List Data) (place more : ℕ) (e : DocError) → least_fault entries place ≡ Some e → least_fault entries (more + place) ≡ Some e
+unfolding least_fault
+fault_stays entries place zero e h = rw (zero-add place) h
+fault_stays entries place (suc more) e h = rw (suc-add more place, fault_stays entries place more e h) refl
+
+pub read_to_fault : (entries : List Data) (place : ℕ) (kept : List Authority) (e : DocError) → IsReadTo entries place kept → place < length entries → taken place kept (outcome entries place) ≡ Err e → authorities_of entries ≡ Err e
+unfolding least_fault authorities_of
+read_to_fault entries place kept e h inside err =
+    let stands = taken_err place (given_before entries place) (outcome entries place) e (rw h.once at err) in
+    let here : least_fault entries (suc place) ≡ Some e = rw (h.faultless) stands in
+    let reaches : (length entries - suc place) + suc place ≡ length entries = omega arith in
+    rw (rw reaches at (fault_stays entries (suc place) (length entries - suc place) e here)) refl
+
+pub read_all : (entries : List Data) (kept : List Authority) → IsReadTo entries (length entries) kept → authorities_of entries ≡ Ok kept
+unfolding authorities_of
+read_all entries kept h = rw (h.faultless, h.once) refl
+
+-- the entry that the code has in hand is judged as the list's
+pub outcome-view : (vs : List Value) (place : ℕ) (v : Value) → place < length vs → v ≡ get_or vs place v → outcome (map view vs) place ≡ judge place (view v)
+outcome-view vs place v inside is = ap (judge place) (at vs place v inside ∙ ap view (sym is))
+  where
+    at : (vs : List Value) (i : ℕ) (v : Value) → i < length vs → get_or (map view vs) i null ≡ view (get_or vs i v)
+    at [] i v h = absurd (omega arith)
+    at (w ∷ vs) zero v h = refl
+    at (w ∷ vs) (suc i) v h = at vs i v (omega arith)
+
+pub elements_view : (vs : List Value) → elements (items_view vs) ≡ map view vs
+elements_view [] = refl
+elements_view (v ∷ vs) = ap (λ ds. view v ∷ ds) (elements_view vs)

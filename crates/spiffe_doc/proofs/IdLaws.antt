@@ -1,0 +1,67 @@
+-- A text reads as a SPIFFE ID exactly where it is one.
+use Rattle.std.proofs.Common.{◌≡◌, ℕ, zero, suc, ◌<◌, ◌≤◌, ◌==◌, List, [], ◌∷◌, ◌++◌, length, append-nil, take, drop, codes, nat_eq, Bool, true, false, nat_lt, Option, Some, None, Result, Ok, Err, refl, sym, ap, ◌∙◌, arith}
+use Rattle.std.specs.List.{list_all, AllPass, AllByRecursion, All, slice_split, position_or_len}
+use Rattle.std.proofs.lemmas.Bool.{and_parts}
+use Rattle.std.proofs.lemmas.Bool.Decides.{nat_tests}
+use Rattle.std.proofs.lemmas.List.{take-append-drop}
+use Rattle.std.proofs.lemmas.List.Splits.{slice_split_none, slice_split_at}
+use Rattle.std.proofs.lemmas.List.Sums.{AllPass-from_list_all}
+use Rattle.spiffe_doc.specs.declared.id.IdError.{IdError}
+use Rattle.spiffe_doc.specs.Name.{IsName, is_name_byte}
+use Rattle.spiffe_doc.specs.Answer.{unless}
+use Rattle.spiffe_doc.specs.Id.{id_of, is_slash, is_segment_byte, is_segment, path_text, IsPath, IdValue, IsId, domain_of, segments_of, rest_fault, id_fault, spiffe_id}
+use Rattle.spiffe_doc.proofs.NameLemmas.{IsName-from_no_fault, no_fault-IsName}
+use Rattle.spiffe_doc.proofs.IdLemmas.{split_first, path_is, none_bad, IsFaultless-from}
+
+abbrev id_with : List ℕ → List ℕ → IdValue
+id_with domain path = record { domain = domain; path = path }
+
+pub spiffe_id-IsId : (text : List ℕ) (id : IdValue) → spiffe_id text ≡ Ok id → IsId text id
+spiffe_id-IsId text id h = go (id_fault text) refl h
+  where
+    go : (o : Option IdError) → id_fault text ≡ o → unless o (id_of (drop 9 text)) ≡ Ok id → IsId text id
+    go (Some e) is h = cc h
+    go None is h =
+        let rest = drop 9 text in
+        let faultless = IsFaultless-from text is in
+        let same : id_of rest ≡ id = cc h in
+        let cut = sym (take-append-drop (position_or_len is_slash rest) rest) in
+        rw (← same) (record {
+          spelled = faultless.scheme ∙ ap (λ bytes. codes "spiffe://" ++ bytes) cut;
+          short = faultless.short;
+          named = IsName-from_no_fault _ faultless.named;
+          walked = faultless.walked;
+        })
+
+name_byte_no_slash : (x : ℕ) → is_name_byte x ≡ true → is_slash x ≡ false
+name_byte_no_slash x h = grind (arith, nat_tests)
+
+segment_byte_no_slash : (x : ℕ) → is_segment_byte x ≡ true → is_slash x ≡ false
+segment_byte_no_slash x h = grind (arith, nat_tests)
+
+segment_no_slash : (s : List ℕ) → is_segment s ≡ true → All (λ x. is_slash x ≡ false) s
+segment_no_slash s h = λ k d inside.
+    segment_byte_no_slash _ (AllPass-from_list_all is_segment_byte s (and_parts _ _ (and_parts _ _ (and_parts _ _ h).0).0).1 k d inside)
+
+split_of : (first : List ℕ) (segments : List (List ℕ)) → All (λ x. is_slash x ≡ false) first → AllByRecursion (λ s. is_segment s ≡ true) segments
+    → slice_split is_slash (first ++ path_text segments) ≡ first ∷ segments
+split_of first [] clear good = rw (append-nil first) (slice_split_none is_slash first clear)
+split_of first (s ∷ more) clear good =
+    slice_split_at is_slash first 47 (s ++ path_text more) clear refl ∙ ap (λ parts. first ∷ parts) (split_of s more (segment_no_slash s good.0) good.1)
+
+fits_limit : (n : ℕ) → n ≤ 2048 → nat_lt 2048 n ≡ false
+fits_limit n h = grind (arith, nat_tests)
+
+pub IsId-spiffe_id : (text : List ℕ) (id : IdValue) → IsId text id → spiffe_id text ≡ Ok id
+unfolding id_fault rest_fault
+IsId-spiffe_id text id h =
+    let rest = id.domain ++ path_text h.walked.0 in
+    let spelled : text ≡ codes "spiffe://" ++ rest = h.spelled ∙ ap (λ path. codes "spiffe://" ++ id.domain ++ path) h.walked.1 in
+    let parts : domain_of rest ∷ segments_of rest ≡ id.domain ∷ h.walked.0 =
+    sym (split_first rest) ∙ split_of id.domain h.walked.0 (λ k d inside. name_byte_no_slash _ (h.named.allowed k d inside)) h.walked.2 in
+    let domain : domain_of rest ≡ id.domain = cc parts in
+    let segments : segments_of rest ≡ h.walked.0 = cc parts in
+    let path : drop (position_or_len is_slash rest) rest ≡ id.path = path_is rest ∙ ap path_text segments ∙ sym h.walked.1 in
+    let fits : length (codes "spiffe://" ++ rest) ≤ 2048 = rw spelled at h.short in
+    let short = fits_limit _ fits in
+    rw (spelled, short, domain, no_fault-IsName id.domain h.named, segments, none_bad 0 h.walked.0 h.walked.2) (ap (λ p. Ok (id_with id.domain p)) path)

@@ -1,0 +1,55 @@
+-- What a text that has no fault is.
+use Rattle.std.proofs.Common.{◌≡◌, ℕ, ◌<◌, ◌≤◌, ◌==◌, List, length, get_or, slice_index, Bool, true, false, not, nat_lt, Option, Some, None, refl, sym, ◌∙◌, arith, inl, inr}
+use Rattle.std.specs.List.{AllPass, prefix_len}
+use Rattle.std.specs.Str.{IsAscii}
+use Rattle.std.proofs.lemmas.Bool.{cases_Bool, cases_lt, eqb-true, ltb-false, ltb-true}
+use Rattle.std.proofs.lemmas.Bool.Decides.{nat_tests}
+use Rattle.std.proofs.lemmas.List.{get_or_past}
+use Rattle.std.proofs.lemmas.List.Sums.{prefix_len_passes, prefix_len_stops}
+use Rattle.spiffe_doc.specs.Name.{IsName, is_name_byte, name_fault}
+
+twice_not : (b : Bool) → not (not b) ≡ b
+twice_not true = refl
+twice_not false = refl
+
+pub is_name_byte_ascii : (x : ℕ) → is_name_byte x ≡ true → x < 128
+is_name_byte_ascii x h = grind (arith, nat_tests)
+
+-- the bytes of a name are ASCII
+pub IsAscii-IsName : (text : List ℕ) → IsName text → IsAscii text
+IsAscii-IsName text h i = elim (cases_lt i (length text)) [
+  | inl inside ↦ is_name_byte_ascii _ (h.allowed i 0 inside)
+  | inr past ↦ rw (get_or_past text i 0 past) (omega arith)
+]
+
+pub IsName-from_no_fault : (text : List ℕ) → name_fault text ≡ None → IsName text
+IsName-from_no_fault text h = elim (cases_Bool (length text == 0)) [
+  | inl e ↦ cc (rw e at h)
+  | inr some ↦ elim (cases_Bool (nat_lt 255 (length text))) [
+    | inl long ↦ cc (rw (some, long) at h)
+    | inr short ↦ elim (cases_Bool (nat_lt (prefix_len (λ x. not (not (is_name_byte x))) text) (length text))) [
+      | inl bad ↦ cc (rw (some, short, bad) at h)
+      | inr none ↦ record {
+        some = grind (arith, nat_tests);
+        short = ltb-false 255 (length text) short;
+        allowed = λ k d inside. sym (twice_not _) ∙ prefix_len_passes (λ x. not (not (is_name_byte x))) text k d (omega (arith, ltb-false _ _ none));
+      }
+    ]
+  ]
+]
+
+pub no_fault-IsName : (text : List ℕ) → IsName text → name_fault text ≡ None
+no_fault-IsName text h = elim (cases_Bool (length text == 0)) [
+  | inl e ↦ absurd (omega (arith, eqb-true _ _ e, h.some))
+  | inr some ↦ elim (cases_Bool (nat_lt 255 (length text))) [
+    | inl long ↦ absurd (omega (arith, ltb-true _ _ long, h.short))
+    | inr short ↦ elim (cases_Bool (nat_lt (prefix_len (λ x. not (not (is_name_byte x))) text) (length text))) [
+      | inl bad ↦
+          let here : prefix_len (λ x. not (not (is_name_byte x))) text < length text = ltb-true _ _ bad in
+          let stops = prefix_len_stops (λ x. not (not (is_name_byte x))) text 0 here in
+          let passes = h.allowed _ 0 here in
+          cc (sym (twice_not _) ∙ stops)
+      | inr none ↦ rw (some, short, none) refl
+    ]
+  ]
+]

@@ -1,0 +1,22 @@
+-- What a call answers: what its definition gives, or want of memory.
+use Rattle.std.specs.Prelude.{◌≡◌, ◌⊎◌, Bool, Option, Some, None, option_and_then, Result, Ok, Err, if◌then◌else◌}
+
+-- the result is what is given, unless it is want of memory
+abbrev pub Gives : {A E : Type 0} → E → Result A E → Result A E → Type 0
+Gives memory (Ok value) given = given ≡ Ok value
+Gives memory (Err e) given = (e ≡ memory) ⊎ (given ≡ Err e)
+
+-- the value, unless there is a fault
+abbrev pub unless : {A E : Type 0} → Option E → A → Result A E
+unless None value = Ok value
+unless (Some fault) value = Err fault
+
+-- the value, where it passes
+abbrev pub filtered : {A : Type 0} → (A → Bool) → Option A → Option A
+filtered test value = option_and_then (λ x. if test x then Some x else None) value
+
+-- one step after another, up to the first fault
+infixl 10 ◌>>=◌
+abbrev pub ◌>>=◌ : {A B E : Type 0} → Result A E → (A → Result B E) → Result B E
+(Ok x) >>= f = f x
+(Err e) >>= f = Err e

@@ -1,0 +1,17 @@
+pub mod Answer
+pub mod Name
+pub mod Id
+pub mod Key
+pub mod Authority
+pub mod Equal
+pub mod Equality
+pub mod Text
+pub mod Entry
+pub mod Judgement
+pub mod Bundle
+pub mod Document
+pub mod Append
+pub mod Number
+pub mod Writing
+pub mod AuthoritySet
+pub mod WholeSet

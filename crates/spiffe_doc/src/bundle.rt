@@ -1,0 +1,156 @@
+//! Trust bundles (SPIFFE Trust Domain and Bundle, section 3).
+ghost use Rattle.spiffe_doc.specs.Bundle.{AreAuthorities};
+ghost use Rattle.spiffe_doc.specs.Text.{text_of};
+ghost use Rattle.spiffe_doc.specs.Writing.{front_text};
+ghost use Rattle.std.specs.Prelude.{◌≡◌, ◌<◌, ◌≤◌, length, IfOk, MatchOption};
+
+use crate::authority::Authority;
+use crate::text::push_rest;
+use std::alloc::{AllocError, Global};
+use std::marker::Model;
+use std::sync::Arc;
+
+/// The most bytes of a document, an entry and a canonical text.
+pub(crate) const MAX_TEXT: usize = 1048576;
+
+/// The most authorities of a bundle.
+pub(crate) const MAX_AUTHORITIES: usize = 1024;
+
+/// What a bundle is made of, with its canonical text.
+#[derive(Drop)]
+pub(crate) struct Published {
+    pub(crate) sequence: Option<u64>,
+    pub(crate) refresh_hint: Option<u64>,
+    pub(crate) authorities: Vec<Authority>,
+    pub(crate) text: Vec<u8>,
+    /// How many bytes of the text stand up to the last entry.
+    pub(crate) front_len: usize,
+}
+
+/// What a trust domain publishes: a sequence number, a refresh hint in seconds, and its authorities. No two are equal,
+/// no two JWT authorities have one key id, there are at most 1,024, and the canonical text has at most 1,048,576 bytes.
+/// Copies share one allocation. Bundles are equal where the numbers are, and the authorities in order.
+#[derive(Drop)]
+pub struct Bundle {
+    pub(crate) published: Arc<Published>,
+}
+
+impl Model for Bundle {
+    ghost use Rattle.std.specs.Arc.{arc_value};
+    ghost use Rattle.spiffe_doc.specs.Authority.{BundleValue};
+    ghost use Rattle.spiffe_doc.specs.Writing.{IsKept};
+
+    ghost Value = { BundleValue };
+
+    ghost view = { λ bundle. record { sequence = (arc_value bundle.published).sequence; refresh_hint = (arc_value bundle.published).refresh_hint; authorities = (arc_value bundle.published).authorities.items } };
+
+    ghost invariant = { λ bundle. IsKept (arc_value bundle.published).text.items (arc_value bundle.published).front_len (record { sequence = (arc_value bundle.published).sequence; refresh_hint = (arc_value bundle.published).refresh_hint; authorities = (arc_value bundle.published).authorities.items }) };
+}
+
+impl Bundle {
+    ghost use Rattle.spiffe_doc.specs.Bundle.{IsBundle};
+
+    /// The sequence number, where the document had one.
+    pub fn sequence(&self) -> Option<u64>
+        ensures { result ≡ self.now.sequence }
+    {
+        self.published.sequence
+    }
+
+    /// The refresh hint in seconds, where the document had one.
+    pub fn refresh_hint(&self) -> Option<u64>
+        ensures { result ≡ self.now.refresh_hint }
+    {
+        self.published.refresh_hint
+    }
+
+    /// The authorities, in the document's order.
+    pub fn authorities(&self) -> &[Authority]
+        ensures value { result.now ≡ self.now.authorities }
+        ensures lawful { IsBundle self.now }
+    {
+        self.published.authorities.as_slice()
+    }
+
+    /// The canonical text, as it is kept.
+    pub fn text(&self) -> &[u8]
+        ensures { result.now ≡ text_of self.now }
+    {
+        self.published.text.as_slice()
+    }
+
+    /// How many bytes the canonical text has.
+    pub fn text_len(&self) -> usize
+        ensures { result ≡ length (text_of self.now) }
+    {
+        self.published.text.len()
+    }
+
+    /// The canonical text up to the last entry.
+    pub(crate) fn front(&self) -> &[u8]
+        ensures { result.now ≡ front_text self.now.authorities }
+    {
+        let published: &Published = &self.published;
+        let text = published.text.as_slice();
+        &text[..published.front_len]
+    }
+
+    /// The same bundle, shared: it costs a count.
+    pub fn copy(&self) -> Result<Bundle, AllocError>
+        ensures { IfOk result (λ copy. copy ≡ self.now) }
+    {
+        Ok(Bundle {
+            published: Arc::try_clone(&self.published)?,
+        })
+    }
+}
+
+/// The bundle of these parts, whose canonical text begins so; none where that text is too long.
+pub(crate) fn bundle_from(
+    alloc: Global,
+    sequence: Option<u64>,
+    refresh_hint: Option<u64>,
+    authorities: Vec<Authority>,
+    front: Vec<u8>,
+) -> Result<Option<Bundle>, AllocError>
+    requires lawful { AreAuthorities authorities.items }
+    requires front { front.items ≡ front_text authorities.items }
+    ensures { IfOk result (λ found. MatchOption found
+        (1048576 < length (text_of (record { sequence = sequence; refresh_hint = refresh_hint; authorities = authorities.items })))
+        (λ bundle. (bundle ≡ record { sequence = sequence; refresh_hint = refresh_hint; authorities = authorities.items })
+        × (length (text_of bundle) ≤ 1048576))) }
+{
+    let front_len = front.len();
+    let mut text = front;
+    push_rest(alloc, &mut text, sequence, refresh_hint)?;
+    if text.len() > MAX_TEXT {
+        return Ok(None);
+    }
+    let published = Arc::new(
+        alloc,
+        Published {
+            sequence,
+            refresh_hint,
+            authorities,
+            text,
+            front_len,
+        },
+    )?;
+    Ok(Some(Bundle { published }))
+}
+
+impl PartialEq for Bundle {
+    ghost use Rattle.std.specs.Cmp.{partial_equiv_from_equiv, decided};
+    ghost use Rattle.spiffe_doc.specs.Equal.{bundle_eq};
+    ghost use Rattle.spiffe_doc.specs.Equality.{bundle_decides};
+
+    ghost eq = { bundle_eq };
+
+    ghost laws = { partial_equiv_from_equiv (decided bundle_eq bundle_decides) };
+
+    fn eq(&self, other: &Bundle) -> bool {
+        self.sequence() == other.sequence()
+            && self.refresh_hint() == other.refresh_hint()
+            && self.authorities() == other.authorities()
+    }
+}

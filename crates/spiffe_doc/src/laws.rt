@@ -1,0 +1,51 @@
+//! What holds of the definitions alone.
+ghost use Rattle.std.specs.Prelude.{◌≡◌, ◌↔◌, List, ℕ, Ok, Err, Some, None, Option, Result};
+ghost use Rattle.spiffe_doc.specs.Id.{IdValue, IsId, spiffe_id};
+ghost use Rattle.serde_json.specs.Data.{Data};
+ghost use Rattle.spiffe_doc.specs.Bundle.{IsBundle};
+ghost use Rattle.spiffe_doc.specs.Document.{document};
+ghost use Rattle.spiffe_doc.specs.Judgement.{judge};
+ghost use Rattle.spiffe_doc.specs.Append.{appended};
+ghost use Rattle.spiffe_doc.specs.Authority.{IsAuthority, BundleValue};
+ghost use Rattle.spiffe_doc.specs.Entry.{GivesAuthority, IsPassedOver, IsAtFault, IsOutcome, HasOneOutcome};
+ghost use Rattle.spiffe_doc.specs.declared.error.DocError.{DocError};
+ghost use Rattle.spiffe_doc.specs.Text.{text_of};
+ghost use Rattle.spiffe_doc.specs.declared.authority.Authority.{Authority};
+
+/// The canonical text of a lawful bundle is a document of that bundle.
+pub fn texts_are_read_back()
+    ensures { (bundle : BundleValue) → IsBundle bundle → document (text_of bundle) ≡ Ok bundle }
+{}
+
+/// An entry is judged to give an authority exactly where its texts are the encodings of the authority's bytes.
+pub fn entries_give_what_they_encode()
+    ensures { (place : ℕ) (entry : Data) (authority : Authority) →
+        (judge place entry ≡ Ok (Some authority)) ↔ GivesAuthority entry authority }
+{}
+
+/// A text reads as a SPIFFE ID exactly where it is the one of that domain and that path.
+pub fn ids_are_read_as_they_are_spelled()
+    ensures { (text : List ℕ) (id : IdValue) → (spiffe_id text ≡ Ok id) ↔ IsId text id }
+{}
+
+/// An entry is judged to give nothing exactly where it is passed over.
+pub fn entries_are_passed_over()
+    ensures { (place : ℕ) (entry : Data) → (judge place entry ≡ Ok None) ↔ IsPassedOver entry }
+{}
+
+/// An entry is judged to be at fault exactly where it is, with its first fault.
+pub fn entries_are_at_fault()
+    ensures { (place : ℕ) (entry : Data) (fault : DocError) → (judge place entry ≡ Err fault) ↔ IsAtFault place entry fault }
+{}
+
+/// Exactly one of three holds of an entry: it gives one authority, it is passed over, or it is at fault with one first fault. It is judged so.
+pub fn entries_have_one_outcome()
+    ensures one { (place : ℕ) (entry : Data) → HasOneOutcome place entry }
+    ensures judged { (place : ℕ) (entry : Data) (outcome : Result (Option Authority) DocError) → (judge place entry ≡ outcome) ↔ IsOutcome place entry outcome }
+{}
+
+/// Appending a lawful authority to a lawful bundle gives a lawful bundle.
+pub fn appended_bundles_are_lawful()
+    ensures { (bundle : BundleValue) (more : BundleValue) (authority : Authority) →
+        IsBundle bundle → IsAuthority authority → appended bundle authority ≡ Ok more → IsBundle more }
+{}

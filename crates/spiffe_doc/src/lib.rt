@@ -1,0 +1,32 @@
+//! Trust domain names, SPIFFE IDs and SPIFFE bundle documents: what a document is, decided exactly.
+//!
+//! `TrustDomain` and `SpiffeId` are the names of the SPIFFE-ID standard. `read_document` gives the `Bundle` that a
+//! document is, or the first reason why it is none; `write_document` gives a bundle's canonical text, which reads back
+//! as that bundle.
+#![tactic(auto)]
+
+mod append;
+pub mod authority;
+mod authority_set;
+pub mod bundle;
+mod document;
+mod entry;
+pub mod error;
+pub mod id;
+pub mod key;
+pub mod laws;
+pub mod name;
+pub mod octets;
+#[cfg(test)]
+mod tests;
+mod text;
+
+pub use authority::{Authority, Certificate, KeyId};
+pub use bundle::Bundle;
+pub use document::{read_document, read_entry};
+pub use error::{AppendError, DocError};
+pub use id::{IdError, SpiffeId};
+pub use key::{Curve, EcKey, KeyMember, PublicKey, RsaKey};
+pub use name::{NameError, TrustDomain};
+pub use octets::Octets;
+pub use text::write_document;

@@ -1,0 +1,184 @@
+//! Trust domain names (SPIFFE-ID, section 2).
+ghost use Rattle.std.specs.Prelude.{◌≡◌, IfOk, not, position};
+ghost use Rattle.spiffe_doc.specs.Answer.{Gives};
+ghost use Rattle.spiffe_doc.specs.Name.{IsName, is_name_byte as name_byte, name_fault as fault, trust_domain};
+ghost use Rattle.spiffe_doc.specs.Number.{name_number};
+
+use std::alloc::{AllocError, Global};
+use std::cmp::Ordering;
+use std::marker::Model;
+use thiserror::Error;
+
+/// The most bytes of a trust domain name.
+pub const MAX_NAME: usize = 255;
+
+/// Why a text is no trust domain name.
+#[derive(Clone, Copy, Debug, PartialEq, Eq, Drop, Error)]
+pub enum NameError {
+    #[error("the trust domain name is empty")]
+    Empty,
+    #[error("the trust domain name has over 255 bytes")]
+    TooLong,
+    /// The place of the first such byte, from 0.
+    #[error("byte {0} of the trust domain name is none of a-z, 0-9, '.', '-' and '_'")]
+    BadChar(u32),
+    #[error("out of memory")]
+    Memory,
+}
+
+impl NameError {
+    /// The number by which replies and fault lines name the refusal: 1 to 3, or 22.
+    pub fn number(&self) -> u8
+        ensures { result ≡ name_number self.now }
+    {
+        match self {
+            NameError::Empty => 1,
+            NameError::TooLong => 2,
+            NameError::BadChar(_) => 3,
+            NameError::Memory => 22,
+        }
+    }
+}
+
+/// The name of a trust domain: 1 to 255 bytes of `a-z`, `0-9`, `.`, `-` and `_` (SPIFFE-ID, section 2.1). Names are
+/// equal and ordered by their bytes.
+#[derive(Drop)]
+pub struct TrustDomain {
+    text: String,
+}
+
+impl Model for TrustDomain {
+    ghost use Rattle.std.specs.Prelude.{List, ℕ, string_bytes};
+    ghost use Rattle.spiffe_doc.specs.Name.{IsName};
+
+    ghost Value = { List ℕ };
+
+    ghost view = { λ name. string_bytes name.text };
+
+    ghost invariant = { λ name. IsName (string_bytes name.text) };
+}
+
+impl TrustDomain {
+    /// The name that a text is, or the first reason why it is none.
+    pub fn parse(alloc: Global, text: &str) -> Result<TrustDomain, NameError>
+        ensures { Gives NameError.Memory result (trust_domain text.now) }
+    {
+        Self::parse_bytes(alloc, text.as_bytes())
+    }
+
+    /// The name that bytes are, or the first reason why they are none.
+    pub fn parse_bytes(alloc: Global, bytes: &[u8]) -> Result<TrustDomain, NameError>
+        ensures { Gives NameError.Memory result (trust_domain bytes.now) }
+    {
+        if let Some(fault) = name_fault(bytes) {
+            return Err(fault);
+        }
+        match String::from_str(alloc, name_text(bytes)) {
+            Ok(text) => Ok(TrustDomain { text }),
+            Err(_) => Err(NameError::Memory),
+        }
+    }
+
+    /// The name's text.
+    pub fn as_str(&self) -> &str
+        ensures value { result.now ≡ self.now }
+        ensures name { IsName result.now }
+    {
+        self.text.as_str()
+    }
+
+    /// The same name, in memory of its own.
+    pub fn copy(&self) -> Result<TrustDomain, AllocError>
+        ensures { IfOk result (λ copy. copy ≡ self.now) }
+    {
+        Ok(TrustDomain {
+            text: self.text.clone()?,
+        })
+    }
+}
+
+/// Why the bytes are no name.
+pub(crate) fn name_fault(bytes: &[u8]) -> Option<NameError>
+    ensures { result ≡ fault bytes.now }
+{
+    if bytes.is_empty() {
+        return Some(NameError::Empty);
+    }
+    if bytes.len() > MAX_NAME {
+        return Some(NameError::TooLong);
+    }
+    let at = first_bad_byte(bytes)?;
+    Some(NameError::BadChar(at as u32))
+}
+
+fn first_bad_byte(bytes: &[u8]) -> Option<usize>
+    ensures { result ≡ position (λ byte. not (name_byte byte)) bytes.now }
+{
+    bytes.iter().position(|byte| !is_name_byte(*byte))
+}
+
+/// A name is ASCII.
+fn name_text(bytes: &[u8]) -> &str
+    requires { IsName bytes.now }
+    ensures { result.now ≡ bytes.now }
+{
+    str::from_utf8(bytes).unwrap()
+}
+
+fn is_name_byte(byte: u8) -> bool
+    ensures { result ≡ name_byte byte }
+{
+    byte.is_ascii_lowercase() || byte.is_ascii_digit() || matches!(byte, b'.' | b'-' | b'_')
+}
+
+impl PartialEq for TrustDomain {
+    ghost use Rattle.std.specs.Prelude.{bytes_eq};
+    ghost use Rattle.std.specs.Cmp.{partial_equiv_from_equiv};
+    ghost use Rattle.std.specs.Cmp.Lexicographic.{nat_list_eq_equiv};
+
+    ghost eq = { bytes_eq };
+
+    ghost laws = { partial_equiv_from_equiv nat_list_eq_equiv };
+
+    fn eq(&self, other: &TrustDomain) -> bool {
+        self.text.as_str() == other.text.as_str()
+    }
+}
+
+impl Eq for TrustDomain {
+    ghost use Rattle.std.specs.Cmp.Lexicographic.{nat_list_eq_equiv};
+
+    ghost laws = { nat_list_eq_equiv };
+}
+
+impl PartialOrd for TrustDomain {
+    ghost use Rattle.std.specs.Prelude.{Some};
+    ghost use Rattle.std.specs.Ordering.{nat_cmp};
+    ghost use Rattle.std.specs.Cmp.Lexicographic.{slice_cmp, texts_po};
+
+    ghost partial_cmp = { λ a b. Some (slice_cmp nat_cmp a b) };
+
+    ghost laws = { texts_po };
+
+    fn partial_cmp(&self, other: &TrustDomain) -> Option<Ordering> {
+        Some(self.cmp(other))
+    }
+}
+
+impl Ord for TrustDomain {
+    ghost use Rattle.std.specs.Prelude.{refl};
+    ghost use Rattle.std.specs.Ordering.{nat_cmp};
+    ghost use Rattle.std.specs.Cmp.Lexicographic.{slice_cmp, nat_list_cmp_total, texts_ties};
+
+    ghost cmp = { slice_cmp nat_cmp };
+
+    ghost total = { nat_list_cmp_total };
+
+    ghost matches_partial_cmp = { λ a b. refl };
+
+    ghost matches_eq = { texts_ties };
+
+    fn cmp(&self, other: &TrustDomain) -> Ordering {
+        self.text.as_str().cmp(other.text.as_str())
+    }
+}
