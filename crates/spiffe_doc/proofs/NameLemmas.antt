@@ -1,12 +1,14 @@
 -- What a text that has no fault is.
-use Rattle.std.proofs.Common.{◌≡◌, ℕ, ◌<◌, ◌≤◌, ◌==◌, List, length, get_or, slice_index, Bool, true, false, not, nat_lt, Option, Some, None, refl, sym, ◌∙◌, arith, inl, inr}
+use Rattle.std.proofs.Common.{◌≡◌, ℕ, ◌<◌, ◌≤◌, ◌==◌, List, length, get_or, slice_index, Bool, true, false, not, nat_lt, Option, Some, None, Ok, refl, sym, ap, ◌∙◌, arith, inl, inr}
 use Rattle.std.specs.List.{AllPass, prefix_len}
 use Rattle.std.specs.Str.{IsAscii}
 use Rattle.std.proofs.lemmas.Bool.{cases_Bool, cases_lt, eqb-true, ltb-false, ltb-true}
 use Rattle.std.proofs.lemmas.Bool.Decides.{nat_tests}
 use Rattle.std.proofs.lemmas.List.{get_or_past}
 use Rattle.std.proofs.lemmas.List.Sums.{prefix_len_passes, prefix_len_stops}
-use Rattle.spiffe_doc.specs.Name.{IsName, is_name_byte, name_fault}
+use Rattle.spiffe_doc.specs.declared.name.NameError.{NameError}
+use Rattle.spiffe_doc.specs.Answer.{unless}
+use Rattle.spiffe_doc.specs.Name.{IsName, is_name_byte, name_fault, trust_domain}
 
 twice_not : (b : Bool) → not (not b) ≡ b
 twice_not true = refl
@@ -53,3 +55,13 @@ no_fault-IsName text h = elim (cases_Bool (length text == 0)) [
     ]
   ]
 ]
+
+pub trust_domain-IsName : (text name : List ℕ) → trust_domain text ≡ Ok name → (name ≡ text) × IsName text
+trust_domain-IsName text name h = go (name_fault text) refl h
+  where
+    go : (o : Option NameError) → name_fault text ≡ o → unless o text ≡ Ok name → (name ≡ text) × IsName text
+    go (Some e) is h = cc h
+    go None is h = let same : text ≡ name = cc h in (sym same, IsName-from_no_fault text is)
+
+pub IsName-trust_domain : (text name : List ℕ) → name ≡ text → IsName text → trust_domain text ≡ Ok name
+IsName-trust_domain text name same h = rw (no_fault-IsName text h) (ap Ok (sym same))

@@ -1,16 +1,29 @@
-//! What holds of the definitions alone.
-ghost use Rattle.std.specs.Prelude.{◌≡◌, ◌↔◌, List, ℕ, Ok, Err, Some, None, Option, Result};
-ghost use Rattle.spiffe_doc.specs.Id.{IdValue, IsId, spiffe_id};
+//! What holds of the definitions alone. Each law is the contract of a function that does nothing.
+ghost use Rattle.std.specs.Prelude.{◌≡◌, ◌↔◌, List, ℕ, Ok, Err, Some, None, Option, Result, true};
 ghost use Rattle.serde_json.specs.Data.{Data};
+ghost use Rattle.spiffe_doc.specs.declared.authority.Authority.{Authority};
+ghost use Rattle.spiffe_doc.specs.declared.error.DocError.{DocError};
+ghost use Rattle.spiffe_doc.specs.Name.{IsName, trust_domain};
+ghost use Rattle.spiffe_doc.specs.Id.{IdValue, IsId, spiffe_id};
+ghost use Rattle.spiffe_doc.specs.Authority.{IsAuthority, BundleValue};
+ghost use Rattle.spiffe_doc.specs.Equal.{authority_eq, bundle_eq};
+ghost use Rattle.spiffe_doc.specs.Text.{text_of};
+ghost use Rattle.spiffe_doc.specs.Entry.{GivesAuthority, IsPassedOver, IsAtFault, IsOutcome, HasOneOutcome};
+ghost use Rattle.spiffe_doc.specs.Judgement.{judge};
 ghost use Rattle.spiffe_doc.specs.Bundle.{IsBundle};
 ghost use Rattle.spiffe_doc.specs.Document.{document};
-ghost use Rattle.spiffe_doc.specs.Judgement.{judge};
 ghost use Rattle.spiffe_doc.specs.Append.{appended};
-ghost use Rattle.spiffe_doc.specs.Authority.{IsAuthority, BundleValue};
-ghost use Rattle.spiffe_doc.specs.Entry.{GivesAuthority, IsPassedOver, IsAtFault, IsOutcome, HasOneOutcome};
-ghost use Rattle.spiffe_doc.specs.declared.error.DocError.{DocError};
-ghost use Rattle.spiffe_doc.specs.Text.{text_of};
-ghost use Rattle.spiffe_doc.specs.declared.authority.Authority.{Authority};
+
+/// A text reads as a trust domain name exactly where it is one, and then as itself.
+pub fn names_are_read_as_they_stand()
+    ensures { (text name : List ℕ) → (trust_domain text ≡ Ok name) ↔ ((name ≡ text) × IsName text) }
+{}
+
+/// The tests of equality say whether all parts are equal.
+pub fn equality_is_of_all_parts()
+    ensures authorities { (a b : Authority) → (authority_eq a b ≡ true) ↔ (a ≡ b) }
+    ensures bundles { (a b : BundleValue) → (bundle_eq a b ≡ true) ↔ (a ≡ b) }
+{}
 
 /// The canonical text of a lawful bundle is a document of that bundle.
 pub fn texts_are_read_back()
