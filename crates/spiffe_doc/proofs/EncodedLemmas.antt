@@ -1,7 +1,6 @@
 -- A text stands for the bytes whose encoding it is, and for no others.
-use Rattle.std.proofs.Common.{◌≡◌, ℕ, ◌<◌, ◌&&◌, List, length, get_or, slice_index, bytes_eq, Bool, true, false, nat_lt, Option, Some, None, Result, Ok, Err, refl, sym, ap, ◌∙◌, arith, inl, inr}
-use Rattle.std.specs.List.{list_all, AllPass}
-use Rattle.std.specs.Result.{result_ok}
+use Rattle.std.proofs.Common.{◌≡◌, ℕ, List, length, true, nat_lt, Option, Some, None, Ok, Err, refl, arith, inl, inr}
+use Rattle.std.specs.List.{list_all}
 use Rattle.std.specs.Cmp.Lexicographic.{bytes_decides}
 use Rattle.std.proofs.lemmas.Bool.{cases_Bool, cases_lt, lt-ltb, ltb-true, and_parts}
 use Rattle.std.proofs.lemmas.List.{get_or_past, get_or_default}
@@ -10,8 +9,7 @@ use Rattle.base64.specs.declared.decode.DecodeError.{DecodeError}
 use Rattle.base64.specs.declared.engine.general_purpose.GeneralPurpose.{GeneralPurpose}
 use Rattle.base64.specs.GeneralPurpose.{encode_of, decode_of, decoded_of, IsBytes, IsConsistent}
 use Rattle.base64.proofs.EngineFacts.{decode_of-encode_of}
-use Rattle.spiffe_doc.specs.Answer.{filtered}
-use Rattle.spiffe_doc.specs.Judgement.{is_encoding, encoded_bytes}
+use Rattle.spiffe_doc.specs.Judgement.{filtered, is_encoding, encoded_bytes}
 
 pub IsBytes-list_all : (bytes : List ℕ) → list_all (λ byte. nat_lt byte 256) bytes ≡ true → IsBytes bytes
 IsBytes-list_all bytes h i = elim (cases_lt i (length bytes)) [

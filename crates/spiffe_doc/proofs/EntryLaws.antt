@@ -1,5 +1,5 @@
 -- An entry is judged to be just what becomes of it.
-use Rattle.std.proofs.Common.{◌≡◌, ◌⊎◌, ℕ, List, codes, true, Option, Some, None, Result, Ok, Err, refl, sym, ap, ◌∙◌, inl, inr}
+use Rattle.std.proofs.Common.{◌≡◌, ℕ, List, codes, true, Option, Some, None, Result, Ok, Err, refl, sym, ap, ◌∙◌, inl, inr}
 use Rattle.std.specs.Prelude.{option_map, is_some}
 use Rattle.std.specs.Option.{ok_or}
 use Rattle.std.proofs.lemmas.Bool.{cases_Bool}
@@ -18,10 +18,10 @@ use Rattle.spiffe_doc.specs.declared.error.DocError.TheVariants.{TooLong, NotJso
 use Rattle.spiffe_doc.specs.Answer.{◌>>=◌}
 use Rattle.spiffe_doc.specs.Authority.{IsAuthority, IsPublicKey}
 use Rattle.spiffe_doc.specs.Text.{entry_tree}
-use Rattle.spiffe_doc.specs.Entry.{member_text, HasText, HasKey, GivesAuthority, IsObject, HasKnownType, HasKnownUse, HasOtherCurve, IsPassedOver, IsKnown, HasSomeKey, IsAtFault, IsOutcome, HasOneOutcome}
+use Rattle.spiffe_doc.specs.Entry.{member_text, HasText, HasKey, GivesAuthority, IsObject, HasKnownType, HasKnownUse, HasOtherCurve, IsPassedOver, IsKnown, IsAtFault, IsOutcome, HasOneOutcome}
 use Rattle.spiffe_doc.specs.Judgement.{key_type, key_use, key_of, certificate, key_id, authority_for, with_key, known_entry, judge}
 use Rattle.spiffe_doc.proofs.Members.{certificate-some, certificate-encoded, certificate-none, key_id-some, key_id-text, key_id-none, use_text, use_of, of_use, of_type, known_type, type_known, known_use, use_known}
-use Rattle.spiffe_doc.proofs.Keys.{TellsKey, key_of-ec, key_of-rsa, key_of-HasKey, key_of-other_curve, key_of-LacksMember, key_of-tells}
+use Rattle.spiffe_doc.proofs.Keys.{TellsKey, key_of-HasKey, key_of-other_curve, key_of-LacksMember, key_of-tells}
 
 -- ---- what is judged becomes of it
 

@@ -1,13 +1,13 @@
 -- Entries judged one after another.
-use Rattle.std.proofs.Common.{◌≡◌, ℕ, zero, suc, ◌+◌, ◌<◌, ◌≤◌, ◌&&◌, List, [], ◌∷◌, ◌++◌, length, get_or, true, false, cond, not, nat_le, Option, Some, None, Result, Ok, Err, refl, sym, ap, ◌∙◌, inl, inr, arith, append-nil, add-one, ◌-◌, zero-add, suc-add, map}
+use Rattle.std.proofs.Common.{◌≡◌, ℕ, zero, suc, ◌+◌, ◌<◌, List, [], ◌∷◌, ◌++◌, length, get_or, nat_le, Option, Some, None, Result, Ok, Err, refl, sym, ap, ◌∙◌, inl, inr, arith, append-nil, add-one, ◌-◌, zero-add, suc-add, map}
 use Rattle.std.proofs.lemmas.Bool.{cases_Bool}
 use Rattle.serde_json.specs.Data.{Data, null}
 use Rattle.serde_json.specs.View.{view, items_view}
 use Rattle.serde_json.specs.declared.value.Value.{Value}
 use Rattle.spiffe_doc.specs.Judgement.{judge}
-use Rattle.spiffe_doc.specs.Document.{elements, distinct, given_by, outcome, given_before, fault_after, fault_at, least_fault, authorities_of}
+use Rattle.spiffe_doc.specs.Document.{elements, distinct, given_by, outcome, given_before, fault_after, least_fault, authorities_of}
 use Rattle.spiffe_doc.specs.Bundle.{is_among, is_kid_taken}
-use Rattle.spiffe_doc.specs.AuthoritySet.{admitted, taken}
+use Rattle.spiffe_doc.specs.AuthoritySet.{taken}
 use Rattle.spiffe_doc.specs.declared.authority.Authority.{Authority}
 use Rattle.spiffe_doc.specs.declared.error.DocError.{DocError}
 use Rattle.spiffe_doc.proofs.FirstPlaces.{list_any-firsts, firsts_push}

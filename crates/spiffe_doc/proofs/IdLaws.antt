@@ -1,15 +1,15 @@
 -- A text reads as a SPIFFE ID exactly where it is one.
-use Rattle.std.proofs.Common.{◌≡◌, ℕ, zero, suc, ◌<◌, ◌≤◌, ◌==◌, List, [], ◌∷◌, ◌++◌, length, append-nil, take, drop, codes, nat_eq, Bool, true, false, nat_lt, Option, Some, None, Result, Ok, Err, refl, sym, ap, ◌∙◌, arith}
-use Rattle.std.specs.List.{list_all, AllPass, AllByRecursion, All, slice_split, position_or_len}
+use Rattle.std.proofs.Common.{◌≡◌, ℕ, ◌≤◌, List, [], ◌∷◌, ◌++◌, length, append-nil, drop, codes, true, false, nat_lt, Option, Some, None, Ok, refl, sym, ap, ◌∙◌, arith}
+use Rattle.std.specs.List.{AllByRecursion, All, slice_split, position_or_len}
 use Rattle.std.proofs.lemmas.Bool.{and_parts}
 use Rattle.std.proofs.lemmas.Bool.Decides.{nat_tests}
 use Rattle.std.proofs.lemmas.List.{take-append-drop}
 use Rattle.std.proofs.lemmas.List.Splits.{slice_split_none, slice_split_at}
 use Rattle.std.proofs.lemmas.List.Sums.{AllPass-from_list_all}
 use Rattle.spiffe_doc.specs.declared.id.IdError.{IdError}
-use Rattle.spiffe_doc.specs.Name.{IsName, is_name_byte}
+use Rattle.spiffe_doc.specs.Name.{is_name_byte}
 use Rattle.spiffe_doc.specs.Answer.{unless}
-use Rattle.spiffe_doc.specs.Id.{id_of, is_slash, is_segment_byte, is_segment, path_text, IsPath, IdValue, IsId, domain_of, segments_of, rest_fault, id_fault, spiffe_id}
+use Rattle.spiffe_doc.specs.Id.{id_of, is_slash, is_segment_byte, is_segment, path_text, IdValue, IsId, domain_of, segments_of, rest_fault, id_fault, spiffe_id}
 use Rattle.spiffe_doc.proofs.NameLemmas.{IsName-from_no_fault, no_fault-IsName}
 use Rattle.spiffe_doc.proofs.IdLemmas.{split_first, path_is, none_bad, IsFaultless-from}
 

@@ -1,12 +1,11 @@
 -- The members of an entry are read as what their texts encode, and as nothing else.
-use Rattle.std.proofs.Common.{◌≡◌, ◌≢◌, ℕ, ◌==◌, ◌&&◌, List, length, codes, bytes_eq, Bool, true, false, nat_lt, nat_le, Option, Some, None, refl, sym, ap, ◌∙◌, inl, inr, arith, eq-eqb, lt-ltb, le-leb}
+use Rattle.std.proofs.Common.{◌≡◌, ◌≢◌, ℕ, List, codes, bytes_eq, Bool, true, Option, Some, None, refl, sym, ap, ◌∙◌, inl, inr, eq-eqb, lt-ltb, le-leb}
 use Rattle.std.specs.Prelude.{option_and_then}
-use Rattle.std.specs.Str.{is_utf8}
 use Rattle.std.specs.Cmp.Lexicographic.{bytes_decides}
 use Rattle.std.proofs.lemmas.Bool.{cases_Bool, and_parts, eqb-true, ltb-true, leb-true}
 use Rattle.std.proofs.lemmas.Str.{IsUtf8-from_is_utf8, is_utf8-from_IsUtf8}
 use Rattle.serde_json.specs.Data.{Data, null, boolean, number, object, array, string, Items, no_items, item}
-use Rattle.serde_json.specs.Find.{get, as_array, as_str}
+use Rattle.serde_json.specs.Find.{get, as_array}
 use Rattle.base64.specs.Engines.{standard, url_safe_no_pad}
 use Rattle.base64.specs.GeneralPurpose.{encode_of, IsBytes}
 use Rattle.spiffe_doc.specs.declared.key.Curve.{Curve}
@@ -15,12 +14,10 @@ use Rattle.spiffe_doc.specs.declared.entry.KeyType.{KeyType}
 use Rattle.spiffe_doc.specs.declared.entry.KeyType.TheVariants as types
 use Rattle.spiffe_doc.specs.declared.entry.KeyUse.{KeyUse}
 use Rattle.spiffe_doc.specs.declared.entry.KeyUse.TheVariants as uses
-use Rattle.spiffe_doc.specs.Answer.{filtered}
-use Rattle.spiffe_doc.specs.Key.{coordinate_len, curve_text, IsCoordinate, IsRsaMember}
+use Rattle.spiffe_doc.specs.Key.{curve_text, IsCoordinate, IsRsaMember}
 use Rattle.spiffe_doc.specs.Authority.{IsCertificate, IsKeyId}
-use Rattle.spiffe_doc.specs.Text.{x5c_list}
 use Rattle.spiffe_doc.specs.Entry.{member_text, HasText, HasBytes, HasCertificate, HasKnownType, HasKnownUse, HasCoordinate, HasRsaMember, HasSomeCertificate, HasSomeKeyId}
-use Rattle.spiffe_doc.specs.Judgement.{encoded_bytes, key_type_named, key_use_named, curve_named, key_type, key_use, key_bytes, coordinate, rsa_member, only_text, der_bytes, certificate, key_id}
+use Rattle.spiffe_doc.specs.Judgement.{filtered, encoded_bytes, key_type_named, key_use_named, curve_named, key_type, key_use, key_bytes, coordinate, rsa_member, only_text, der_bytes, certificate, key_id}
 use Rattle.spiffe_doc.proofs.EncodedLemmas.{encoded_bytes-some, encoded_bytes-encode_of}
 
 filtered-some : {A : Type 0} (test : A → Bool) (o : Option A) (x : A) → filtered test o ≡ Some x → (o ≡ Some x) × (test x ≡ true)

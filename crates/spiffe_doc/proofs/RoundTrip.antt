@@ -1,32 +1,26 @@
 -- The canonical text of a lawful bundle is a document of that bundle.
-use Rattle.std.proofs.Common.{◌≡◌, ℕ, zero, suc, ◌+◌, ◌<◌, ◌≤◌, ◌^◌, ◌&&◌, List, [], ◌∷◌, ◌++◌, length, get_or, take, Bool, true, false, cond, not, nat_lt, nat_le, Option, Some, None, Result, Ok, Err, refl, sym, ap, ◌∙◌, arith}
-use Rattle.std.specs.Prelude.{IfSome}
+use Rattle.std.proofs.Common.{◌≡◌, ℕ, zero, suc, ◌<◌, ◌≤◌, ◌&&◌, List, [], ◌∷◌, length, get_or, take, Bool, true, false, nat_lt, nat_le, Option, Some, None, Ok, refl, ap, arith}
 use Rattle.std.specs.List.{list_any, AllPairs, AllByRecursion}
 use Rattle.std.specs.Str.{is_utf8}
 use Rattle.std.proofs.Math.Seq.{take-suc}
-use Rattle.std.proofs.lemmas.Bool.{cases_Bool}
 use Rattle.std.proofs.lemmas.List.{get_or-take, get_or_default, length-take-le, take_all}
 use Rattle.std.proofs.lemmas.Bool.Decides.{nat_tests}
 use Rattle.std.proofs.lemmas.Str.{is_utf8-from_IsUtf8}
 use Rattle.serde_json.specs.Data.{Data, null}
 use Rattle.serde_json.specs.Read.{read}
-use Rattle.serde_json.specs.Written.{compact_text, outline}
-use Rattle.json.specs.Tree as json_tree
 use Rattle.spiffe_doc.specs.declared.authority.Authority.{Authority}
-use Rattle.spiffe_doc.specs.declared.error.DocError.{DocError}
 use Rattle.spiffe_doc.specs.Authority.{IsAuthority, BundleValue}
 use Rattle.spiffe_doc.specs.Judgement.{judge}
-use Rattle.spiffe_doc.specs.Equal.{authority_eq}
-use Rattle.spiffe_doc.specs.Text.{entry_tree, entry_trees, document_tree, text_of}
-use Rattle.spiffe_doc.specs.Bundle.{same_kid, is_among, is_kid_taken, AreApart, IsBundle}
-use Rattle.spiffe_doc.specs.Document.{distinct, elements, outcome, given_by, given_before, fault_after, fault_at, least_fault, authorities_of, bundle_of, document}
+use Rattle.spiffe_doc.specs.Text.{entry_trees, document_tree, text_of}
+use Rattle.spiffe_doc.specs.Bundle.{is_among, is_kid_taken, AreApart, IsBundle}
+use Rattle.spiffe_doc.specs.Document.{distinct, elements, outcome, given_before, least_fault, authorities_of, bundle_of, document}
 use Rattle.std.specs.Str.{IsUtf8}
 use Rattle.spiffe_doc.proofs.TreeLemmas.{read-compact_text}
 use Rattle.spiffe_doc.proofs.TextUtf8.{document_utf8}
 use Rattle.spiffe_doc.proofs.EntryLaws.{judge-entry_tree}
 use Rattle.spiffe_doc.proofs.TextLemmas.{document_reads, document_numbers, document_depth}
 use Rattle.spiffe_doc.proofs.FirstPlaces.{firsts_push}
-use Rattle.spiffe_doc.proofs.EntryLists.{IsReadTo, read_all}
+use Rattle.spiffe_doc.proofs.EntryLists.{read_all}
 
 any_none : (test : Authority → Bool) (xs : List Authority) → ((k : ℕ) (d : Authority) → k < length xs → test (get_or xs k d) ≡ false) → list_any test xs ≡ false
 any_none test [] h = refl

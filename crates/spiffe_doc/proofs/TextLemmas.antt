@@ -1,31 +1,20 @@
 -- The tree of a bundle reads back from its text, and each entry is judged to be its authority.
-use Rattle.std.proofs.Common.{◌≡◌, ℕ, suc, ◌+◌, ◌<◌, ◌≤◌, ◌==◌, ◌&&◌, ◌||◌, ◌^◌, max, List, [], ◌∷◌, ◌++◌, append_assoc, append-nil, length, Bool, cond, not, codes, bytes_eq, true, false, nat_lt, nat_le, Option, Some, None, Result, Ok, Err, refl, sym, ap, ◌∙◌, arith, lit≤, eq-eqb, lt-ltb, le-leb, decimal}
-use Rattle.std.specs.Prelude.{option_and_then, option_map, ⊤, IfSome}
-use Rattle.std.specs.Str.{IsUtf8}
-use Rattle.std.proofs.lemmas.Str.{is_utf8-from_IsUtf8}
-use Rattle.json.specs.Json as json
+use Rattle.std.proofs.Common.{◌≡◌, ℕ, suc, ◌<◌, ◌≤◌, ◌==◌, ◌^◌, List, [], ◌∷◌, ◌++◌, append_assoc, append-nil, length, Bool, cond, codes, true, false, Option, Some, None, refl, sym, ap, ◌∙◌, arith, lit≤}
+use Rattle.std.specs.Prelude.{IfSome}
 use Rattle.json.specs.Tree as json_tree
 use Rattle.json.proofs.Printed.Decimals.{IsNumber-decimal}
-use Rattle.serde_json.specs.Data.{Data, Items, no_items, item, Members, no_members, member, number, unsigned, put}
-use Rattle.serde_json.specs.Read.{of_json, of_items, of_members, number_of, max_depth, read}
-use Rattle.serde_json.specs.Written.{outline, items_outline, members_outline, compact_text, items_text, members_text, comma_if, has_float}
+use Rattle.serde_json.specs.Data.{no_members}
+use Rattle.serde_json.specs.Read.{of_json, of_items, max_depth}
+use Rattle.serde_json.specs.Written.{outline, items_outline, items_text, members_text, comma_if, has_float}
 use Rattle.serde_json.proofs.Numbers.{number_of-decimal}
 use Rattle.serde_json.proofs.OnLiterals.{serde_json_on_literals}
 use Rattle.std.proofs.lemmas.Bool.Decides.{nat_tests}
-use Rattle.base64.specs.Engines.{standard, url_safe_no_pad}
-use Rattle.base64.specs.GeneralPurpose.{encode_of, IsBytes}
-use Rattle.spiffe_doc.specs.declared.key.Curve.{Curve}
-use Rattle.spiffe_doc.specs.declared.key.Curve.TheVariants.{P256, P384, P521}
-use Rattle.spiffe_doc.specs.declared.key.PublicKey.{PublicKey}
 use Rattle.spiffe_doc.specs.declared.key.PublicKey.TheVariants.{Ec, Rsa}
 use Rattle.spiffe_doc.specs.declared.authority.Authority.{Authority}
 use Rattle.spiffe_doc.specs.declared.authority.Authority.TheVariants.{X509, Jwt}
-use Rattle.spiffe_doc.specs.Authority.{IsAuthority, IsPublicKey, IsCertificate, IsKeyId, BundleValue}
+use Rattle.spiffe_doc.specs.Authority.{BundleValue}
 use Rattle.spiffe_doc.specs.Text.{number_member, entry_tree, entry_trees, document_tree, text_of}
 use Rattle.spiffe_doc.specs.Writing.{entry_text, entry_texts, front_text, number_text, rest_text}
-use Rattle.serde_json.specs.Find.{get}
-use Rattle.spiffe_doc.specs.declared.entry.KeyType.TheVariants as types
-use Rattle.spiffe_doc.proofs.TreeLemmas.{read-compact_text}
 
 -- ---- the tree reads back
 

@@ -1,13 +1,12 @@
 -- A compact text is UTF-8 where its tree's texts are.
-use Rattle.std.proofs.Common.{◌≡◌, ℕ, ◌<◌, ◌^◌, List, [], ◌∷◌, ◌++◌, Bool, true, false, pos, negsuc, codes, Option, Some, None, refl}
+use Rattle.std.proofs.Common.{◌≡◌, ℕ, ◌<◌, ◌^◌, List, [], ◌∷◌, Bool, true, false, codes, Option, Some, None, refl}
 use Rattle.std.specs.Prelude.{IfSome}
 use Rattle.std.specs.List.{AllByRecursion}
 use Rattle.std.specs.Str.{IsUtf8}
 use Rattle.std.proofs.lemmas.Str.{IsUtf8-append, IsUtf8-nil, IsUtf8-from_ascii}
 use Rattle.std.proofs.lemmas.Fmt.{IsAscii-decimal}
-use Rattle.json.specs.Print.{quoted}
 use Rattle.json.proofs.Printed.Utf8.{are_ascii, IsUtf8-are_ascii, IsUtf8-quoted, IsUtf8-boolean}
-use Rattle.serde_json.specs.Data.{Data, null, boolean, number, string, array, object, unsigned, Items, no_items, item, Members, no_members, member}
+use Rattle.serde_json.specs.Data.{Data, null, boolean, number, string, array, object, Items, no_items, item, Members, no_members, member}
 use Rattle.serde_json.specs.Written.{number_text, compact_text, items_text, members_text, comma_if}
 use Rattle.base64.specs.Engines.{standard, url_safe_no_pad}
 use Rattle.base64.specs.GeneralPurpose.{encode_of}
@@ -20,7 +19,7 @@ use Rattle.spiffe_doc.specs.declared.authority.Authority.{Authority}
 use Rattle.spiffe_doc.specs.declared.authority.Authority.TheVariants.{X509, Jwt}
 use Rattle.spiffe_doc.specs.Authority.{IsAuthority, BundleValue}
 use Rattle.spiffe_doc.specs.Key.{curve_text}
-use Rattle.spiffe_doc.specs.Text.{entry_tree, entry_trees, number_member, document_tree, x5c_list}
+use Rattle.spiffe_doc.specs.Text.{entry_tree, entry_trees, number_member, document_tree}
 
 ascii : (xs : List ℕ) → are_ascii xs ≡ true → IsUtf8 xs
 ascii = IsUtf8-are_ascii

@@ -1,5 +1,5 @@
 -- What a call answers: what its definition gives, or want of memory.
-use Rattle.std.specs.Prelude.{◌≡◌, ◌⊎◌, Bool, Option, Some, None, option_and_then, Result, Ok, Err, if◌then◌else◌}
+use Rattle.std.specs.Prelude.{◌≡◌, ◌⊎◌, Option, Some, None, Result, Ok, Err}
 
 -- the result is what is given, unless it is want of memory
 abbrev pub Gives : {A E : Type 0} → E → Result A E → Result A E → Type 0
@@ -10,10 +10,6 @@ Gives memory (Err e) given = (e ≡ memory) ⊎ (given ≡ Err e)
 abbrev pub unless : {A E : Type 0} → Option E → A → Result A E
 unless None value = Ok value
 unless (Some fault) value = Err fault
-
--- the value, where it passes
-abbrev pub filtered : {A : Type 0} → (A → Bool) → Option A → Option A
-filtered test value = option_and_then (λ x. if test x then Some x else None) value
 
 -- one step after another, up to the first fault
 infixl 10 ◌>>=◌

@@ -1,8 +1,8 @@
 -- Which bundles are lawful.
-use Rattle.std.specs.Prelude.{◌≡◌, ℕ, ◌<◌, ◌≤◌, ◌^◌, ◌&&◌, List, length, bytes_eq, Bool, false, not, IfSome}
+use Rattle.std.specs.Prelude.{◌≡◌, ◌<◌, ◌≤◌, ◌^◌, ◌&&◌, List, length, bytes_eq, Bool, false, not, IfSome}
 use Rattle.std.specs.List.{list_any, AllPairs, AllByRecursion}
 use Rattle.spiffe_doc.specs.declared.authority.Authority.{Authority}
-use Rattle.spiffe_doc.specs.declared.authority.Authority.TheVariants.{X509, Jwt}
+use Rattle.spiffe_doc.specs.declared.authority.Authority.TheVariants.{Jwt}
 use Rattle.spiffe_doc.specs.Authority.{IsAuthority, BundleValue}
 use Rattle.spiffe_doc.specs.Equal.{authority_eq}
 use Rattle.spiffe_doc.specs.Text.{text_of}
@@ -10,8 +10,7 @@ use Rattle.spiffe_doc.specs.Text.{text_of}
 -- both are of jwt-svids, under one key id
 abbrev pub same_kid : Authority → Authority → Bool
 same_kid (Jwt kid key) (Jwt other other_key) = bytes_eq kid other
-same_kid (Jwt kid key) (X509 other_key der) = false
-same_kid (X509 key der) other = false
+same_kid a b = false
 
 -- whether the authority is among these
 abbrev pub is_among : List Authority → Authority → Bool

@@ -2,7 +2,7 @@
 use Rattle.std.specs.Prelude.{ℕ, zero, suc, ◌&&◌, List, [], ◌∷◌, ◌++◌, length, slice_index_or, filter, codes, not, nat_lt, nat_le, if◌then◌else◌, Option, Some, None, option_map, option_and_then, Result, Ok, Err}
 use Rattle.std.specs.Option.{ok_or, option_or}
 use Rattle.std.specs.Str.{is_utf8}
-use Rattle.serde_json.specs.Data.{Data, null, boolean, number, string, array, object, Items, no_items, item}
+use Rattle.serde_json.specs.Data.{Data, null, number, Items, no_items, item}
 use Rattle.serde_json.specs.Find.{get, as_array, as_object, as_u64}
 use Rattle.serde_json.specs.Read.{read}
 use Rattle.spiffe_doc.specs.declared.authority.Authority.{Authority}
@@ -26,9 +26,8 @@ abbrev pub outcome : List Data → ℕ → Result (Option Authority) DocError
 outcome entries place = judge place (slice_index_or entries place null)
 
 abbrev pub given_by : Result (Option Authority) DocError → List Authority
-given_by (Err e) = []
-given_by (Ok None) = []
 given_by (Ok (Some authority)) = authority ∷ []
+given_by other = []
 
 -- what the entries before a place give
 unfoldable pub given_before : List Data → ℕ → List Authority
@@ -67,11 +66,8 @@ authorities_of entries = unless (least_fault entries (length entries)) (distinct
 abbrev pub whole_number : Option Data → Option (Option ℕ)
 whole_number None = Some None
 whole_number (Some null) = Some None
-whole_number (Some (boolean b)) = None
 whole_number (Some (number n)) = option_map Some (as_u64 n)
-whole_number (Some (string s)) = None
-whole_number (Some (array ds)) = None
-whole_number (Some (object ms)) = None
+whole_number (Some other) = None
 
 abbrev pub within : ℕ → List ℕ → Result (List ℕ) DocError
 within limit bytes = if nat_lt limit (length bytes) then Err TooLong else Ok bytes

@@ -13,7 +13,7 @@ use Rattle.spiffe_doc.specs.declared.key.PublicKey.TheVariants.{Ec, Rsa}
 use Rattle.spiffe_doc.specs.declared.authority.Authority.{Authority}
 use Rattle.spiffe_doc.specs.declared.authority.Authority.TheVariants.{X509, Jwt}
 use Rattle.spiffe_doc.specs.declared.error.DocError.{DocError}
-use Rattle.spiffe_doc.specs.declared.error.DocError.TheVariants.{TooLong, NotJson, NotObject, NoKeys, BadSequence, BadHint, BadEntry, BadKey, BadX5c, BadKid, KidTwice, TooMany, Memory}
+use Rattle.spiffe_doc.specs.declared.error.DocError.TheVariants.{BadEntry, BadKey, BadX5c, BadKid}
 use Rattle.spiffe_doc.specs.Key.{curve_text, IsCoordinate, IsRsaMember}
 use Rattle.spiffe_doc.specs.Authority.{IsPublicKey, IsCertificate, IsKeyId, IsAuthority}
 use Rattle.spiffe_doc.specs.Text.{x5c_list}
@@ -109,15 +109,7 @@ IsAtFault place entry (BadX5c at) =
     (at ≡ place) × IsKnown entry × HasSomeKey entry × HasText entry (codes "use") (codes "x509-svid") × ¬ (HasSomeCertificate entry)
 IsAtFault place entry (BadKid at) =
     (at ≡ place) × IsKnown entry × HasSomeKey entry × HasText entry (codes "use") (codes "jwt-svid") × ¬ (HasSomeKeyId entry)
-IsAtFault place entry TooLong = ⊥
-IsAtFault place entry NotJson = ⊥
-IsAtFault place entry NotObject = ⊥
-IsAtFault place entry NoKeys = ⊥
-IsAtFault place entry BadSequence = ⊥
-IsAtFault place entry BadHint = ⊥
-IsAtFault place entry (KidTwice at) = ⊥
-IsAtFault place entry TooMany = ⊥
-IsAtFault place entry Memory = ⊥
+IsAtFault place entry other = ⊥
 
 -- what becomes of the entry at this place: its authority, nothing where it is passed over, or its first fault
 abbrev pub IsOutcome : ℕ → Data → Result (Option Authority) DocError → Type 0

@@ -1,5 +1,5 @@
 -- When keys, authorities and bundles are equal: all their parts are, in order.
-use Rattle.std.specs.Prelude.{ℕ, ◌==◌, ◌&&◌, List, bytes_eq, nat_eq, Bool, true, false}
+use Rattle.std.specs.Prelude.{◌==◌, ◌&&◌, bytes_eq, nat_eq, Bool, false}
 use Rattle.std.specs.Option.{option_eq}
 use Rattle.std.specs.Cmp.Lexicographic.{pointwise}
 use Rattle.spiffe_doc.specs.declared.key.PublicKey.{PublicKey}

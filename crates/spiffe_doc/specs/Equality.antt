@@ -1,5 +1,5 @@
 -- The tests of equality decide it: what the laws of `==` rest on. Lemmas only.
-use Rattle.std.proofs.Common.{◌≡◌, ℕ, ◌==◌, List, bytes_eq, nat_eq, Option, None, Some, refl, ap, arith, ◌∙◌}
+use Rattle.std.proofs.Common.{◌≡◌, ℕ, ◌==◌, List, nat_eq, Option, None, Some, refl, ap, arith, ◌∙◌}
 use Rattle.std.specs.Option.{option_eq}
 use Rattle.std.specs.Bool.{Decides}
 use Rattle.std.specs.Cmp.{unsigned_Decides}

@@ -1,5 +1,5 @@
 -- How an entry is judged, from left to right. That this is what becomes of it (`Entry`) is a law of the crate.
-use Rattle.std.specs.Prelude.{◌≡◌, ℕ, ◌==◌, ◌&&◌, List, length, codes, bytes_eq, Bool, nat_lt, nat_le, is_some, if◌then◌else◌, Option, Some, None, option_map, option_and_then, Result, Ok, Err}
+use Rattle.std.specs.Prelude.{ℕ, ◌==◌, ◌&&◌, List, length, codes, bytes_eq, Bool, nat_lt, nat_le, is_some, if◌then◌else◌, Option, Some, None, option_map, option_and_then, Result, Ok, Err}
 use Rattle.std.specs.List.{list_all}
 use Rattle.std.specs.Option.{ok_or}
 use Rattle.std.specs.Str.{is_utf8}
@@ -21,11 +21,15 @@ use Rattle.spiffe_doc.specs.declared.entry.KeyUse.{KeyUse}
 use Rattle.spiffe_doc.specs.declared.entry.KeyUse.TheVariants as uses
 use Rattle.spiffe_doc.specs.declared.error.DocError.{DocError}
 use Rattle.spiffe_doc.specs.declared.error.DocError.TheVariants.{BadEntry, BadKey, BadX5c, BadKid}
-use Rattle.spiffe_doc.specs.Answer.{filtered, ◌>>=◌}
+use Rattle.spiffe_doc.specs.Answer.{◌>>=◌}
 use Rattle.spiffe_doc.specs.Key.{coordinate_len}
 use Rattle.spiffe_doc.specs.Entry.{member_text}
 
 -- ---- members
+
+-- the value, where it passes
+abbrev pub filtered : {A : Type 0} → (A → Bool) → Option A → Option A
+filtered test value = option_and_then (λ x. if test x then Some x else None) value
 
 -- the text is the encoding of these, each of which is a byte
 abbrev pub is_encoding : GeneralPurpose → List ℕ → List ℕ → Bool

@@ -1,5 +1,5 @@
 -- Trust domain names (SPIFFE-ID, section 2).
-use Rattle.std.specs.Prelude.{ℕ, ◌<◌, ◌≤◌, ◌==◌, ◌||◌, List, length, Bool, not, nat_lt, if◌then◌else◌, Option, Some, None, option_map, Result, position}
+use Rattle.std.specs.Prelude.{ℕ, ◌<◌, ◌≤◌, ◌==◌, ◌||◌, List, length, Bool, not, nat_lt, if◌then◌else◌, Option, Some, option_map, Result, position}
 use Rattle.std.specs.List.{AllPass}
 use Rattle.std.specs.Char.{is_ascii_lowercase, is_ascii_digit}
 use Rattle.spiffe_doc.specs.declared.name.NameError.{NameError}

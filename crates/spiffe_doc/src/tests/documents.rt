@@ -79,7 +79,7 @@ fn canonical_texts(rt: HostRuntime) -> Result<(), Fail> {
         (
             "{\"keys\":[],\"spiffe_sequence\":18446744073709551615}",
             "{\"keys\":[],\"spiffe_sequence\":18446744073709551615}",
-            49,
+            50,
         ),
         (point.as_str(), point_text.as_str(), 170),
         (kid.as_str(), kid_text.as_str(), 166),

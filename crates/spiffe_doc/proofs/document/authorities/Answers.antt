@@ -1,10 +1,9 @@
-use Rattle.std.proofs.Common.{◌≡◌, ◌<◌, ◌⊎◌, length, map, Ok, Err, sym, ◌∙◌, ap, inl, inr, arith}
+use Rattle.std.proofs.Common.{◌≡◌, ◌<◌, length, map, ◌∙◌, ap, inl, inr, arith}
 use Rattle.std.proofs.lemmas.Result.{err_from_is_err_and}
 use Rattle.std.proofs.lemmas.List.{length-map}
 use Rattle.serde_json.specs.View.{view}
-use Rattle.spiffe_doc.specs.Document.{authorities_of}
 use Rattle.spiffe_doc.specs.AuthoritySet.{taken}
-use Rattle.spiffe_doc.proofs.EntryLists.{IsReadTo, read_none, read_one_more, read_to_fault, read_all, outcome-view, elements_view}
+use Rattle.spiffe_doc.proofs.EntryLists.{read_none, read_one_more, read_to_fault, read_all, outcome-view, elements_view}
 use Rattle.spiffe_doc.proofs.document.authorities.Goals as goal
 
 pub loop-place-init : goal.loop-place-init

@@ -1,4 +1,4 @@
-use Rattle.std.proofs.Common.{◌≡◌, ◌+◌, length, Bool, true, false, sym, ap, ◌∙◌, arith}
+use Rattle.std.proofs.Common.{◌+◌, length, sym, ap, ◌∙◌, arith}
 use Rattle.std.specs.List.{slice_split}
 use Rattle.spiffe_doc.specs.Id.{is_slash, is_segment, first_bad}
 use Rattle.spiffe_doc.proofs.IdLemmas.{first_bad-stops, first_bad-next, first_bad-last, after_shorter}

@@ -1,4 +1,4 @@
-use Rattle.std.proofs.Common.{◌≡◌, Ok, sym, ap, ◌∙◌}
+use Rattle.std.proofs.Common.{Ok, sym, ap, ◌∙◌}
 use Rattle.spiffe_doc.proofs.AuthorityLists.{admitted_one_more}
 use Rattle.spiffe_doc.proofs.authority_set.AuthoritySet.admit.Goals as goal
 
