@@ -1,0 +1,25 @@
+use Rattle.std.proofs.Common.{rules, ◌≡◌, suc, List, [], ◌∷◌, length, filter, ap, sym, refl, ◌∙◌}
+use Rattle.std.specs.Map.{values_of}
+use Rattle.std.proofs.lemmas.Iterator.Consumers.{count_from_yields_List, YieldsList-at, YieldsList-from_filter, YieldsList-from_rest}
+use Rattle.map_core.specs.declared.held.Held.{Held}
+use Rattle.map_core.specs.declared.held.Held.TheVariants.{Published, Mark}
+use Rattle.map_core.specs.Held.{is_published}
+use Rattle.map_core.specs.Name.{Name}
+use Rattle.map_core.specs.PlainMap.{published}
+use Rattle.map_core.proofs.Entries.{entries_sorted, sorted_entries}
+use Rattle.map_core.proofs.contents.Contents.len.Goals as goal
+
+-- the bundles among the values are as many as those among the entries
+published_len : (entries : List (Name × Held)) → length (filter is_published (values_of entries)) ≡ length (published entries)
+published_len [] = refl
+published_len ((d, Published b) ∷ rest) = ap suc (published_len rest)
+published_len ((d, Mark s) ∷ rest) = published_len rest
+
+pub returns : goal.returns
+returns c =
+    let entries = c.self.inside.held.entries in
+    let counted = count_from_yields_List c.filter.result c.count.result c.count.ensures.ran (YieldsList-from_filter _ is_published (YieldsList-at c.filter.ensures.source (YieldsList-from_rest (values_of entries) c.values.ensures.rest)) c.filter.ensures.closure (λ x b q k. search rules)) in
+    let sorted = sorted_entries c.self.inside.held c.values.ensures.ordered in
+    let entries_are = entries_sorted entries sorted in
+    let here = rw c.self.view_is at entries_are in
+    counted ∙ (published_len entries ∙ ap (λ es. length (published es)) (sym here))

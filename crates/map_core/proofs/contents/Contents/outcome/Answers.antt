@@ -1,0 +1,54 @@
+-- Each operation on one name gives the outcome of its row.
+use Rattle.std.proofs.Common.{sym, ap, ◌∙◌}
+use Rattle.spiffe_doc.specs.Authority.{BundleValue}
+use Rattle.map_core.specs.declared.reply.Reply.TheVariants.{All}
+use Rattle.map_core.specs.Op.{domain_of}
+use Rattle.map_core.specs.Table.{On_name, meaning, set, set_if, append, remove, get}
+use Rattle.map_core.proofs.Asks.{row_reply, row_left, IfOk-row_reply, IfOk-row_left, fetch_all_reply, fetch_all_left}
+use Rattle.map_core.proofs.contents.Contents.outcome.Goals as goal
+
+pub returns-in_ok-copy-in-Set-clause-reply : goal.returns-in_ok-copy-in-Set-clause-reply
+unfolding meaning
+returns-in_ok-copy-in-Set-clause-reply c = row_reply c.args.self.now c.args.op.now c.in-Set.domain (set c.in_ok-copy-in-Set.field-0) c.set.result _ (ap meaning c.in-Set.is ∙ ap (λ (b : BundleValue). On_name c.in-Set.domain (set b)) (sym c.in_ok-copy-in-Set.ensures)) c.at.ensures c.set.ensures
+
+pub returns-in_ok-copy-in-Set-clause-left : goal.returns-in_ok-copy-in-Set-clause-left
+unfolding meaning
+returns-in_ok-copy-in-Set-clause-left c = row_left c.args.self.now c.args.op.now c.in-Set.domain (set c.in_ok-copy-in-Set.field-0) c.set.result _ (ap domain_of c.in-Set.is) (ap meaning c.in-Set.is ∙ ap (λ (b : BundleValue). On_name c.in-Set.domain (set b)) (sym c.in_ok-copy-in-Set.ensures)) c.at.ensures c.set.ensures
+
+pub returns-in_ok-copy-in-SetIf-clause-reply : goal.returns-in_ok-copy-in-SetIf-clause-reply
+unfolding meaning
+returns-in_ok-copy-in-SetIf-clause-reply c = row_reply c.args.self.now c.args.op.now c.in-SetIf.domain (set_if c.in-SetIf.expect c.in_ok-copy-in-SetIf.field-0) c.set_if.result _ (ap meaning c.in-SetIf.is ∙ ap (λ (b : BundleValue). On_name c.in-SetIf.domain (set_if c.in-SetIf.expect b)) (sym c.in_ok-copy-in-SetIf.ensures)) c.at-in-SetIf.ensures c.set_if.ensures
+
+pub returns-in_ok-copy-in-SetIf-clause-left : goal.returns-in_ok-copy-in-SetIf-clause-left
+unfolding meaning
+returns-in_ok-copy-in-SetIf-clause-left c = row_left c.args.self.now c.args.op.now c.in-SetIf.domain (set_if c.in-SetIf.expect c.in_ok-copy-in-SetIf.field-0) c.set_if.result _ (ap domain_of c.in-SetIf.is) (ap meaning c.in-SetIf.is ∙ ap (λ (b : BundleValue). On_name c.in-SetIf.domain (set_if c.in-SetIf.expect b)) (sym c.in_ok-copy-in-SetIf.ensures)) c.at-in-SetIf.ensures c.set_if.ensures
+
+pub returns-in-Append-clause-reply : goal.returns-in-Append-clause-reply
+unfolding meaning
+returns-in-Append-clause-reply c = IfOk-row_reply c.args.self.now c.args.op.now c.in-Append.domain (append c.in-Append.authority) c.append.result _ (ap meaning c.in-Append.is) c.at-in-Append.ensures c.append.ensures
+
+pub returns-in-Append-clause-left : goal.returns-in-Append-clause-left
+unfolding meaning
+returns-in-Append-clause-left c = IfOk-row_left c.args.self.now c.args.op.now c.in-Append.domain (append c.in-Append.authority) c.append.result _ (ap domain_of c.in-Append.is) (ap meaning c.in-Append.is) c.at-in-Append.ensures c.append.ensures
+
+pub returns-in-Remove-clause-reply : goal.returns-in-Remove-clause-reply
+unfolding meaning
+returns-in-Remove-clause-reply c = row_reply c.args.self.now c.args.op.now c.in-Remove.domain remove c.remove.result _ (ap meaning c.in-Remove.is) c.at-in-Remove.ensures c.remove.ensures
+
+pub returns-in-Remove-clause-left : goal.returns-in-Remove-clause-left
+unfolding meaning
+returns-in-Remove-clause-left c = row_left c.args.self.now c.args.op.now c.in-Remove.domain remove c.remove.result _ (ap domain_of c.in-Remove.is) (ap meaning c.in-Remove.is) c.at-in-Remove.ensures c.remove.ensures
+
+pub returns-in-Get-clause-reply : goal.returns-in-Get-clause-reply
+unfolding meaning
+returns-in-Get-clause-reply c = IfOk-row_reply c.args.self.now c.args.op.now c.in-Get.domain get c.get.result _ (ap meaning c.in-Get.is) c.at-in-Get.ensures c.get.ensures
+
+pub returns-in-Get-clause-left : goal.returns-in-Get-clause-left
+unfolding meaning
+returns-in-Get-clause-left c = IfOk-row_left c.args.self.now c.args.op.now c.in-Get.domain get c.get.result _ (ap domain_of c.in-Get.is) (ap meaning c.in-Get.is) c.at-in-Get.ensures c.get.ensures
+
+pub returns-in_ok-snapshot-in-FetchAll-clause-reply : goal.returns-in_ok-snapshot-in-FetchAll-clause-reply
+returns-in_ok-snapshot-in-FetchAll-clause-reply c = ap All c.in_ok-snapshot-in-FetchAll.ensures ∙ sym (fetch_all_reply c.args.self.now c.args.op.now c.in-FetchAll.is)
+
+pub returns-in_ok-snapshot-in-FetchAll-clause-left : goal.returns-in_ok-snapshot-in-FetchAll-clause-left
+returns-in_ok-snapshot-in-FetchAll-clause-left c = fetch_all_left c.args.self.now c.args.op.now _ c.in-FetchAll.is

@@ -1,0 +1,18 @@
+use Rattle.std.proofs.Common.{◌≡◌, List, [], ◌++◌, append-nil, sym, ap, ◌∙◌}
+use Rattle.spiffe_doc.specs.Authority.{BundleValue}
+use Rattle.map_core.specs.Name.{Name}
+use Rattle.map_core.specs.PlainMap.{published}
+use Rattle.map_core.proofs.Entries.{entries_sorted, sorted_entries}
+use Rattle.map_core.proofs.contents.Contents.snapshot.Goals as goal
+
+all_pushed : (pairs rest all : List (Name × BundleValue)) → pairs ++ rest ≡ all → rest ≡ [] → pairs ≡ all
+all_pushed pairs rest all e none = sym (append-nil pairs) ∙ ap (λ x. pairs ++ x) (sym none) ∙ e
+
+pub returns : goal.returns
+returns c =
+    let sorted = sorted_entries c.self.inside.held c.iter-domain-items.ensures.ordered in
+    let entries_are = entries_sorted c.self.inside.held.entries sorted in
+    let here = rw c.self.view_is at entries_are in
+    let all = c.into_iter-domain-iterator.ensures.into_iter_gives ∙ c.iter-domain-items.ensures.rest in
+    let pairs_are = all_pushed c.loop-domain.pairs.items (published c.loop-domain.domain-iterator) (published c.into_iter-domain-iterator.result) c.loop-domain.invariant (ap published c.in-None.ensures.steps.0) in
+    c.from_pairs.ensures ∙ pairs_are ∙ ap published (all ∙ sym here)

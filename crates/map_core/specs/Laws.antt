@@ -1,0 +1,30 @@
+-- The laws of the plain map.
+use Rattle.std.specs.Prelude.{◌≡◌, ◌≢◌, ◌<◌, ℕ, true, Some}
+use Rattle.std.specs.FinMap as finite
+use Rattle.map_core.specs.declared.op.Op.{Op}
+use Rattle.map_core.specs.Name.{Name}
+use Rattle.map_core.specs.Op.{domain_of}
+use Rattle.map_core.specs.Reply.{is_change}
+use Rattle.map_core.specs.PlainMap.{PlainMap, ask, shard_of, part, together}
+
+-- The reply of an operation on one name, and what that name holds then, follow from what it held; all other names keep theirs.
+abbrev pub DependsOnName : Type 0
+DependsOnName =
+    (m n : PlainMap) (op : Op) (d : Name) → domain_of op ≡ Some d → finite.get m d ≡ finite.get n d →
+    ((ask m op).reply ≡ (ask n op).reply) × (finite.get (ask m op).map d ≡ finite.get (ask n op).map d)
+    × ((other : Name) → other ≢ d → finite.get (ask m op).map other ≡ finite.get m other)
+
+-- A reply tells of a change exactly where the map is another one then.
+abbrev pub TellsOfChange : Type 0
+TellsOfChange = (m : PlainMap) (op : Op) → ((ask m op).map ≢ m → is_change (ask m op).reply ≡ true) × (is_change (ask m op).reply ≡ true → (ask m op).map ≢ m)
+
+-- The parts of a map, by the homes of the names, are together the map.
+abbrev pub PartsTogether : Type 0
+PartsTogether = (n : ℕ) (m : PlainMap) → 0 < n → together n (part n m) ≡ m
+
+-- An operation on one name is answered by the part of its home, which it changes as it changes the map; the other parts stay.
+abbrev pub AskedAtHome : Type 0
+AskedAtHome =
+    (n : ℕ) (m : PlainMap) (op : Op) (i : ℕ) → shard_of n op ≡ Some i →
+    ((ask (part n m i) op).reply ≡ (ask m op).reply) × (part n (ask m op).map i ≡ (ask (part n m i) op).map)
+    × ((j : ℕ) → j ≢ i → part n (ask m op).map j ≡ part n m j)

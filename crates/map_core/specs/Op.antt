@@ -1,0 +1,28 @@
+-- What an operation is on, and what it expects to find.
+use Rattle.std.specs.Prelude.{◌==◌, Bool, true, false, Option, Some, None}
+use Rattle.map_core.specs.declared.op.Op.{Op}
+use Rattle.map_core.specs.declared.op.Op.TheVariants.{Set, SetIf, Append, Remove, Get, FetchAll}
+use Rattle.map_core.specs.declared.op.Expect.{Expect}
+use Rattle.map_core.specs.declared.op.Expect.TheVariants.{Absent, Sequence, Unnumbered}
+use Rattle.map_core.specs.Name.{Name}
+
+-- the name that an operation is on; none for a fetch-all
+abbrev pub domain_of : Op → Option Name
+domain_of (Set d b) = Some d
+domain_of (SetIf d expect b) = Some d
+domain_of (Append d a) = Some d
+domain_of (Remove d) = Some d
+domain_of (Get d) = Some d
+domain_of FetchAll = None
+
+-- whether two expectations are the same
+abbrev pub expect_eq : Expect → Expect → Bool
+expect_eq Absent Absent = true
+expect_eq Absent (Sequence t) = false
+expect_eq Absent Unnumbered = false
+expect_eq (Sequence s) Absent = false
+expect_eq (Sequence s) (Sequence t) = s == t
+expect_eq (Sequence s) Unnumbered = false
+expect_eq Unnumbered Absent = false
+expect_eq Unnumbered (Sequence t) = false
+expect_eq Unnumbered Unnumbered = true

@@ -1,0 +1,111 @@
+-- The table of operations on one name: the reply, and what the name holds then, follow from what it held.
+use Rattle.std.specs.Prelude.{ℕ, Bool, false, Option, Some, None, option_map, Result, Ok, Err, nat_lt, if◌then◌else◌}
+use Rattle.spiffe_doc.specs.Authority.{BundleValue}
+use Rattle.spiffe_doc.specs.Equal.{bundle_eq}
+use Rattle.spiffe_doc.specs.Append.{appended}
+use Rattle.spiffe_doc.specs.declared.authority.Authority.{Authority}
+use Rattle.spiffe_doc.specs.declared.error.AppendError.{AppendError}
+use Rattle.spiffe_doc.specs.declared.error.AppendError.TheVariants as cannot
+use Rattle.map_core.specs.declared.op.Op.{Op}
+use Rattle.map_core.specs.declared.op.Op.TheVariants.{Set, SetIf, Append, Remove, Get, FetchAll}
+use Rattle.map_core.specs.declared.op.Expect.{Expect}
+use Rattle.map_core.specs.declared.op.Expect.TheVariants.{Absent, Sequence, Unnumbered}
+use Rattle.map_core.specs.declared.held.Held.{Held}
+use Rattle.map_core.specs.declared.held.Held.TheVariants.{Published, Mark}
+use Rattle.map_core.specs.declared.reply.Reply.{Reply}
+use Rattle.map_core.specs.declared.reply.Reply.TheVariants.{Stored, Unchanged, Appended, Removed, Found, Refused}
+use Rattle.map_core.specs.declared.reply.MapRefusal.TheVariants.{NoDomain, Stale, KidTaken, TooMany, TooLong, SequenceFull, NotExpected}
+use Rattle.map_core.specs.Name.{Name}
+use Rattle.map_core.specs.Op.{expect_eq}
+
+-- what an operation on one name gives: the reply, and what the name holds then
+pub record Outcome : Type 0 where
+  pub reply : Reply
+  pub held : Option Held
+
+-- the name keeps what it held
+abbrev pub kept : Reply → Option Held → Outcome
+kept reply held = record { reply = reply; held = held }
+
+-- the bundle is stored, in place of what the name held
+abbrev pub stored : BundleValue → Outcome
+stored b = record { reply = Stored; held = Some (Published b) }
+
+-- whether both sequences are there and the first is lower
+abbrev pub is_lower : Option ℕ → ℕ → Bool
+is_lower None before = false
+is_lower (Some s) before = nat_lt s before
+
+-- the bundle is stored, unless its sequence is lower than the one before
+abbrev pub stored_after : Option ℕ → BundleValue → Option Held → Outcome
+stored_after None b held = stored b
+stored_after (Some before) b held = if is_lower b.sequence before then kept (Refused (Stale before)) held else stored b
+
+-- Set: a mark is measured as the bundle that it was; an equal bundle stays
+abbrev pub set : BundleValue → Option Held → Outcome
+set b None = stored b
+set b (Some (Mark s)) = stored_after (Some s) b (Some (Mark s))
+set b (Some (Published c)) =
+    if bundle_eq b c then kept Unchanged (Some (Published c)) else stored_after c.sequence b (Some (Published c))
+
+-- the expectation that fits a bundle of this sequence
+abbrev pub numbered : Option ℕ → Expect
+numbered (Some s) = Sequence s
+numbered None = Unnumbered
+
+-- the expectation that fits what is held: a mark is no bundle
+abbrev pub expectation : Option Held → Expect
+expectation None = Absent
+expectation (Some (Mark s)) = Absent
+expectation (Some (Published b)) = numbered b.sequence
+
+-- SetIf: as Set, where the expectation fits
+abbrev pub set_if : Expect → BundleValue → Option Held → Outcome
+set_if expect b held =
+    if expect_eq expect (expectation held) then set b held else kept (Refused (NotExpected (expectation held))) held
+
+-- what is answered where the bundle doesn't take the authority (`appended` never gives Memory)
+abbrev pub not_appended : AppendError → Reply
+not_appended cannot.Present = Unchanged
+not_appended cannot.KidTaken = Refused KidTaken
+not_appended cannot.TooMany = Refused TooMany
+not_appended cannot.SequenceFull = Refused SequenceFull
+not_appended cannot.TooLong = Refused TooLong
+not_appended cannot.Memory = Unchanged
+
+-- the longer bundle is held, if there is one
+abbrev pub append_to : BundleValue → Result BundleValue AppendError → Outcome
+append_to b (Ok longer) = record { reply = Appended longer.sequence; held = Some (Published longer) }
+append_to b (Err why) = kept (not_appended why) (Some (Published b))
+
+-- Append: to a bundle only
+abbrev pub append : Authority → Option Held → Outcome
+append a None = kept (Refused NoDomain) None
+append a (Some (Mark s)) = kept (Refused NoDomain) (Some (Mark s))
+append a (Some (Published b)) = append_to b (appended b a)
+
+-- Remove: the bundle leaves a mark of its sequence, if it has one
+abbrev pub remove : Option Held → Outcome
+remove None = kept (Refused NoDomain) None
+remove (Some (Mark s)) = kept (Refused NoDomain) (Some (Mark s))
+remove (Some (Published b)) = record { reply = Removed; held = option_map Mark b.sequence }
+
+-- Get: the bundle, if there is one
+abbrev pub get : Option Held → Outcome
+get None = kept (Refused NoDomain) None
+get (Some (Mark s)) = kept (Refused NoDomain) (Some (Mark s))
+get (Some (Published b)) = kept (Found b) (Some (Published b))
+
+-- an operation is on one name, by a row of the table, or on all names
+pub data OnName : Type 0 where
+  On_name : Name → (Option Held → Outcome) → OnName
+  On_all : OnName
+
+-- what each operation is on, and its row
+unfoldable pub meaning : Op → OnName
+meaning (Set d b) = On_name d (set b)
+meaning (SetIf d expect b) = On_name d (set_if expect b)
+meaning (Append d a) = On_name d (append a)
+meaning (Remove d) = On_name d remove
+meaning (Get d) = On_name d get
+meaning FetchAll = On_all

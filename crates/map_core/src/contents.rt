@@ -1,0 +1,204 @@
+//! The map of one caller, kept in a `BTreeMap`.
+ghost use Rattle.std.specs.Prelude.{◌≡◌, IfOk, OnOk, IfErr, OnErr, MatchOption, length, true, false, option_copied};
+ghost use Rattle.std.specs.FinMap as finite;
+ghost use Rattle.map_core.specs.Op.{domain_of};
+ghost use Rattle.map_core.specs.Outcome.{reply_of, left_by};
+ghost use Rattle.map_core.specs.PlainMap.{ask, join, bundles};
+ghost use Rattle.map_core.specs.Reply.{is_change};
+
+use crate::held::Held;
+use crate::op::Op;
+use crate::reply::{AskError, Reply, Snapshot};
+use crate::table;
+use crate::table::Outcome;
+use spiffe_doc::TrustDomain;
+use std::alloc::{AllocError, Global};
+use std::collections::BTreeMap;
+use std::marker::Model;
+
+/// Bundles, and marks of removed ones, under the names of trust domains. Clauses see it as a plain map.
+#[derive(Drop)]
+pub struct Contents {
+    alloc: Global,
+    held: BTreeMap<TrustDomain, Held>,
+}
+
+impl Model for Contents {
+    ghost use Rattle.std.specs.FinMap as finite;
+    ghost use Rattle.map_core.specs.Codes.{plain_map_code};
+    ghost use Rattle.map_core.specs.PlainMap.{PlainMap};
+
+    ghost Value = { PlainMap };
+
+    ghost coded = { plain_map_code };
+
+    ghost view = { λ contents. finite.from_entries contents.held.entries };
+}
+
+impl Contents {
+    /// The empty map.
+    pub fn new(alloc: Global) -> Contents
+        ensures { result ≡ finite.empty }
+    {
+        Contents {
+            alloc,
+            held: BTreeMap::new(alloc),
+        }
+    }
+
+    /// Answers an operation as the plain map does. Where memory runs out, nothing has changed.
+    pub fn ask(&mut self, op: Op) -> Result<Reply, AskError>
+        ensures reply { IfOk result (λ reply. reply ≡ (ask self.old op).reply) }
+        ensures left { OnOk result (self.new ≡ (ask self.old op).map) }
+        ensures refused { IfErr result (λ e. e ≡ AskError.Memory) }
+        ensures err { OnErr result (self.new ≡ self.old) }
+    {
+        let outcome = self.outcome(&op)?;
+        Ok(self.settle(op.into_domain(), outcome)?)
+    }
+
+    /// The reply to the operation and, where it tells of a change, the map after it. This map stays as it is.
+    pub fn asked(&self, op: &Op) -> Result<(Reply, Option<Contents>), AllocError>
+        ensures reply { IfOk result (λ asked. asked.0 ≡ (ask self.now op.now).reply) }
+        ensures left { IfOk result (λ asked. MatchOption asked.1
+            (is_change asked.0 ≡ false)
+            (λ after. (is_change asked.0 ≡ true) × (after ≡ (ask self.now op.now).map))) }
+    {
+        let outcome = self.outcome(op)?;
+        if !outcome.is_change() {
+            return Ok((outcome.into_reply(), None));
+        }
+        let mut after = self.copy()?;
+        let domain = match op.domain() {
+            Some(domain) => Some(domain.copy()?),
+            None => None,
+        };
+        let reply = after.settle(domain, outcome)?;
+        Ok((reply, Some(after)))
+    }
+
+    /// Whether the operation would change the map. An append is tried on the bundle, which may want memory.
+    pub fn would_change(&self, op: &Op) -> Result<bool, AllocError>
+        ensures { IfOk result (λ changes. changes ≡ is_change (ask self.now op.now).reply) }
+    {
+        match op {
+            Op::Get(_) => Ok(false),
+            Op::FetchAll => Ok(false),
+            _ => Ok(self.outcome(op)?.is_change()),
+        }
+    }
+
+    /// How many bundles there are. Marks don't count.
+    pub fn len(&self) -> usize
+        ensures { result ≡ length (bundles self.now) }
+    {
+        self.held
+            .values()
+            .filter(|held| held.is_published())
+            .count()
+    }
+
+    /// The same map. Its bundles are shared.
+    pub fn copy(&self) -> Result<Contents, AllocError>
+        ensures { IfOk result (λ copy. copy ≡ self.now) }
+    {
+        Contents::new(self.alloc).join(self)
+    }
+
+    /// What the other holds, and under other names what this one holds.
+    pub fn join(mut self, other: &Contents) -> Result<Contents, AllocError>
+        ensures { IfOk result (λ joined. joined ≡ join self other.now) }
+    {
+        self.take_in(other)?;
+        Ok(self)
+    }
+
+    /// Holds what the other holds too.
+    fn take_in(&mut self, other: &Contents) -> Result<(), AllocError>
+        ensures { OnOk result (self.new ≡ join self.old other.now) }
+    {
+        for (domain, held) in other.held.iter() {
+            let domain = domain.copy()?;
+            let held = held.copy()?;
+            self.store(domain, held)?;
+        }
+        Ok(())
+    }
+
+    /// What the operation gives.
+    fn outcome(&self, op: &Op) -> Result<Outcome, AllocError>
+        ensures reply { IfOk result (λ outcome. reply_of outcome ≡ (ask self.now op.now).reply) }
+        ensures left { IfOk result (λ outcome. left_by self.now (domain_of op.now) outcome ≡ (ask self.now op.now).map) }
+    {
+        match op {
+            Op::Set(domain, bundle) => Ok(table::set(self.at(domain), bundle.copy()?)),
+            Op::SetIf(domain, expect, bundle) => {
+                Ok(table::set_if(self.at(domain), *expect, bundle.copy()?))
+            }
+            Op::Append(domain, authority) => table::append(self.alloc, self.at(domain), authority),
+            Op::Remove(domain) => Ok(table::remove(self.at(domain))),
+            Op::Get(domain) => table::get(self.at(domain)),
+            Op::FetchAll => Ok(Outcome::Kept(Reply::All(self.snapshot()?))),
+        }
+    }
+
+    /// Leaves what an operation leaves, under the name that it was on.
+    fn settle(&mut self, domain: Option<TrustDomain>, outcome: Outcome) -> Result<Reply, AllocError>
+        ensures reply { IfOk result (λ reply. reply ≡ reply_of outcome) }
+        ensures left { OnOk result (self.new ≡ left_by self.old domain outcome) }
+        ensures err { OnErr result (self.new ≡ self.old) }
+    {
+        let Some(domain) = domain else {
+            return Ok(outcome.into_reply());
+        };
+        match outcome {
+            Outcome::Kept(reply) => Ok(reply),
+            Outcome::Put(reply, held) => {
+                self.store(domain, held)?;
+                Ok(reply)
+            }
+            Outcome::Cleared(reply) => {
+                self.clear(&domain);
+                Ok(reply)
+            }
+        }
+    }
+
+    /// All bundles with their names, in order.
+    fn snapshot(&self) -> Result<Snapshot, AllocError>
+        ensures { IfOk result (λ all. all ≡ bundles self.now) }
+    {
+        let mut pairs = Vec::with_capacity(self.alloc, self.len())?;
+        for (domain, held) in self.held.iter() {
+            if let Held::Published(bundle) = held {
+                pairs.push((domain.copy()?, bundle.copy()?))?;
+            }
+        }
+        Ok(Snapshot::from_pairs(pairs))
+    }
+
+    /// What is held under the name.
+    fn at(&self, domain: &TrustDomain) -> Option<&Held>
+        ensures { option_copied result ≡ finite.get self.now domain.now }
+    {
+        self.held.get(domain)
+    }
+
+    /// Holds this under the name.
+    fn store(&mut self, domain: TrustDomain, held: Held) -> Result<(), AllocError>
+        ensures ok { OnOk result (self.new ≡ finite.insert self.old domain held) }
+        ensures err { OnErr result (self.new ≡ self.old) }
+    {
+        match self.held.insert(domain, held) {
+            Ok(_) => Ok(()),
+            Err(_) => Err(AllocError),
+        }
+    }
+
+    /// Holds nothing under the name.
+    fn clear(&mut self, domain: &TrustDomain)
+        ensures { self.new ≡ finite.remove self.old domain.now }
+    {
+        self.held.remove(domain);
+    }
+}

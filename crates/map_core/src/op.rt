@@ -1,0 +1,90 @@
+//! What is asked of a map of trust bundles.
+ghost use Rattle.std.specs.Prelude.{◌≡◌, IfOk, option_copied};
+ghost use Rattle.map_core.specs.Op.{domain_of};
+
+use spiffe_doc::{Authority, Bundle, TrustDomain};
+use std::alloc::AllocError;
+use std::fmt;
+use std::fmt::{Display, Formatter, Write};
+
+/// What a caller of `SetIf` expects to find under a name.
+#[derive(Clone, Copy, Debug, PartialEq, Eq, Drop)]
+pub enum Expect {
+    /// No bundle; a mark may stand there.
+    Absent,
+    /// A bundle of this sequence.
+    Sequence(u64),
+    /// A bundle without a sequence.
+    Unnumbered,
+}
+
+impl Display for Expect {
+    fn fmt<W: Write>(&self, f: &mut Formatter<W>) -> fmt::Result {
+        match self {
+            Expect::Absent => write!(f, "no bundle"),
+            Expect::Sequence(sequence) => write!(f, "a bundle of sequence {sequence}"),
+            Expect::Unnumbered => write!(f, "a bundle without a sequence"),
+        }
+    }
+}
+
+/// An operation. All but `FetchAll` are on one name.
+#[derive(Drop)]
+pub enum Op {
+    /// Stores the bundle, unless an equal one stands there or its sequence is lower than the one that stands
+    /// there or was removed.
+    Set(TrustDomain, Bundle),
+    /// As `Set`, where what stands there is what the caller expects.
+    SetIf(TrustDomain, Expect, Bundle),
+    /// Puts one more authority at the end of the bundle; a present sequence rises by one.
+    Append(TrustDomain, Authority),
+    /// Takes the bundle away, and keeps a mark of its sequence.
+    Remove(TrustDomain),
+    /// Asks for the bundle of the name.
+    Get(TrustDomain),
+    /// Asks for all bundles as they stand together.
+    FetchAll,
+}
+
+impl Op {
+    /// The same operation. Its bundle is shared.
+    pub fn copy(&self) -> Result<Op, AllocError>
+        ensures { IfOk result (λ copy. copy ≡ self.now) }
+    {
+        match self {
+            Op::Set(domain, bundle) => Ok(Op::Set(domain.copy()?, bundle.copy()?)),
+            Op::SetIf(domain, expect, bundle) => {
+                Ok(Op::SetIf(domain.copy()?, *expect, bundle.copy()?))
+            }
+            Op::Append(domain, authority) => Ok(Op::Append(domain.copy()?, authority.copy()?)),
+            Op::Remove(domain) => Ok(Op::Remove(domain.copy()?)),
+            Op::Get(domain) => Ok(Op::Get(domain.copy()?)),
+            Op::FetchAll => Ok(Op::FetchAll),
+        }
+    }
+
+    /// The name that the operation is on; none for a fetch-all.
+    pub fn domain(&self) -> Option<&TrustDomain>
+        ensures { option_copied result ≡ domain_of self.now }
+    {
+        match self {
+            Op::Set(domain, _) | Op::SetIf(domain, _, _) | Op::Append(domain, _) => Some(domain),
+            Op::Remove(domain) | Op::Get(domain) => Some(domain),
+            Op::FetchAll => None,
+        }
+    }
+
+    /// The name that the operation was on; none for a fetch-all.
+    pub fn into_domain(self) -> Option<TrustDomain>
+        ensures { result ≡ domain_of self }
+    {
+        match self {
+            Op::Set(domain, _) => Some(domain),
+            Op::SetIf(domain, _, _) => Some(domain),
+            Op::Append(domain, _) => Some(domain),
+            Op::Remove(domain) => Some(domain),
+            Op::Get(domain) => Some(domain),
+            Op::FetchAll => None,
+        }
+    }
+}

@@ -1,0 +1,488 @@
+//! Worked examples of the plain map. A row is what is asked and, beside it, what is answered.
+use crate::{Ask, AskError, Contents, Expect, Held, MapRefusal, Op, Reply, Snapshot};
+use spiffe_doc::{Authority, Bundle, TrustDomain, read_document, read_entry};
+use std::alloc::{AllocError, Global};
+use std::test::Fail;
+
+/// One JWT authority, written as its key ID and the modulus of its key: `k:AQAB`.
+fn entry_text(alloc: Global, word: &str) -> Result<String, Fail> {
+    let Some((kid, n)) = word.split_once(':') else {
+        return Err(Fail::from("an entry is a key ID, a colon and a modulus"));
+    };
+    Ok(format!(in alloc;
+        "{{\"use\":\"jwt-svid\",\"kty\":\"RSA\",\"n\":\"{n}\",\"e\":\"AQAB\",\"kid\":\"{kid}\"}}"
+    )?)
+}
+
+fn authority(alloc: Global, word: &str) -> Result<Authority, Fail> {
+    let text = entry_text(alloc, word)?;
+    match read_entry(alloc, text.as_bytes())? {
+        Some(authority) => Ok(authority),
+        None => Err(Fail::from("the entry is passed over")),
+    }
+}
+
+/// A bundle, written as its sequence or `-`, and after a slash its authorities: `5/k:AQAB,l:AQAB`.
+fn bundle(alloc: Global, word: &str) -> Result<Bundle, Fail> {
+    let (sequence, entries) = word.split_once('/').unwrap_or((word, ""));
+    let mut text = String::from_str(alloc, "{\"keys\":[")?;
+    let mut rest = entries;
+    for count in 0..entries.len() {
+        let (entry, others) = rest.split_once(',').unwrap_or((rest, ""));
+        if entry.is_empty() {
+            break;
+        }
+        if count > 0 {
+            text.push(',')?;
+        }
+        text.push_str(entry_text(alloc, entry)?.as_str())?;
+        rest = others;
+    }
+    if sequence == "-" {
+        text.push_str("]}")?;
+    } else {
+        text.push_str(format!(in alloc; "],\"spiffe_sequence\":{sequence}}}")?.as_str())?;
+    }
+    Ok(read_document(alloc, text.as_bytes())?)
+}
+
+fn expect(word: &str) -> Result<Expect, Fail> {
+    match word {
+        "absent" => Ok(Expect::Absent),
+        "none" => Ok(Expect::Unnumbered),
+        _ => Ok(Expect::Sequence(word.parse()?)),
+    }
+}
+
+/// The operation of a line: `set a 5`, `setif a absent 5`, `append a k:AQAB`, `remove a`, `get a` or `fetch`.
+fn operation(alloc: Global, line: &str) -> Result<Op, Fail> {
+    let (verb, rest) = line.split_once(' ').unwrap_or((line, ""));
+    let (name, rest) = rest.split_once(' ').unwrap_or((rest, ""));
+    if verb == "fetch" {
+        return Ok(Op::FetchAll);
+    }
+    let domain = TrustDomain::parse(alloc, name)?;
+    match verb {
+        "set" => Ok(Op::Set(domain, bundle(alloc, rest)?)),
+        "setif" => {
+            let (expected, rest) = rest.split_once(' ').unwrap_or((rest, ""));
+            Ok(Op::SetIf(domain, expect(expected)?, bundle(alloc, rest)?))
+        }
+        "append" => Ok(Op::Append(domain, authority(alloc, rest)?)),
+        "remove" => Ok(Op::Remove(domain)),
+        "get" => Ok(Op::Get(domain)),
+        _ => Err(Fail::from("no operation has this name")),
+    }
+}
+
+fn sequence_text(alloc: Global, sequence: Option<u64>) -> Result<String, AllocError> {
+    match sequence {
+        Some(sequence) => format!(in alloc; "{sequence}"),
+        None => format!(in alloc; "-"),
+    }
+}
+
+fn bundle_text(alloc: Global, bundle: &Bundle) -> Result<String, AllocError> {
+    let sequence = sequence_text(alloc, bundle.sequence())?;
+    let count = bundle.authorities().len();
+    format!(in alloc; "{sequence}/{count}")
+}
+
+fn refusal_text(alloc: Global, why: MapRefusal) -> Result<String, AllocError> {
+    let number = why.number();
+    match why {
+        MapRefusal::Stale(sequence) => format!(in alloc; "refused {number} {sequence}"),
+        MapRefusal::NotExpected(found) => format!(in alloc; "refused {number} {found}"),
+        _ => format!(in alloc; "refused {number}"),
+    }
+}
+
+fn snapshot_text(alloc: Global, all: &Snapshot) -> Result<String, AllocError> {
+    let mut text = format!(in alloc; "all {}", all.len())?;
+    for (domain, bundle) in all.pairs() {
+        text.push(' ')?;
+        text.push_str(domain.as_str())?;
+        text.push(' ')?;
+        text.push_str(bundle_text(alloc, bundle)?.as_str())?;
+    }
+    Ok(text)
+}
+
+/// A reply, with a bundle as its sequence and the number of its authorities.
+fn reply_text(alloc: Global, reply: &Reply) -> Result<String, AllocError> {
+    match reply {
+        Reply::Stored => format!(in alloc; "stored"),
+        Reply::Unchanged => format!(in alloc; "unchanged"),
+        Reply::Appended(sequence) => {
+            let sequence = sequence_text(alloc, *sequence)?;
+            format!(in alloc; "appended {sequence}")
+        }
+        Reply::Removed => format!(in alloc; "removed"),
+        Reply::Found(bundle) => {
+            let bundle = bundle_text(alloc, bundle)?;
+            format!(in alloc; "found {bundle}")
+        }
+        Reply::All(all) => snapshot_text(alloc, all),
+        Reply::Refused(why) => refusal_text(alloc, *why),
+    }
+}
+
+/// Asks whoever keeps the map. Where memory runs out nothing has changed, so it is asked again.
+fn answer<A: Ask>(map: &mut A, op: Op) -> Result<Reply, Fail> {
+    let again = op.copy()?;
+    match map.ask(op) {
+        Ok(reply) => Ok(reply),
+        Err(AskError::Memory) => Ok(map.ask(again)?),
+        Err(other) => Err(Fail::from(other)),
+    }
+}
+
+/// One row: the reply is the expected one, and what is told beforehand agrees with it.
+fn play_row(alloc: Global, map: &mut Contents, line: &str, expected: &str) -> Result<(), Fail> {
+    let op = operation(alloc, line)?;
+    let changes = map.would_change(&op)?;
+    let (told, after) = map.asked(&op)?;
+    let reply = answer(map, op)?;
+    let text = reply_text(alloc, &reply)?;
+    let len = match &after {
+        Some(after) => after.len(),
+        None => map.len(),
+    };
+    if text.as_str() != expected {
+        return Err(Fail::from(format!(in alloc; "{line}: {text}, and not {expected}")?));
+    }
+    if reply_text(alloc, &told)?.as_str() != expected || changes != reply.is_change() {
+        return Err(Fail::from(format!(in alloc; "{line}: something else was told before")?));
+    }
+    if after.is_some() != changes || len != map.len() {
+        return Err(Fail::from(format!(in alloc; "{line}: another map was told before")?));
+    }
+    Ok(())
+}
+
+fn play(alloc: Global, map: &mut Contents, rows: &[(&str, &str)]) -> Result<(), Fail> {
+    for (line, expected) in rows {
+        play_row(alloc, map, line, expected)?;
+    }
+    Ok(())
+}
+
+/// Plays the rows on an empty map.
+fn play_new(alloc: Global, rows: &[(&str, &str)]) -> Result<(), Fail> {
+    let mut map = Contents::new(alloc);
+    play(alloc, &mut map, rows)
+}
+
+#[test]
+fn sets_by_sequence(rt: HostRuntime) -> Result<(), Fail> {
+    let rows = [
+        ("set a 5", "stored"),
+        ("set a 4", "refused 31 5"),
+        ("get a", "found 5/0"),
+        ("set a 5/k:AQAB", "stored"),
+        ("set a 5/k:AQAB", "unchanged"),
+        ("set a -", "stored"),
+        ("set a -", "unchanged"),
+        ("set a 0", "stored"),
+    ];
+    play_new(rt.alloc(), &rows)
+}
+
+#[test]
+fn sets_where_expected(rt: HostRuntime) -> Result<(), Fail> {
+    let rows = [
+        ("setif a absent 7", "stored"),
+        ("setif a absent 7", "refused 36 a bundle of sequence 7"),
+        ("setif a 7 8", "stored"),
+        ("setif a 8 3", "refused 31 8"),
+        ("setif a 8 8", "unchanged"),
+        ("remove a", "removed"),
+        ("setif a absent 3", "refused 31 8"),
+        ("setif a none 3", "refused 36 no bundle"),
+        ("setif a 8 9", "refused 36 no bundle"),
+        ("setif a absent -", "stored"),
+        ("setif a 0 9", "refused 36 a bundle without a sequence"),
+        ("setif a none 9", "stored"),
+        ("get a", "found 9/0"),
+    ];
+    play_new(rt.alloc(), &rows)
+}
+
+#[test]
+fn remembers_removed_sequences(rt: HostRuntime) -> Result<(), Fail> {
+    let rows = [
+        ("set a 5", "stored"),
+        ("remove a", "removed"),
+        ("get a", "refused 30"),
+        ("set a 4", "refused 31 5"),
+        ("append a k:AQAB", "refused 30"),
+        ("remove a", "refused 30"),
+        ("set a 4", "refused 31 5"),
+        ("set a 5", "stored"),
+        ("remove a", "removed"),
+        ("set a -", "stored"),
+        ("remove a", "removed"),
+        ("set a 1", "stored"),
+    ];
+    play_new(rt.alloc(), &rows)
+}
+
+#[test]
+fn appends(rt: HostRuntime) -> Result<(), Fail> {
+    let rows = [
+        ("append a k:AQAB", "refused 30"),
+        ("set a 9", "stored"),
+        ("append a k:AQAB", "appended 10"),
+        ("append a k:AQAB", "unchanged"),
+        ("append a k:AQAC", "refused 32"),
+        ("append a l:AQAB", "appended 11"),
+        ("get a", "found 11/2"),
+        ("set b -", "stored"),
+        ("append b k:AQAB", "appended -"),
+        ("set c 18446744073709551615", "stored"),
+        ("append c k:AQAB", "refused 35"),
+        ("get c", "found 18446744073709551615/0"),
+    ];
+    play_new(rt.alloc(), &rows)
+}
+
+#[test]
+fn shows_bundles_in_order(rt: HostRuntime) -> Result<(), Fail> {
+    let rows = [
+        ("fetch", "all 0"),
+        ("get a", "refused 30"),
+        ("remove a", "refused 30"),
+        ("set b -", "stored"),
+        ("set a.b 2", "stored"),
+        ("set a 1", "stored"),
+        ("set a-b 3/k:AQAB", "stored"),
+        ("set 0 -", "stored"),
+        ("fetch", "all 5 0 -/0 a 1/0 a-b 3/1 a.b 2/0 b -/0"),
+        ("remove a-b", "removed"),
+        ("remove b", "removed"),
+        ("fetch", "all 3 0 -/0 a 1/0 a.b 2/0"),
+    ];
+    let mut map = Contents::new(rt.alloc());
+    play(rt.alloc(), &mut map, &rows)?;
+    assert_eq!(rt; map.len(), 3);
+    Ok(())
+}
+
+/// A document of so many authorities, whose moduli are this text.
+fn many(alloc: Global, count: usize, n: &str) -> Result<Bundle, Fail> {
+    let mut text = String::from_str(alloc, "{\"keys\":[")?;
+    for i in 0..count {
+        if i > 0 {
+            text.push(',')?;
+        }
+        text.push_str(entry_text(alloc, format!(in alloc; "k{i:04}:{n}")?.as_str())?.as_str())?;
+    }
+    text.push_str("]}")?;
+    Ok(read_document(alloc, text.as_bytes())?)
+}
+
+fn letters(alloc: Global, count: usize) -> Result<String, AllocError> {
+    let mut text = String::new(alloc);
+    for _ in 0..count {
+        text.push('A')?;
+    }
+    Ok(text)
+}
+
+#[test]
+fn takes_so_many_authorities(rt: HostRuntime) -> Result<(), Fail> {
+    let alloc = rt.alloc();
+    let mut map = Contents::new(alloc);
+    let domain = TrustDomain::parse(alloc, "a")?;
+    answer(&mut map, Op::Set(domain, many(alloc, 1023, "AQAB")?))?;
+    let rows = [
+        ("append a last:AQAB", "appended -"),
+        ("append a more:AQAB", "refused 33"),
+        ("append a last:AQAB", "unchanged"),
+        ("append a last:AQAC", "refused 32"),
+        ("get a", "found -/1024"),
+    ];
+    play(alloc, &mut map, &rows)
+}
+
+/// A modulus of 1,024 bytes is 1,366 letters and its entry 1,428 bytes, so 733 of them are a text of 1,047,467
+/// bytes and 734 would be too long.
+#[test]
+fn takes_so_long_a_text(rt: HostRuntime) -> Result<(), Fail> {
+    let alloc = rt.alloc();
+    let mut map = Contents::new(alloc);
+    let n = letters(alloc, 1366)?;
+    let domain = TrustDomain::parse(alloc, "a")?;
+    let full = many(alloc, 733, n.as_str())?;
+    assert_eq!(rt; full.text_len(), 1047467);
+    answer(&mut map, Op::Set(domain, full))?;
+    let line = format!(in alloc; "append a k9999:{n}")?;
+    let rows = [
+        (line.as_str(), "refused 34"),
+        ("append a k9999:AQAB", "appended -"),
+    ];
+    play(alloc, &mut map, &rows)
+}
+
+#[test]
+fn shows_a_thousand_names_in_order(rt: HostRuntime) -> Result<(), Fail> {
+    let alloc = rt.alloc();
+    let mut map = Contents::new(alloc);
+    for i in 0..1000u64 {
+        let number = i * 7 % 1000;
+        let domain = TrustDomain::parse(alloc, format!(in alloc; "n{number:03}")?.as_str())?;
+        answer(
+            &mut map,
+            Op::Set(
+                domain,
+                bundle(alloc, format!(in alloc; "{number}")?.as_str())?,
+            ),
+        )?;
+    }
+    assert_eq!(rt; map.len(), 1000);
+    let Reply::All(all) = answer(&mut map, Op::FetchAll)? else {
+        return Err(Fail::from("a fetch-all is answered otherwise"));
+    };
+    assert_eq!(rt; all.len(), 1000);
+    let mut next = 0;
+    for (domain, bundle) in &all.into_pairs() {
+        assert_eq!(rt; domain.as_str(), format!(in alloc; "n{next:03}")?.as_str());
+        assert_eq!(rt; bundle.sequence(), Some(next));
+        next = next.wrapping_add(1);
+    }
+    Ok(())
+}
+
+#[test]
+fn copies_and_joins(rt: HostRuntime) -> Result<(), Fail> {
+    let alloc = rt.alloc();
+    let mut first = Contents::new(alloc);
+    let mut second = Contents::new(alloc);
+    play(
+        alloc,
+        &mut first,
+        &[
+            ("set a 1", "stored"),
+            ("set b 2", "stored"),
+            ("set c 3", "stored"),
+        ],
+    )?;
+    play(
+        alloc,
+        &mut second,
+        &[
+            ("set b 9", "stored"),
+            ("set c 4", "stored"),
+            ("remove c", "removed"),
+        ],
+    )?;
+    let mut copy = first.copy()?;
+    play(
+        alloc,
+        &mut copy,
+        &[("remove a", "removed"), ("fetch", "all 2 b 2/0 c 3/0")],
+    )?;
+    let mut joined = first.join(&second)?;
+    play(
+        alloc,
+        &mut joined,
+        &[("fetch", "all 2 a 1/0 b 9/0"), ("set c 3", "refused 31 4")],
+    )
+}
+
+#[test]
+fn parts_of_operations_and_replies(rt: HostRuntime) -> Result<(), Fail> {
+    let alloc = rt.alloc();
+    let lines = [
+        "set a 1",
+        "setif a none 1",
+        "append a k:AQAB",
+        "remove a",
+        "get a",
+    ];
+    for line in lines {
+        let op = operation(alloc, line)?;
+        assert_eq!(rt; op.domain().map(|domain| domain.as_str()), Some("a"));
+        let domain = op.into_domain();
+        assert_eq!(rt; domain.as_ref().map(|domain| domain.as_str()), Some("a"));
+    }
+    assert!(rt; Op::FetchAll.domain().is_none());
+    assert!(rt; Op::FetchAll.into_domain().is_none());
+    assert!(rt; Held::Published(bundle(alloc, "5")?).copy()?.is_published());
+    assert!(rt; !Held::Mark(5).copy()?.is_published());
+    let mut pairs = Vec::new(alloc);
+    pairs.push((TrustDomain::parse(alloc, "a")?, bundle(alloc, "5")?))?;
+    let all = Reply::All(Snapshot::from_pairs(pairs));
+    assert_eq!(rt; reply_text(alloc, &all)?.as_str(), "all 1 a 5/0");
+    Ok(())
+}
+
+#[test]
+fn numbers_and_texts_of_errors(rt: HostRuntime) -> Result<(), Fail> {
+    let alloc = rt.alloc();
+    let refusals = [
+        (MapRefusal::NoDomain, 30, "no bundle stands under the name"),
+        (
+            MapRefusal::Stale(5),
+            31,
+            "the sequence is lower than 5, which the name had",
+        ),
+        (
+            MapRefusal::KidTaken,
+            32,
+            "the key ID stands there with another key",
+        ),
+        (
+            MapRefusal::TooMany,
+            33,
+            "the bundle has as many authorities as it may have",
+        ),
+        (MapRefusal::TooLong, 34, "the document would be too long"),
+        (
+            MapRefusal::SequenceFull,
+            35,
+            "the sequence is the greatest that there is",
+        ),
+        (
+            MapRefusal::NotExpected(Expect::Sequence(7)),
+            36,
+            "what stands there is not what was expected: it is a bundle of sequence 7",
+        ),
+    ];
+    for (refusal, number, text) in refusals {
+        assert_eq!(rt; refusal.number(), number);
+        assert_eq!(rt; format!(in alloc; "{refusal}")?.as_str(), text);
+    }
+    let moved = AskError::Moved {
+        shard: 3,
+        first: 0,
+        second: 2,
+    };
+    let errors = [
+        (AskError::Memory, 22, "out of memory"),
+        (
+            AskError::Worn { shard: 3 },
+            40,
+            "shard 3 has used up its revisions",
+        ),
+        (
+            moved,
+            41,
+            "shard 3 moved from revision 0 to 2 before all shards were read",
+        ),
+        (
+            AskError::Held {
+                shard: 3,
+                revision: 2,
+            },
+            42,
+            "shard 3 is held at revision 2",
+        ),
+        (AskError::GateShut, 56, "the gate is shut"),
+    ];
+    for (error, number, text) in errors {
+        assert_eq!(rt; error.number(), number);
+        assert_eq!(rt; format!(in alloc; "{error}")?.as_str(), text);
+    }
+    Ok(())
+}
