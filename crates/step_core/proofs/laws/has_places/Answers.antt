@@ -1,0 +1,5 @@
+use Rattle.step_core.proofs.OneMoment.{has_places}
+use Rattle.step_core.proofs.laws.has_places.Goals as goal
+
+pub returns : goal.returns
+returns c = has_places

@@ -1,0 +1,57 @@
+-- What a list of shards tells an operation, and what it leaves of them.
+use Rattle.std.specs.Prelude.{◌≡◌, ℕ, Bool, true, false, ◌&&◌, ◌==◌, List, [], ◌∷◌, ◌++◌, length, get_or, slice_set, Option, Some, None, Result}
+use Rattle.map_core.specs.declared.reply.AskError.{AskError}
+use Rattle.map_core.specs.declared.reply.Reply.{Reply}
+use Rattle.step_core.specs.declared.trace.OpRecord.{OpRecord}
+use Rattle.map_core.specs.declared.op.Op.{Op}
+use Rattle.step_core.specs.Shard.{Version, reading, step_on, of_shard}
+use Rattle.step_core.specs.Phase.{Told, Replied, Seen, Revision}
+use Rattle.step_core.specs.declared.task.Want.{Want}
+use Rattle.step_core.specs.declared.task.Want.TheVariants as want
+
+abbrev pub told_by : List Version → Op → Want → Told
+told_by shards op (want.Do i) = Replied (of_shard i (step_on (reading shards i) op).answer)
+told_by shards op (want.Collect i) = Seen (reading shards i)
+told_by shards op (want.Confirm i) = Revision (reading shards i).revision
+told_by shards op want.Done = Revision 0
+
+abbrev pub left_by : List Version → Op → Want → List Version
+left_by shards op (want.Do i) = slice_set shards i (step_on (reading shards i) op).shard
+left_by shards op (want.Collect i) = shards
+left_by shards op (want.Confirm i) = shards
+left_by shards op want.Done = shards
+
+-- the numbers that stand in the list; an operation that gave up its point has left its place empty
+abbrev pub taken : List (Option ℕ) → List ℕ
+taken [] = []
+taken (None ∷ points) = taken points
+taken (Some number ∷ points) = number ∷ taken points
+
+-- whether the number stands here
+abbrev pub holds : Option ℕ → ℕ → Bool
+holds None number = false
+holds (Some x) number = x == number
+
+-- the number stands at this place and nowhere else, if the operation has its point
+abbrev pub IsPlaced : List (Option ℕ) → ℕ → Bool → ℕ → Type 0
+IsPlaced points number has place = (i : ℕ) → holds (get_or points i None) number ≡ (has && (i == place))
+
+-- the points after an operation has gone on, whose own stood at this place
+abbrev pub repointed_list : Bool → Bool → ℕ → ℕ → List (Option ℕ) → List (Option ℕ)
+repointed_list false false number place points = points
+repointed_list false true number place points = points ++ Some number ∷ []
+repointed_list true false number place points = slice_set points place None
+repointed_list true true number place points = points
+
+-- and the place of its own
+abbrev pub place_after : Bool → Bool → ℕ → List (Option ℕ) → ℕ
+place_after false true place points = length points
+place_after had has place points = place
+
+-- a record of an operation that has gone on
+abbrev pub marked : OpRecord → Bool → OpRecord
+marked r wrote = record { caller = r.caller; op = r.op; first = r.first; last = r.last; reply = r.reply; wrote = wrote }
+
+-- a record of an operation that has ended
+abbrev pub ended : OpRecord → ℕ → Result Reply AskError → OpRecord
+ended r now reply = record { caller = r.caller; op = r.op; first = r.first; last = Some now; reply = Some reply; wrote = r.wrote }

@@ -1,0 +1,15 @@
+pub mod Shard
+pub mod Codes
+pub mod Phase
+pub mod TaskView
+pub mod Task
+pub mod World
+pub mod Run
+pub mod Legal
+pub mod Trace
+pub mod Laws
+pub mod Disturbance
+pub mod Shards
+pub mod ShardsPlain
+pub mod Driver
+pub mod Shown

@@ -1,0 +1,113 @@
+-- One operation by itself: how far it is, what it wants to be told, and what it does with that.
+use Rattle.std.specs.Prelude.{ℕ, ◌+◌, ◌==◌, Bool, true, false, cond, List, [], ◌∷◌, ◌++◌, length, Option, Some, None, Result, Ok, Err}
+use Rattle.map_core.specs.declared.op.Op.{Op}
+use Rattle.map_core.specs.declared.op.Op.TheVariants.{FetchAll}
+use Rattle.map_core.specs.declared.reply.Reply.{Reply}
+use Rattle.map_core.specs.declared.reply.AskError.{AskError}
+use Rattle.map_core.specs.declared.reply.AskError.TheVariants.{Moved}
+use Rattle.map_core.specs.Reply.{is_change}
+use Rattle.map_core.specs.PlainMap.{ask, shard_of, together}
+use Rattle.step_core.specs.declared.task.Want.{Want}
+use Rattle.step_core.specs.declared.task.Want.TheVariants as want
+use Rattle.step_core.specs.Shard.{Version, reading}
+
+-- how far an operation is
+pub data Phase : Type 0 where
+  Idle : Phase
+  -- it waits for a step of this shard
+  Waiting : ℕ → Phase
+  -- the round, and the readings so far
+  Collecting : ℕ → List Version → Phase
+  -- the round, all readings, and how many are confirmed
+  Confirming : ℕ → List Version → ℕ → Phase
+  Done : Result Reply AskError → Phase
+
+-- what an operation under way is told: the answer of its step, a shard as it was read, or a shard's revision
+pub data Told : Type 0 where
+  Replied : Result Reply AskError → Told
+  Seen : Version → Told
+  Revision : ℕ → Told
+
+-- where an operation begins: one on a name at its shard, a fetch-all in the first round
+abbrev pub begun_at : Option ℕ → Phase
+begun_at (Some i) = Waiting i
+begun_at None = Collecting 1 []
+
+abbrev pub begun : ℕ → Op → Phase
+begun n op = begun_at (shard_of n op)
+
+-- what it wants to be told next
+abbrev pub wants : Phase → Want
+wants Idle = want.Done
+wants (Waiting i) = want.Do i
+wants (Collecting round readings) = want.Collect (length readings)
+wants (Confirming round readings k) = want.Confirm k
+wants (Done reply) = want.Done
+
+-- after one more reading: with n readings all are to be confirmed
+abbrev pub collected : ℕ → ℕ → List Version → Phase
+collected n round readings = cond (length readings == n) (Confirming round readings 0) (Collecting round readings)
+
+-- the reply of a fetch-all that was confirmed: the plain map's, on the parts together
+abbrev pub fetched : ℕ → List Version → Reply
+fetched n readings = (ask (together n (λ j. (reading readings j).part)) FetchAll).reply
+
+abbrev pub confirmed : ℕ → ℕ → List Version → ℕ → Phase
+confirmed n round readings k = cond (k == n) (Done (Ok (fetched n readings))) (Confirming round readings k)
+
+-- a round that met another revision: all readings are thrown away, and the last round ends the operation
+abbrev pub disturbed : ℕ → ℕ → ℕ → ℕ → ℕ → Phase
+disturbed rounds round k first second = cond (round == rounds) (Done (Err (Moved k first second))) (Collecting (round + 1) [])
+
+-- the revision of shard k is compared with the one that was read
+abbrev pub confirm : ℕ → ℕ → ℕ → List Version → ℕ → ℕ → Phase
+confirm n rounds round readings k now =
+    cond ((reading readings k).revision == now) (confirmed n round readings (k + 1)) (disturbed rounds round k (reading readings k).revision now)
+
+-- after it was told what it wanted; anything else changes nothing
+abbrev pub give : ℕ → ℕ → Phase → Told → Phase
+give n rounds (Waiting i) (Replied reply) = Done reply
+give n rounds (Collecting round readings) (Seen v) = collected n round (readings ++ v ∷ [])
+give n rounds (Confirming round readings k) (Revision now) = confirm n rounds round readings k now
+give n rounds phase told = phase
+
+abbrev pub is_idle : Phase → Bool
+is_idle Idle = true
+is_idle (Waiting i) = false
+is_idle (Collecting round readings) = false
+is_idle (Confirming round readings k) = false
+is_idle (Done reply) = false
+
+-- whether it has begun and is not done
+abbrev pub is_open : Phase → Bool
+is_open Idle = false
+is_open (Waiting i) = true
+is_open (Collecting round readings) = true
+is_open (Confirming round readings k) = true
+is_open (Done reply) = false
+
+abbrev pub is_done : Phase → Bool
+is_done Idle = false
+is_done (Waiting i) = false
+is_done (Collecting round readings) = false
+is_done (Confirming round readings k) = false
+is_done (Done reply) = true
+
+-- whether it has changed its shard
+abbrev pub is_written : Phase → Bool
+is_written Idle = false
+is_written (Waiting i) = false
+is_written (Collecting round readings) = false
+is_written (Confirming round readings k) = false
+is_written (Done (Ok reply)) = is_change reply
+is_written (Done (Err why)) = false
+
+-- whether it has its point, its place among all operations: one on a name from its step on, a fetch-all from the last reading of a
+-- round on, unless that round is thrown away
+abbrev pub has_point : Phase → Bool
+has_point Idle = false
+has_point (Waiting i) = false
+has_point (Collecting round readings) = false
+has_point (Confirming round readings k) = true
+has_point (Done (Ok reply)) = true
+has_point (Done (Err why)) = false

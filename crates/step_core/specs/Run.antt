@@ -1,0 +1,128 @@
+-- A run of the machine over a list of events: the records of its operations, and their order by points.
+use Rattle.std.specs.Prelude.{ℕ, suc, ◌==◌, not, Bool, true, false, cond, List, [], ◌∷◌, ◌++◌, map, filter, Option, Some, None, Result, Ok, Err}
+use Rattle.map_core.specs.declared.op.Op.{Op}
+use Rattle.map_core.specs.declared.reply.AskError.{AskError}
+use Rattle.map_core.specs.declared.reply.Reply.{Reply}
+use Rattle.step_core.specs.declared.event.Event.{Event}
+use Rattle.step_core.specs.declared.event.Event.TheVariants.{Begin, Step, Quit, End}
+use Rattle.step_core.specs.World.{with_at, World, Turn, turn, refusal, moved, started, to_phase, fresh_world}
+use Rattle.step_core.specs.Phase.{Phase, Idle, Waiting, Collecting, Confirming, Done, begun, has_point, is_idle, is_open, is_written}
+use Rattle.step_core.specs.declared.trace.OpRecord.{OpRecord}
+
+-- where an operation stands in the order: its number, what it asks, and the event
+pub record Point : Type 0 where
+  pub number : ℕ
+  pub op : Op
+  pub event : ℕ
+
+-- a run so far. The first count records were begun, and current is the last of each caller
+pub record Run : Type 0 where
+  pub world : World
+  pub records : ℕ → OpRecord
+  pub count : ℕ
+  pub current : ℕ → ℕ
+  pub points : List Point
+  pub events : ℕ
+
+-- the points without that of one operation
+abbrev pub without : ℕ → List Point → List Point
+without number points = filter (λ p. not (p.number == number)) points
+
+-- the points after an operation has gone from one phase to another
+abbrev pub repointed : Bool → Bool → Point → List Point → List Point
+repointed false false p points = points
+repointed false true p points = points ++ p ∷ []
+repointed true false p points = without p.number points
+repointed true true p points = points
+
+abbrev pub begin : ℕ → Run → ℕ → Op → Run
+begin n run c op =
+    record {
+      world = started run.world c op (begun n op);
+      records = with_at run.records run.count (record { caller = c; op = op; first = run.events; last = None; reply = None; wrote = false });
+      count = suc run.count;
+      current = with_at run.current c run.count;
+      points = run.points;
+      events = run.events;
+    }
+
+-- the caller's operation goes on
+abbrev pub pass : Run → ℕ → Turn → Run
+pass run c t =
+    let number = run.current c in
+    let old = run.records number in
+    record {
+      world = moved run.world c t;
+      records = with_at run.records number (record { caller = old.caller; op = old.op; first = old.first; last = old.last; reply = old.reply; wrote = is_written t.phase });
+      count = run.count;
+      current = run.current;
+      points = repointed (has_point (run.world.phases c)) (has_point t.phase) (record { number = number; op = old.op; event = run.events }) run.points;
+      events = run.events;
+    }
+
+-- the caller's operation ends
+abbrev pub finish : Run → ℕ → Result Reply AskError → Run
+finish run c reply =
+    let number = run.current c in
+    let old = run.records number in
+    record {
+      world = moved run.world c (to_phase run.world Idle);
+      records = with_at run.records number (record { caller = old.caller; op = old.op; first = old.first; last = Some run.events; reply = Some reply; wrote = old.wrote });
+      count = run.count;
+      current = run.current;
+      points = run.points;
+      events = run.events;
+    }
+
+abbrev pub give_up : Run → ℕ → AskError → Run
+give_up run c why = finish (pass run c (to_phase run.world (Done (Err why)))) c (Err why)
+
+abbrev pub end_at : Run → ℕ → Phase → Run
+end_at run c Idle = run
+end_at run c (Waiting i) = run
+end_at run c (Collecting round readings) = run
+end_at run c (Confirming round readings k) = run
+end_at run c (Done reply) = finish run c reply
+
+abbrev pub act : ℕ → ℕ → Run → Event → Run
+act n rounds run (Begin c op) = cond (is_idle (run.world.phases c)) (begin n run c op) run
+act n rounds run (Step c) = cond (is_open (run.world.phases c)) (pass run c (turn n rounds run.world.shards (run.world.ops c) (run.world.phases c))) run
+act n rounds run (Quit c reason) = cond (is_open (run.world.phases c)) (give_up run c (refusal reason)) run
+act n rounds run (End c) = end_at run c (run.world.phases c)
+
+-- the event is over
+abbrev pub tick : Run → Run
+tick run = record { world = run.world; records = run.records; count = run.count; current = run.current; points = run.points; events = suc run.events }
+
+abbrev pub no_record : OpRecord
+no_record = record { caller = 0; op = Rattle.map_core.specs.declared.op.Op.TheVariants.FetchAll; first = 0; last = None; reply = None; wrote = false }
+
+abbrev pub fresh_run : Run
+fresh_run = record { world = fresh_world; records = λ q. no_record; count = 0; current = λ c. 0; points = []; events = 0 }
+
+abbrev pub run_from : ℕ → ℕ → Run → List Event → Run
+run_from n rounds run [] = run
+run_from n rounds run (event ∷ events) = run_from n rounds (tick (act n rounds run event)) events
+
+-- the run of a list of events
+abbrev pub run_of : ℕ → ℕ → List Event → Run
+run_of n rounds events = run_from n rounds fresh_run events
+
+abbrev pub gave_reply : Result Reply AskError → Bool
+gave_reply (Ok reply) = true
+gave_reply (Err why) = false
+
+abbrev pub stands_by : Option (Result Reply AskError) → Bool → Bool
+stands_by (Some reply) wrote = gave_reply reply
+stands_by None wrote = wrote
+
+-- whether an operation stands in the order: it was answered, or it is not finished and has written
+abbrev pub stands : OpRecord → Bool
+stands r = stands_by r.reply r.wrote
+
+abbrev pub numbers : List Point → List ℕ
+numbers points = map (λ p. p.number) points
+
+-- the order by points
+abbrev pub order_of : Run → List ℕ
+order_of run = numbers (filter (λ p. stands (run.records p.number)) run.points)

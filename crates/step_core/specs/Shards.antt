@@ -1,0 +1,34 @@
+-- Shards of one caller: the map that they are together, and what they answer.
+use Rattle.std.specs.Prelude.{◌≡◌, ◌⊎◌, ◌<◌, ℕ, true, List, length, Some, Result, Ok, Err}
+use Rattle.map_core.specs.declared.op.Op.{Op}
+use Rattle.map_core.specs.declared.reply.Reply.{Reply}
+use Rattle.map_core.specs.declared.reply.AskError.{AskError}
+use Rattle.map_core.specs.declared.reply.AskError.TheVariants.{Memory, Worn}
+use Rattle.map_core.specs.Reply.{is_change}
+use Rattle.map_core.specs.PlainMap.{PlainMap, ask, shard_of, part, together}
+use Rattle.step_core.specs.Shard.{Version, reading, last_revision}
+
+-- all parts, together
+abbrev pub map_of : List Version → PlainMap
+map_of versions = together (length versions) (λ j. (reading versions j).part)
+
+-- there is a shard, and each holds only names that are at home in it
+pub record AreParts (versions : List Version) : Type 0 where
+  pub some : 0 < length versions
+  pub at_home : (j : ℕ) → j < length versions → part (length versions) (reading versions j).part j ≡ (reading versions j).part
+
+-- the operation would change the map, and its shard i is at the last revision
+pub record IsWorn (versions : List Version) (op : Op) (i : ℕ) : Type 0 where
+  pub home : shard_of (length versions) op ≡ Some i
+  pub small : i < length versions
+  pub last : (reading versions i).revision ≡ last_revision
+  pub changes : is_change (ask (map_of versions) op).reply ≡ true
+
+-- why an operation is refused: there was no memory, or its shard is worn
+abbrev pub Refuses : List Version → Op → AskError → Type 0
+Refuses versions op e = (e ≡ Memory) ⊎ ((i : ℕ) × (e ≡ Worn i) × IsWorn versions op i)
+
+-- The plain map's reply, and its map is left; or a refusal, and nothing has changed.
+abbrev pub ShardsAnswer : List Version → Op → Result Reply AskError → List Version → Type 0
+ShardsAnswer old op (Ok reply) new = (reply ≡ (ask (map_of old) op).reply) × (map_of new ≡ (ask (map_of old) op).map)
+ShardsAnswer old op (Err e) new = Refuses old op e × (new ≡ old)

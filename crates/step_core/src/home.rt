@@ -1,0 +1,36 @@
+//! The shard that a name belongs to.
+ghost use Rattle.std.specs.Prelude.{◌≡◌, ◌<◌, IfSome};
+ghost use Rattle.map_core.specs.PlainMap.{home, shard_of};
+
+use map_core::Op;
+use spiffe_doc::TrustDomain;
+
+/// The shard that the name belongs to: the sum of its bytes, modulo the number of shards.
+pub fn home(domain: &TrustDomain, shards: usize) -> usize
+    requires { 0 < shards }
+    ensures shard { result ≡ home shards domain.now }
+    ensures below { result < shards }
+{
+    let mut total: usize = 0;
+    let bytes = domain.as_str().as_bytes();
+    for byte in bytes {
+        total += usize::from(*byte);
+    }
+    total % shards
+}
+
+/// The shard that an operation on one name is for; none for a fetch-all.
+pub fn shard_of(op: &Op, shards: usize) -> Option<usize>
+    requires { 0 < shards }
+    ensures shard { result ≡ shard_of shards op.now }
+    ensures below { IfSome result (λ i. i < shards) }
+{
+    match op {
+        Op::Set(domain, _) => Some(home(domain, shards)),
+        Op::SetIf(domain, _, _) => Some(home(domain, shards)),
+        Op::Append(domain, _) => Some(home(domain, shards)),
+        Op::Remove(domain) => Some(home(domain, shards)),
+        Op::Get(domain) => Some(home(domain, shards)),
+        Op::FetchAll => None,
+    }
+}

@@ -1,0 +1,22 @@
+//! Shards of the map of trust bundles, operations on them step by step, and the machine of those steps.
+#![tactic(auto)]
+
+mod driver;
+pub mod event;
+pub mod home;
+pub mod laws;
+mod round;
+pub mod run;
+pub mod shard;
+pub mod shards;
+pub mod task;
+#[cfg(test)]
+mod tests;
+pub mod trace;
+
+pub use event::{Event, Why};
+pub use run::run_events;
+pub use shard::Shard;
+pub use shards::Shards;
+pub use task::{Answer, Task, Want};
+pub use trace::{OpRecord, Trace};

@@ -1,0 +1,140 @@
+//! One round of a fetch-all: it collects all shards, and then confirms each.
+ghost use Rattle.std.specs.Prelude.{◌≡◌, ◌<◌, ◌≤◌, ◌⊎◌, ◌++◌, ◌∷◌, [], length, IfOk};
+ghost use Rattle.std.specs.Arc.{arc_value};
+ghost use Rattle.step_core.specs.Phase.{collected, confirm, confirmed, fetched};
+ghost use Rattle.step_core.specs.Task.{phase_of, IsInside, out_of_memory};
+
+use crate::task::State;
+use map_core::{AskError, Contents, Op, Reply};
+use std::alloc::{AllocError, Global};
+use std::marker::Model;
+use std::sync::Arc;
+
+/// A shard as it was read.
+#[derive(Drop)]
+pub(crate) struct Reading {
+    revision: u64,
+    contents: Arc<Contents>,
+}
+
+impl Model for Reading {
+    ghost use Rattle.std.specs.Arc.{arc_value};
+    ghost use Rattle.step_core.specs.Shard.{Version};
+    ghost use Rattle.step_core.specs.Codes.{version_code};
+
+    ghost Value = { Version };
+
+    ghost coded = { version_code };
+
+    ghost view = { λ reading. record { revision = reading.revision; part = arc_value reading.contents } };
+}
+
+impl Reading {
+    pub(crate) fn new(revision: u64, contents: Arc<Contents>) -> Reading
+        ensures { result ≡ record { revision = revision; part = arc_value contents } }
+    {
+        Reading { revision, contents }
+    }
+
+    fn revision(&self) -> u64
+        ensures { result ≡ self.now.revision }
+    {
+        self.revision
+    }
+
+    fn contents(&self) -> &Contents
+        ensures { result.now ≡ self.now.part }
+    {
+        &self.contents
+    }
+}
+
+/// One more reading.
+pub(crate) fn collected(
+    shards: usize,
+    rounds: usize,
+    round: usize,
+    mut readings: Vec<Reading>,
+    reading: Reading,
+) -> State
+    requires few { length readings.items < shards }
+    requires round { round ≤ rounds }
+    ensures inside { IsInside shards rounds (phase_of result) }
+    ensures phase { (phase_of result ≡ collected shards round (readings.items ++ reading ∷ [])) ⊎ (phase_of result ≡ out_of_memory) }
+{
+    if readings.push(reading).is_err() {
+        return State::Done(Err(AskError::Memory));
+    }
+    if readings.len() == shards {
+        State::Confirming(round, readings, 0)
+    } else {
+        State::Collecting(round, readings)
+    }
+}
+
+/// The revision that the shard at this place has now is compared with the one that was read.
+pub(crate) fn compared(
+    alloc: Global,
+    shards: usize,
+    rounds: usize,
+    round: usize,
+    mut readings: Vec<Reading>,
+    place: usize,
+    now: u64,
+) -> State
+    requires all { length readings.items ≡ shards }
+    requires place { place < shards }
+    requires round { round ≤ rounds }
+    ensures inside { IsInside shards rounds (phase_of result) }
+    ensures phase { (phase_of result ≡ confirm shards rounds round readings.items place now) ⊎ (phase_of result ≡ out_of_memory) }
+{
+    let read = readings[place].revision();
+    if read == now {
+        return confirmed(alloc, shards, rounds, round, readings, place + 1);
+    }
+    if round == rounds {
+        let moved = AskError::Moved {
+            shard: place,
+            first: read,
+            second: now,
+        };
+        return State::Done(Err(moved));
+    }
+    readings.clear();
+    State::Collecting(round + 1, readings)
+}
+
+// This many readings are confirmed.
+fn confirmed(
+    alloc: Global,
+    shards: usize,
+    rounds: usize,
+    round: usize,
+    readings: Vec<Reading>,
+    count: usize,
+) -> State
+    requires all { length readings.items ≡ shards }
+    requires count { count ≤ shards }
+    requires round { round ≤ rounds }
+    ensures inside { IsInside shards rounds (phase_of result) }
+    ensures phase { (phase_of result ≡ confirmed shards round readings.items count) ⊎ (phase_of result ≡ out_of_memory) }
+{
+    if count != shards {
+        return State::Confirming(round, readings, count);
+    }
+    match merged(alloc, &readings) {
+        Ok(reply) => State::Done(Ok(reply)),
+        Err(_) => State::Done(Err(AskError::Memory)),
+    }
+}
+
+// The reply of a fetch-all on these readings, together.
+fn merged(alloc: Global, readings: &[Reading]) -> Result<Reply, AskError>
+    ensures { IfOk result (λ r. r ≡ fetched (length readings.now) readings.now) }
+{
+    let mut all = Contents::new(alloc);
+    for reading in readings {
+        all = all.join(reading.contents())?;
+    }
+    all.ask(Op::FetchAll)
+}

@@ -1,0 +1,111 @@
+//! The shards of one caller.
+ghost use Rattle.std.specs.Prelude.{◌≡◌, ◌<◌, ◌≤◌, ◌⊎◌, ◌+◌, ℕ, IfOk, OnOk, IfErr, OnErr, length, Some};
+ghost use Rattle.std.specs.FinMap as finite;
+ghost use Rattle.map_core.specs.PlainMap.{ask, shard_of};
+ghost use Rattle.map_core.specs.declared.op.Op.TheVariants.{FetchAll};
+ghost use Rattle.step_core.specs.Shard.{fresh_shard, reading};
+ghost use Rattle.step_core.specs.Shards.{map_of, IsWorn, Refuses};
+
+use crate::home::shard_of;
+use crate::shard::{Shard, at_shard, fresh_shards};
+use crate::task::{Answer, Task};
+use map_core::{Ask, AskError, Op, Reply};
+use std::alloc::{AllocError, Global};
+use std::marker::Model;
+
+/// Shards that one caller owns. They answer as the plain map that they are together, but for a worn shard.
+#[derive(Drop)]
+pub struct Shards {
+    alloc: Global,
+    shards: Vec<Shard>,
+}
+
+impl Model for Shards {
+    ghost use Rattle.std.specs.Prelude.{List};
+    ghost use Rattle.std.specs.Coded.{coded_list};
+    ghost use Rattle.step_core.specs.Shard.{Version};
+    ghost use Rattle.step_core.specs.Codes.{version_code};
+    ghost use Rattle.step_core.specs.Shards.{AreParts};
+
+    ghost Value = { List Version };
+
+    ghost coded = { coded_list version_code };
+
+    ghost view = { λ shards. shards.shards.items };
+
+    ghost invariant = { λ shards. AreParts shards.shards.items };
+}
+
+impl Shards {
+    /// This many empty shards of revision 0.
+    pub fn new(alloc: Global, count: usize) -> Result<Shards, AllocError>
+        requires { 0 < count }
+        ensures count { IfOk result (λ shards. length shards ≡ count) }
+        ensures fresh { IfOk result (λ shards. (i : ℕ) → i < count → reading shards i ≡ fresh_shard) }
+        ensures empty { IfOk result (λ shards. map_of shards ≡ finite.empty) }
+    {
+        let shards = fresh_shards(alloc, count)?;
+        Ok(Shards { alloc, shards })
+    }
+
+    /// Answers an operation as the plain map does. It is refused where memory runs out, and as worn where it would
+    /// change a shard at its last revision; then nothing has changed.
+    pub fn ask(&mut self, op: Op) -> Result<Reply, AskError>
+        ensures reply { IfOk result (λ reply. reply ≡ (ask (map_of self.old) op).reply) }
+        ensures left { OnOk result (map_of self.new ≡ (ask (map_of self.old) op).map) }
+        ensures fit { OnOk result ((i : ℕ) → IsWorn self.old op i → ⊥) }
+        ensures refused { IfErr result (λ e. Refuses self.old op e) }
+        ensures err { OnErr result (self.new ≡ self.old) }
+    {
+        match shard_of(&op, self.shards.len()) {
+            Some(place) => self.step(place, op),
+            None => self.fetch_all(),
+        }
+    }
+
+    // Answers an operation on a name of the shard at this place.
+    fn step(&mut self, place: usize, op: Op) -> Result<Reply, AskError>
+        requires home { shard_of (length self.old) op ≡ Some place }
+        requires place { place < length self.old }
+        ensures reply { IfOk result (λ reply. reply ≡ (ask (map_of self.old) op).reply) }
+        ensures left { OnOk result (map_of self.new ≡ (ask (map_of self.old) op).map) }
+        ensures fit { OnOk result ((i : ℕ) → IsWorn self.old op i → ⊥) }
+        ensures refused { IfErr result (λ e. Refuses self.old op e) }
+        ensures err { OnErr result (self.new ≡ self.old) }
+    {
+        at_shard(place, self.shards[place].step(op))
+    }
+
+    // All bundles of all shards. Nobody else changes a shard, so one round is enough.
+    fn fetch_all(&self) -> Result<Reply, AskError>
+        ensures reply { IfOk result (λ reply. reply ≡ (ask (map_of self.now) FetchAll).reply) }
+        ensures refused { IfErr result (λ e. e ≡ AskError.Memory) }
+    {
+        let mut task = Task::begin(self.alloc, &Op::FetchAll, self.shards.len(), 1)?;
+        for shard in &self.shards {
+            let (revision, contents) = shard.share()?;
+            task.give(Answer::Seen { revision, contents });
+        }
+        for shard in &self.shards {
+            let (revision, _) = shard.look();
+            task.give(Answer::Revision(revision));
+        }
+        task.reply()
+    }
+}
+
+impl Ask for Shards {
+    ghost use Rattle.std.specs.Prelude.{Some};
+    ghost use Rattle.step_core.specs.Shards.{map_of, ShardsAnswer};
+    ghost use Rattle.step_core.specs.ShardsPlain.{shards_answer_plainly};
+
+    ghost answers = { ShardsAnswer };
+
+    ghost shows = { λ versions. Some (map_of versions) };
+
+    ghost answers_plainly = { shards_answer_plainly };
+
+    fn ask(&mut self, op: Op) -> Result<Reply, AskError> {
+        Shards::ask(self, op)
+    }
+}

@@ -1,0 +1,211 @@
+//! One operation, one step at a time.
+ghost use Rattle.std.specs.Prelude.{◌≡◌, ◌<◌, ◌⊎◌, IfOk, true};
+ghost use Rattle.step_core.specs.Phase.{begun, wants, give, is_done, is_written, has_point, Done};
+ghost use Rattle.step_core.specs.Task.{phase_of, told_of, IsInside, IsReplied, IsWantOf, out_of_memory};
+
+use crate::home::shard_of;
+use crate::round;
+use crate::round::Reading;
+use map_core::{AskError, Contents, Op, Reply};
+use std::alloc::{AllocError, Global};
+use std::marker::Model;
+use std::sync::Arc;
+
+/// What a task wants to be told next.
+#[derive(Clone, Copy, Debug, PartialEq, Eq, Drop)]
+pub enum Want {
+    /// The answer of this shard to the operation.
+    Do(usize),
+    /// This shard's revision and contents.
+    Collect(usize),
+    /// This shard's revision.
+    Confirm(usize),
+    /// Nothing: the reply is there.
+    Done,
+}
+
+/// What a task is told.
+#[derive(Drop)]
+pub enum Answer {
+    /// The answer of the shard to the operation.
+    Replied(Result<Reply, AskError>),
+    /// A shard as it was read.
+    Seen {
+        revision: u64,
+        contents: Arc<Contents>,
+    },
+    /// A shard's revision.
+    Revision(u64),
+}
+
+#[derive(Drop)]
+pub(crate) enum State {
+    Waiting(usize),
+    Collecting(usize, Vec<Reading>),
+    Confirming(usize, Vec<Reading>, usize),
+    Done(Result<Reply, AskError>),
+}
+
+/// An operation that is under way over some shards. One on a name is one step of its shard. A fetch-all collects all
+/// shards in order and then confirms that each still has the revision that was collected; where one has not, all
+/// readings are thrown away and a new round begins, or the rounds are used up.
+#[derive(Drop)]
+pub struct Task {
+    alloc: Global,
+    shards: usize,
+    rounds: usize,
+    state: State,
+}
+
+impl Model for Task {
+    ghost use Rattle.std.specs.Coded.{codes};
+    ghost use Rattle.map_core.specs.Codes.{plain_map_code};
+    ghost use Rattle.step_core.specs.TaskView.{TaskView};
+    ghost use Rattle.step_core.specs.Task.{phase_of, IsInside};
+
+    ghost Value = { TaskView };
+
+    ghost coded = { Prim.hlevel (codes, plain_map_code) };
+
+    ghost view = { λ task. record { shards = task.shards; rounds = task.rounds; phase = phase_of task.state } };
+
+    ghost invariant = { λ task. IsInside task.shards task.rounds (phase_of task.state) };
+}
+
+impl Task {
+    /// Begins the operation over this many shards, within this many rounds.
+    pub fn begin(alloc: Global, op: &Op, shards: usize, rounds: usize) -> Result<Task, AllocError>
+        requires shards { 0 < shards }
+        requires rounds { 0 < rounds }
+        ensures { IfOk result (λ task. task ≡ record { shards = shards; rounds = rounds; phase = begun shards op.now }) }
+    {
+        let state = match shard_of(op, shards) {
+            Some(shard) => State::Waiting(shard),
+            None => State::Collecting(1, Vec::with_capacity(alloc, shards)?),
+        };
+        Ok(Task {
+            alloc,
+            shards,
+            rounds,
+            state,
+        })
+    }
+
+    /// What it wants to be told next.
+    pub fn wants(&self) -> Want
+        ensures want { result ≡ wants self.now.phase }
+        ensures inside { IsWantOf self.now.shards result }
+    {
+        match &self.state {
+            State::Waiting(shard) => Want::Do(*shard),
+            State::Collecting(_, readings) => Want::Collect(readings.len()),
+            State::Confirming(_, _, place) => Want::Confirm(*place),
+            State::Done(_) => Want::Done,
+        }
+    }
+
+    /// Takes what it wanted to be told; anything else changes nothing. Where memory runs out it is done with that; the
+    /// answer of a shard to the operation needs none.
+    pub fn give(&mut self, answer: Answer)
+        ensures shards { self.new.shards ≡ self.old.shards }
+        ensures rounds { self.new.rounds ≡ self.old.rounds }
+        ensures phase { (self.new.phase ≡ give self.old.shards self.old.rounds self.old.phase (told_of answer)) ⊎ (self.new.phase ≡ out_of_memory) }
+        ensures replied { IsReplied (told_of answer) → self.new.phase ≡ give self.old.shards self.old.rounds self.old.phase (told_of answer) }
+    {
+        let state = std::mem::replace(&mut self.state, State::Done(Err(AskError::Memory)));
+        self.state = given(self.alloc, self.shards, self.rounds, state, answer);
+    }
+
+    /// Whether the operation has its place among all operations.
+    pub fn has_point(&self) -> bool
+        ensures { result ≡ has_point self.now.phase }
+    {
+        match &self.state {
+            State::Waiting(_) => false,
+            State::Collecting(_, _) => false,
+            State::Confirming(_, _, _) => true,
+            State::Done(Ok(_)) => true,
+            State::Done(Err(_)) => false,
+        }
+    }
+
+    /// Whether the operation has changed its shard.
+    pub fn has_written(&self) -> bool
+        ensures { result ≡ is_written self.now.phase }
+    {
+        match &self.state {
+            State::Waiting(_) => false,
+            State::Collecting(_, _) => false,
+            State::Confirming(_, _, _) => false,
+            State::Done(Ok(reply)) => reply.is_change(),
+            State::Done(Err(_)) => false,
+        }
+    }
+
+    /// Whether the reply is there.
+    pub fn is_done(&self) -> bool
+        ensures { result ≡ is_done self.now.phase }
+    {
+        match &self.state {
+            State::Waiting(_) => false,
+            State::Collecting(_, _) => false,
+            State::Confirming(_, _, _) => false,
+            State::Done(_) => true,
+        }
+    }
+
+    /// Whether it is done because it found no memory.
+    pub fn is_out_of_memory(&self) -> bool
+        ensures { self.now.phase ≡ out_of_memory → result ≡ true }
+    {
+        match &self.state {
+            State::Waiting(_) => false,
+            State::Collecting(_, _) => false,
+            State::Confirming(_, _, _) => false,
+            State::Done(Ok(_)) => false,
+            State::Done(Err(AskError::Memory)) => true,
+            State::Done(Err(AskError::Worn { .. })) => false,
+            State::Done(Err(AskError::Moved { .. })) => false,
+            State::Done(Err(AskError::Held { .. })) => false,
+            State::Done(Err(AskError::GateShut)) => false,
+        }
+    }
+
+    /// The reply.
+    pub fn reply(self) -> Result<Reply, AskError>
+        requires { is_done self.phase ≡ true }
+        ensures { self.phase ≡ Done result }
+    {
+        match self.state {
+            State::Waiting(_) => Err(AskError::Memory),
+            State::Collecting(_, _) => Err(AskError::Memory),
+            State::Confirming(_, _, _) => Err(AskError::Memory),
+            State::Done(reply) => reply,
+        }
+    }
+}
+
+// The state after an answer.
+fn given(alloc: Global, shards: usize, rounds: usize, state: State, answer: Answer) -> State
+    requires { IsInside shards rounds (phase_of state) }
+    ensures inside { IsInside shards rounds (phase_of result) }
+    ensures phase { (phase_of result ≡ give shards rounds (phase_of state) (told_of answer)) ⊎ (phase_of result ≡ out_of_memory) }
+    ensures replied { IsReplied (told_of answer) → phase_of result ≡ give shards rounds (phase_of state) (told_of answer) }
+{
+    match (state, answer) {
+        (State::Waiting(_), Answer::Replied(reply)) => State::Done(reply),
+        (State::Collecting(round, readings), Answer::Seen { revision, contents }) => {
+            round::collected(
+                shards,
+                rounds,
+                round,
+                readings,
+                Reading::new(revision, contents),
+            )
+        }
+        (State::Confirming(round, readings, place), Answer::Revision(now)) => {
+            round::compared(alloc, shards, rounds, round, readings, place, now)
+        }
+        (state, _) => state,
+    }
+}
