@@ -1,0 +1,10 @@
+pub mod Changes
+pub mod Kept
+pub mod KeptSteps
+pub mod KeptSeats
+pub mod KeptEnds
+pub mod Promise
+pub mod Asked
+pub mod Readings
+pub mod Together
+pub mod Closed

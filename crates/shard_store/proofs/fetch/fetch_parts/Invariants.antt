@@ -1,0 +1,13 @@
+use Rattle.std.proofs.Common.{◌≡◌, ◌<◌, ◌≤◌, ◌+◌, length}
+use Rattle.shard_store.specs.Promise.{IsLater, HasMoved}
+use Rattle.shard_store.specs.Seat.{IsIdle, IsSameSeat}
+use Rattle.shard_store.proofs.fetch.fetch_parts.Given as goal
+
+abbrev pub invariant-loop : goal.invariant-loop
+invariant-loop l = record {
+  seat : IsSameSeat l.fn.seat l.seat;
+  idle : IsIdle l.seat.me;
+  later : IsLater l.seat.me.0.seen l.fn.seat.me.0.seen;
+  moved : 0 < l.counter → HasMoved l.fn.seat.table_id.slots l.fn.seat.me.0.seen l.seat.me.0.seen l.last.shard l.last.first l.last.second;
+  more : length l.fn.seat.me.0.seen.log + l.counter ≤ length l.seat.me.0.seen.log;
+}

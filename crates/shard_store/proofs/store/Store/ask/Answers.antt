@@ -1,0 +1,11 @@
+use Rattle.std.proofs.Common.{◌≡◌, Some, rules, arith, sym, ap, ◌∙◌}
+use Rattle.shard_store.proofs.Asked.{shard_answers, all_answer}
+use Rattle.shard_store.proofs.store.Store.ask.Goals as goal
+
+pub returns-in-Some-clause-answer : goal.returns-in-Some-clause-answer
+returns-in-Some-clause-answer c = shard_answers c.ask_shard.result c.args.self.now c.args.op c.pass.inside.seat.table_id _ _ c.ask_shard.new.seat.me.0.seen
+    (ap (λ p. p.store) c.pass.view_is ∙ c.requires.own) (ap (λ p. p.seen) c.pass.view_is) c.ask_shard.ensures.answer
+
+pub returns-clause-answer : goal.returns-clause-answer
+returns-clause-answer c = all_answer c.ask_all.result c.slot_count.result c.args.self.now c.args.op c.pass.inside.seat.table_id c.self.inside.rounds _ _ c.ask_all.new.seat.me.0.seen
+    (sym c.in-None.ensures.shard) (ap (λ p. p.store) c.pass.view_is ∙ c.requires.own) (ap (λ s. s.rounds) c.self.view_is) (ap (λ p. p.seen) c.pass.view_is) c.ask_all.ensures.answer

@@ -1,0 +1,27 @@
+use Rattle.std.proofs.Common.{rules, ◌≡◌, ◌*◌, ◌/◌, refl, sym, ap, ◌∙◌, subst}
+use Rattle.atomic_table.specs.Seated.{TableId}
+use Rattle.map_core.specs.declared.reply.AskError.TheVariants.{Held}
+use Rattle.shard_store.specs.declared.change.Seen.{Seen}
+use Rattle.shard_store.specs.Promise.{IsRefusedAt}
+use Rattle.shard_store.specs.Changes.{count}
+use Rattle.shard_store.specs.Seat.{IsHolding}
+use Rattle.shard_store.proofs.Promise.{at_slots}
+use Rattle.shard_store.proofs.store.Store.hold.Goals as goal
+
+pub invariant_of-result : goal.invariant_of-result
+invariant_of-result c = let f = c.in-Ok.ensures.found in let z = c.try_hold.ensures.seat.0 in (
+  at_slots (λ k. IsHolding k.slots c.args.shard c.try_hold.new.seat.me) _ _ z f.0,
+  at_slots (λ k. c.in-Ok.word ≡ 2 * count k.slots c.try_hold.new.seat.me.0.seen.log c.args.shard) _ _ z f.1,
+  search rules,
+  search rules,
+  search rules,
+)
+
+pub returns-in-Err : goal.returns-in-Err
+returns-in-Err c = let z : c.pass.inside.seat.table_id ≡ c.args.self.now.id = ap (λ p. p.store) c.pass.view_is ∙ c.requires.own in
+    let seen : c.pass.inside.seat.me.0.seen ≡ c.args.pass.seen = ap (λ p. p.seen) c.pass.view_is in let revision = c.in-Err.found / 2 in let missed = c.in-Err.ensures.found.1 in (
+      c.try_hold.ensures.seat.0 ∙ z,
+      revision,
+      refl,
+      subst (λ (x : TableId × Seen). IsRefusedAt x.0.slots x.1 c.try_hold.new.seat.me.0.seen (Held c.args.shard revision)) (λ i. (z i, seen i)) (c.try_hold.ensures.later, missed.0, missed.1, missed.2),
+    )

@@ -1,0 +1,10 @@
+pub mod Changes
+pub mod Pass
+pub mod Promise
+pub mod Close
+pub mod Rule
+pub mod Steps
+pub mod Seat
+pub mod Readings
+pub mod Seated
+pub mod Laws

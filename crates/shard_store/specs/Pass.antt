@@ -1,0 +1,27 @@
+-- What contracts see of a store, of a pass, of a pass that holds a shard, and of a pass at its store.
+use Rattle.std.specs.Prelude.{◌≡◌, ℕ}
+use Rattle.atomic_table.specs.Seated.{TableId}
+use Rattle.shard_store.specs.declared.change.Seen.{Seen}
+
+-- which store it is, with how many shards, and how many rounds a fetch-all makes
+pub record StoreView : Type 0 where
+  pub id : TableId
+  pub rounds : ℕ
+
+-- the store that it comes from, and what it has seen
+pub record PassView : Type 0 where
+  pub store : TableId
+  pub seen : Seen
+
+pub record HeldPassView : Type 0 where
+  pub store : TableId
+  pub seen : Seen
+  pub shard : ℕ
+
+pub record SeatedView : Type 0 where
+  pub store : StoreView
+  pub seen : Seen
+
+-- the pass comes from the store
+abbrev pub IsOf : PassView → StoreView → Type 0
+IsOf p s = p.store ≡ s.id

@@ -1,0 +1,219 @@
+//! A fetch-all: each shard is read, and then each revision is confirmed by one load, which holds nothing.
+ghost use Rattle.std.specs.Prelude.{◌≡◌, ◌<◌, [], ◌∷◌, ◌++◌, length, OnOk, MatchResult, MatchOption};
+ghost use Rattle.std.specs.Arc.{arc_value};
+ghost use Rattle.map_core.specs.declared.op.Op.{Op};
+ghost use Rattle.shard_store.specs.Changes.{count, IsPart};
+ghost use Rattle.shard_store.specs.Promise.{IsLater, IsRefusedAt, IsRefused, Answered};
+ghost use Rattle.shard_store.specs.Seat.{IsAt, IsSameSeat, IsIdle};
+ghost use Rattle.shard_store.specs.Readings.{WereRead, AreConfirmed, IsMovement, IsSnapshot, IsRound};
+
+use crate::holds::{look, try_hold};
+use crate::one_shard::read_version;
+use crate::parts::join_parts;
+use crate::rule::{Shards, StoreSeat};
+use map_core::{AskError, Contents, Op, Reply};
+use std::alloc::{AllocError, Global};
+use std::sync::Arc;
+
+/// The revisions and versions of the shards, in order.
+#[derive(Drop)]
+pub(crate) struct Readings {
+    pub revisions: Vec<u64>,
+    pub versions: Vec<Arc<Contents>>,
+}
+
+impl Readings {
+    fn new(alloc: Global) -> Readings
+        ensures { (result.revisions.items ≡ []) × (result.versions.items ≡ []) }
+    {
+        Readings {
+            revisions: Vec::new(alloc),
+            versions: Vec::new(alloc),
+        }
+    }
+
+    fn push(&mut self, revision: u64, version: Arc<Contents>) -> Result<(), AllocError>
+        ensures revisions { OnOk result (self.new.revisions.items ≡ self.old.revisions.items ++ revision ∷ []) }
+        ensures versions { OnOk result (self.new.versions.items ≡ self.old.versions.items ++ version ∷ []) }
+    {
+        self.revisions.push(revision)?;
+        self.versions.push(version)?;
+        Ok(())
+    }
+}
+
+/// A shard whose revision was another one when it was to be confirmed.
+#[derive(Clone, Copy)]
+pub(crate) struct Movement {
+    pub shard: usize,
+    pub first: u64,
+    pub second: u64,
+}
+
+/// What one round gave.
+pub(crate) enum Round {
+    Confirmed(Vec<Arc<Contents>>),
+    Moved(Movement),
+}
+
+/// All bundles, as they stood together at one moment.
+pub(crate) fn ask_all(
+    alloc: Global,
+    shards: &Shards,
+    seat: &mut StoreSeat,
+    tries: u64,
+    rounds: u64,
+) -> Result<Reply, AskError>
+    requires own { IsAt seat.old shards.now.shared.table_id }
+    requires idle { IsIdle seat.old.me }
+    requires tries { (0 < tries) × (0 < rounds) }
+    ensures seat { IsSameSeat seat.old seat.new × IsIdle seat.new.me }
+    ensures answer { MatchResult result
+        (λ reply. Answered Op.FetchAll seat.old.me.0.seen reply seat.new.me.0.seen)
+        (IsRefused seat.old.table_id.slots rounds seat.old.me.0.seen seat.new.me.0.seen) }
+{
+    let parts = fetch_parts(alloc, shards, seat, tries, rounds)?;
+    let mut all = join_parts(alloc, parts.as_slice())?;
+    all.ask(Op::FetchAll)
+}
+
+// Rounds until no shard has moved in one.
+fn fetch_parts(
+    alloc: Global,
+    shards: &Shards,
+    seat: &mut StoreSeat,
+    tries: u64,
+    rounds: u64,
+) -> Result<Vec<Arc<Contents>>, AskError>
+    requires own { IsAt seat.old shards.now.shared.table_id }
+    requires idle { IsIdle seat.old.me }
+    requires tries { (0 < tries) × (0 < rounds) }
+    ensures seat { IsSameSeat seat.old seat.new × IsIdle seat.new.me }
+    ensures parts { MatchResult result
+        (λ parts. IsSnapshot seat.old.table_id.slots seat.old.me.0.seen seat.new.me.0.seen parts.items)
+        (IsRefused seat.old.table_id.slots rounds seat.old.me.0.seen seat.new.me.0.seen) }
+{
+    let mut last = Movement {
+        shard: 0,
+        first: 0,
+        second: 0,
+    };
+    for _ in 0..rounds {
+        match read_round(alloc, shards, seat, tries)? {
+            Round::Confirmed(parts) => return Ok(parts),
+            Round::Moved(movement) => last = movement,
+        }
+    }
+    Err(AskError::Moved {
+        shard: last.shard,
+        first: last.first,
+        second: last.second,
+    })
+}
+
+// One round: the parts of the map after one list, or a shard that has moved.
+fn read_round(
+    alloc: Global,
+    shards: &Shards,
+    seat: &mut StoreSeat,
+    tries: u64,
+) -> Result<Round, AskError>
+    requires own { IsAt seat.old shards.now.shared.table_id }
+    requires idle { IsIdle seat.old.me }
+    requires tries { 0 < tries }
+    ensures seat { IsSameSeat seat.old seat.new × IsIdle seat.new.me }
+    ensures round { MatchResult result
+        (IsRound seat.old.table_id.slots seat.old.me.0.seen seat.new.me.0.seen)
+        (IsRefusedAt seat.old.table_id.slots seat.old.me.0.seen seat.new.me.0.seen) }
+{
+    let Readings {
+        revisions,
+        versions,
+    } = collect_all(alloc, shards, seat, tries)?;
+    match confirm_all(shards, seat, revisions.as_slice()) {
+        None => Ok(Round::Confirmed(versions)),
+        Some(movement) => Ok(Round::Moved(movement)),
+    }
+}
+
+// Reads each shard, in order.
+fn collect_all(
+    alloc: Global,
+    shards: &Shards,
+    seat: &mut StoreSeat,
+    tries: u64,
+) -> Result<Readings, AskError>
+    requires own { IsAt seat.old shards.now.shared.table_id }
+    requires idle { IsIdle seat.old.me }
+    requires tries { 0 < tries }
+    ensures seat { IsSameSeat seat.old seat.new × IsIdle seat.new.me }
+    ensures read { MatchResult result
+        (λ r. IsLater seat.new.me.0.seen seat.old.me.0.seen × (length r.versions.items ≡ seat.old.table_id.slots)
+        × WereRead seat.old.table_id.slots seat.old.me.0.seen.log seat.new.me.0.seen.log r.revisions.items r.versions.items)
+        (IsRefusedAt seat.old.table_id.slots seat.old.me.0.seen seat.new.me.0.seen) }
+{
+    let mut readings = Readings::new(alloc);
+    for shard in 0..shards.slot_count() {
+        let (revision, version) = collect(shards, seat, shard, tries)?;
+        readings.push(revision, version)?;
+    }
+    Ok(readings)
+}
+
+// Reads one shard under a hold: its revision and its version.
+fn collect(
+    shards: &Shards,
+    seat: &mut StoreSeat,
+    shard: usize,
+    tries: u64,
+) -> Result<(u64, Arc<Contents>), AskError>
+    requires own { IsAt seat.old shards.now.shared.table_id }
+    requires shard { shard < seat.old.table_id.slots }
+    requires idle { IsIdle seat.old.me }
+    requires tries { 0 < tries }
+    ensures seat { IsSameSeat seat.old seat.new × IsIdle seat.new.me }
+    ensures read { MatchResult result
+        (λ r. IsLater seat.new.me.0.seen seat.old.me.0.seen × (count seat.old.table_id.slots seat.new.me.0.seen.log shard ≡ r.0)
+        × IsPart seat.old.table_id.slots shard seat.new.me.0.seen.log (arc_value r.1))
+        (IsRefusedAt seat.old.table_id.slots seat.old.me.0.seen seat.new.me.0.seen) }
+{
+    let mut word = 0;
+    for _ in 0..tries {
+        match try_hold(shards, seat, shard) {
+            Ok(found) => {
+                let version = read_version(shards, seat, shard, found)?;
+                return Ok((found / 2, version));
+            }
+            Err(found) => word = found,
+        }
+    }
+    Err(AskError::Held {
+        shard,
+        revision: word / 2,
+    })
+}
+
+// Loads each word once. The first shard that has another revision ends it.
+fn confirm_all(shards: &Shards, seat: &mut StoreSeat, revisions: &[u64]) -> Option<Movement>
+    requires own { IsAt seat.old shards.now.shared.table_id }
+    requires idle { IsIdle seat.old.me }
+    requires each { length revisions.now ≡ seat.old.table_id.slots }
+    ensures seat { IsSameSeat seat.old seat.new × IsIdle seat.new.me }
+    ensures later { IsLater seat.new.me.0.seen seat.old.me.0.seen }
+    ensures found { MatchOption result
+        (AreConfirmed seat.old.table_id.slots seat.old.me.0.seen.log revisions.now)
+        (IsMovement seat.old.table_id.slots seat.old.me.0.seen.log seat.new.me.0.seen.log revisions.now) }
+{
+    for shard in 0..revisions.len() {
+        let first = revisions[shard];
+        let second = look(shards, seat, shard) / 2;
+        if second != first {
+            return Some(Movement {
+                shard,
+                first,
+                second,
+            });
+        }
+    }
+    None
+}

@@ -1,0 +1,22 @@
+//! Laws of what passes have seen.
+ghost use Rattle.shard_store.specs.Laws.{AloneHasSeenAll, ChangesAsAsked, KeepsOwnChanges, LaterIsLater};
+
+/// A list that extends what a pass has seen holds, under each number of the pass, just the changes that it had seen.
+pub fn keeps_own_changes()
+    ensures { KeepsOwnChanges }
+{}
+
+/// A pass that is alone has seen all changes.
+pub fn alone_has_seen_all()
+    ensures { AloneHasSeenAll }
+{}
+
+/// What was seen later is later than all that was seen before.
+pub fn later_is_later()
+    ensures { LaterIsLater }
+{}
+
+/// The change of an operation takes the map to where the operation takes it.
+pub fn changes_as_asked()
+    ensures { ChangesAsAsked }
+{}

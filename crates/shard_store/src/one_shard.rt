@@ -1,0 +1,137 @@
+//! One operation on one name, at the shard where the name is at home.
+ghost use Rattle.std.specs.Prelude.{◌≡◌, ◌*◌, ◌^◌, ◌<◌, [], ◌∷◌, ◌++◌, Some, IfOk, MatchResult};
+ghost use Rattle.std.specs.Arc.{arc_value};
+ghost use Rattle.map_core.specs.PlainMap.{shard_of};
+ghost use Rattle.shard_store.specs.Changes.{count, IsPart};
+ghost use Rattle.shard_store.specs.Promise.{IsLater, Answered, IsRefusedAt};
+ghost use Rattle.shard_store.specs.Seat.{IsAt, IsSameSeat, IsIdle, IsHolding, Missed, Writes, Tried, change_by};
+
+use crate::holds::{copy_version, hold_from, publish, release, try_hold};
+use crate::rule::{Shards, StoreSeat};
+use map_core::{AskError, Contents, Op, Reply};
+use std::alloc::{AllocError, Global};
+use std::marker::Brand;
+use std::sync::Arc;
+
+/// A shard takes no more changes than this.
+const LAST_REVISION: u64 = 1 << 62;
+
+/// What one try gave: a reply, or the word that was found in place of the one expected.
+pub(crate) enum Attempt {
+    Replied(Reply),
+    Blocked(u64),
+}
+
+/// Tries the operation as often as it may.
+pub(crate) fn ask_shard(
+    alloc: Global,
+    shards: &Shards,
+    seat: &mut StoreSeat,
+    tries: u64,
+    shard: usize,
+    op: &Op,
+) -> Result<Reply, AskError>
+    requires own { IsAt seat.old shards.now.shared.table_id }
+    requires shard { shard < seat.old.table_id.slots }
+    requires idle { IsIdle seat.old.me }
+    requires tries { 0 < tries }
+    requires home { shard_of seat.old.table_id.slots op.now ≡ Some shard }
+    ensures seat { IsSameSeat seat.old seat.new × IsIdle seat.new.me }
+    ensures answer { MatchResult result
+        (λ reply. Answered op.now seat.old.me.0.seen reply seat.new.me.0.seen)
+        (IsRefusedAt seat.old.table_id.slots seat.old.me.0.seen seat.new.me.0.seen) }
+{
+    let mut word = 0;
+    for _ in 0..tries {
+        match try_once(alloc, shards, seat, shard, op)? {
+            Attempt::Replied(reply) => return Ok(reply),
+            Attempt::Blocked(found) => word = found,
+        }
+    }
+    Err(AskError::Held {
+        shard,
+        revision: word / 2,
+    })
+}
+
+// One try: the version is read, and the one after it made while nothing is held.
+fn try_once(
+    alloc: Global,
+    shards: &Shards,
+    seat: &mut StoreSeat,
+    shard: usize,
+    op: &Op,
+) -> Result<Attempt, AskError>
+    requires own { IsAt seat.old shards.now.shared.table_id }
+    requires shard { shard < seat.old.table_id.slots }
+    requires idle { IsIdle seat.old.me }
+    requires home { shard_of seat.old.table_id.slots op.now ≡ Some shard }
+    ensures seat { IsSameSeat seat.old seat.new × IsIdle seat.new.me }
+    ensures tried { MatchResult result
+        (Tried seat.old.table_id.slots shard op.now seat.old.me.0.seen seat.new.me.0.seen)
+        (IsRefusedAt seat.old.table_id.slots seat.old.me.0.seen seat.new.me.0.seen) }
+{
+    let word = match try_hold(shards, seat, shard) {
+        Ok(word) => word,
+        Err(found) => return Ok(Attempt::Blocked(found)),
+    };
+    let version = read_version(shards, seat, shard, word)?;
+    let (reply, next) = version.asked(op)?;
+    let Some(next) = next else {
+        return Ok(Attempt::Replied(reply));
+    };
+    if word / 2 >= LAST_REVISION {
+        return Err(AskError::Worn { shard });
+    }
+    let Ok(next) = Arc::new(alloc, next) else {
+        return Err(AskError::Memory);
+    };
+    match store_version(shards, seat, shard, word, next, op) {
+        Ok(()) => Ok(Attempt::Replied(reply)),
+        Err(found) => Ok(Attempt::Blocked(found)),
+    }
+}
+
+/// Reads the version of a shard that is held, and lets the shard go.
+pub(crate) fn read_version(
+    shards: &Shards,
+    seat: &mut StoreSeat,
+    shard: usize,
+    word: u64,
+) -> Result<Arc<Contents>, AllocError>
+    requires own { IsAt seat.old shards.now.shared.table_id }
+    requires shard { shard < seat.old.table_id.slots }
+    requires holds { IsHolding seat.old.table_id.slots shard seat.old.me }
+    requires word { word ≡ 2 * count seat.old.table_id.slots seat.old.me.0.seen.log shard }
+    ensures seat { IsSameSeat seat.old seat.new × IsIdle seat.new.me × (seat.new.me.0.seen ≡ seat.old.me.0.seen) }
+    ensures version { IfOk result (λ v. IsPart seat.old.table_id.slots shard seat.old.me.0.seen.log (arc_value v)) }
+{
+    let copy = copy_version(shards, seat, shard);
+    release(shards, seat, shard, word);
+    copy
+}
+
+// Takes the shard if its word is still the one from which the new version was made, and lets it go with that.
+fn store_version(
+    shards: &Shards,
+    seat: &mut StoreSeat,
+    shard: usize,
+    word: u64,
+    version: Arc<Contents>,
+    op: &Op,
+) -> Result<(), u64>
+    requires own { IsAt seat.old shards.now.shared.table_id }
+    requires shard { shard < seat.old.table_id.slots }
+    requires idle { IsIdle seat.old.me }
+    requires word { (word ≡ 2 * count seat.old.table_id.slots seat.old.me.0.seen.log shard) × (word < 2 ^ 63) }
+    requires home { shard_of seat.old.table_id.slots op.now ≡ Some shard }
+    requires version { IsPart seat.old.table_id.slots shard (seat.old.me.0.seen.log ++ change_by op.now seat.old.me.0.seen ∷ []) (arc_value version) }
+    ensures seat { IsSameSeat seat.old seat.new × IsIdle seat.new.me }
+    ensures written { MatchResult result
+        (λ _. Writes seat.old.table_id.slots shard op.now seat.old.me.0.seen seat.new.me.0.seen)
+        (λ n. IsLater seat.new.me.0.seen seat.old.me.0.seen × Missed seat.old.table_id.slots shard seat.old.me.0.seen n seat.new.me.0.seen) }
+{
+    hold_from(shards, seat, shard, word)?;
+    publish::<Brand>(shards, seat, shard, word, version, op);
+    Ok(())
+}

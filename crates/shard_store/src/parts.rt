@@ -1,0 +1,20 @@
+//! The parts of a map, together.
+ghost use Rattle.std.specs.Prelude.{◌≡◌, ◌<◌, length, IfOk};
+ghost use Rattle.map_core.specs.PlainMap.{PlainMap};
+ghost use Rattle.shard_store.specs.Readings.{ArePartsOf};
+
+use map_core::Contents;
+use std::alloc::{AllocError, Global};
+use std::sync::Arc;
+
+/// The map of which these are the parts.
+pub(crate) fn join_parts(alloc: Global, parts: &[Arc<Contents>]) -> Result<Contents, AllocError>
+    requires { 0 < length parts.now }
+    ensures { (m : PlainMap) → ArePartsOf m parts.now → IfOk result (λ all. all ≡ m) }
+{
+    let mut all = Contents::new(alloc);
+    for part in parts {
+        all = all.join(part)?;
+    }
+    Ok(all)
+}

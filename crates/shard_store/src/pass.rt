@@ -1,0 +1,100 @@
+//! What a thread asks a store with.
+ghost use Rattle.std.specs.Prelude.{◌≡◌, ℕ, ◌+◌, ◌-◌, ◌<◌, ◌≤◌, ◌++◌};
+ghost use Rattle.shard_store.specs.Changes.{Extends, own_count, without_last, just_last};
+ghost use Rattle.shard_store.specs.Seat.{IsAt, IsSameSeat, IsIdle};
+ghost use Rattle.shard_store.specs.Pass.{IsOf};
+
+use crate::plays::{Look, NamesShare, SplitOff, TakeIn};
+use crate::rule::{Shards, StoreSeat};
+use crate::store::Store;
+use std::marker::{Brand, Model};
+
+/// A thread's leave to ask its store. Contracts see a log of the changes that the pass has seen, and its numbers:
+/// a change that a call makes bears the first number of its pass.
+#[derive(Drop)]
+pub struct Pass {
+    pub(crate) seat: StoreSeat,
+    pub(crate) numbers: u64,
+}
+
+impl Model for Pass {
+    ghost use Rattle.std.specs.Prelude.{◌≡◌};
+    ghost use Rattle.shard_store.specs.Pass.{PassView};
+    ghost use Rattle.shard_store.specs.Changes.{own_count};
+    ghost use Rattle.shard_store.specs.Seat.{IsIdle};
+
+    ghost Value = { PassView };
+
+    ghost view = { λ p. record { store = p.seat.table_id; seen = p.seat.me.0.seen } };
+
+    ghost invariant = { λ p. IsIdle p.seat.me × (own_count p.seat.me.0.seen.ranges ≡ p.numbers) };
+}
+
+impl Pass {
+    /// How many numbers the pass has, besides those that it took in by `join`.
+    pub fn numbers(&self) -> u64
+        ensures { result ≡ own_count self.now.seen.ranges }
+    {
+        self.numbers
+    }
+}
+
+impl Store {
+    /// A pass for another thread. It has seen as much, and gets the last `share` numbers of this one.
+    pub fn split(&self, pass: &mut Pass, share: u64) -> Pass
+        requires own { IsOf pass.old self.now }
+        requires share { (0 < share) × (share < own_count pass.old.seen.ranges) }
+        ensures own { IsOf pass.new self.now × IsOf result self.now }
+        ensures logs { (pass.new.seen.log ≡ pass.old.seen.log) × (result.seen.log ≡ pass.old.seen.log) }
+        ensures numbers { (pass.new.seen.ranges ≡ without_last share pass.old.seen.ranges) × (result.seen.ranges ≡ just_last share pass.old.seen.ranges) }
+    {
+        let seat = split_off::<Brand>(&self.shards, &mut pass.seat, share);
+        pass.numbers -= share;
+        Pass {
+            seat,
+            numbers: share,
+        }
+    }
+
+    /// One pass in place of two. It has seen all that they have seen, has the first one's numbers, and has taken in
+    /// those of the other.
+    pub fn join(&self, pass: Pass, other: Pass) -> Pass
+        requires own { IsOf pass self.now × IsOf other self.now }
+        ensures own { IsOf result self.now }
+        ensures log { Extends result.seen.log pass.seen × Extends result.seen.log other.seen }
+        ensures numbers { result.seen.ranges ≡ pass.seen.ranges ++ other.seen.ranges }
+    {
+        let Pass { mut seat, numbers } = pass;
+        let Pass {
+            seat: other,
+            numbers: _,
+        } = other;
+        join_seats(&self.shards, &mut seat, other);
+        Pass { seat, numbers }
+    }
+}
+
+// Splits the last numbers off, for a new seat that has seen as much.
+fn split_off<N: NamesShare>(shards: &Shards, seat: &mut StoreSeat, share: u64) -> StoreSeat
+    requires own { IsAt seat.old shards.now.shared.table_id }
+    requires idle { IsIdle seat.old.me }
+    requires share { (N.share ≡ share) × (0 < share) × (share < own_count seat.old.me.0.seen.ranges) }
+    ensures kept { IsSameSeat seat.old seat.new × IsIdle seat.new.me }
+    ensures given { (result.table_id ≡ seat.old.table_id) × IsIdle result.me }
+    ensures logs { (seat.new.me.0.seen.log ≡ seat.old.me.0.seen.log) × (result.me.0.seen.log ≡ seat.old.me.0.seen.log) }
+    ensures numbers { (seat.new.me.0.seen.ranges ≡ without_last share seat.old.me.0.seen.ranges) × (result.me.0.seen.ranges ≡ just_last share seat.old.me.0.seen.ranges) }
+{
+    shards.shared.split_seat::<SplitOff<N>>(seat)
+}
+
+// Takes in what the other seat has seen, and its numbers. The load shows a list that begins with both logs.
+fn join_seats(shards: &Shards, seat: &mut StoreSeat, other: StoreSeat)
+    requires own { IsAt seat.old shards.now.shared.table_id × IsAt other shards.now.shared.table_id }
+    requires idle { IsIdle seat.old.me × IsIdle other.me }
+    ensures seat { IsSameSeat seat.old seat.new × IsIdle seat.new.me }
+    ensures log { Extends seat.new.me.0.seen.log seat.old.me.0.seen × Extends seat.new.me.0.seen.log other.me.0.seen }
+    ensures ranges { seat.new.me.0.seen.ranges ≡ seat.old.me.0.seen.ranges ++ other.me.0.seen.ranges }
+{
+    shards.shared.join_seat::<TakeIn>(seat, other);
+    shards.shared.load::<Look>(seat, 0);
+}

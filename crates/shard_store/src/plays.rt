@@ -1,0 +1,74 @@
+//! What each step on the shared table tells.
+ghost use Rattle.std.specs.Prelude.{ℕ};
+ghost use Rattle.shard_store.specs.declared.change.Change.{Change};
+ghost use Rattle.shard_store.specs.Steps.{looked, took, released, published};
+ghost use Rattle.shard_store.specs.Rule.{keeping, given, taking_in, spent};
+
+use crate::change::{Change, View};
+use crate::rule::Slot;
+use atomic_table::{Join, Play, Split};
+use std::marker::{Brand, PhantomData};
+
+pub(crate) struct Look;
+
+impl Play<Slot, View> for Look {
+    ghost then = { looked };
+}
+
+pub(crate) struct Take;
+
+impl Play<Slot, View> for Take {
+    ghost then = { took };
+}
+
+pub(crate) struct Release;
+
+impl Play<Slot, View> for Release {
+    ghost then = { released };
+}
+
+/// Names the change that a call makes.
+pub(crate) trait NamesChange {
+    ghost change: { Change };
+}
+
+impl NamesChange for Brand {
+    ghost use Rattle.shard_store.specs.Rule.{no_change};
+
+    ghost change = { no_change };
+}
+
+pub(crate) struct Publish<W> {
+    written: PhantomData<W>,
+}
+
+impl<W: NamesChange> Play<Slot, View> for Publish<W> {
+    ghost then = { published W.change };
+}
+
+/// Names how many numbers a call gives away.
+pub(crate) trait NamesShare {
+    ghost share: { ℕ };
+}
+
+impl NamesShare for Brand {
+    ghost share = { 0 };
+}
+
+pub(crate) struct SplitOff<N> {
+    share: PhantomData<N>,
+}
+
+impl<N: NamesShare> Split<View> for SplitOff<N> {
+    ghost left = { keeping N.share };
+
+    ghost right = { given N.share };
+}
+
+pub(crate) struct TakeIn;
+
+impl Join<View> for TakeIn {
+    ghost both = { taking_in };
+
+    ghost spent = { spent };
+}

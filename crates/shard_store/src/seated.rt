@@ -1,0 +1,60 @@
+//! A pass at its store, as a front asks it.
+ghost use Rattle.std.specs.Prelude.{◌≡◌};
+ghost use Rattle.shard_store.specs.Pass.{IsOf};
+
+use crate::pass::Pass;
+use crate::store::Store;
+use map_core::{Ask, AskError, Op, Reply};
+use std::marker::Model;
+
+/// A pass at its store.
+#[derive(Drop)]
+pub struct Seated<'a> {
+    store: &'a Store,
+    pass: Pass,
+}
+
+impl<'a> Model for Seated<'a> {
+    ghost use Rattle.shard_store.specs.Pass.{SeatedView, IsOf};
+
+    ghost Value = { SeatedView };
+
+    ghost view = { λ seated. record { store = seated.store.now; seen = seated.pass.seen } };
+
+    ghost invariant = { λ seated. IsOf seated.pass seated.store.now };
+}
+
+impl<'a> Seated<'a> {
+    /// Seats the pass at its store.
+    pub fn new(store: &'a Store, pass: Pass) -> Seated<'a>
+        requires own { IsOf pass store.now }
+        ensures store { result.store ≡ store.now }
+        ensures seen { result.seen ≡ pass.seen }
+    {
+        Seated { store, pass }
+    }
+
+    /// The pass again.
+    pub fn into_pass(self) -> Pass
+        ensures own { IsOf result self.entry.store }
+        ensures seen { result.seen ≡ self.entry.seen }
+    {
+        let Seated { store: _, pass } = self;
+        pass
+    }
+}
+
+impl<'a> Ask for Seated<'a> {
+    ghost use Rattle.std.specs.Prelude.{None};
+    ghost use Rattle.shard_store.specs.Seated.{SeatedAnswer, seated_answers_plainly};
+
+    ghost answers = { SeatedAnswer };
+
+    ghost shows = { λ _. None };
+
+    ghost answers_plainly = { seated_answers_plainly };
+
+    fn ask(&mut self, op: Op) -> Result<Reply, AskError> {
+        self.store.ask(&mut self.pass, op)
+    }
+}
