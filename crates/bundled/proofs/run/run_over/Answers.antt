@@ -1,0 +1,46 @@
+use Rattle.std.proofs.Common.{◌≡◌, List, ℕ, Option, None, Some, [], ◌++◌, Ok, Err, refl, ap, sym, append-nil, rules}
+use Rattle.std.specs.Io.KnownBytes.{Consumes, Appends}
+use Rattle.std.specs.FinMap as finite
+use Rattle.frame_front.specs.declared.error.FrontError.TheVariants.{Memory}
+use Rattle.bundled.proofs.run.run_over.Goals as goal
+
+nothing_read : (left : Option (List ℕ)) → Consumes left left []
+nothing_read None = search rules
+nothing_read (Some bytes) = search rules
+
+nothing_written : (held : Option (List ℕ)) → Appends held held []
+nothing_written None = search rules
+nothing_written (Some bytes) = search rules
+
+pub returns-in_default-clause-session : goal.returns-in_default-clause-session
+returns-in_default-clause-session g c = (
+  Err Memory,
+  finite.empty,
+  refl,
+  record {
+    read = [];
+    written = [];
+    consumes = nothing_read _;
+    appends = nothing_written _;
+    payloads = [];
+    texts = [];
+    rest = [];
+    whole = refl;
+    each = tt;
+    ends = tt;
+    used = tt;
+    ended = tt;
+    stands = refl;
+    told = λ calm. (refl, refl);
+  },
+)
+
+pub returns-in-Ok-serve-clause-session : goal.returns-in-Ok-serve-clause-session
+returns-in-Ok-serve-clause-session g c =
+    let served = c.in-Ok-serve.ensures.plain finite.empty (ap Some c.in-Ok.ensures.empty) in
+    (Ok c.in-Ok-serve.field-0, served.0, refl, served.2)
+
+pub returns-clause-session : goal.returns-clause-session
+returns-clause-session g c =
+    let served = c.in-Err.ensures.plain finite.empty (ap Some c.in-Ok.ensures.empty) in
+    (Err c.in-Err.error, served.0, refl, served.2)

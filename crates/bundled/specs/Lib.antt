@@ -1,0 +1,5 @@
+pub mod Settings
+pub mod Status
+pub mod Fault
+pub mod Input
+pub mod Migrate

@@ -1,0 +1,28 @@
+-- What the command `migrate` does to its input and its output.
+use Rattle.std.specs.Prelude.{◌≡◌, ℕ, List, [], Option, Result, Ok, Err}
+use Rattle.std.specs.Io.KnownBytes.{Appends}
+use Rattle.frame_front.specs.Frame.{stream_of}
+use Rattle.frame_front.specs.Dump.{Domains, IsDump, IsBadDump, requests_for}
+use Rattle.frame_front.specs.declared.dump.DumpError.TheVariants as dumps
+use Rattle.frame_front.specs.declared.error.FrontError.TheVariants.{BadLength, Truncated, ReadFault, WriteFault, TurnsUsed, Memory}
+use Rattle.bundled.specs.declared.fault.Fault.{Fault}
+use Rattle.bundled.specs.declared.fault.Fault.TheVariants.{Front, Dump, BadLine, InputTooLong}
+use Rattle.bundled.specs.Input.{IsInput, InputFault}
+
+-- The input is a dump, and the requests that store it again are written. Or it is none, or is not read, and nothing is
+-- written.
+abbrev pub Migrates : Result (Unit {0}) Fault → Option (List ℕ) → Option (List ℕ) → Option (List ℕ) → Option (List ℕ) → Type 0
+Migrates (Ok done) left_old left_new held_old held_new =
+    (input : List ℕ) × (items : Domains) × IsInput input left_old left_new × IsDump input items × Appends held_old held_new (stream_of (requests_for items) [])
+Migrates (Err (Dump (dumps.BadDump place))) left_old left_new held_old held_new =
+    (input : List ℕ) × IsInput input left_old left_new × IsBadDump input place × (held_new ≡ held_old)
+Migrates (Err (Dump dumps.Memory)) left_old left_new held_old held_new = held_new ≡ held_old
+Migrates (Err InputTooLong) left_old left_new held_old held_new = InputFault InputTooLong left_old left_new × (held_new ≡ held_old)
+Migrates (Err (Front TurnsUsed)) left_old left_new held_old held_new = InputFault (Front TurnsUsed) left_old left_new × (held_new ≡ held_old)
+Migrates (Err (Front ReadFault)) left_old left_new held_old held_new = held_new ≡ held_old
+Migrates (Err (Front Memory)) left_old left_new held_old held_new = held_new ≡ held_old
+Migrates (Err (Front WriteFault)) left_old left_new held_old held_new =
+    (input : List ℕ) × (items : Domains) × IsInput input left_old left_new × IsDump input items
+Migrates (Err (Front BadLength)) left_old left_new held_old held_new = ⊥
+Migrates (Err (Front Truncated)) left_old left_new held_old held_new = ⊥
+Migrates (Err (BadLine line)) left_old left_new held_old held_new = ⊥

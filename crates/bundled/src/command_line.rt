@@ -1,0 +1,172 @@
+//! The command line.
+ghost use Rattle.std.specs.Prelude.{◌<◌, ◌≤◌, IfOk};
+ghost use Rattle.bundled.specs.Settings.{AreSettings};
+
+use clap::{Arg, ArgMatches, Command, Error, value_parser};
+use std::alloc::{AllocError, Global};
+
+/// The most reads that a session may be given.
+pub const MAX_TURNS: u64 = 1_000_000_000;
+
+/// The reads that a session is given where the command line doesn't say.
+const TURNS: u64 = 1_000_000;
+
+/// The shards of a store where the command line doesn't say.
+const SHARDS: usize = 4;
+
+/// The rounds of a fetch-all where the command line doesn't say.
+const ROUNDS: usize = 3;
+
+const EVENTS: &str = "\
+Each line of the input is an event; a caller is a number from 0 to 4294967295:
+
+  begin C set D DOC        begin C append D JWK        begin C setif D E DOC
+  begin C get D            begin C remove D            begin C fetch
+  step C                   end C                       quit C held S R, quit C memory
+
+An event that does not fit, as a step of a caller that is idle, changes nothing. A line is printed for each
+operation that began, and one for the order in which a single map would have given every reply.
+
+The first example: a domain is set while a fetch-all has read its shard, and the fetch-all begins again.
+
+  printf 'begin 1 fetch\\nstep 1\\nbegin 2 set a {\"keys\":[]}\\nstep 2\\nend 2\\nstep 1\\nstep 1\\nstep 1\\nend 1\\n' \\
+    | bundled trace --shards 1 --rounds 2
+
+  record 0 caller 1 first 0 last 8 reply all 1 a {\"keys\":[]}
+  record 1 caller 2 first 2 last 4 reply stored
+  order 1 0";
+
+const FRAMES: &str = "\
+A frame is a length of 4 bytes, the greatest first, and a payload of that many bytes. Each request is
+one frame, and so is each reply; the reply to a fetch-all is one frame and then one for each domain.
+The first byte of a payload is a letter:
+
+  S  length of the name, name, document    sets the bundle of a trust domain
+  A  length of the name, name, JWK         appends an authority to its bundle
+  R  length of the name, name              removes it
+  G  length of the name, name              gets it
+  F                                        fetches all
+  V  version                               sets the version of the session: 1 or 2
+  C  length of the name, name,             version 2: sets it where what stands there is what is
+     expectation, document                 expected: 0 none, 1 and a sequence of 8 bytes, 2 unnumbered
+
+The first example sets the bundle of the trust domain `a` to an empty document and gets it back:
+
+  printf '\\0\\0\\0\\16S\\1a{\"keys\":[]}\\0\\0\\0\\3G\\1a' | bundled run | xxd
+
+  00000000: 0000 0001 7300 0000 0c66 7b22 6b65 7973  ....s....f{\"keys
+  00000010: 223a 5b5d 7d                             \":[]}
+
+`s` says that it was stored, and `f` comes before the document that was found. A reply whose first
+byte is below 64 is a refusal with that number.";
+
+/// What the command line asks for.
+#[derive(Clone, Copy, Debug)]
+pub enum Wanted {
+    /// A session over an empty store of so many shards, of at most so many reads.
+    Run { shards: usize, turns: u64 },
+    /// A run of events over so many shards, a fetch-all in so many rounds.
+    Trace { shards: usize, rounds: usize },
+    /// The requests that store a dump again.
+    Migrate,
+}
+
+/// Reads the command line.
+pub fn wanted_by<'a>(alloc: Global, words: &'a [String]) -> Result<Wanted, Error>
+    ensures { IfOk result AreSettings }
+{
+    let command = Command::new(alloc, "bundled")
+        .version("1.0.0")
+        .about("A store of the trust bundles of SPIFFE trust domains")
+        .after_help(FRAMES)
+        .subcommand_required(true)
+        .subcommand(run_command(alloc)?)?
+        .subcommand(trace_command(alloc)?)?
+        .subcommand(migrate_command(alloc))?;
+    let matches = command.try_get_matches_from(words)?;
+    match matches.subcommand() {
+        Some(("migrate", _)) => Ok(Wanted::Migrate),
+        Some(("trace", trace)) => Ok(Wanted::Trace {
+            shards: shards_of(trace),
+            rounds: rounds_of(trace),
+        }),
+        Some((_, run)) => Ok(Wanted::Run {
+            shards: shards_of(run),
+            turns: turns_of(run),
+        }),
+        None => Ok(Wanted::Run {
+            shards: SHARDS,
+            turns: TURNS,
+        }),
+    }
+}
+
+fn shards_of(command: &ArgMatches<'_>) -> usize
+    ensures some { 0 < result }
+    ensures few { result ≤ 256 }
+{
+    let asked = command.get_one::<u64>("shards");
+    asked.unwrap_or(SHARDS as u64).clamp(1, 256) as usize
+}
+
+fn rounds_of(trace: &ArgMatches<'_>) -> usize
+    ensures some { 0 < result }
+    ensures few { result ≤ 16 }
+{
+    let asked = trace.get_one::<u64>("rounds");
+    asked.unwrap_or(ROUNDS as u64).clamp(1, 16) as usize
+}
+
+fn turns_of(run: &ArgMatches<'_>) -> u64
+    ensures { result ≤ 1000000000 }
+{
+    let asked = run.get_one::<u64>("turns");
+    asked.unwrap_or(TURNS).min(MAX_TURNS)
+}
+
+fn run_command<'a>(alloc: Global) -> Result<Command<'a>, AllocError> {
+    let turns = Arg::new(alloc, "turns")
+        .long("turns")
+        .value_name("READS")
+        .value_parser(value_parser!(u64).range(1..=1_000_000_000))
+        .default_value("1000000")
+        .help("How many reads the session may make");
+    Command::new(alloc, "run")
+        .about("Answers requests on standard input, over an empty store, on standard output")
+        .after_help(FRAMES)
+        .arg(shards_argument(alloc))?
+        .arg(turns)
+}
+
+fn shards_argument<'a>(alloc: Global) -> Arg<'a> {
+    Arg::new(alloc, "shards")
+        .long("shards")
+        .value_name("COUNT")
+        .value_parser(value_parser!(u64).range(1..=256))
+        .default_value("4")
+        .help("How many shards the store has")
+}
+
+fn trace_command<'a>(alloc: Global) -> Result<Command<'a>, AllocError> {
+    let rounds = Arg::new(alloc, "rounds")
+        .long("rounds")
+        .value_name("COUNT")
+        .value_parser(value_parser!(u64).range(1..=16))
+        .default_value("3")
+        .help("How often a fetch-all reads all shards before it gives up");
+    Command::new(alloc, "trace")
+        .about(
+            "Runs events on standard input over an empty store, and explains every reply by one order",
+        )
+        .after_help(EVENTS)
+        .arg(shards_argument(alloc))?
+        .arg(rounds)
+}
+
+fn migrate_command<'a>(alloc: Global) -> Command<'a> {
+    Command::new(alloc, "migrate")
+        .about("Turns a dump, the frames of a reply to F, into requests that store it again")
+        .after_help(
+            "The requests are V 2 and then one C for each domain: bundled migrate < dump | bundled run",
+        )
+}

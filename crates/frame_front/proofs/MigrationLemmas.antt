@@ -1,0 +1,225 @@
+-- A migrated dump is stored.
+use Rattle.std.proofs.Common.{◌≡◌, ℕ, ◌+◌, ◌≤◌, List, [], ◌∷◌, ◌++◌, length, map, take, drop, append-nil, append_assoc, length-append, arith, refl, sym, ap, ◌∙◌, inl, subst, Result, Ok, Err, Some, None, Bool, true, false, cond}
+use Rattle.std.specs.Prelude.{Option, nat_le}
+use Rattle.std.specs.List.{AllByRecursion}
+use Rattle.std.specs.FinMap as finite
+use Rattle.std.specs.FinMap.{find, slice_cmp-IsAntisymmetric, nat_cmp-IsAntisymmetric, get-from_entries, from_entries_push, entries-insert, len-entries, len-empty}
+use Rattle.std.specs.Ordering.{is_eq, ordering_reverse}
+use Rattle.std.specs.Cmp.Lexicographic.{nat_list_cmp_total}
+use Rattle.std.specs.declared.cmp.Ordering.TheVariants.{Less, Greater}
+use Rattle.std.proofs.lemmas.Bool.Decides.{nat_tests}
+use Rattle.std.proofs.lemmas.List.{take_at, append_cancel_left}
+use Rattle.std.proofs.Math.Seq.{drop-append_seam}
+use Rattle.spiffe_doc.specs.Authority.{BundleValue}
+use Rattle.spiffe_doc.specs.Bundle.{IsBundle}
+use Rattle.spiffe_doc.specs.Name.{IsName, trust_domain}
+use Rattle.spiffe_doc.specs.Text.{text_of}
+use Rattle.spiffe_doc.specs.declared.name.NameError.{NameError}
+use Rattle.spiffe_doc.proofs.NameLemmas.{trust_domain-IsName, IsName-trust_domain}
+use Rattle.spiffe_doc.proofs.RoundTrip.{document-text_of}
+use Rattle.map_core.specs.declared.held.Held.{Held}
+use Rattle.map_core.specs.declared.held.Held.TheVariants.{Published}
+use Rattle.map_core.specs.declared.op.Op.TheVariants.{SetIf}
+use Rattle.map_core.specs.declared.op.Expect.{Expect}
+use Rattle.map_core.specs.declared.op.Expect.TheVariants.{Absent}
+use Rattle.map_core.specs.declared.reply.Reply.TheVariants.{Stored}
+use Rattle.map_core.specs.Name.{Name, name_cmp}
+use Rattle.map_core.specs.Table.{Outcome, meaning, set_if}
+use Rattle.map_core.specs.PlainMap.{PlainMap, put, ask, bundles, published}
+use Rattle.frame_front.specs.declared.request.Version.TheVariants.{One, Two}
+use Rattle.frame_front.specs.declared.request.Request.{Request}
+use Rattle.frame_front.specs.declared.request.Request.TheVariants.{Ask, Speak}
+use Rattle.frame_front.specs.declared.refusal.Refusal.{Refusal}
+use Rattle.frame_front.specs.declared.refusal.Refusal.TheVariants.{BadRequest}
+use Rattle.frame_front.specs.Frame.{IsPayload, HasFrames, stream_of}
+use Rattle.frame_front.specs.Refusal.{name_refusal}
+use Rattle.frame_front.specs.Request.{◌>>=◌, split_name, split_expect, named, name_of, bundle_of, named_bundle, set_if_of, version_of, request_of}
+use Rattle.frame_front.specs.Request as requests
+use Rattle.frame_front.specs.Reply.{coded_reply, version_frame}
+use Rattle.frame_front.specs.Session.{SessionState}
+use Rattle.frame_front.specs.PlainSession.{text_for, state_for, answers_to, state_after}
+use Rattle.frame_front.specs.Dump.{Domains, unless_refused, item_of, ReadsItems, IsAfter, Ascends, IsDump, AreLawful, request_for, requests_for, held_of, map_of}
+use Rattle.frame_front.proofs.DumpLemmas.{last_of, last_of-one, Ascends-one, some_item, none_item}
+
+-- ---- a domain that was read has a name
+
+AreNamed : Domains → Type 0
+AreNamed = AllByRecursion (λ (item : Name × BundleValue). IsName item.0)
+
+same_ok : {A : Type 0} (x y : A) → (let r : Result A Refusal = Ok x in let s : Result A Refusal = Ok y in r ≡ s) → x ≡ y
+same_ok x y same = cc
+
+no_ok : {A : Type 0} (refusal : Refusal) (y : A) → (let r : Result A Refusal = Err refusal in let s : Result A Refusal = Ok y in r ≡ s) → ⊥
+no_ok refusal y same = cc
+
+named_name : (bytes name : List ℕ) (t : Result Name NameError) → trust_domain bytes ≡ t → named t ≡ Ok name → IsName name
+named_name bytes name (Ok n) is same =
+    let read = trust_domain-IsName bytes n is in subst IsName (sym read.0 ∙ same_ok n name same) read.1
+named_name bytes name (Err e) is same = absurd (no_ok (name_refusal e) name same)
+
+name_read : (bytes name : List ℕ) → name_of bytes ≡ Ok name → IsName name
+unfolding name_of
+name_read bytes name same = named_name bytes name (trust_domain bytes) refl same
+
+-- the parts of what was read
+parts_read : (parts : Result (List ℕ × List ℕ) Refusal) (item : Name × BundleValue)
+    → (parts >>= (λ p. name_of p.0 >>= (λ name. bundle_of p.1 >>= (λ bundle. Ok (name, bundle))))) ≡ Ok item → IsName item.0
+parts_read (Err refusal) item same = absurd (no_ok refusal item same)
+parts_read (Ok p) item same = of_name (name_of p.0) refl same
+  where
+    of_bundle : (name : Name) (b : Result BundleValue Refusal) → (b >>= (λ bundle. Ok (name, bundle))) ≡ Ok item → name ≡ item.0
+    of_bundle name (Err refusal) same = absurd (no_ok refusal item same)
+    of_bundle name (Ok bundle) same = ap (λ (i : Name × BundleValue). i.0) (same_ok (name, bundle) item same)
+
+    of_name : (n : Result Name Refusal) → name_of p.0 ≡ n → (n >>= (λ name. bundle_of p.1 >>= (λ bundle. Ok (name, bundle)))) ≡ Ok item → IsName item.0
+    of_name (Err refusal) is same = absurd (no_ok refusal item same)
+    of_name (Ok name) is same = subst IsName (of_bundle name (bundle_of p.1) same) (name_read p.0 name is)
+
+item_read : (read : Result (Name × BundleValue) Refusal) (item : Name × BundleValue) → unless_refused read ≡ Some item → read ≡ Ok item
+item_read (Ok i) item same = ap Ok (some_item i item same)
+item_read (Err refusal) item same = absurd (none_item item same)
+
+item_coded : (b : Bool) (read : Result (Name × BundleValue) Refusal) (item : Name × BundleValue) → cond b (unless_refused read) None ≡ Some item → read ≡ Ok item
+item_coded true read item same = item_read read item same
+item_coded false read item same = absurd (none_item item same)
+
+named_item : (payload : List ℕ) (item : Name × BundleValue) → item_of payload ≡ Some item → IsName item.0
+unfolding item_of named_bundle
+named_item [] item reads = absurd (none_item item reads)
+named_item (code ∷ bytes) item reads = parts_read (split_name bytes) item (item_coded _ (named_bundle bytes) item reads)
+
+named_items : (payloads : List (List ℕ)) (items : Domains) → ReadsItems payloads items → AreNamed items
+unfolding AreNamed
+named_items [] [] reads = tt
+named_items [] (i ∷ is) reads = absurd reads
+named_items (p ∷ ps) [] reads = absurd reads
+named_items (p ∷ ps) (i ∷ is) reads = (named_item p i reads.0, named_items ps is reads.1)
+
+-- ---- its request is read
+
+chosen_parts : (b : Bool) (name rest : List ℕ) → b ≡ nat_le (length name) (length (name ++ rest))
+    → (let r : Result (List ℕ × List ℕ) Refusal = cond b (Ok (take (length name) (name ++ rest), drop (length name) (name ++ rest))) (Err BadRequest) in r) ≡ Ok (name, rest)
+chosen_parts true name rest test = ap (λ (t : List ℕ). Ok (t, drop (length name) (name ++ rest))) (take_at name rest (length name) refl) ∙ ap (λ (d : List ℕ). Ok (name, d)) (drop-append_seam name rest)
+chosen_parts false name rest test = absurd (grind (arith, nat_tests, test, length-append name rest))
+
+split_name-name : (name rest : List ℕ) → split_name (length name ∷ name ++ rest) ≡ Ok (name, rest)
+unfolding split_name
+split_name-name name rest = chosen_parts (nat_le (length name) (length (name ++ rest))) name rest refl
+
+name_of-name : (name : Name) → IsName name → name_of name ≡ Ok name
+unfolding name_of
+name_of-name name is = ap named (IsName-trust_domain name name refl is)
+
+bundle_of-text : (b : BundleValue) → IsBundle b → bundle_of (text_of b) ≡ Ok b
+unfolding bundle_of
+bundle_of-text b is = ap requests.published (document-text_of b is)
+
+request_read : (item : Name × BundleValue) → IsName item.0 → IsBundle item.1 → request_of Two (request_for item) ≡ Ok (Ask (SetIf item.0 Absent item.1))
+unfolding request_of set_if_of split_expect
+request_read item is lawful =
+    ap (λ (r : Result (List ℕ × List ℕ) Refusal). r >>= (λ parts. split_expect parts.1 >>= (λ expected. name_of parts.0 >>= (λ name. bundle_of expected.1 >>= (λ bundle. Ok (Ask (SetIf name expected.0 bundle)))))))
+    (split_name-name item.0 (0 ∷ text_of item.1))
+    ∙ ap (λ (r : Result Name Refusal). r >>= (λ name. bundle_of (text_of item.1) >>= (λ bundle. Ok (Ask (SetIf name Absent bundle))))) (name_of-name item.0 is)
+    ∙ ap (λ (r : Result BundleValue Refusal). r >>= (λ bundle. Ok (Ask (SetIf item.0 Absent bundle)))) (bundle_of-text item.1 lawful)
+
+-- ---- it is stored, and stands last
+
+-- a name after the last one is after each
+after_each : (k d : Name) (m : Domains) → Ascends (Some k) m → IsAfter (last_of (Some k) m) d → name_cmp k d ≡ Less
+after_each k d [] ascending after = after
+after_each k d (e ∷ es) ascending after = nat_list_cmp_total.trans k e.0 d ascending.0 (after_each e.0 d es ascending.1 after)
+
+absent : (d : Name) (last : Option Name) (m : Domains) → Ascends last m → IsAfter (last_of last m) d → find name_cmp d (map held_of m) ≡ None
+absent d last [] ascending after = refl
+absent d last (e ∷ es) ascending after =
+    let greater : name_cmp d e.0 ≡ Greater = nat_list_cmp_total.antisymm d e.0 ∙ ap ordering_reverse (after_each e.0 d es ascending.1 after) in
+    ap (λ o. cond (is_eq o) (Some (Published e.1)) (find name_cmp d (map held_of es))) greater ∙ absent d (Some e.0) es ascending.1 after
+
+map-one : (m : Domains) (i : Name × BundleValue) → map held_of (m ++ i ∷ []) ≡ map held_of m ++ held_of i ∷ []
+map-one [] i = refl
+map-one (j ∷ m) i = ap (λ rest. held_of j ∷ rest) (map-one m i)
+
+module _ (item : Name × BundleValue) (m : Domains) (ascending : Ascends None m) (after : IsAfter (last_of None m) item.0) where
+  not_there : finite.get (map_of m) item.0 ≡ None
+  not_there = get-from_entries nat_list_cmp_total (map held_of m) item.0 ∙ absent item.0 None m ascending after
+
+  one_more : map_of (m ++ item ∷ []) ≡ finite.insert (map_of m) item.0 (Published item.1)
+  one_more = ap finite.from_entries (map-one m item)
+      ∙ from_entries_push nat_list_cmp_total (slice_cmp-IsAntisymmetric nat_cmp-IsAntisymmetric) (map held_of m) item.0 (Published item.1) (absent item.0 None m ascending after)
+
+  stored_reply : (ask (map_of m) (SetIf item.0 Absent item.1)).reply ≡ Stored
+  unfolding ask meaning
+  stored_reply = ap (λ held. (set_if Absent item.1 held).reply) not_there
+
+  stored_map : (ask (map_of m) (SetIf item.0 Absent item.1)).map ≡ map_of (m ++ item ∷ [])
+  unfolding ask meaning
+  stored_map = ap (λ held. put (map_of m) item.0 (set_if Absent item.1 held).held) not_there ∙ sym one_more
+
+all_stored : (items m : Domains) → AreNamed items → AreLawful items → Ascends None m → Ascends (last_of None m) items
+    → (answers_to (Two, map_of m) (map request_for items) ≡ map (λ item. coded_reply Stored) items)
+    × (state_after (Two, map_of m) (map request_for items) ≡ (Two, map_of (m ++ items)))
+unfolding AreNamed
+all_stored [] m names lawful below ascending = (refl, ap (λ n. (Two, map_of n)) (sym (append-nil m)))
+all_stored (item ∷ items) m names lawful below ascending =
+    let read = request_read item names.0 lawful.0 in
+    let text : text_for (Two, map_of m) (request_of Two (request_for item)) ≡ coded_reply Stored = ap (text_for (Two, map_of m)) read ∙ ap coded_reply (stored_reply item m below ascending.0) in
+    let state : state_for (Two, map_of m) (request_of Two (request_for item)) ≡ (Two, map_of (m ++ item ∷ [])) = ap (state_for (Two, map_of m)) read ∙ ap (λ n. (Two, n)) (stored_map item m below ascending.0) in
+    let others = all_stored items (m ++ item ∷ []) names.1 lawful.1 (Ascends-one None m item below ascending.0) (subst (λ l. Ascends l items) (sym (last_of-one None m item)) ascending.1) in (
+      ap (λ t. t ∷ answers_to (state_for (Two, map_of m) (request_of Two (request_for item))) (map request_for items)) text
+          ∙ ap (λ s. coded_reply Stored ∷ answers_to s (map request_for items)) state ∙ ap (λ ts. coded_reply Stored ∷ ts) others.0,
+      ap (λ s. state_after s (map request_for items)) state ∙ others.1 ∙ ap (λ n. (Two, map_of n)) (append_assoc m (item ∷ []) items),
+    )
+
+-- ---- the map has these domains, in their order
+
+empty_list : {A : Type 0} (es : List A) → length es ≡ 0 → es ≡ []
+empty_list [] none = refl
+empty_list (e ∷ es) none = absurd (omega (arith, none))
+
+put_first : (k : Name) (v : Held) (e : Name × Held) (es : List (Name × Held)) → name_cmp k e.0 ≡ Less → finite.put name_cmp k v (e ∷ es) ≡ (k, v) ∷ e ∷ es
+put_first k v e es less = rw less refl
+
+no_entries : finite.entries (let m : PlainMap = finite.empty in m) ≡ []
+no_entries = empty_list _ (sym (len-entries (let m : PlainMap = finite.empty in m)) ∙ len-empty name_cmp Held)
+
+kept_order : (last : Option Name) (items : Domains) → Ascends last items → finite.entries (map_of items) ≡ map held_of items
+kept_order last [] ascending = no_entries
+kept_order last (item ∷ []) ascending = entries-insert nat_list_cmp_total finite.empty item.0 (Published item.1) ∙ ap (finite.put name_cmp item.0 (Published item.1)) no_entries
+kept_order last (item ∷ next ∷ items) ascending =
+    entries-insert nat_list_cmp_total (map_of (next ∷ items)) item.0 (Published item.1)
+    ∙ ap (finite.put name_cmp item.0 (Published item.1)) (kept_order (Some item.0) (next ∷ items) ascending.1)
+    ∙ put_first item.0 (Published item.1) (held_of next) (map held_of items) ascending.1.0
+
+published_all : (items : Domains) → published (map held_of items) ≡ items
+published_all [] = refl
+published_all (item ∷ items) = ap (λ rest. item ∷ rest) (published_all items)
+
+are_payloads : (items : Domains) → AreNamed items → AreLawful items → AllByRecursion IsPayload (map request_for items)
+unfolding AreNamed
+are_payloads [] names lawful = tt
+are_payloads (item ∷ items) names lawful =
+    let size : length (request_for item) ≡ 3 + length item.0 + length (text_of item.1) = omega (arith, length-append item.0 (0 ∷ text_of item.1)) in
+    ((omega (arith, size), omega (arith, size, names.0.short, lawful.0.short)), are_payloads items names.1 lawful.1)
+
+version_read : request_of One (86 ∷ 2 ∷ []) ≡ Ok (Speak Two)
+unfolding request_of version_of
+version_read = refl
+
+pub migration : (dump : List ℕ) (items : Domains) → IsDump dump items → AreLawful items
+    → HasFrames (stream_of (requests_for items) []) (requests_for items) []
+    × (answers_to (One, finite.empty) (requests_for items) ≡ version_frame Two ∷ map (λ item. coded_reply Stored) items)
+    × (state_after (One, finite.empty) (requests_for items) ≡ (Two, map_of items))
+    × (bundles (map_of items) ≡ items)
+migration dump items is lawful =
+    let names = named_items is.payloads items is.read in
+    let stored = all_stored items [] names lawful tt is.ascending in (
+      record {
+        whole = refl;
+        each = ((omega arith, omega arith), are_payloads items names lawful);
+        ends = inl (record { good = λ h. absurd (omega (arith, h)); short = λ h. absurd (omega (arith, h)) });
+      },
+      ap (λ r. text_for (One, finite.empty) r ∷ answers_to (state_for (One, finite.empty) r) (map request_for items)) version_read
+          ∙ ap (λ ts. version_frame Two ∷ ts) stored.0,
+      ap (λ r. state_after (state_for (One, finite.empty) r) (map request_for items)) version_read ∙ stored.1,
+      ap published (kept_order None items is.ascending) ∙ published_all items,
+    )

@@ -1,0 +1,304 @@
+-- Sessions over a map that shows a plain map.
+use Rattle.std.proofs.Common.{◌≡◌, ◌⊎◌, ℕ, zero, suc, ◌+◌, ◌-◌, ◌<◌, ◌≤◌, List, [], ◌∷◌, ◌++◌, length, take, drop, append-nil, append_assoc, length-append, arith, refl, sym, ap, ◌∙◌, inl, inr, subst, Result, Ok, Err, Some, Bool, true, false}
+use Rattle.std.specs.Prelude.{Option}
+use Rattle.std.specs.Io.KnownBytes.{Appends}
+use Rattle.std.specs.List.{AllByRecursion, concat}
+use Rattle.std.proofs.lemmas.Bool.{cases_lt}
+use Rattle.std.proofs.lemmas.List.{take-append-le, take-append-drop, take_at}
+use Rattle.std.proofs.lemmas.List.Folds.{concat-append}
+use Rattle.map_core.specs.declared.op.Op.{Op}
+use Rattle.map_core.specs.declared.reply.Reply.{Reply}
+use Rattle.map_core.specs.declared.reply.AskError.{AskError}
+use Rattle.map_core.specs.PlainMap.{PlainMap, ask}
+use Rattle.map_core.specs.Ask.{PlainAnswer}
+use Rattle.frame_front.specs.Frame.{IsPayload, frame, stream_of}
+use Rattle.frame_front.specs.declared.error.FrontError.{FrontError}
+use Rattle.frame_front.specs.declared.error.FrontError.TheVariants.{BadLength, Truncated, ReadFault, WriteFault, TurnsUsed, Memory}
+use Rattle.frame_front.specs.declared.request.Version.{Version}
+use Rattle.frame_front.specs.declared.request.Version.TheVariants.{One}
+use Rattle.frame_front.specs.declared.request.Request.{Request}
+use Rattle.frame_front.specs.declared.request.Request.TheVariants.{Ask, Speak}
+use Rattle.frame_front.specs.declared.refusal.Refusal.{Refusal}
+use Rattle.frame_front.specs.Request.{request_of}
+use Rattle.frame_front.specs.Reply.{coded_reply, is_error_reply}
+use Rattle.frame_front.specs.Session.{SessionState, AnswersRequest, Answers, AnswersAll, Session, Writes, WritesCut, EndsAt}
+use Rattle.frame_front.specs.Transcript.{Transcript}
+use Rattle.frame_front.specs.PlainSession.{text_for, state_for, answers_to, state_after, TellsError, PlainTranscript, begun, Stands}
+use Rattle.frame_front.proofs.SessionLemmas.{stream_of-append, concat-one}
+use Rattle.frame_front.proofs.ReplyLemmas.{not_both, want_is_error, version_answers, plain_goes_out, errors_keep, one_answers}
+
+-- none of these texts tells an error
+abbrev NoErrors : List (List ℕ) → Type 0
+NoErrors = AllByRecursion (λ text. is_error_reply text ≡ false)
+
+-- an answer to a payload that reads so, over the plain map
+pub record PlainStep (state : SessionState PlainMap) (read : Result Request Refusal) (text : List ℕ) (new : SessionState PlainMap) : Type 0 where
+  pub text_is : text ≡ text_for state read
+  pub new_is : new ≡ state_for state read
+
+-- texts of which all that is begun answers
+no_errors-append : (ts us : List (List ℕ)) → NoErrors ts → NoErrors us → NoErrors (ts ++ us)
+no_errors-append [] us a b = b
+no_errors-append (t ∷ ts) us a b = (a.0, no_errors-append ts us a.1 b)
+
+each_before : (ps qs : List (List ℕ)) → AllByRecursion IsPayload (ps ++ qs) → AllByRecursion IsPayload ps
+each_before [] qs a = tt
+each_before (p ∷ ps) qs a = (a.0, each_before ps qs a.1)
+
+empty_answers : (text : List ℕ) → length text ≤ 0 → is_error_reply text ≡ false
+empty_answers [] none = refl
+empty_answers (x ∷ xs) none = absurd (omega (arith, none))
+
+begun_before : (ts us : List (List ℕ)) (n : ℕ) → length (concat ts) ≤ n → NoErrors (begun n (ts ++ us)) → NoErrors ts
+begun_before [] us n whole no_errors = tt
+begun_before (t ∷ ts) us zero whole no_errors =
+    (empty_answers t (omega (arith, whole, length-append t (concat ts))), begun_before ts us zero (omega (arith, whole, length-append t (concat ts))) tt)
+begun_before (t ∷ ts) us (suc n) whole no_errors =
+    (no_errors.0, begun_before ts us (suc n - length t) (omega (arith, whole, length-append t (concat ts))) no_errors.1)
+
+begun_reaches : (ts : List (List ℕ)) (text : List ℕ) (n : ℕ) → length (concat ts) < n → NoErrors (begun n (ts ++ text ∷ [])) → is_error_reply text ≡ false
+begun_reaches [] text zero reached no_errors = absurd (omega (arith, reached))
+begun_reaches [] text (suc n) reached no_errors = no_errors.0
+begun_reaches (t ∷ ts) text zero reached no_errors = absurd (omega (arith, reached))
+begun_reaches (t ∷ ts) text (suc n) reached no_errors =
+    begun_reaches ts text (suc n - length t) (omega (arith, reached, length-append t (concat ts))) no_errors.1
+
+module _ {S : Type 0} (answers : S → Op → Result Reply AskError → S → Type 0) (shows : S → Option PlainMap)
+    (plainly : (old : S) (op : Op) (result : Result Reply AskError) (new : S) (m : PlainMap) → shows old ≡ Some m → answers old op result new → PlainAnswer m op result (shows new)) where
+  -- one payload that is read
+  plain_request : (read : Result Request Refusal) (old new : SessionState S) (text : List ℕ) (m : PlainMap) → shows old.1 ≡ Some m
+      → AnswersRequest answers read old text new
+      → (n : PlainMap) × (shows new.1 ≡ Some n) × (is_error_reply text ≡ false → PlainStep (old.0, m) read text (new.0, n))
+  plain_request (Err refusal) old new text m shown answer =
+      (m, ap (λ (s : SessionState S). shows s.1) answer.1 ∙ shown, λ other. record { text_is = answer.0; new_is = ap (λ (s : SessionState S). (s.0, m)) answer.1 })
+  plain_request (Ok (Speak version)) old new text m shown answer =
+      (m, ap (λ (s : SessionState S). shows s.1) answer.1 ∙ shown, λ other. record { text_is = answer.0; new_is = ap (λ (s : SessionState S). (s.0, m)) answer.1 })
+  plain_request (Ok (Ask op)) old new text m shown answer =
+      let left = plain_goes_out answer.0 m (shows new.1) op text (plainly old.1 op answer.0 new.1 m shown answer.1) answer.2 in (
+        left.0,
+        left.1,
+        λ other. record {
+          text_is = (left.2 other).0;
+          new_is = ap (λ v. (v, left.0)) answer.3 ∙ ap (λ n. (old.0, n)) (left.2 other).1;
+        },
+      )
+
+  error_request : (read : Result Request Refusal) (old new : SessionState S) (text : List ℕ) (m : PlainMap) → shows old.1 ≡ Some m
+      → AnswersRequest answers read old text new → is_error_reply text ≡ true → (shows new.1 ≡ Some m) × (new.0 ≡ old.0)
+  error_request (Err refusal) old new text m shown answer tells = (ap (λ (s : SessionState S). shows s.1) answer.1 ∙ shown, ap (λ (s : SessionState S). s.0) answer.1)
+  error_request (Ok (Speak version)) old new text m shown answer tells = absurd (not_both (is_error_reply text) tells (ap is_error_reply answer.0 ∙ version_answers version))
+  error_request (Ok (Ask op)) old new text m shown answer tells =
+      (errors_keep answer.0 m (shows new.1) op text (plainly old.1 op answer.0 new.1 m shown answer.1) answer.2 tells, answer.3)
+
+  -- one payload
+  plain_one : (payload : List ℕ) (old new : SessionState S) (text : List ℕ) (m : PlainMap) → shows old.1 ≡ Some m → Answers answers old payload text new
+      → (n : PlainMap) × (shows new.1 ≡ Some n) × (is_error_reply text ≡ false → PlainStep (old.0, m) (request_of old.0 payload) text (new.0, n))
+  plain_one payload old new text m shown (inl request) = plain_request (request_of old.0 payload) old new text m shown request
+  plain_one payload old new text m shown (inr want) =
+      (m, ap (λ (s : SessionState S). shows s.1) want.1 ∙ shown, λ none. absurd (not_both (is_error_reply text) (want_is_error text want.0) none))
+
+  -- a payload answered by a text that tells an error changes nothing
+  pub errors_change_nothing : (payload : List ℕ) (old new : SessionState S) (text : List ℕ) (m : PlainMap) → shows old.1 ≡ Some m
+      → Answers answers old payload text new → is_error_reply text ≡ true → (shows new.1 ≡ Some m) × (new.0 ≡ old.0)
+  errors_change_nothing payload old new text m shown (inr want) tells = (ap (λ (s : SessionState S). shows s.1) want.1 ∙ shown, ap (λ (s : SessionState S). s.0) want.1)
+  errors_change_nothing payload old new text m shown (inl request) tells = error_request (request_of old.0 payload) old new text m shown request tells
+
+  -- where no text that is begun tells an error, none of their codes says so
+  begun_answer : (payloads texts : List (List ℕ)) (old new : SessionState S) (n : ℕ) → AnswersAll answers old payloads texts new
+      → AllByRecursion (λ text. ¬ (TellsError answers text)) (begun n texts) → NoErrors (begun n texts)
+  begun_answer payloads texts old new zero answered none = tt
+  begun_answer payloads [] old new (suc n) answered none = tt
+  begun_answer [] (text ∷ texts) old new (suc n) answered none = absurd answered
+  begun_answer (payload ∷ payloads) (text ∷ texts) old new (suc n) answered none =
+      (one_answers answers payload old answered.0 text answered.1 none.0, begun_answer payloads texts answered.0 new (suc n - length text) answered.2 none.1)
+
+  -- all payloads
+  pub plain_all : (payloads texts : List (List ℕ)) (old new : SessionState S) (m : PlainMap) → shows old.1 ≡ Some m → AnswersAll answers old payloads texts new
+      → (n : PlainMap) × (shows new.1 ≡ Some n) × (NoErrors texts
+      → (texts ≡ answers_to (old.0, m) payloads) × (n ≡ (state_after (old.0, m) payloads).1))
+  plain_all [] [] old new m shown answered = (m, ap (λ (s : SessionState S). shows s.1) answered ∙ shown, λ others. (refl, refl))
+  plain_all [] (text ∷ texts) old new m shown answered = absurd answered
+  plain_all (payload ∷ payloads) [] old new m shown answered = absurd answered
+  plain_all (payload ∷ payloads) (text ∷ texts) old new m shown answered =
+      let first = plain_one payload old answered.0 text m shown answered.1 in
+      let rest = plain_all payloads texts answered.0 new first.0 first.1 answered.2 in
+      let read = request_of old.0 payload in (
+        rest.0,
+        rest.1,
+        λ others. (
+          ap (λ t. t ∷ texts) (first.2 others.0).text_is
+              ∙ ap (λ ts. text_for (old.0, m) read ∷ ts) ((rest.2 others.1).0 ∙ ap (λ s. answers_to s payloads) (first.2 others.0).new_is),
+          (rest.2 others.1).1 ∙ ap (λ (s : SessionState PlainMap). (state_after s payloads).1) (first.2 others.0).new_is,
+        ),
+      )
+
+  -- the last of several payloads
+  last_answered : (ps ts : List (List ℕ)) (t : List ℕ) (old new : SessionState S) → AnswersAll answers old ps (ts ++ t ∷ []) new
+      → (qs : List (List ℕ)) × (q : List ℕ) × (mid : SessionState S) × (ps ≡ qs ++ q ∷ []) × AnswersAll answers old qs ts mid × Answers answers mid q t new
+  last_answered [] [] t old new a = absurd a
+  last_answered (p ∷ []) [] t old new a = ([], p, old, refl, refl, subst (λ s. Answers answers old p t s) (sym a.2) a.1)
+  last_answered (p ∷ more ∷ ps) [] t old new a = absurd a.2
+  last_answered [] (x ∷ ts) t old new a = absurd a
+  last_answered (p ∷ ps) (x ∷ ts) t old new a =
+      let rest = last_answered ps ts t a.0 new a.2 in
+      (p ∷ rest.0, rest.1, rest.2, ap (λ qs. p ∷ qs) rest.3, (a.0, a.1, rest.4), rest.5)
+
+  -- What stands of a session whose writer failed, over the plain map.
+  pub record PlainCut (read written : List ℕ) (old new : PlainMap) : Type 0 where
+    pub payloads : List (List ℕ)
+    pub texts : List (List ℕ)
+    pub rest : List ℕ
+    pub whole : read ≡ stream_of payloads rest
+    pub each : AllByRecursion IsPayload payloads
+    pub stands : (missing : List ℕ) × (concat texts ≡ written ++ missing)
+    pub told : AllByRecursion (λ text. ¬ (TellsError answers text)) (begun (length written) texts) → (texts ≡ answers_to (One, old) payloads) × (new ≡ (state_after (One, old) payloads).1)
+
+  module _ (payloads before gathered : List (List ℕ)) (rest front : List ℕ) (old : S) (new : SessionState S) (m : PlainMap) (shown : shows old ≡ Some m)
+      (each : AllByRecursion IsPayload payloads) (no_errors : NoErrors gathered) where
+    all_kept : (alone : List (List ℕ)) (missing : List ℕ) → AnswersAll answers (One, old) payloads ((before ++ gathered) ++ alone) new
+        → concat (gathered ++ alone) ≡ front ++ missing
+        → (NoErrors (begun (length (concat before ++ front)) ((before ++ gathered) ++ alone)) → NoErrors alone)
+        → (n : PlainMap) × (shows new.1 ≡ Some n) × PlainCut (stream_of payloads rest) (concat before ++ front) m n
+    all_kept alone missing answered cut alone_answers =
+        let all = plain_all payloads ((before ++ gathered) ++ alone) (One, old) new m shown answered in (
+          all.0,
+          all.1,
+          record {
+            payloads = payloads;
+            texts = (before ++ gathered) ++ alone;
+            rest = rest;
+            whole = refl;
+            each = each;
+            stands = (
+              missing,
+              ap concat (append_assoc before gathered alone) ∙ concat-append before (gathered ++ alone) ∙ ap (λ c. concat before ++ c) cut
+                  ∙ sym (append_assoc (concat before) front missing),
+            );
+            told = λ none_tells. let none_begun = begun_answer payloads ((before ++ gathered) ++ alone) (One, old) new (length (concat before ++ front)) answered none_tells in
+                all.2 (no_errors-append (before ++ gathered) alone
+                (no_errors-append before gathered
+                (begun_before before (gathered ++ alone) (length (concat before ++ front)) (omega (arith, length-append (concat before) front))
+                (subst (λ ts. NoErrors (begun (length (concat before ++ front)) ts)) (append_assoc before gathered alone) none_begun)) no_errors)
+                (alone_answers none_begun));
+          },
+        )
+
+    -- the last text gives up, and is not begun: its payload is left out
+    last_left : (text : List ℕ) (missing : List ℕ) → AnswersAll answers (One, old) payloads ((before ++ gathered) ++ text ∷ []) new
+        → concat (gathered ++ text ∷ []) ≡ front ++ missing → is_error_reply text ≡ true → length front ≤ length (concat gathered)
+        → (n : PlainMap) × (shows new.1 ≡ Some n) × PlainCut (stream_of payloads rest) (concat before ++ front) m n
+    last_left text missing answered cut tells short =
+        let last = last_answered payloads (before ++ gathered) text (One, old) new answered in
+        let all = plain_all last.0 (before ++ gathered) (One, old) last.2 m shown last.4 in
+        let same = errors_change_nothing last.1 last.2 new text all.0 all.1 last.5 tells in
+        let stands : concat gathered ≡ front ++ drop (length front) (concat gathered) =
+        sym (take-append-drop (length front) (concat gathered)) ∙ ap (λ f. f ++ drop (length front) (concat gathered))
+        (sym (take-append-le (length front) (concat gathered) text short) ∙ ap (take (length front)) (sym (concat-one gathered text) ∙ cut) ∙ take_at front missing (length front) refl) in (
+          all.0,
+          same.0,
+          record {
+            payloads = last.0;
+            texts = before ++ gathered;
+            rest = frame last.1 ++ rest;
+            whole = ap (λ ps. stream_of ps rest) last.3 ∙ stream_of-append last.0 (last.1 ∷ []) rest ∙ ap (λ f. stream_of last.0 (f ++ rest)) (append-nil (frame last.1));
+            each = each_before last.0 (last.1 ∷ []) (subst (AllByRecursion IsPayload) last.3 each);
+            stands = (
+              drop (length front) (concat gathered),
+              concat-append before gathered ∙ ap (λ c. concat before ++ c) stands
+                  ∙ sym (append_assoc (concat before) front (drop (length front) (concat gathered))),
+            );
+            told = λ none_tells. let none_begun = begun_answer last.0 (before ++ gathered) (One, old) last.2 (length (concat before ++ front)) last.4 none_tells in
+                all.2 (no_errors-append before gathered
+                (begun_before before gathered (length (concat before ++ front)) (omega (arith, length-append (concat before) front)) none_begun) no_errors);
+          },
+        )
+
+    -- one text was not gathered
+    one_alone : (text : List ℕ) (missing : List ℕ) (b : Bool) → is_error_reply text ≡ b → AnswersAll answers (One, old) payloads ((before ++ gathered) ++ text ∷ []) new
+        → concat (gathered ++ text ∷ []) ≡ front ++ missing
+        → (n : PlainMap) × (shows new.1 ≡ Some n) × PlainCut (stream_of payloads rest) (concat before ++ front) m n
+    one_alone text missing false tells answered cut = all_kept (text ∷ []) missing answered cut (λ none_begun. (tells, tt))
+    one_alone text missing true tells answered cut = elim (cases_lt (length (concat gathered)) (length front)) [
+      | inl reached ↦ all_kept (text ∷ []) missing answered cut (λ none_begun. (
+        begun_reaches (before ++ gathered) text (length (concat before ++ front))
+            (omega (arith, length-append (concat before) front, length-append (concat before) (concat gathered), ap length (concat-append before gathered))) none_begun,
+        tt,
+      ))
+      | inr short ↦ last_left text missing answered cut tells short
+    ]
+
+    plain_cut : (alone : List (List ℕ)) (missing : List ℕ) → length alone ≤ 1 → AnswersAll answers (One, old) payloads ((before ++ gathered) ++ alone) new
+        → concat (gathered ++ alone) ≡ front ++ missing
+        → (n : PlainMap) × (shows new.1 ≡ Some n) × PlainCut (stream_of payloads rest) (concat before ++ front) m n
+    plain_cut [] missing few answered cut = all_kept [] missing answered cut (λ none_begun. tt)
+    plain_cut (text ∷ []) missing few answered cut = one_alone text missing (is_error_reply text) refl answered cut
+    plain_cut (text ∷ more ∷ texts) missing few answered cut = absurd (omega (arith, few))
+
+  module _ (turns : ℕ) (left_old left_new held_old held_new : Option (List ℕ)) (old new : S) (m : PlainMap) (shown : shows old ≡ Some m) where
+    -- all texts are written whole
+    plain_whole : (result : Result ℕ FrontError) (t : Transcript answers result turns left_old left_new held_old held_new old new)
+        → t.written ≡ concat t.session.texts → Stands result t.session.texts t.written
+        → (n : PlainMap) × (shows new ≡ Some n) × PlainTranscript answers result turns left_old left_new held_old held_new m n
+    plain_whole result t written stands =
+        let s = t.session in
+        let all = plain_all s.payloads s.texts (One, old) (t.version, new) m shown s.serves.answered in (
+          all.0,
+          all.1,
+          record {
+            read = t.read;
+            written = t.written;
+            consumes = t.consumes;
+            appends = t.appends;
+            payloads = s.payloads;
+            texts = s.texts;
+            rest = s.rest;
+            whole = s.serves.whole;
+            each = s.serves.each;
+            ends = s.ends;
+            used = t.used;
+            ended = t.ended;
+            stands = stands;
+            told = λ none_tells. let none_begun = begun_answer s.payloads s.texts (One, old) (t.version, new) (length t.written) s.serves.answered none_tells in
+                all.2 (begun_before s.texts [] (length t.written) (omega (arith, ap length written))
+                (subst (λ ts. NoErrors (begun (length t.written) ts)) (sym (append-nil s.texts)) none_begun));
+          },
+        )
+
+    plain_fault : Transcript answers (Err WriteFault) turns left_old left_new held_old held_new old new
+        → (n : PlainMap) × (shows new ≡ Some n) × PlainTranscript answers (Err WriteFault) turns left_old left_new held_old held_new m n
+    plain_fault t =
+        let s = t.session in
+        let w = s.writes in
+        let cut = plain_cut s.payloads w.before w.gathered s.rest w.front old (t.version, new) m shown s.serves.each w.no_errors w.alone w.missing w.one
+        (subst (λ ts. AnswersAll answers (One, old) s.payloads ts (t.version, new)) w.texts_are s.serves.answered) w.cut in
+        let k = cut.2 in (
+          cut.0,
+          cut.1,
+          record {
+            read = t.read;
+            written = concat w.before ++ w.front;
+            consumes = t.consumes;
+            appends = subst (Appends held_old held_new) w.written_is t.appends;
+            payloads = k.payloads;
+            texts = k.texts;
+            rest = k.rest;
+            whole = s.serves.whole ∙ k.whole;
+            each = k.each;
+            ends = tt;
+            used = tt;
+            ended = tt;
+            stands = k.stands;
+            told = k.told;
+          },
+        )
+
+    -- a transcript over a map that answers as the plain map
+    pub Transcript-plain : (result : Result ℕ FrontError) → Transcript answers result turns left_old left_new held_old held_new old new
+        → (n : PlainMap) × (shows new ≡ Some n) × PlainTranscript answers result turns left_old left_new held_old held_new m n
+    Transcript-plain (Ok count) t = plain_whole (Ok count) t t.session.writes t.session.writes
+    Transcript-plain (Err BadLength) t = plain_whole (Err BadLength) t t.session.writes t.session.writes
+    Transcript-plain (Err Truncated) t = plain_whole (Err Truncated) t t.session.writes t.session.writes
+    Transcript-plain (Err ReadFault) t = plain_whole (Err ReadFault) t t.session.writes t.session.writes
+    Transcript-plain (Err TurnsUsed) t = plain_whole (Err TurnsUsed) t t.session.writes t.session.writes
+    Transcript-plain (Err Memory) t = plain_whole (Err Memory) t t.session.writes t.session.writes
+    Transcript-plain (Err WriteFault) t = plain_fault t

@@ -1,0 +1,13 @@
+pub mod Frame
+pub mod Counted
+pub mod Error
+pub mod Decoder
+pub mod Refusal
+pub mod Request
+pub mod Reply
+pub mod Storage
+pub mod Outbox
+pub mod Session
+pub mod Transcript
+pub mod PlainSession
+pub mod Dump

@@ -1,0 +1,89 @@
+-- What a session answers over a map that can be asked and shows a plain map.
+use Rattle.std.specs.Prelude.{◌≡◌, ◌⊎◌, ℕ, zero, suc, ◌-◌, List, [], ◌∷◌, ◌++◌, length, Result, Ok, Err, Option}
+use Rattle.std.specs.List.{AllByRecursion, concat}
+use Rattle.std.specs.Io.KnownBytes.{Appends, Consumes}
+use Rattle.map_core.specs.declared.op.Op.{Op}
+use Rattle.map_core.specs.declared.reply.Reply.{Reply}
+use Rattle.map_core.specs.declared.reply.AskError.{AskError}
+use Rattle.map_core.specs.PlainMap.{PlainMap, ask}
+use Rattle.frame_front.specs.declared.error.FrontError.{FrontError}
+use Rattle.frame_front.specs.declared.error.FrontError.TheVariants.{BadLength, Truncated, ReadFault, WriteFault, TurnsUsed, Memory}
+use Rattle.frame_front.specs.declared.request.Version.{Version}
+use Rattle.frame_front.specs.declared.request.Version.TheVariants.{One}
+use Rattle.frame_front.specs.declared.request.Request.{Request}
+use Rattle.frame_front.specs.declared.request.Request.TheVariants.{Ask, Speak}
+use Rattle.frame_front.specs.declared.refusal.Refusal.{Refusal}
+use Rattle.frame_front.specs.Frame.{stream_of, IsPayload}
+use Rattle.frame_front.specs.Request.{request_of}
+use Rattle.frame_front.specs.Reply.{coded, coded_reply, memory_frame, refusal_frame, version_frame}
+use Rattle.frame_front.specs.Session.{SessionState, EndsAt}
+use Rattle.frame_front.specs.Transcript.{EndsInput, UsesTurns}
+
+-- the answer to a payload that reads so
+abbrev pub text_for : SessionState PlainMap → Result Request Refusal → List ℕ
+text_for state (Err refusal) = refusal_frame refusal
+text_for state (Ok (Speak version)) = version_frame version
+text_for state (Ok (Ask op)) = coded_reply (ask state.1 op).reply
+
+-- and the state after it
+abbrev pub state_for : SessionState PlainMap → Result Request Refusal → SessionState PlainMap
+state_for state (Err refusal) = state
+state_for state (Ok (Speak version)) = (version, state.1)
+state_for state (Ok (Ask op)) = (state.0, (ask state.1 op).map)
+
+-- the answers to these payloads, one after the other
+abbrev pub answers_to : SessionState PlainMap → List (List ℕ) → List (List ℕ)
+answers_to state [] = []
+answers_to state (payload ∷ payloads) =
+    text_for state (request_of state.0 payload) ∷ answers_to (state_for state (request_of state.0 payload)) payloads
+
+-- and the state after them
+abbrev pub state_after : SessionState PlainMap → List (List ℕ) → SessionState PlainMap
+state_after state [] = state
+state_after state (payload ∷ payloads) = state_after (state_for state (request_of state.0 payload)) payloads
+
+-- of texts that follow one another, those of which a byte is among the first n
+abbrev pub begun : ℕ → List (List ℕ) → List (List ℕ)
+begun zero texts = []
+begun (suc n) [] = []
+begun (suc n) (text ∷ texts) = text ∷ begun (suc n - length text) texts
+
+-- the texts are written whole; where the writer failed, a front of them
+abbrev pub Stands : Result ℕ FrontError → List (List ℕ) → List ℕ → Type 0
+Stands (Err WriteFault) texts written = (missing : List ℕ) × (concat texts ≡ written ++ missing)
+Stands (Ok count) texts written = written ≡ concat texts
+Stands (Err BadLength) texts written = written ≡ concat texts
+Stands (Err Truncated) texts written = written ≡ concat texts
+Stands (Err ReadFault) texts written = written ≡ concat texts
+Stands (Err TurnsUsed) texts written = written ≡ concat texts
+Stands (Err Memory) texts written = written ≡ concat texts
+
+module _ {S : Type 0} (answers : S → Op → Result Reply AskError → S → Type 0) where
+  -- whoever is asked may give this error
+  abbrev pub MayFail : AskError → Type 0
+  MayFail error = (old : S) × (op : Op) × (new : S) × answers old op (Err error) new
+
+  -- a reply says that memory ran out, or that whoever is asked gave an error
+  abbrev pub TellsError : List ℕ → Type 0
+  TellsError text = (text ≡ memory_frame) ⊎ ((error : AskError) × MayFail error × (text ≡ coded (Err error)))
+
+  -- A session over a map that shows a plain map. The payloads are a prefix of the frames read, and the texts are the
+  -- replies to them. Where no text that is begun tells an error, the texts are the plain map's answers, and the map
+  -- left is the one that these leave.
+  pub record PlainTranscript (result : Result ℕ FrontError) (turns : ℕ)
+      (left_old left_new held_old held_new : Option (List ℕ)) (old new : PlainMap) : Type 0 where
+    pub read : List ℕ
+    pub written : List ℕ
+    pub consumes : Consumes left_old left_new read
+    pub appends : Appends held_old held_new written
+    pub payloads : List (List ℕ)
+    pub texts : List (List ℕ)
+    pub rest : List ℕ
+    pub whole : read ≡ stream_of payloads rest
+    pub each : AllByRecursion IsPayload payloads
+    pub ends : EndsAt result (length payloads) rest
+    pub used : UsesTurns result turns (length read)
+    pub ended : EndsInput result left_new
+    pub stands : Stands result texts written
+    pub told : AllByRecursion (λ text. ¬ (TellsError text)) (begun (length written) texts)
+        → (texts ≡ answers_to (One, old) payloads) × (new ≡ (state_after (One, old) payloads).1)

@@ -1,0 +1,113 @@
+-- What a session may answer, over any map that can be asked.
+use Rattle.std.specs.Prelude.{◌≡◌, ◌≢◌, ℕ, List, [], ◌∷◌, ◌++◌, length, Result, Ok, Err, ◌⊎◌, ◌≤◌, false}
+use Rattle.std.specs.List.{concat, AllByRecursion}
+use Rattle.map_core.specs.declared.op.Op.{Op}
+use Rattle.map_core.specs.declared.reply.Reply.{Reply}
+use Rattle.map_core.specs.declared.reply.AskError.{AskError}
+use Rattle.frame_front.specs.declared.error.FrontError.{FrontError}
+use Rattle.frame_front.specs.declared.error.FrontError.TheVariants.{BadLength, Truncated, ReadFault, WriteFault, TurnsUsed, Memory}
+use Rattle.frame_front.specs.declared.request.Version.{Version}
+use Rattle.frame_front.specs.declared.request.Request.{Request}
+use Rattle.frame_front.specs.declared.request.Request.TheVariants.{Ask, Speak}
+use Rattle.frame_front.specs.declared.refusal.Refusal.{Refusal}
+use Rattle.frame_front.specs.Frame.{stream_of, IsPayload, IsUnfinished, IsBadLength}
+use Rattle.frame_front.specs.Request.{request_of}
+use Rattle.frame_front.specs.Reply.{refusal_frame, version_frame, memory_frame, is_error_reply, GoesOut}
+
+-- the state of a session: its version, and the state of the map that it asks
+abbrev pub SessionState : Type 0 → Type 0
+SessionState S = Version × S
+
+module _ {S : Type 0} (answers : S → Op → Result Reply AskError → S → Type 0) where
+  -- A payload that reads so may be answered by this text, when memory suffices to read it.
+  abbrev pub AnswersRequest : Result Request Refusal → SessionState S → List ℕ → SessionState S → Type 0
+  -- a refusal asks nothing
+  AnswersRequest (Err refusal) old text new = (text ≡ refusal_frame refusal) × (new ≡ old)
+  -- a version is set, and nothing is asked
+  AnswersRequest (Ok (Speak version)) old text new = (text ≡ version_frame version) × (new ≡ (version, old.1))
+  -- an operation is asked once, and one answer goes out
+  AnswersRequest (Ok (Ask op)) old text new =
+      (answer : Result Reply AskError) × answers old.1 op answer new.1 × GoesOut answer text × (new.0 ≡ old.0)
+
+  -- From the old state the payload may be answered by this text, which leaves the new one.
+  abbrev pub Answers : SessionState S → List ℕ → List ℕ → SessionState S → Type 0
+  Answers old payload text new =
+      AnswersRequest (request_of old.0 payload) old text new ⊎ ((text ≡ memory_frame) × (new ≡ old))
+
+  -- The payloads may be answered by these texts, one after the other.
+  abbrev pub AnswersAll : SessionState S → List (List ℕ) → List (List ℕ) → SessionState S → Type 0
+  AnswersAll old [] [] new = new ≡ old
+  AnswersAll old (payload ∷ payloads) (text ∷ texts) new =
+      (mid : SessionState S) × Answers old payload text mid × AnswersAll mid payloads texts new
+  AnswersAll old [] (text ∷ texts) new = ⊥
+  AnswersAll old (payload ∷ payloads) [] new = ⊥
+
+  -- Of the bytes read, these payloads were answered, by these texts, and this rest was not.
+  pub record Serves (read : List ℕ) (payloads texts : List (List ℕ)) (rest : List ℕ) (old new : SessionState S) : Type 0 where
+    pub whole : read ≡ stream_of payloads rest
+    pub each : AllByRecursion IsPayload payloads
+    pub answered : AnswersAll old payloads texts new
+
+-- where a session stands, after so many answered frames, as it ends
+abbrev pub EndsAt : Result ℕ FrontError → ℕ → List ℕ → Type 0
+EndsAt (Ok count) answered rest = (count ≡ answered) × (rest ≡ [])
+EndsAt (Err BadLength) answered rest = IsBadLength rest
+EndsAt (Err Truncated) answered rest = IsUnfinished rest × (rest ≢ [])
+EndsAt (Err ReadFault) answered rest = IsUnfinished rest
+EndsAt (Err TurnsUsed) answered rest = IsUnfinished rest
+EndsAt (Err WriteFault) answered rest = Unit {0}
+EndsAt (Err Memory) answered rest = Unit {0}
+
+-- The writer failed. Some texts stand whole; of the others a front is written: those gathered since the last write,
+-- none of which says that whoever was asked gave an error, and at most one more.
+pub record WritesCut (texts : List (List ℕ)) (written : List ℕ) : Type 0 where
+  pub before : List (List ℕ)
+  pub gathered : List (List ℕ)
+  pub alone : List (List ℕ)
+  pub front : List ℕ
+  pub missing : List ℕ
+  pub texts_are : texts ≡ (before ++ gathered) ++ alone
+  pub written_is : written ≡ concat before ++ front
+  pub cut : concat (gathered ++ alone) ≡ front ++ missing
+  pub no_errors : AllByRecursion (λ text. is_error_reply text ≡ false) gathered
+  pub one : length alone ≤ 1
+
+-- the texts are written whole; where the writer failed, a front of them
+abbrev pub Writes : Result ℕ FrontError → List (List ℕ) → List ℕ → Type 0
+Writes (Err WriteFault) texts written = WritesCut texts written
+Writes (Ok count) texts written = written ≡ concat texts
+Writes (Err BadLength) texts written = written ≡ concat texts
+Writes (Err Truncated) texts written = written ≡ concat texts
+Writes (Err ReadFault) texts written = written ≡ concat texts
+Writes (Err TurnsUsed) texts written = written ≡ concat texts
+Writes (Err Memory) texts written = written ≡ concat texts
+
+-- A session that ended so has read and written these bytes.
+pub record Session {S : Type 0} (answers : S → Op → Result Reply AskError → S → Type 0) (result : Result ℕ FrontError)
+    (old new : SessionState S) (read written : List ℕ) : Type 0 where
+  pub payloads : List (List ℕ)
+  pub texts : List (List ℕ)
+  pub rest : List ℕ
+  pub serves : Serves answers read payloads texts rest old new
+  pub ends : EndsAt result (length payloads) rest
+  pub writes : Writes result texts written
+
+-- where the answering of the frames that are kept stands, with these bytes kept after it
+abbrev pub RoundEndsAt : Result ℕ FrontError → ℕ → List ℕ → List ℕ → Type 0
+RoundEndsAt (Ok count) answered rest kept = (count ≡ answered) × (rest ≡ kept) × IsUnfinished rest
+RoundEndsAt (Err BadLength) answered rest kept = IsBadLength rest
+RoundEndsAt (Err WriteFault) answered rest kept = Unit {0}
+RoundEndsAt (Err Memory) answered rest kept = Unit {0}
+RoundEndsAt (Err Truncated) answered rest kept = ⊥
+RoundEndsAt (Err ReadFault) answered rest kept = ⊥
+RoundEndsAt (Err TurnsUsed) answered rest kept = ⊥
+
+-- The whole frames among the kept bytes were answered, and these bytes written.
+pub record Round {S : Type 0} (answers : S → Op → Result Reply AskError → S → Type 0) (result : Result ℕ FrontError)
+    (kept_old kept_new : List ℕ) (old new : SessionState S) (written : List ℕ) : Type 0 where
+  pub payloads : List (List ℕ)
+  pub texts : List (List ℕ)
+  pub rest : List ℕ
+  pub serves : Serves answers kept_old payloads texts rest old new
+  pub ends : RoundEndsAt result (length payloads) rest kept_new
+  pub writes : Writes result texts written

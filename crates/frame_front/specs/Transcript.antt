@@ -1,0 +1,44 @@
+-- What a call of `serve` did to its reader, its writer and the map that it asks.
+use Rattle.std.specs.Prelude.{◌≡◌, ℕ, ◌≤◌, List, length, Result, Ok, Err, Option}
+use Rattle.std.specs.Io.KnownBytes.{Appends, Consumes, IsAtEnd}
+use Rattle.map_core.specs.declared.op.Op.{Op}
+use Rattle.map_core.specs.declared.reply.Reply.{Reply}
+use Rattle.map_core.specs.declared.reply.AskError.{AskError}
+use Rattle.frame_front.specs.declared.error.FrontError.{FrontError}
+use Rattle.frame_front.specs.declared.error.FrontError.TheVariants.{BadLength, Truncated, ReadFault, WriteFault, TurnsUsed, Memory}
+use Rattle.frame_front.specs.declared.request.Version.{Version}
+use Rattle.frame_front.specs.declared.request.Version.TheVariants.{One}
+use Rattle.frame_front.specs.Session.{Session}
+
+-- at these ends of a session the reader has no byte left
+abbrev pub EndsInput : Result ℕ FrontError → Option (List ℕ) → Type 0
+EndsInput (Ok count) left = IsAtEnd left
+EndsInput (Err Truncated) left = IsAtEnd left
+EndsInput (Err BadLength) left = Unit {0}
+EndsInput (Err ReadFault) left = Unit {0}
+EndsInput (Err WriteFault) left = Unit {0}
+EndsInput (Err TurnsUsed) left = Unit {0}
+EndsInput (Err Memory) left = Unit {0}
+
+-- where the turns are used up, each of them read at least one byte
+abbrev pub UsesTurns : Result ℕ FrontError → ℕ → ℕ → Type 0
+UsesTurns (Ok count) turns bytes = Unit {0}
+UsesTurns (Err TurnsUsed) turns bytes = turns ≤ bytes
+UsesTurns (Err BadLength) turns bytes = Unit {0}
+UsesTurns (Err Truncated) turns bytes = Unit {0}
+UsesTurns (Err ReadFault) turns bytes = Unit {0}
+UsesTurns (Err WriteFault) turns bytes = Unit {0}
+UsesTurns (Err Memory) turns bytes = Unit {0}
+
+-- A session in version one from the start: what it took from the reader and gave to the writer, and from which
+-- state of the map to which.
+pub record Transcript {S : Type 0} (answers : S → Op → Result Reply AskError → S → Type 0) (result : Result ℕ FrontError) (turns : ℕ)
+    (left_old left_new held_old held_new : Option (List ℕ)) (old new : S) : Type 0 where
+  pub read : List ℕ
+  pub written : List ℕ
+  pub version : Version
+  pub consumes : Consumes left_old left_new read
+  pub appends : Appends held_old held_new written
+  pub session : Session answers result (One, old) (version, new) read written
+  pub used : UsesTurns result turns (length read)
+  pub ended : EndsInput result left_new

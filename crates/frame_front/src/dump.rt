@@ -1,0 +1,204 @@
+//! Dumps of version 1, and the requests of version 2 that they become.
+ghost use Rattle.std.specs.Prelude.{◌≡◌, ◌++◌, ℕ, List, [], ◌∷◌, Some, None, true, false, IfOk, IfErr, IfSome, IfNone, OnOk};
+ghost use Rattle.spiffe_doc.specs.Bundle.{IsBundle};
+ghost use Rattle.frame_front.specs.Frame.{IsPayload, frame, stream_of};
+ghost use Rattle.frame_front.specs.Dump.{Domains, IsDump, IsAfter, AreLawful, NoItem, NoCount, FaultOfDump, count_of, item_of, request_for, requests_for, dump_number};
+
+use crate::frame::{LENGTH_BYTES, first_frame, put_frame};
+use crate::refusal::Refusal;
+use crate::reply::canonical_text;
+use crate::request::read_named_bundle;
+use arrayvec::ArrayVec;
+use spiffe_doc::{Bundle, TrustDomain};
+use std::alloc::{AllocError, Global};
+use thiserror::Error;
+
+/// Why a dump is not migrated.
+#[derive(Clone, Copy, Debug, PartialEq, Eq, Error)]
+pub enum DumpError {
+    /// The first frame, from 0, that is wrong, missing or too much.
+    #[error("frame {0} of the dump is wrong, missing or too much")]
+    BadDump(u64),
+    #[error("out of memory")]
+    Memory,
+}
+
+impl DumpError {
+    /// The number under which fault lines show the error.
+    pub fn number(&self) -> u8
+        ensures { result ≡ dump_number self.now }
+    {
+        match self {
+            DumpError::BadDump(_) => 63,
+            DumpError::Memory => 22,
+        }
+    }
+}
+
+impl From<AllocError> for DumpError {
+    ghost use Rattle.std.specs.Prelude.{◌≡◌};
+    ghost use Rattle.frame_front.specs.declared.dump.DumpError.TheVariants.{Memory};
+
+    ghost from_gives = { λ _ e. e ≡ Memory };
+
+    fn from(_refused: AllocError) -> DumpError {
+        DumpError::Memory
+    }
+}
+
+/// The requests of version 2 that store again what a dump of version 1 holds. A dump is the frames of a
+/// reply to a fetch-all: the number of domains, and a frame for each in order of their names.
+pub fn migrate(alloc: Global, dump: &[u8]) -> Result<Vec<u8>, DumpError>
+    ensures ok { IfOk result (λ stream. (items : Domains) × IsDump dump.now items × AreLawful items
+        × (stream.items ≡ stream_of (requests_for items) [])) }
+    ensures err { IfErr result (λ fault. FaultOfDump fault dump.now) }
+{
+    let Some((count, mut rest)) = first_count(dump) else {
+        return Err(DumpError::BadDump(0));
+    };
+    let mut stream = Vec::new(alloc);
+    if let Err(_) = put_frame(&mut stream, b"V", &[2]) {
+        return Err(DumpError::Memory);
+    }
+    let mut last = None;
+    let mut place = 0;
+    while place < count {
+        place += 1;
+        let item = match next_item(alloc, &last, rest) {
+            Ok(Some(item)) => item,
+            Ok(None) => return Err(DumpError::BadDump(place)),
+            Err(_) => return Err(DumpError::Memory),
+        };
+        if let Err(_) = put_request(&mut stream, &item.domain, &item.bundle) {
+            return Err(DumpError::Memory);
+        }
+        last = Some(item.domain);
+        rest = item.rest;
+    }
+    if !rest.is_empty() {
+        return Err(DumpError::BadDump(place + 1));
+    }
+    Ok(stream)
+}
+
+/// The first frame's payload, and the bytes after the frame.
+fn split_frame(bytes: &[u8]) -> Option<(&[u8], &[u8])>
+    ensures found { IfSome result (λ parts. IsPayload parts.0.now × (bytes.now ≡ frame parts.0.now ++ parts.1.now)) }
+    ensures none { IfNone result ((payload rest : List ℕ) → IsPayload payload → bytes.now ≡ frame payload ++ rest → ⊥) }
+{
+    match first_frame(bytes) {
+        Ok(Some(payload)) => {
+            let (_, rest) = bytes.split_at(LENGTH_BYTES + payload.len());
+            Some((payload, rest))
+        }
+        Ok(None) => None,
+        Err(_) => None,
+    }
+}
+
+fn read_count(payload: &[u8]) -> Option<u64>
+    ensures { result ≡ count_of payload.now }
+{
+    let [b'a', a, b, c, d, e, f, g, h] = payload else {
+        return None;
+    };
+    Some(u64::from_be_bytes([*a, *b, *c, *d, *e, *f, *g, *h]))
+}
+
+/// The count of a dump, and the bytes after its frame.
+fn first_count(dump: &[u8]) -> Option<(u64, &[u8])>
+    ensures found { IfSome result (λ parts. (head : List ℕ) × IsPayload head
+        × (dump.now ≡ frame head ++ parts.1.now) × (count_of head ≡ Some parts.0)) }
+    ensures none { IfNone result (NoCount dump.now) }
+{
+    let Some((head, rest)) = split_frame(dump) else {
+        return None;
+    };
+    match read_count(head) {
+        Some(count) => Some((count, rest)),
+        None => None,
+    }
+}
+
+/// A domain and its bundle, if the payload is one.
+#[tactic(auto, unfolding(crate::specs::Dump::item_of))]
+fn read_item(alloc: Global, payload: &[u8]) -> Result<Option<(TrustDomain, Bundle)>, AllocError>
+    ensures { IfOk result (λ item. item_of payload.now ≡ item) }
+{
+    let Some((code, bytes)) = payload.split_first() else {
+        return Ok(None);
+    };
+    if *code != b'i' {
+        return Ok(None);
+    }
+    match read_named_bundle(alloc, bytes) {
+        Ok(item) => Ok(Some(item)),
+        Err(Refusal::Memory) => Err(AllocError),
+        Err(_) => Ok(None),
+    }
+}
+
+/// A domain of a dump, and what follows it.
+#[derive(Drop)]
+struct Item<'a> {
+    domain: TrustDomain,
+    bundle: Bundle,
+    rest: &'a [u8],
+}
+
+fn is_after(last: &Option<TrustDomain>, domain: &TrustDomain) -> bool
+    ensures after { result ≡ true → IsAfter last.now domain.now }
+    ensures not_after { result ≡ false → ¬ (IsAfter last.now domain.now) }
+{
+    match last {
+        Some(before) => before < domain,
+        None => true,
+    }
+}
+
+/// The next domain, whose name comes after the last one.
+fn next_item<'a>(
+    alloc: Global,
+    last: &Option<TrustDomain>,
+    bytes: &'a [u8],
+) -> Result<Option<Item<'a>>, AllocError>
+    ensures found { IfOk result (λ next. IfSome next (λ item. (payload : List ℕ) × IsPayload payload
+        × (bytes.now ≡ frame payload ++ item.rest.now) × (item_of payload ≡ Some (item.domain, item.bundle))
+        × IsAfter last.now item.domain × IsBundle item.bundle)) }
+    ensures none { IfOk result (λ next. IfNone next (NoItem last.now bytes.now)) }
+{
+    let Some((payload, rest)) = split_frame(bytes) else {
+        return Ok(None);
+    };
+    let (domain, bundle) = match read_item(alloc, payload) {
+        Ok(Some(item)) => item,
+        Ok(None) => return Ok(None),
+        Err(_) => return Err(AllocError),
+    };
+    if !is_after(last, &domain) {
+        return Ok(None);
+    }
+    let _authorities = bundle.authorities();
+    Ok(Some(Item {
+        domain,
+        bundle,
+        rest,
+    }))
+}
+
+/// Adds the request that sets the domain where it is absent.
+fn put_request(
+    stream: &mut Vec<u8>,
+    domain: &TrustDomain,
+    bundle: &Bundle,
+) -> Result<(), AllocError>
+    ensures { OnOk result (stream.new.items ≡ stream.old.items ++ frame (request_for (domain.now, bundle.now))) }
+{
+    let name = domain.as_str().as_bytes();
+    let text = canonical_text(bundle);
+    let mut front = ArrayVec::<u8, 258>::new();
+    let _fits = front.try_extend_from_slice(&[b'C', name.len() as u8]);
+    let _fits = front.try_extend_from_slice(name);
+    let _fits = front.try_extend_from_slice(&[0]);
+    put_frame(stream, front.as_slice(), text)
+}

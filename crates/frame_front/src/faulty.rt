@@ -1,0 +1,104 @@
+//! Readers and writers that fail where a test wants it.
+ghost use Rattle.std.specs.Prelude.{◌≡◌, ◌+◌, ◌-◌, ◌<◌, ◌≤◌, ◌++◌, [], take, drop, length, min, Some, OnOk, OnErr, IfOk};
+ghost use Rattle.std.specs.Io.{ReadsAtMost, WritesAtMost};
+ghost use Rattle.std.specs.Io.KnownBytes.{ReadConsumes, WriteAppends, Keeps};
+
+use std::alloc::Global;
+use std::io;
+use std::io::{ErrorKind, Read, Write};
+
+/// A reader that gives its bytes up to `after` of them, and then fails at each read.
+#[derive(Drop)]
+pub struct FaultyReader {
+    pub bytes: Vec<u8>,
+    pub after: usize,
+    /// How many bytes were given.
+    pub given: usize,
+}
+
+/// A writer that takes `room` bytes in all, and then fails at each write.
+#[derive(Drop)]
+pub struct FaultyWriter {
+    /// How many more bytes it takes.
+    pub room: usize,
+    pub taken: Vec<u8>,
+}
+
+impl FaultyReader {
+    /// Has given nothing yet.
+    pub fn new(bytes: Vec<u8>, after: usize) -> FaultyReader
+        ensures bytes { result.bytes ≡ bytes }
+        ensures after { result.after ≡ after }
+        ensures given { result.given ≡ 0 }
+    {
+        FaultyReader {
+            bytes,
+            after,
+            given: 0,
+        }
+    }
+}
+
+impl Read for FaultyReader {
+    ghost remaining = { λ r. Some (drop r.given r.bytes.items) };
+
+    fn read(&mut self, buf: &mut [u8]) -> io::Result<usize>
+        ensures bound { ReadsAtMost result buf.new }
+        ensures bytes { ReadConsumes (Some (drop self.old.given self.old.bytes.items)) (Some (drop self.new.given self.new.bytes.items)) result buf.new }
+        ensures same { (self.new.bytes ≡ self.old.bytes) × (self.new.after ≡ self.old.after) }
+        ensures ok { IfOk result (λ count. (self.new.given ≡ self.old.given + count) × (self.new.given ≤ min self.old.after (length self.old.bytes.items))) }
+        ensures fails { OnErr result ((min self.old.after (length self.old.bytes.items) ≤ self.old.given) × (self.new.given ≡ self.old.given)) }
+    {
+        let end = self.after.min(self.bytes.len());
+        if end <= self.given {
+            return Err(io::Error::from(ErrorKind::Other));
+        }
+        let (_, left) = self.bytes.as_slice().split_at(self.given);
+        let count = buf.len().min(end - self.given);
+        let (given, _) = left.split_at(count);
+        let (front, _) = buf.split_at_mut(count);
+        front.copy_from_slice(given);
+        self.given += count;
+        Ok(count)
+    }
+}
+
+impl FaultyWriter {
+    /// Has taken nothing yet.
+    pub fn new(alloc: Global, room: usize) -> FaultyWriter
+        ensures taken { result.taken.items ≡ [] }
+        ensures room { result.room ≡ room }
+    {
+        FaultyWriter {
+            room,
+            taken: Vec::new(alloc),
+        }
+    }
+}
+
+impl Write for FaultyWriter {
+    ghost contents = { λ w. Some w.taken.items };
+
+    fn write(&mut self, buf: &[u8]) -> io::Result<usize>
+        ensures bound { WritesAtMost result buf.now }
+        ensures bytes { WriteAppends (Some self.old.taken.items) (Some self.new.taken.items) result buf.now }
+        ensures ok { IfOk result (λ count. (count ≡ min (length buf.now) self.old.room) × (self.new.room + count ≡ self.old.room)) }
+        ensures err { OnErr result (self.new.room ≡ self.old.room) }
+    {
+        let count = buf.len().min(self.room);
+        if count == 0 && !buf.is_empty() {
+            return Err(io::Error::from(ErrorKind::Other));
+        }
+        let (front, _) = buf.split_at(count);
+        self.taken.extend_from_slice(front)?;
+        self.room -= count;
+        Ok(count)
+    }
+
+    fn flush(&mut self) -> io::Result<()>
+        ensures bytes { Keeps (Some self.old.taken.items) (Some self.new.taken.items) }
+        ensures same { self.new ≡ self.old }
+    {
+        Ok(())
+    }
+}

@@ -1,0 +1,50 @@
+//! What holds of the definitions alone.
+ghost use Rattle.std.specs.Prelude.{◌≡◌, ℕ, List, [], ◌∷◌, ◌++◌, ◌<◌, map, slice_index, Some, true};
+ghost use Rattle.map_core.specs.PlainMap.{PlainMap, bundles};
+ghost use Rattle.frame_front.specs.Frame.{HasFrames, frames, stream_of};
+ghost use Rattle.frame_front.specs.declared.request.Version.{Version};
+ghost use Rattle.std.specs.FinMap as finite;
+
+ghost use Rattle.map_core.specs.declared.reply.Reply.TheVariants.{Stored};
+ghost use Rattle.frame_front.specs.declared.request.Version.TheVariants.{One, Two};
+ghost use Rattle.frame_front.specs.Reply.{coded_reply, version_frame, is_error_reply};
+ghost use Rattle.frame_front.specs.PlainSession.{answers_to, state_after};
+ghost use Rattle.frame_front.specs.Dump.{Domains, IsDump, AreLawful, requests_for, map_of};
+ghost use Rattle.frame_front.specs.Session.{Answers};
+
+use map_core::Ask;
+
+/// A stream has no other frames and no other rest.
+pub fn frames_of_a_stream_are_one()
+    ensures { (stream : List ℕ) (ps qs : List (List ℕ)) (r s : List ℕ) →
+        HasFrames stream ps r → HasFrames stream qs s → (ps ≡ qs) × (r ≡ s) }
+{}
+
+/// The frames of a longer stream are those of its front, and those of what the front left with what
+/// follows: so it doesn't matter how a stream is cut.
+pub fn frames_follow()
+    ensures { (front more rest end : List ℕ) (ps qs : List (List ℕ)) →
+        HasFrames front ps rest → HasFrames (rest ++ more) qs end → HasFrames (front ++ more) (ps ++ qs) end }
+{}
+
+/// Each stream of bytes has its frames, which `frames` gives.
+pub fn each_stream_has_frames()
+    ensures { (stream : List ℕ) → ((i : ℕ) → slice_index stream i < 256)
+        → HasFrames stream (frames stream).payloads (frames stream).rest }
+{}
+
+/// A reply that tells an error says that nothing changed: the map shown and the version are as they were.
+pub fn errors_change_nothing<A: Ask>()
+    ensures { (version next : Version) (old new : A) (payload text : List ℕ) (m : PlainMap) → A.shows old ≡ Some m
+        → Answers A.answers (version, old) payload text (next, new) → is_error_reply text ≡ true → (A.shows new ≡ Some m) × (next ≡ version) }
+{}
+
+/// From the empty map, and in version 1, a migrated dump of lawful bundles is answered by the version and then
+/// one reply for each domain, which is stored. The map after it is that of the dump.
+pub fn migrated_dumps_are_stored()
+    ensures { (dump : List ℕ) (items : Domains) → IsDump dump items → AreLawful items
+        → HasFrames (stream_of (requests_for items) []) (requests_for items) []
+        × (answers_to (One, finite.empty) (requests_for items) ≡ version_frame Two ∷ map (λ item. coded_reply Stored) items)
+        × (state_after (One, finite.empty) (requests_for items) ≡ (Two, map_of items))
+        × (bundles (map_of items) ≡ items) }
+{}

@@ -1,0 +1,145 @@
+//! Replies gathered for one write.
+ghost use Rattle.std.specs.Prelude.{◌≡◌, ◌++◌, ◌<◌, ◌-◌, ◌^◌, [], true, false, OnOk, IfErr};
+ghost use Rattle.std.specs.Io.KnownBytes.{Appends};
+ghost use Rattle.frame_front.specs.Reply.{is_error_reply};
+ghost use Rattle.frame_front.specs.Outbox.{WritesFront, Puts};
+
+use crate::reply::ReplyText;
+use crate::{Counted, FrontError};
+use arrayvec::ArrayVec;
+use std::io::Write;
+use std::marker::Model;
+
+/// The replies that one round gathers. Its room is in place, so it takes no memory. Contracts see it as
+/// the bytes that wait.
+#[derive(Drop)]
+pub(crate) struct Outbox {
+    gathered: ArrayVec<u8, 65536>,
+}
+
+impl Model for Outbox {
+    ghost use Rattle.std.specs.Prelude.{ℕ, List};
+
+    ghost Value = { List ℕ };
+
+    ghost view = { λ o. o.gathered.items };
+}
+
+impl Outbox {
+    pub(crate) fn new() -> Outbox
+        ensures { result ≡ [] }
+    {
+        Outbox {
+            gathered: ArrayVec::new(),
+        }
+    }
+
+    /// Gathers a reply, where there is room for it. A reply that says that whoever was asked gave an
+    /// error is not gathered: it is written at once, so that the replies that wait have all changed
+    /// the map as they say.
+    fn gather(&mut self, reply: &ReplyText) -> bool
+        ensures gathered { result ≡ true → self.new ≡ self.old ++ reply.now }
+        ensures no_error { result ≡ true → is_error_reply reply.now ≡ false }
+        ensures alone { result ≡ false → self.new ≡ self.old }
+    {
+        if reply.is_error() {
+            return false;
+        }
+        let (head, body) = reply.parts();
+        if self.gathered.remaining_capacity() < head.len() + body.len() {
+            return false;
+        }
+        let _fits = self.gathered.try_extend_from_slice(head);
+        let _fits = self.gathered.try_extend_from_slice(body);
+        true
+    }
+
+    /// Takes one more reply. Where there is no room for it, what is gathered is written first; a reply that
+    /// is not gathered is written after it.
+    pub(crate) fn put<W: Write>(
+        &mut self,
+        writer: &mut Counted<W>,
+        reply: &ReplyText,
+    ) -> Result<(), FrontError>
+        requires { writer.old.faults < 2 ^ 64 - 1 }
+        ensures ok { OnOk result (Puts (W.contents writer.old.end) (W.contents writer.new.end) self.old reply.now self.new) }
+        ensures quiet { OnOk result (writer.new.faults ≡ writer.old.faults) }
+        ensures fault { IfErr result (λ fault. (fault ≡ FrontError.WriteFault) × (writer.old.faults < writer.new.faults)) }
+        ensures front { WritesFront (W.contents writer.old.end) (W.contents writer.new.end) (self.old ++ reply.now) }
+    {
+        if self.gather(reply) {
+            return Ok(());
+        }
+        self.send(writer)?;
+        if self.gather(reply) {
+            return Ok(());
+        }
+        write_reply(writer, reply)?;
+        Ok(())
+    }
+
+    /// Writes what is gathered.
+    fn send<W: Write>(&mut self, writer: &mut Counted<W>) -> Result<(), FrontError>
+        requires { writer.old.faults < 2 ^ 64 - 1 }
+        ensures ok { OnOk result (Appends (W.contents writer.old.end) (W.contents writer.new.end) self.old) }
+        ensures empty { OnOk result (self.new ≡ []) }
+        ensures quiet { OnOk result (writer.new.faults ≡ writer.old.faults) }
+        ensures fault { IfErr result (λ fault. (fault ≡ FrontError.WriteFault) × (writer.old.faults < writer.new.faults)) }
+        ensures front { WritesFront (W.contents writer.old.end) (W.contents writer.new.end) self.old }
+    {
+        write_whole(writer, self.gathered.as_slice())?;
+        self.gathered.clear();
+        Ok(())
+    }
+
+    /// Ends a round: writes what is gathered, and sees that the writer keeps nothing back.
+    pub(crate) fn flush<W: Write>(&mut self, writer: &mut Counted<W>) -> Result<(), FrontError>
+        requires { writer.old.faults < 2 ^ 64 - 1 }
+        ensures ok { OnOk result (Appends (W.contents writer.old.end) (W.contents writer.new.end) self.old) }
+        ensures empty { OnOk result (self.new ≡ []) }
+        ensures quiet { OnOk result (writer.new.faults ≡ writer.old.faults) }
+        ensures fault { IfErr result (λ fault. (fault ≡ FrontError.WriteFault) × (writer.old.faults < writer.new.faults)) }
+        ensures front { WritesFront (W.contents writer.old.end) (W.contents writer.new.end) self.old }
+    {
+        self.send(writer)?;
+        match writer.flush() {
+            Ok(()) => Ok(()),
+            Err(_) => Err(FrontError::WriteFault),
+        }
+    }
+}
+
+/// Writes all of a reply.
+fn write_reply<W: Write>(writer: &mut Counted<W>, reply: &ReplyText) -> Result<(), FrontError>
+    requires { writer.old.faults < 2 ^ 64 - 1 }
+    ensures ok { OnOk result (Appends (W.contents writer.old.end) (W.contents writer.new.end) reply.now) }
+    ensures quiet { OnOk result (writer.new.faults ≡ writer.old.faults) }
+    ensures fault { IfErr result (λ fault. (fault ≡ FrontError.WriteFault) × (writer.old.faults < writer.new.faults)) }
+    ensures front { WritesFront (W.contents writer.old.end) (W.contents writer.new.end) reply.now }
+{
+    let (head, body) = reply.parts();
+    write_whole(writer, head)?;
+    write_whole(writer, body)
+}
+
+/// Writes all of the bytes.
+fn write_whole<W: Write>(writer: &mut Counted<W>, bytes: &[u8]) -> Result<(), FrontError>
+    requires { writer.old.faults < 2 ^ 64 - 1 }
+    ensures ok { OnOk result (Appends (W.contents writer.old.end) (W.contents writer.new.end) bytes.now) }
+    ensures quiet { OnOk result (writer.new.faults ≡ writer.old.faults) }
+    ensures fault { IfErr result (λ fault. (fault ≡ FrontError.WriteFault) × (writer.old.faults < writer.new.faults)) }
+    ensures front { WritesFront (W.contents writer.old.end) (W.contents writer.new.end) bytes.now }
+{
+    let mut rest = bytes;
+    while !rest.is_empty() {
+        match writer.write(rest) {
+            Ok(0) => return Err(FrontError::WriteFault),
+            Ok(taken) => {
+                let (_, after) = rest.split_at(taken);
+                rest = after;
+            }
+            Err(_) => return Err(FrontError::WriteFault),
+        }
+    }
+    Ok(())
+}

@@ -1,0 +1,278 @@
+//! Replies: an answer as bytes, made whole before any of it is written.
+ghost use Rattle.std.specs.Prelude.{◌≡◌, ◌+◌, ◌<◌, ◌≤◌, ◌∷◌, [], ◌++◌, flat_map, length, Ok, Err, IfOk, OnOk};
+ghost use Rattle.arrayvec.specs.ArrayVec.{array_vec_len};
+ghost use Rattle.spiffe_doc.specs.Text.{text_of};
+ghost use Rattle.frame_front.specs.Frame.{frame};
+ghost use Rattle.frame_front.specs.Reply.{coded, coded_reply, item_frame, memory_frame, refusal_frame, version_frame, place_bytes as bytes_of_place, sequence_bytes as bytes_of_sequence, expect_bytes as bytes_of_expect, is_error_reply, is_error_code as error_code, GoesOut};
+
+use crate::frame::put_frame;
+use crate::refusal::Refusal;
+use crate::request::Version;
+use arrayvec::ArrayVec;
+use map_core::{AskError, Expect, MapRefusal, Reply};
+use spiffe_doc::{Bundle, TrustDomain};
+use std::alloc::{AllocError, Global};
+use std::marker::Model;
+
+/// A length, a code, and at most 20 bytes of numbers.
+const HEAD_BYTES: usize = 25;
+
+/// What follows the first bytes of a reply.
+#[derive(Drop)]
+enum Body {
+    Empty,
+    /// The canonical text of a bundle, as the bundle keeps it.
+    Canonical(Bundle),
+    /// Whole frames.
+    Frames(Vec<u8>),
+}
+
+/// The bytes of a reply, made whole. All but the reply to a fetch-all are made without memory.
+#[derive(Drop)]
+pub struct ReplyText {
+    head: ArrayVec<u8, 25>,
+    body: Body,
+}
+
+impl Model for ReplyText {
+    ghost use Rattle.std.specs.Prelude.{ℕ, List, ◌++◌, ◌≤◌, length};
+    ghost use Rattle.frame_front.specs.Storage.{body_text};
+
+    ghost Value = { List ℕ };
+
+    ghost view = { λ text. text.head.items ++ body_text text.body };
+
+    ghost invariant = { λ text. 5 ≤ length text.head.items };
+}
+
+impl ReplyText {
+    /// The two parts that are written one after the other.
+    pub fn parts(&self) -> (&[u8], &[u8])
+        ensures whole { result.0.now ++ result.1.now ≡ self.now }
+        ensures few { length result.0.now ≤ 25 }
+    {
+        let head = self.head.as_slice();
+        match &self.body {
+            Body::Empty => (head, &[]),
+            Body::Canonical(bundle) => (head, bundle.text()),
+            Body::Frames(bytes) => (head, bytes.as_slice()),
+        }
+    }
+
+    /// Whether it is the number of an error of whoever was asked.
+    pub(crate) fn is_error(&self) -> bool
+        ensures { result ≡ is_error_reply self.now }
+    {
+        is_error_code(self.head.as_slice()[4])
+    }
+
+    /// A frame of a code and a few numbers.
+    fn short(code: u8, numbers: &[u8]) -> ReplyText
+        requires { length numbers.now ≤ 20 }
+        ensures { result ≡ frame (code ∷ numbers.now) }
+    {
+        let mut head = ArrayVec::new();
+        let size = (numbers.len() + 1) as u32;
+        put(&mut head, &size.to_be_bytes());
+        put(&mut head, &[code]);
+        put(&mut head, numbers);
+        ReplyText {
+            head,
+            body: Body::Empty,
+        }
+    }
+
+    /// The bundle that was found.
+    fn found(bundle: Bundle) -> ReplyText
+        ensures { result ≡ frame (102 ∷ text_of bundle) }
+    {
+        let mut head = ArrayVec::new();
+        let size = (canonical_text(&bundle).len() + 1) as u32;
+        put(&mut head, &size.to_be_bytes());
+        put(&mut head, b"f");
+        ReplyText {
+            head,
+            body: Body::Canonical(bundle),
+        }
+    }
+
+    /// All bundles: their number, and then a frame for each.
+    fn all(alloc: Global, items: &[(TrustDomain, Bundle)]) -> Result<ReplyText, AllocError>
+        ensures { IfOk result (λ text. text ≡ coded_reply (Reply.All items.now)) }
+    {
+        let frames = item_frames(alloc, items)?;
+        let mut head = ArrayVec::new();
+        put(&mut head, &9_u32.to_be_bytes());
+        put(&mut head, b"a");
+        put(&mut head, &(items.len() as u64).to_be_bytes());
+        Ok(ReplyText {
+            head,
+            body: Body::Frames(frames),
+        })
+    }
+}
+
+fn put(bytes: &mut ArrayVec<u8, 25>, more: &[u8])
+    requires { array_vec_len bytes.old + length more.now ≤ 25 }
+    ensures { bytes.new.items ≡ bytes.old.items ++ more.now }
+{
+    let _fits = bytes.try_extend_from_slice(more);
+}
+
+/// Whether a code is the number of an error of whoever was asked.
+fn is_error_code(code: u8) -> bool
+    ensures { result ≡ error_code code }
+{
+    matches!(code, 22 | 40 | 41 | 42 | 56)
+}
+
+/// The canonical text, of at most 1,048,576 bytes.
+pub(crate) fn canonical_text(bundle: &Bundle) -> &[u8]
+    ensures value { result.now ≡ text_of bundle.now }
+    ensures short { length result.now ≤ 1048576 }
+{
+    let _authorities = bundle.authorities();
+    bundle.text()
+}
+
+/// A frame for each domain: its name and its canonical text.
+fn item_frames(alloc: Global, items: &[(TrustDomain, Bundle)]) -> Result<Vec<u8>, AllocError>
+    ensures { IfOk result (λ out. out.items ≡ flat_map item_frame items.now) }
+{
+    let mut out = Vec::new(alloc);
+    for item in items {
+        put_item(&mut out, &item.0, &item.1)?;
+    }
+    Ok(out)
+}
+
+fn put_item(out: &mut Vec<u8>, domain: &TrustDomain, bundle: &Bundle) -> Result<(), AllocError>
+    ensures { OnOk result (out.new.items ≡ out.old.items ++ item_frame (domain.now, bundle.now)) }
+{
+    let name = domain.as_str().as_bytes();
+    let text = canonical_text(bundle);
+    let mut front = ArrayVec::<u8, 257>::new();
+    let _fits = front.try_extend_from_slice(&[b'i', name.len() as u8]);
+    let _fits = front.try_extend_from_slice(name);
+    put_frame(out, front.as_slice(), text)
+}
+
+/// The reply that says that memory ran out.
+pub(crate) fn memory_reply() -> ReplyText
+    ensures { result ≡ memory_frame }
+{
+    ReplyText::short(22, &[])
+}
+
+/// The reply to a payload that is refused.
+pub(crate) fn refusal_reply(refusal: Refusal) -> ReplyText
+    ensures { result ≡ refusal_frame refusal }
+{
+    match refusal.place() {
+        Some(place) => ReplyText::short(refusal.number(), &place_bytes(place)),
+        None => ReplyText::short(refusal.number(), &[]),
+    }
+}
+
+/// The reply to a payload that sets the version.
+pub(crate) fn version_reply(version: Version) -> ReplyText
+    ensures { result ≡ version_frame version }
+{
+    ReplyText::short(b'v', &[version.number()])
+}
+
+/// The answer as it goes out. Where there is no memory for all bundles, it says so.
+pub(crate) fn answer_reply(alloc: Global, answer: Result<Reply, AskError>) -> ReplyText
+    ensures { GoesOut answer result }
+{
+    match answer {
+        Ok(Reply::Stored) => ReplyText::short(b's', &[]),
+        Ok(Reply::Unchanged) => ReplyText::short(b'u', &[]),
+        Ok(Reply::Appended(sequence)) => ReplyText::short(b'p', sequence_bytes(sequence).as_slice()),
+        Ok(Reply::Removed) => ReplyText::short(b'd', &[]),
+        Ok(Reply::Found(bundle)) => ReplyText::found(bundle),
+        Ok(Reply::All(snapshot)) => match ReplyText::all(alloc, snapshot.pairs()) {
+            Ok(text) => text,
+            Err(_) => memory_reply(),
+        },
+        Ok(Reply::Refused(why)) => map_refusal_reply(why),
+        Err(error) => error_reply(error),
+    }
+}
+
+fn map_refusal_reply(why: MapRefusal) -> ReplyText
+    ensures { result ≡ coded_reply (Reply.Refused why) }
+{
+    match why {
+        MapRefusal::Stale(sequence) => ReplyText::short(why.number(), &sequence.to_be_bytes()),
+        MapRefusal::NotExpected(found) => {
+            ReplyText::short(why.number(), expect_bytes(found).as_slice())
+        }
+        _ => ReplyText::short(why.number(), &[]),
+    }
+}
+
+fn error_reply(error: AskError) -> ReplyText
+    ensures { result ≡ coded (Err error) }
+{
+    match error {
+        AskError::Memory | AskError::GateShut => ReplyText::short(error.number(), &[]),
+        AskError::Worn { shard } => ReplyText::short(error.number(), &place_bytes(shard)),
+        AskError::Moved {
+            shard,
+            first,
+            second,
+        } => {
+            let mut numbers = ArrayVec::new();
+            put(&mut numbers, &place_bytes(shard));
+            put(&mut numbers, &first.to_be_bytes());
+            put(&mut numbers, &second.to_be_bytes());
+            ReplyText::short(error.number(), numbers.as_slice())
+        }
+        AskError::Held { shard, revision } => {
+            let mut numbers = ArrayVec::new();
+            put(&mut numbers, &place_bytes(shard));
+            put(&mut numbers, &revision.to_be_bytes());
+            ReplyText::short(error.number(), numbers.as_slice())
+        }
+    }
+}
+
+/// A place or a shard in 4 bytes; none needs more.
+#[tactic(auto, unfolding(crate::specs::Reply::place_bytes))]
+fn place_bytes(place: usize) -> [u8; 4]
+    ensures { result ≡ bytes_of_place place }
+{
+    (place.min(0xffff_ffff) as u32).to_be_bytes()
+}
+
+/// 0, or 1 and the sequence.
+fn sequence_bytes(sequence: Option<u64>) -> ArrayVec<u8, 25>
+    ensures value { result.items ≡ bytes_of_sequence sequence }
+    ensures few { array_vec_len result ≤ 9 }
+{
+    let mut bytes = ArrayVec::new();
+    match sequence {
+        Some(sequence) => {
+            put(&mut bytes, &[1]);
+            put(&mut bytes, &sequence.to_be_bytes());
+        }
+        None => put(&mut bytes, &[0]),
+    }
+    bytes
+}
+
+fn expect_bytes(expect: Expect) -> ArrayVec<u8, 25>
+    ensures value { result.items ≡ bytes_of_expect expect }
+    ensures few { array_vec_len result ≤ 9 }
+{
+    match expect {
+        Expect::Absent => sequence_bytes(None),
+        Expect::Sequence(sequence) => sequence_bytes(Some(sequence)),
+        Expect::Unnumbered => {
+            let mut bytes = ArrayVec::new();
+            put(&mut bytes, &[2]);
+            bytes
+        }
+    }
+}

@@ -1,0 +1,152 @@
+//! Sessions: requests come in, replies go out.
+ghost use Rattle.std.specs.Prelude.{◌≡◌, ◌≤◌, ◌-◌, ◌^◌, ◌<◌, ℕ, List, [], length, Err, Some, true, OnOk, IfErr};
+ghost use Rattle.std.specs.Io.KnownBytes.{Appends, Consumes, IsAtEnd};
+ghost use Rattle.frame_front.specs.Session.{Answers, Round, Session};
+ghost use Rattle.frame_front.specs.Transcript.{Transcript};
+ghost use Rattle.frame_front.specs.PlainSession.{PlainTranscript};
+ghost use Rattle.frame_front.specs.Reply.{is_error_reply};
+ghost use Rattle.frame_front.specs.declared.request.Version.{Version as Spoken};
+ghost use Rattle.frame_front.specs.Outbox.{WritesFront};
+ghost use Rattle.map_core.specs.PlainMap.{PlainMap};
+
+use crate::outbox::Outbox;
+use crate::reply::{ReplyText, answer_reply, memory_reply, refusal_reply, version_reply};
+use crate::refusal::Refusal;
+use crate::request::{Request, Version, read_request};
+use crate::{Counted, Decoder, FrontError};
+use map_core::Ask;
+use std::alloc::Global;
+use std::io::{Read, Write};
+
+/// The most bytes of one read.
+const PIECE_BYTES: usize = 4096;
+
+/// Answers one payload.
+fn answer<A: Ask>(alloc: Global, version: &mut Version, ask: &mut A, payload: &[u8]) -> ReplyText
+    ensures { Answers A.answers (version.old, ask.old) payload.now result (version.new, ask.new) }
+{
+    match read_request(alloc, *version, payload) {
+        Ok(Request::Ask(op)) => {
+            let answer = ask.ask(op);
+            answer_reply(alloc, answer)
+        }
+        Ok(Request::Speak(wanted)) => {
+            *version = wanted;
+            version_reply(wanted)
+        }
+        Err(Refusal::Memory) => memory_reply(),
+        Err(refusal) => refusal_reply(refusal),
+    }
+}
+
+/// Answers each whole frame that the decoder keeps, in order, and says how many. The replies are
+/// gathered, and stand written at the end.
+fn answer_frames<W: Write, A: Ask>(
+    alloc: Global,
+    decoder: &mut Decoder,
+    outbox: &mut Outbox,
+    writer: &mut Counted<W>,
+    version: &mut Version,
+    ask: &mut A,
+) -> Result<u64, FrontError>
+    requires nothing_gathered { outbox.old ≡ [] }
+    requires room { length decoder.old < 2 ^ 63 }
+    requires count { writer.old.faults < 2 ^ 64 - 1 }
+    ensures round { (written : List ℕ) × Appends (W.contents writer.old.end) (W.contents writer.new.end) written
+        × Round A.answers result decoder.old decoder.new (version.old, ask.old) (version.new, ask.new) written }
+    ensures all_sent { OnOk result (outbox.new ≡ []) }
+    ensures quiet { OnOk result (writer.new.faults ≡ writer.old.faults) }
+    ensures fault { result ≡ Err FrontError.WriteFault → writer.old.faults < writer.new.faults }
+{
+    let mut count = 0;
+    loop {
+        match decoder.payload() {
+            Ok(Some(payload)) => {
+                let size = payload.len();
+                let reply = answer(alloc, version, ask, payload);
+                decoder.pass(size);
+                outbox.put(writer, &reply)?;
+                count += 1;
+            }
+            Ok(None) => {
+                outbox.flush(writer)?;
+                return Ok(count);
+            }
+            Err(fault) => {
+                outbox.flush(writer)?;
+                return Err(fault);
+            }
+        }
+    }
+}
+
+/// Reads pieces, and answers each whole frame, in order, before the next read.
+fn take_turns<R: Read, W: Write, A: Ask>(
+    alloc: Global,
+    reader: &mut Counted<R>,
+    writer: &mut Counted<W>,
+    ask: &mut A,
+    turns: u64,
+) -> Result<u64, FrontError>
+    requires few { turns ≤ 1000000000 }
+    requires reader_count { reader.old.faults < 2 ^ 64 - 1 }
+    requires writer_count { writer.old.faults < 2 ^ 64 - 1 }
+    ensures transcript { Transcript A.answers result turns
+        (R.remaining reader.old.end) (R.remaining reader.new.end)
+        (W.contents writer.old.end) (W.contents writer.new.end) ask.old ask.new }
+    ensures read_fault { result ≡ Err FrontError.ReadFault → reader.old.faults < reader.new.faults }
+    ensures write_fault { result ≡ Err FrontError.WriteFault → writer.old.faults < writer.new.faults }
+{
+    let Ok(mut decoder) = Decoder::new(alloc) else {
+        return Err(FrontError::Memory);
+    };
+    let mut outbox = Outbox::new();
+    let mut version = Version::One;
+    let mut piece = [0; PIECE_BYTES];
+    let mut answered = 0;
+    for turn in 0..turns {
+        let count = match reader.read(&mut piece) {
+            Ok(count) => count,
+            Err(_) => return Err(FrontError::ReadFault),
+        };
+        if count == 0 {
+            decoder.finish()?;
+            return Ok(answered);
+        }
+        let (fresh, _) = piece.split_at(count);
+        if let Err(_) = decoder.feed(fresh) {
+            return Err(FrontError::Memory);
+        }
+        answered += answer_frames(alloc, &mut decoder, &mut outbox, writer, &mut version, ask)?;
+    }
+    Err(FrontError::TurnsUsed)
+}
+
+/// Serves a session: reads pieces, and answers each whole frame, in order, before the next read. It
+/// gives the number of frames answered at the end of the input.
+pub fn serve<R: Read, W: Write, A: Ask>(
+    alloc: Global,
+    reader: &mut Counted<R>,
+    writer: &mut Counted<W>,
+    ask: &mut A,
+    turns: u64,
+) -> Result<u64, FrontError>
+    requires few { turns ≤ 1000000000 }
+    requires reader_count { reader.old.faults < 2 ^ 64 - 1 }
+    requires writer_count { writer.old.faults < 2 ^ 64 - 1 }
+
+    // Over any map that can be asked.
+    ensures transcript { Transcript A.answers result turns
+        (R.remaining reader.old.end) (R.remaining reader.new.end)
+        (W.contents writer.old.end) (W.contents writer.new.end) ask.old ask.new }
+
+    // Over a map that shows a plain map.
+    ensures plain { (m : PlainMap) → A.shows ask.old ≡ Some m
+        → (n : PlainMap) × (A.shows ask.new ≡ Some n) × PlainTranscript A.answers result turns
+        (R.remaining reader.old.end) (R.remaining reader.new.end)
+        (W.contents writer.old.end) (W.contents writer.new.end) m n }
+    ensures read_fault { result ≡ Err FrontError.ReadFault → reader.old.faults < reader.new.faults }
+    ensures write_fault { result ≡ Err FrontError.WriteFault → writer.old.faults < writer.new.faults }
+{
+    take_turns(alloc, reader, writer, ask, turns)
+}
