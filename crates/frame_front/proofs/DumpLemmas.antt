@@ -1,11 +1,11 @@
 -- Lemmas on dumps.
-use Rattle.std.proofs.Common.{◌≡◌, ◌≢◌, ◌⊎◌, ℕ, ◌+◌, ◌<◌, ◌≤◌, List, [], ◌∷◌, ◌++◌, length, map, get_or, get_or-drop, drop, append-nil, append_assoc, length-append, arith, refl, sym, ap, ◌∙◌, inl, inr, subst, Some, None}
+use Rattle.std.proofs.Common.{◌≡◌, ◌≢◌, ◌⊎◌, ℕ, ◌+◌, ◌<◌, ◌≤◌, List, [], ◌∷◌, ◌++◌, length, get_or, get_or-drop, drop, append-nil, append_assoc, length-append, arith, refl, sym, ap, ◌∙◌, inl, inr, subst, Some, None}
 use Rattle.std.specs.Prelude.{Option}
 use Rattle.std.specs.List.{AllByRecursion, flat_map}
 use Rattle.spiffe_doc.specs.Authority.{BundleValue}
 use Rattle.spiffe_doc.specs.Bundle.{IsBundle}
 use Rattle.map_core.specs.Name.{Name}
-use Rattle.frame_front.specs.Frame.{IsPayload, HasFrames, IsUnfinished, IsBadLength, frame, stream_of, frames}
+use Rattle.frame_front.specs.Frame.{IsPayload, HasFrames, frame, stream_of, frames}
 use Rattle.frame_front.specs.Dump.{Domains, AreLawful, count_of, item_of, ReadsItems, IsAfter, Ascends, IsDump, IsDumpFront, IsBadDump, request_for, requests_for, NoItem, NoCount}
 use Rattle.std.proofs.Math.Seq.{drop-append_seam}
 use Rattle.std.proofs.lemmas.Bool.Decides.{nat_tests}
@@ -13,11 +13,7 @@ use Rattle.std.specs.Prelude.{◌==◌, true, false}
 use Rattle.frame_front.proofs.FrameLemmas.{frames_unique, frame_first}
 use Rattle.frame_front.proofs.FramesExist.{has_frames}
 use Rattle.frame_front.proofs.SessionLemmas.{stream_of-append, each-append, fewer_than_bytes}
-
--- the last name, if any
-abbrev pub last_of : Option Name → Domains → Option Name
-last_of last [] = last
-last_of last (item ∷ items) = last_of (Some item.0) items
+use Rattle.frame_front.proofs.DomainLists.{last_of, ReadsItems-length, ReadsItems-one, Ascends-one, last_of-one, lawful-one, map-one, stream-one, stream-more}
 
 -- So many domains of a dump are read, and written as requests.
 pub record Migrated (dump : List ℕ) (count : ℕ) (rest : List ℕ) (last : Option Name) (place : ℕ) (stream : List ℕ) : Type 0 where
@@ -33,40 +29,6 @@ pub record Migrated (dump : List ℕ) (count : ℕ) (rest : List ℕ) (last : Op
   pub last_is : last ≡ last_of None items
   pub placed : place ≡ length items
   pub written : stream ≡ stream_of (requests_for items) []
-
-pub ReadsItems-length : (ps : List (List ℕ)) (items : Domains) → ReadsItems ps items → length ps ≡ length items
-ReadsItems-length [] [] read = refl
-ReadsItems-length [] (i ∷ is) read = absurd read
-ReadsItems-length (p ∷ ps) [] read = absurd read
-ReadsItems-length (p ∷ ps) (i ∷ is) read = omega (arith, ReadsItems-length ps is read.1)
-
-ReadsItems-one : (ps : List (List ℕ)) (items : Domains) (p : List ℕ) (i : Name × BundleValue) → ReadsItems ps items → item_of p ≡ Some i → ReadsItems (ps ++ p ∷ []) (items ++ i ∷ [])
-ReadsItems-one [] [] p i read one = (one, tt)
-ReadsItems-one [] (j ∷ is) p i read one = absurd read
-ReadsItems-one (q ∷ ps) [] p i read one = absurd read
-ReadsItems-one (q ∷ ps) (j ∷ is) p i read one = (read.0, ReadsItems-one ps is p i read.1 one)
-
-pub Ascends-one : (last : Option Name) (items : Domains) (i : Name × BundleValue) → Ascends last items → IsAfter (last_of last items) i.0 → Ascends last (items ++ i ∷ [])
-Ascends-one last [] i ascending after = (after, tt)
-Ascends-one last (j ∷ is) i ascending after = (ascending.0, Ascends-one (Some j.0) is i ascending.1 after)
-
-pub last_of-one : (last : Option Name) (items : Domains) (i : Name × BundleValue) → last_of last (items ++ i ∷ []) ≡ Some i.0
-last_of-one last [] i = refl
-last_of-one last (j ∷ is) i = last_of-one (Some j.0) is i
-
-lawful-one : (items : Domains) (i : Name × BundleValue) → AreLawful items → IsBundle i.1 → AreLawful (items ++ i ∷ [])
-lawful-one [] i lawful one = (one, tt)
-lawful-one (j ∷ is) i lawful one = (lawful.0, lawful-one is i lawful.1 one)
-
-map-one : (items : Domains) (i : Name × BundleValue) → map request_for (items ++ i ∷ []) ≡ map request_for items ++ request_for i ∷ []
-map-one [] i = refl
-map-one (j ∷ is) i = ap (λ rs. request_for j ∷ rs) (map-one is i)
-
-stream-one : (ps : List (List ℕ)) (p rest : List ℕ) → stream_of (ps ++ p ∷ []) rest ≡ stream_of ps (frame p ++ rest)
-stream-one ps p rest = stream_of-append ps (p ∷ []) rest ∙ ap (λ f. stream_of ps (f ++ rest)) (append-nil (frame p))
-
-stream-more : (ps : List (List ℕ)) (p : List ℕ) → stream_of (ps ++ p ∷ []) [] ≡ stream_of ps [] ++ frame p
-stream-more ps p = stream-one ps p [] ∙ ap (stream_of ps) (append-nil (frame p)) ∙ ap (λ s. s ++ frame p) (sym (append-nil (flat_map frame ps)))
 
 -- what follows the domains read is one more, where the payloads are read further
 next_read : (ps : List (List ℕ)) (items others : Domains) (p : List ℕ) (more : List (List ℕ)) (last : Option Name)
@@ -299,12 +261,6 @@ bad_head dump fits wrong =
           none_some (length items) (sym (wrong other.head (stream_of other.payloads []) other.framed.each.0
           (other.framed.whole ∙ append_assoc (frame other.head) (flat_map frame other.payloads) [])) ∙ other.counted);
     }
-
-pub some_item : (a b : Name × BundleValue) → Some a ≡ Some b → a ≡ b
-some_item a b same = cc
-
-pub none_item : (a : Name × BundleValue) → None ≡ Some a → ⊥
-none_item a same = cc
 
 pub nothing_left : (xs : List ℕ) → true ≡ (length xs == 0) → xs ≡ []
 nothing_left [] empty = refl

@@ -1,9 +1,9 @@
 -- Each stream of bytes has its frames.
-use Rattle.std.proofs.Common.{◌≡◌, ◌⊎◌, ℕ, zero, suc, ◌+◌, ◌<◌, ◌≤◌, List, [], ◌∷◌, ◌++◌, length, take, drop, get_or, refl, sym, ap, ◌∙◌, inl, inr, arith, append_assoc, length-append, length-drop, get_or-drop, Bool, true, false}
+use Rattle.std.proofs.Common.{◌≡◌, ◌⊎◌, ℕ, zero, suc, ◌+◌, ◌<◌, ◌≤◌, List, [], ◌∷◌, ◌++◌, length, take, drop, get_or, refl, sym, ap, ◌∙◌, inl, inr, arith, append_assoc, length-drop, get_or-drop, Bool, true, false}
 use Rattle.std.specs.Prelude.{if◌then◌else◌}
 use Rattle.std.proofs.lemmas.Bool.{cases_lt}
 use Rattle.std.proofs.lemmas.Bool.Decides.{nat_tests}
-use Rattle.frame_front.specs.Frame.{IsPayload, IsUnfinished, IsBadLength, HasFrames, Frames, frame, spelled_length, stream_of, most_payload, begins_with_frame, first_frames, frames}
+use Rattle.frame_front.specs.Frame.{IsUnfinished, IsBadLength, HasFrames, Frames, frame, spelled_length, most_payload, begins_with_frame, first_frames, frames}
 use Rattle.frame_front.proofs.FrameLemmas.{frame_cut_off}
 
 stands_there : (bytes : List ℕ) → begins_with_frame bytes ≡ true → (4 + spelled_length bytes ≤ length bytes) × (0 < spelled_length bytes) × (spelled_length bytes ≤ most_payload)

@@ -2,7 +2,9 @@ pub mod FrameLemmas
 pub mod SessionLemmas
 pub mod TranscriptLemmas
 pub mod ReplyLemmas
+pub mod BegunTexts
 pub mod PlainLemmas
 pub mod FramesExist
+pub mod DomainLists
 pub mod DumpLemmas
 pub mod MigrationLemmas

@@ -1,5 +1,5 @@
 -- A migrated dump is stored.
-use Rattle.std.proofs.Common.{◌≡◌, ℕ, ◌+◌, ◌≤◌, List, [], ◌∷◌, ◌++◌, length, map, take, drop, append-nil, append_assoc, length-append, arith, refl, sym, ap, ◌∙◌, inl, subst, Result, Ok, Err, Some, None, Bool, true, false, cond}
+use Rattle.std.proofs.Common.{◌≡◌, ℕ, ◌+◌, List, [], ◌∷◌, ◌++◌, length, map, take, drop, append-nil, append_assoc, length-append, arith, refl, sym, ap, ◌∙◌, inl, subst, Result, Ok, Err, Some, None, Bool, true, false, cond}
 use Rattle.std.specs.Prelude.{Option, nat_le}
 use Rattle.std.specs.List.{AllByRecursion}
 use Rattle.std.specs.FinMap as finite
@@ -8,7 +8,7 @@ use Rattle.std.specs.Ordering.{is_eq, ordering_reverse}
 use Rattle.std.specs.Cmp.Lexicographic.{nat_list_cmp_total}
 use Rattle.std.specs.declared.cmp.Ordering.TheVariants.{Less, Greater}
 use Rattle.std.proofs.lemmas.Bool.Decides.{nat_tests}
-use Rattle.std.proofs.lemmas.List.{take_at, append_cancel_left}
+use Rattle.std.proofs.lemmas.List.{take_at}
 use Rattle.std.proofs.Math.Seq.{drop-append_seam}
 use Rattle.spiffe_doc.specs.Authority.{BundleValue}
 use Rattle.spiffe_doc.specs.Bundle.{IsBundle}
@@ -20,14 +20,12 @@ use Rattle.spiffe_doc.proofs.RoundTrip.{document-text_of}
 use Rattle.map_core.specs.declared.held.Held.{Held}
 use Rattle.map_core.specs.declared.held.Held.TheVariants.{Published}
 use Rattle.map_core.specs.declared.op.Op.TheVariants.{SetIf}
-use Rattle.map_core.specs.declared.op.Expect.{Expect}
 use Rattle.map_core.specs.declared.op.Expect.TheVariants.{Absent}
 use Rattle.map_core.specs.declared.reply.Reply.TheVariants.{Stored}
 use Rattle.map_core.specs.Name.{Name, name_cmp}
-use Rattle.map_core.specs.Table.{Outcome, meaning, set_if}
+use Rattle.map_core.specs.Table.{meaning, set_if}
 use Rattle.map_core.specs.PlainMap.{PlainMap, put, ask, bundles, published}
 use Rattle.frame_front.specs.declared.request.Version.TheVariants.{One, Two}
-use Rattle.frame_front.specs.declared.request.Request.{Request}
 use Rattle.frame_front.specs.declared.request.Request.TheVariants.{Ask, Speak}
 use Rattle.frame_front.specs.declared.refusal.Refusal.{Refusal}
 use Rattle.frame_front.specs.declared.refusal.Refusal.TheVariants.{BadRequest}
@@ -36,10 +34,9 @@ use Rattle.frame_front.specs.Refusal.{name_refusal}
 use Rattle.frame_front.specs.Request.{◌>>=◌, split_name, split_expect, named, name_of, bundle_of, named_bundle, set_if_of, version_of, request_of}
 use Rattle.frame_front.specs.Request as requests
 use Rattle.frame_front.specs.Reply.{coded_reply, version_frame}
-use Rattle.frame_front.specs.Session.{SessionState}
 use Rattle.frame_front.specs.PlainSession.{text_for, state_for, answers_to, state_after}
 use Rattle.frame_front.specs.Dump.{Domains, unless_refused, item_of, ReadsItems, IsAfter, Ascends, IsDump, AreLawful, request_for, requests_for, held_of, map_of}
-use Rattle.frame_front.proofs.DumpLemmas.{last_of, last_of-one, Ascends-one, some_item, none_item}
+use Rattle.frame_front.proofs.DomainLists.{last_of, last_of-one, Ascends-one, some_item, none_item}
 
 -- ---- a domain that was read has a name
 

@@ -1,5 +1,5 @@
 -- Sessions over a map that shows a plain map.
-use Rattle.std.proofs.Common.{◌≡◌, ◌⊎◌, ℕ, zero, suc, ◌+◌, ◌-◌, ◌<◌, ◌≤◌, List, [], ◌∷◌, ◌++◌, length, take, drop, append-nil, append_assoc, length-append, arith, refl, sym, ap, ◌∙◌, inl, inr, subst, Result, Ok, Err, Some, Bool, true, false}
+use Rattle.std.proofs.Common.{◌≡◌, ℕ, zero, suc, ◌-◌, ◌≤◌, List, [], ◌∷◌, ◌++◌, length, take, drop, append-nil, append_assoc, length-append, arith, refl, sym, ap, ◌∙◌, inl, inr, subst, Result, Ok, Err, Some, Bool, true, false}
 use Rattle.std.specs.Prelude.{Option}
 use Rattle.std.specs.Io.KnownBytes.{Appends}
 use Rattle.std.specs.List.{AllByRecursion, concat}
@@ -9,59 +9,28 @@ use Rattle.std.proofs.lemmas.List.Folds.{concat-append}
 use Rattle.map_core.specs.declared.op.Op.{Op}
 use Rattle.map_core.specs.declared.reply.Reply.{Reply}
 use Rattle.map_core.specs.declared.reply.AskError.{AskError}
-use Rattle.map_core.specs.PlainMap.{PlainMap, ask}
+use Rattle.map_core.specs.PlainMap.{PlainMap}
 use Rattle.map_core.specs.Ask.{PlainAnswer}
 use Rattle.frame_front.specs.Frame.{IsPayload, frame, stream_of}
 use Rattle.frame_front.specs.declared.error.FrontError.{FrontError}
 use Rattle.frame_front.specs.declared.error.FrontError.TheVariants.{BadLength, Truncated, ReadFault, WriteFault, TurnsUsed, Memory}
-use Rattle.frame_front.specs.declared.request.Version.{Version}
 use Rattle.frame_front.specs.declared.request.Version.TheVariants.{One}
 use Rattle.frame_front.specs.declared.request.Request.{Request}
 use Rattle.frame_front.specs.declared.request.Request.TheVariants.{Ask, Speak}
 use Rattle.frame_front.specs.declared.refusal.Refusal.{Refusal}
 use Rattle.frame_front.specs.Request.{request_of}
-use Rattle.frame_front.specs.Reply.{coded_reply, is_error_reply}
-use Rattle.frame_front.specs.Session.{SessionState, AnswersRequest, Answers, AnswersAll, Session, Writes, WritesCut, EndsAt}
+use Rattle.frame_front.specs.Reply.{is_error_reply}
+use Rattle.frame_front.specs.Session.{SessionState, AnswersRequest, Answers, AnswersAll}
 use Rattle.frame_front.specs.Transcript.{Transcript}
 use Rattle.frame_front.specs.PlainSession.{text_for, state_for, answers_to, state_after, TellsError, PlainTranscript, begun, Stands}
 use Rattle.frame_front.proofs.SessionLemmas.{stream_of-append, concat-one}
+use Rattle.frame_front.proofs.BegunTexts.{NoErrors, no_errors-append, each_before, begun_before, begun_reaches}
 use Rattle.frame_front.proofs.ReplyLemmas.{not_both, want_is_error, version_answers, plain_goes_out, errors_keep, one_answers}
-
--- none of these texts tells an error
-abbrev NoErrors : List (List ℕ) → Type 0
-NoErrors = AllByRecursion (λ text. is_error_reply text ≡ false)
 
 -- an answer to a payload that reads so, over the plain map
 pub record PlainStep (state : SessionState PlainMap) (read : Result Request Refusal) (text : List ℕ) (new : SessionState PlainMap) : Type 0 where
   pub text_is : text ≡ text_for state read
   pub new_is : new ≡ state_for state read
-
--- texts of which all that is begun answers
-no_errors-append : (ts us : List (List ℕ)) → NoErrors ts → NoErrors us → NoErrors (ts ++ us)
-no_errors-append [] us a b = b
-no_errors-append (t ∷ ts) us a b = (a.0, no_errors-append ts us a.1 b)
-
-each_before : (ps qs : List (List ℕ)) → AllByRecursion IsPayload (ps ++ qs) → AllByRecursion IsPayload ps
-each_before [] qs a = tt
-each_before (p ∷ ps) qs a = (a.0, each_before ps qs a.1)
-
-empty_answers : (text : List ℕ) → length text ≤ 0 → is_error_reply text ≡ false
-empty_answers [] none = refl
-empty_answers (x ∷ xs) none = absurd (omega (arith, none))
-
-begun_before : (ts us : List (List ℕ)) (n : ℕ) → length (concat ts) ≤ n → NoErrors (begun n (ts ++ us)) → NoErrors ts
-begun_before [] us n whole no_errors = tt
-begun_before (t ∷ ts) us zero whole no_errors =
-    (empty_answers t (omega (arith, whole, length-append t (concat ts))), begun_before ts us zero (omega (arith, whole, length-append t (concat ts))) tt)
-begun_before (t ∷ ts) us (suc n) whole no_errors =
-    (no_errors.0, begun_before ts us (suc n - length t) (omega (arith, whole, length-append t (concat ts))) no_errors.1)
-
-begun_reaches : (ts : List (List ℕ)) (text : List ℕ) (n : ℕ) → length (concat ts) < n → NoErrors (begun n (ts ++ text ∷ [])) → is_error_reply text ≡ false
-begun_reaches [] text zero reached no_errors = absurd (omega (arith, reached))
-begun_reaches [] text (suc n) reached no_errors = no_errors.0
-begun_reaches (t ∷ ts) text zero reached no_errors = absurd (omega (arith, reached))
-begun_reaches (t ∷ ts) text (suc n) reached no_errors =
-    begun_reaches ts text (suc n - length t) (omega (arith, reached, length-append t (concat ts))) no_errors.1
 
 module _ {S : Type 0} (answers : S → Op → Result Reply AskError → S → Type 0) (shows : S → Option PlainMap)
     (plainly : (old : S) (op : Op) (result : Result Reply AskError) (new : S) (m : PlainMap) → shows old ≡ Some m → answers old op result new → PlainAnswer m op result (shows new)) where

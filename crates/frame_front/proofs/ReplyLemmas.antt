@@ -1,5 +1,5 @@
 -- What the code of a reply tells.
-use Rattle.std.proofs.Common.{◌≡◌, ◌⊎◌, ℕ, List, [], ◌∷◌, ◌++◌, refl, sym, ap, ◌∙◌, inl, inr, Result, Ok, Err, Some, None, Bool, true, false}
+use Rattle.std.proofs.Common.{◌≡◌, ℕ, List, [], ◌∷◌, ◌++◌, refl, sym, ap, ◌∙◌, inl, inr, Result, Ok, Err, Some, Bool, true, false}
 use Rattle.std.specs.Prelude.{Option}
 use Rattle.spiffe_doc.specs.declared.name.NameError.TheVariants as name
 use Rattle.spiffe_doc.specs.declared.error.DocError.TheVariants as doc
@@ -12,7 +12,7 @@ use Rattle.map_core.specs.declared.reply.AskError.{AskError}
 use Rattle.map_core.specs.declared.reply.AskError.TheVariants as error
 use Rattle.map_core.specs.Reply.{is_change}
 use Rattle.map_core.specs.PlainMap.{PlainMap, ask}
-use Rattle.map_core.specs.Ask.{PlainAnswer}
+use Rattle.map_core.specs.Ask.{PlainAnswer, ContentsAnswer}
 use Rattle.map_core.proofs.MapLaws.{ask_keeps}
 use Rattle.frame_front.specs.declared.request.Version.{Version}
 use Rattle.frame_front.specs.declared.request.Version.TheVariants.{One, Two}
@@ -136,3 +136,8 @@ module _ {S : Type 0} (answers : S → Op → Result Reply AskError → S → Ty
       → ¬ (TellsError answers text) → is_error_reply text ≡ false
   one_answers payload old new text (inl request) none = request_answers (request_of old.0 payload) old new text request none
   one_answers payload old new text (inr want) none = absurd (none (inl want.0))
+
+-- over one map want of memory is the only error
+pub one_map_tells : (text : List ℕ) → TellsError ContentsAnswer text → text ≡ memory_frame
+one_map_tells text (inl same) = same
+one_map_tells text (inr told) = told.2 ∙ ap (λ (e : AskError). coded (Err e)) told.1.3.0

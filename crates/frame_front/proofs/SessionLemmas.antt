@@ -1,15 +1,15 @@
 -- Lemmas on sessions: what was read, answered and written, put together.
-use Rattle.std.proofs.Common.{◌≡◌, ◌⊎◌, ℕ, ◌+◌, ◌<◌, ◌≤◌, List, [], ◌∷◌, ◌++◌, length, refl, sym, ap, ◌∙◌, inl, inr, arith, append_assoc, append-nil, length-append, subst, Result, Ok, Err, false}
+use Rattle.std.proofs.Common.{◌≡◌, ℕ, ◌+◌, ◌≤◌, List, [], ◌∷◌, ◌++◌, length, refl, sym, ap, ◌∙◌, inl, inr, arith, append_assoc, append-nil, length-append, subst, Result, Err, false}
 use Rattle.std.specs.Prelude.{Option}
 use Rattle.std.specs.List.{AllByRecursion, concat, flat_map}
-use Rattle.std.specs.Io.KnownBytes.{Appends, Consumes}
+use Rattle.std.specs.Io.KnownBytes.{Appends}
 use Rattle.std.proofs.KnownBytes.{Appends-nil, Appends-trans}
 use Rattle.std.proofs.lemmas.List.Concat.{flat_map-append}
 use Rattle.std.proofs.lemmas.List.Folds.{concat-append}
 use Rattle.map_core.specs.declared.op.Op.{Op}
 use Rattle.map_core.specs.declared.reply.Reply.{Reply}
 use Rattle.map_core.specs.declared.reply.AskError.{AskError}
-use Rattle.frame_front.specs.Frame.{IsPayload, IsUnfinished, frame, stream_of}
+use Rattle.frame_front.specs.Frame.{IsPayload, frame, stream_of}
 use Rattle.frame_front.specs.Reply.{is_error_reply}
 use Rattle.frame_front.specs.Session.{SessionState, Answers, AnswersAll, Serves, Round, RoundEndsAt, Writes}
 use Rattle.frame_front.specs.Outbox.{WritesFront, Puts}

@@ -1,9 +1,9 @@
 -- Lemmas on a call of `serve`: what stands after some turns, and each way to end.
-use Rattle.std.proofs.Common.{◌≡◌, ◌≢◌, ◌⊎◌, ℕ, ◌+◌, ◌*◌, ◌<◌, ◌≤◌, List, [], ◌∷◌, ◌++◌, length, take, refl, sym, ap, ◌∙◌, inl, inr, arith, append_assoc, append-nil, length-append, length-take-le, subst, Result, Ok, Err}
+use Rattle.std.proofs.Common.{◌≡◌, ℕ, ◌+◌, ◌*◌, ◌<◌, ◌≤◌, List, [], ◌++◌, length, refl, sym, ap, ◌∙◌, arith, append_assoc, append-nil, length-append, subst, Result, Ok, Err}
 use Rattle.std.specs.Prelude.{Option}
 use Rattle.std.specs.List.{concat}
-use Rattle.std.specs.Io.KnownBytes.{Appends, Consumes, Keeps, IsAtEnd}
-use Rattle.std.proofs.KnownBytes.{Appends-nil, Appends-trans, Consumes-nil, Consumes-trans, Consumes-kept}
+use Rattle.std.specs.Io.KnownBytes.{Appends, Consumes}
+use Rattle.std.proofs.KnownBytes.{Appends-nil, Appends-trans, Consumes-nil, Consumes-trans}
 use Rattle.std.proofs.lemmas.List.Folds.{concat-append}
 use Rattle.map_core.specs.declared.op.Op.{Op}
 use Rattle.map_core.specs.declared.reply.Reply.{Reply}
@@ -12,8 +12,8 @@ use Rattle.frame_front.specs.declared.error.FrontError.{FrontError}
 use Rattle.frame_front.specs.declared.error.FrontError.TheVariants.{BadLength, Truncated, ReadFault, WriteFault, TurnsUsed, Memory}
 use Rattle.frame_front.specs.declared.request.Version.{Version}
 use Rattle.frame_front.specs.declared.request.Version.TheVariants.{One}
-use Rattle.frame_front.specs.Frame.{IsUnfinished, IsBadLength}
-use Rattle.frame_front.specs.Session.{SessionState, Serves, Session, EndsAt, Writes, Round, RoundEndsAt}
+use Rattle.frame_front.specs.Frame.{IsUnfinished}
+use Rattle.frame_front.specs.Session.{SessionState, Serves, EndsAt, Writes, Round, RoundEndsAt}
 use Rattle.frame_front.specs.Transcript.{Transcript, EndsInput, UsesTurns}
 use Rattle.frame_front.proofs.SessionLemmas.{Serves-none, Serves-read, Serves-then, fewer_than_bytes}
 

@@ -13,6 +13,9 @@ use spiffe_doc::{Bundle, TrustDomain};
 use std::alloc::{AllocError, Global};
 use thiserror::Error;
 
+/// A letter, a length, the longest name and an expectation.
+const HEAD_BYTES: usize = 258;
+
 /// Why a dump is not migrated.
 #[derive(Clone, Copy, Debug, PartialEq, Eq, Error)]
 pub enum DumpError {
@@ -196,7 +199,7 @@ fn put_request(
 {
     let name = domain.as_str().as_bytes();
     let text = canonical_text(bundle);
-    let mut front = ArrayVec::<u8, 258>::new();
+    let mut front = ArrayVec::<u8, HEAD_BYTES>::new();
     let _fits = front.try_extend_from_slice(&[b'C', name.len() as u8]);
     let _fits = front.try_extend_from_slice(name);
     let _fits = front.try_extend_from_slice(&[0]);

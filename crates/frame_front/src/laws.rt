@@ -1,14 +1,14 @@
 //! What holds of the definitions alone.
 ghost use Rattle.std.specs.Prelude.{◌≡◌, ℕ, List, [], ◌∷◌, ◌++◌, ◌<◌, map, slice_index, Some, true};
+ghost use Rattle.map_core.specs.Ask.{ContentsAnswer};
 ghost use Rattle.map_core.specs.PlainMap.{PlainMap, bundles};
 ghost use Rattle.frame_front.specs.Frame.{HasFrames, frames, stream_of};
 ghost use Rattle.frame_front.specs.declared.request.Version.{Version};
 ghost use Rattle.std.specs.FinMap as finite;
-
 ghost use Rattle.map_core.specs.declared.reply.Reply.TheVariants.{Stored};
 ghost use Rattle.frame_front.specs.declared.request.Version.TheVariants.{One, Two};
-ghost use Rattle.frame_front.specs.Reply.{coded_reply, version_frame, is_error_reply};
-ghost use Rattle.frame_front.specs.PlainSession.{answers_to, state_after};
+ghost use Rattle.frame_front.specs.Reply.{coded_reply, version_frame, memory_frame, is_error_reply};
+ghost use Rattle.frame_front.specs.PlainSession.{TellsError, answers_to, state_after};
 ghost use Rattle.frame_front.specs.Dump.{Domains, IsDump, AreLawful, requests_for, map_of};
 ghost use Rattle.frame_front.specs.Session.{Answers};
 
@@ -37,6 +37,11 @@ pub fn each_stream_has_frames()
 pub fn errors_change_nothing<A: Ask>()
     ensures { (version next : Version) (old new : A) (payload text : List ℕ) (m : PlainMap) → A.shows old ≡ Some m
         → Answers A.answers (version, old) payload text (next, new) → is_error_reply text ≡ true → (A.shows new ≡ Some m) × (next ≡ version) }
+{}
+
+/// Over one map the only reply that tells an error is the one that says that memory ran out.
+pub fn one_map_tells_want_of_memory_alone()
+    ensures { (text : List ℕ) → TellsError ContentsAnswer text → text ≡ memory_frame }
 {}
 
 /// From the empty map, and in version 1, a migrated dump of lawful bundles is answered by the version and then

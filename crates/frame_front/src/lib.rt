@@ -1,5 +1,9 @@
-//! The front of a map of trust bundles: frames on a stream of bytes, the requests that they carry,
-//! the replies, and a session that answers the one with the other.
+//! The front of a map of trust bundles: frames on a stream of bytes, the requests that they carry, the
+//! replies, and sessions that answer the one with the other.
+//!
+//! `serve` reads frames from any reader and writes replies to any writer, over whatever can be asked:
+//! one map, or shards of it. `Decoder` takes frames out of a stream by itself, and `migrate` turns the
+//! reply to a fetch-all into requests that store it again.
 #![tactic(auto)]
 
 mod counted;
@@ -22,7 +26,6 @@ pub use error::FrontError;
 pub use faulty::{FaultyReader, FaultyWriter};
 pub use frame::MAX_PAYLOAD;
 pub use refusal::Refusal;
-pub use reply::ReplyText;
 pub use request::{Request, Version, read_request};
 pub use session::serve;
 

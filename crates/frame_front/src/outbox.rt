@@ -10,11 +10,14 @@ use arrayvec::ArrayVec;
 use std::io::Write;
 use std::marker::Model;
 
+/// The bytes of replies that are gathered for one write.
+const ROOM: usize = 65_536;
+
 /// The replies that one round gathers. Its room is in place, so it takes no memory. Contracts see it as
 /// the bytes that wait.
 #[derive(Drop)]
 pub(crate) struct Outbox {
-    gathered: ArrayVec<u8, 65536>,
+    gathered: ArrayVec<u8, ROOM>,
 }
 
 impl Model for Outbox {

@@ -17,6 +17,12 @@ use std::marker::Model;
 /// A length, a code, and at most 20 bytes of numbers.
 const HEAD_BYTES: usize = 25;
 
+/// A code, a length and the longest name.
+const ITEM_HEAD_BYTES: usize = 257;
+
+/// The code of a reply stands after its length.
+const CODE_PLACE: usize = 4;
+
 /// What follows the first bytes of a reply.
 #[derive(Drop)]
 enum Body {
@@ -29,8 +35,8 @@ enum Body {
 
 /// The bytes of a reply, made whole. All but the reply to a fetch-all are made without memory.
 #[derive(Drop)]
-pub struct ReplyText {
-    head: ArrayVec<u8, 25>,
+pub(crate) struct ReplyText {
+    head: ArrayVec<u8, HEAD_BYTES>,
     body: Body,
 }
 
@@ -47,7 +53,7 @@ impl Model for ReplyText {
 
 impl ReplyText {
     /// The two parts that are written one after the other.
-    pub fn parts(&self) -> (&[u8], &[u8])
+    pub(crate) fn parts(&self) -> (&[u8], &[u8])
         ensures whole { result.0.now ++ result.1.now ≡ self.now }
         ensures few { length result.0.now ≤ 25 }
     {
@@ -63,7 +69,7 @@ impl ReplyText {
     pub(crate) fn is_error(&self) -> bool
         ensures { result ≡ is_error_reply self.now }
     {
-        is_error_code(self.head.as_slice()[4])
+        is_error_code(self.head.as_slice()[CODE_PLACE])
     }
 
     /// A frame of a code and a few numbers.
@@ -112,7 +118,7 @@ impl ReplyText {
     }
 }
 
-fn put(bytes: &mut ArrayVec<u8, 25>, more: &[u8])
+fn put(bytes: &mut ArrayVec<u8, HEAD_BYTES>, more: &[u8])
     requires { array_vec_len bytes.old + length more.now ≤ 25 }
     ensures { bytes.new.items ≡ bytes.old.items ++ more.now }
 {
@@ -151,7 +157,7 @@ fn put_item(out: &mut Vec<u8>, domain: &TrustDomain, bundle: &Bundle) -> Result<
 {
     let name = domain.as_str().as_bytes();
     let text = canonical_text(bundle);
-    let mut front = ArrayVec::<u8, 257>::new();
+    let mut front = ArrayVec::<u8, ITEM_HEAD_BYTES>::new();
     let _fits = front.try_extend_from_slice(&[b'i', name.len() as u8]);
     let _fits = front.try_extend_from_slice(name);
     put_frame(out, front.as_slice(), text)
@@ -188,7 +194,10 @@ pub(crate) fn answer_reply(alloc: Global, answer: Result<Reply, AskError>) -> Re
     match answer {
         Ok(Reply::Stored) => ReplyText::short(b's', &[]),
         Ok(Reply::Unchanged) => ReplyText::short(b'u', &[]),
-        Ok(Reply::Appended(sequence)) => ReplyText::short(b'p', sequence_bytes(sequence).as_slice()),
+        Ok(Reply::Appended(sequence)) => ReplyText::short(
+            b'p',
+            sequence_bytes(sequence).as_slice(),
+        ),
         Ok(Reply::Removed) => ReplyText::short(b'd', &[]),
         Ok(Reply::Found(bundle)) => ReplyText::found(bundle),
         Ok(Reply::All(snapshot)) => match ReplyText::all(alloc, snapshot.pairs()) {
@@ -247,7 +256,7 @@ fn place_bytes(place: usize) -> [u8; 4]
 }
 
 /// 0, or 1 and the sequence.
-fn sequence_bytes(sequence: Option<u64>) -> ArrayVec<u8, 25>
+fn sequence_bytes(sequence: Option<u64>) -> ArrayVec<u8, HEAD_BYTES>
     ensures value { result.items ≡ bytes_of_sequence sequence }
     ensures few { array_vec_len result ≤ 9 }
 {
@@ -262,7 +271,7 @@ fn sequence_bytes(sequence: Option<u64>) -> ArrayVec<u8, 25>
     bytes
 }
 
-fn expect_bytes(expect: Expect) -> ArrayVec<u8, 25>
+fn expect_bytes(expect: Expect) -> ArrayVec<u8, HEAD_BYTES>
     ensures value { result.items ≡ bytes_of_expect expect }
     ensures few { array_vec_len result ≤ 9 }
 {

@@ -10,8 +10,8 @@ ghost use Rattle.frame_front.specs.Outbox.{WritesFront};
 ghost use Rattle.map_core.specs.PlainMap.{PlainMap};
 
 use crate::outbox::Outbox;
-use crate::reply::{ReplyText, answer_reply, memory_reply, refusal_reply, version_reply};
 use crate::refusal::Refusal;
+use crate::reply::{ReplyText, answer_reply, memory_reply, refusal_reply, version_reply};
 use crate::request::{Request, Version, read_request};
 use crate::{Counted, Decoder, FrontError};
 use map_core::Ask;

@@ -81,10 +81,16 @@ fn serve_each(rt: &impl Abort, alloc: Global, sessions: &[Session<'_>]) -> Resul
                 size,
             };
             let (ended, written) = answers_of(alloc, &mut contents, reader)?;
-            assert!(rt; ended == session.ended, "{} in pieces of {size}: {ended:?}", session.name);
+            assert!(rt;
+                ended == session.ended,
+                "{} in pieces of {size}: {ended:?}",
+                session.name
+            );
             assert!(rt;
                 written.as_slice() == session.output,
-                "{} in pieces of {size}: {:?}", session.name, written.as_slice()
+                "{} in pieces of {size}: {:?}",
+                session.name,
+                written.as_slice()
             );
         }
     }

@@ -34,9 +34,21 @@ fn refuses_what_is_no_dump(rt: HostRuntime) {
     let rows: [(&str, &[u8], u64); 12] = [
         ("no input", b"", 0),
         ("a length alone", b"\x00\x00\x00\x09", 0),
-        ("another code", b"\x00\x00\x00\x09b\x00\x00\x00\x00\x00\x00\x00\x00", 0),
-        ("a count of 7 bytes", b"\x00\x00\x00\x08a\x00\x00\x00\x00\x00\x00\x00", 0),
-        ("no frame of a domain", b"\x00\x00\x00\x09a\x00\x00\x00\x00\x00\x00\x00\x01", 1),
+        (
+            "another code",
+            b"\x00\x00\x00\x09b\x00\x00\x00\x00\x00\x00\x00\x00",
+            0,
+        ),
+        (
+            "a count of 7 bytes",
+            b"\x00\x00\x00\x08a\x00\x00\x00\x00\x00\x00\x00",
+            0,
+        ),
+        (
+            "no frame of a domain",
+            b"\x00\x00\x00\x09a\x00\x00\x00\x00\x00\x00\x00\x01",
+            1,
+        ),
         (
             "names out of order",
             b"\x00\x00\x00\x09a\x00\x00\x00\x00\x00\x00\x00\x02\x00\x00\x00\x0ei\x01b{\"keys\":[]}\x00\x00\x00\x0ei\x01a{\"keys\":[]}",

@@ -22,7 +22,10 @@ fn a_reader_that_fails(rt: HostRuntime) -> Result<(), AllocError> {
             18..=24 => 5,
             _ => 21,
         };
-        assert!(rt; Some(writer.end.as_slice()) == OUTPUT.get(..written), "after {after}");
+        assert!(rt;
+            Some(writer.end.as_slice()) == OUTPUT.get(..written),
+            "after {after}"
+        );
         assert!(rt; reader.faults() == 1);
         assert!(rt; writer.faults() == 0);
     }
@@ -43,7 +46,10 @@ fn a_writer_that_fails(rt: HostRuntime) -> Result<(), AllocError> {
             (Ok(2), 0)
         };
         assert!(rt; ended == want, "room {room}");
-        assert!(rt; Some(writer.end.taken.as_slice()) == OUTPUT.get(..room), "room {room}");
+        assert!(rt;
+            Some(writer.end.taken.as_slice()) == OUTPUT.get(..room),
+            "room {room}"
+        );
         assert!(rt; writer.faults() == faults, "room {room}");
         assert!(rt; reader.faults() == 0);
     }

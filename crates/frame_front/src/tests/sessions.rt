@@ -1,5 +1,7 @@
 //! What each request is answered.
-use super::{ALL_OF_NONE, ALL_OF_ONE, FETCH_ALL, GET, Pieces, SET, Session, answers_of, serve_each};
+use super::{
+    ALL_OF_NONE, ALL_OF_ONE, FETCH_ALL, GET, Pieces, SET, Session, answers_of, serve_each,
+};
 use crate::FrontError;
 use map_core::Contents;
 use std::alloc::AllocError;
@@ -244,7 +246,10 @@ fn ends_inside_frames(rt: HostRuntime) -> Result<(), AllocError> {
                 _ => (Ok(2), output.len()),
             };
             assert!(rt; ended == want, "{length} bytes");
-            assert!(rt; Some(written.as_slice()) == output.as_slice().get(..whole), "{length} bytes");
+            assert!(rt;
+                Some(written.as_slice()) == output.as_slice().get(..whole),
+                "{length} bytes"
+            );
         }
     }
     Ok(())

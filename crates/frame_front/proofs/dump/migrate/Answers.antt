@@ -1,4 +1,4 @@
-use Rattle.std.proofs.Common.{◌≡◌, ◌≢◌, ◌≤◌, ◌+◌, ◌++◌, ◌∷◌, [], length, refl, ap, sym, ◌∙◌, arith, rules}
+use Rattle.std.proofs.Common.{◌≡◌, ◌≢◌, ◌++◌, ◌∷◌, [], refl, ap, ◌∙◌, arith, rules}
 use Rattle.frame_front.specs.Frame.{frame}
 use Rattle.frame_front.proofs.DumpLemmas.{Migrated-none, Migrated-then, Migrated-whole, Migrated-bound, wrong_next, too_much, bad_head, some_left, nothing_left}
 use Rattle.frame_front.proofs.dump.migrate.Goals as goal

@@ -1,8 +1,9 @@
-use Rattle.std.proofs.Common.{◌≡◌, ℕ, List, Some, None, sym, ◌∙◌, subst, refl}
+use Rattle.std.proofs.Common.{sym, ◌∙◌, subst, refl}
 use Rattle.spiffe_doc.specs.Authority.{BundleValue}
 use Rattle.map_core.specs.Name.{Name}
 use Rattle.frame_front.specs.Dump.{IsAfter}
-use Rattle.frame_front.proofs.DumpLemmas.{no_item, some_item, none_item}
+use Rattle.frame_front.proofs.DumpLemmas.{no_item}
+use Rattle.frame_front.proofs.DomainLists.{some_item, none_item}
 use Rattle.frame_front.proofs.dump.next_item.Goals as goal
 
 pub returns-in-Ok-None-clause-none : goal.returns-in-Ok-None-clause-none

@@ -1,4 +1,4 @@
-use Rattle.std.proofs.Common.{◌≡◌, ◌+◌, length, arith, rules}
+use Rattle.std.proofs.Common.{◌+◌, length, arith, rules}
 use Rattle.frame_front.proofs.FrameLemmas.{frame_in_parts}
 use Rattle.frame_front.proofs.frame.put_frame.Goals as goal
 

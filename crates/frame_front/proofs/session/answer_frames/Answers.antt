@@ -1,4 +1,4 @@
-use Rattle.std.proofs.Common.{◌≡◌, ◌+◌, ◌<◌, ◌≤◌, ℕ, length, drop, Ok, Err, refl, ap, sym, ◌∙◌, arith, length-append, ◌++◌}
+use Rattle.std.proofs.Common.{◌≡◌, ◌+◌, length, drop, Ok, Err, refl, ap, sym, ◌∙◌, arith, length-append, ◌++◌}
 use Rattle.std.proofs.lemmas.Result.{err_from_is_err_and}
 use Rattle.frame_front.specs.Frame.{frame}
 use Rattle.frame_front.specs.declared.error.FrontError.TheVariants.{WriteFault, BadLength}

@@ -1,8 +1,4 @@
-use Rattle.std.proofs.Common.{◌≡◌, ℕ, List, ◌++◌, length, false}
-use Rattle.std.specs.List.{concat, AllByRecursion}
-use Rattle.std.specs.Io.KnownBytes.{Appends}
-use Rattle.frame_front.specs.Reply.{is_error_reply}
-use Rattle.frame_front.specs.Session.{Serves}
+use Rattle.std.proofs.Common.{◌≡◌, length}
 use Rattle.frame_front.proofs.SessionLemmas.{Gathering}
 use Rattle.frame_front.proofs.session.answer_frames.Given as goal
 

@@ -1,8 +1,6 @@
-use Rattle.std.proofs.Common.{◌≡◌, ◌+◌, [], ◌∷◌, ◌∙◌, ap, length, ◌++◌, refl, arith, rules}
-use Rattle.std.specs.List.{flat_map}
+use Rattle.std.proofs.Common.{◌≡◌, [], ◌∷◌, ◌∙◌, ap, length, ◌++◌, refl, rules}
 use Rattle.std.specs.Int.{w32, w64, to_be_bytes}
 use Rattle.frame_front.specs.Frame.{frame}
-use Rattle.frame_front.specs.Reply.{item_frame}
 use Rattle.frame_front.proofs.FrameLemmas.{frame_in_parts}
 use Rattle.frame_front.proofs.reply.ReplyText.all.Goals as goal
 
