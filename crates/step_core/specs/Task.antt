@@ -1,6 +1,7 @@
 -- How far one operation is, by the task that drives it.
-use Rattle.std.specs.Prelude.{◌≡◌, ℕ, ◌<◌, ◌≤◌, length, Err}
+use Rattle.std.specs.Prelude.{◌≡◌, ℕ, ◌<◌, ◌≤◌, Bool, true, false, length, Ok, Err}
 use Rattle.std.specs.Arc.{arc_value}
+use Rattle.map_core.specs.declared.reply.AskError.{AskError}
 use Rattle.map_core.specs.declared.reply.AskError.TheVariants.{Memory}
 use Rattle.step_core.specs.Phase.{Phase, Idle, Waiting, Collecting, Confirming, Done, Told, Replied, Seen, Revision}
 use Rattle.step_core.specs.declared.task.State.{State}
@@ -47,3 +48,17 @@ IsWantOf n want.Done = Unit {0}
 -- there was no memory
 abbrev pub out_of_memory : Phase
 out_of_memory = Done (Err Memory)
+
+-- whether the error is want of memory
+abbrev pub is_memory : AskError → Bool
+is_memory Memory = true
+is_memory e = false
+
+-- whether there was no memory
+abbrev pub is_out_of_memory : Phase → Bool
+is_out_of_memory Idle = false
+is_out_of_memory (Waiting i) = false
+is_out_of_memory (Collecting round readings) = false
+is_out_of_memory (Confirming round readings k) = false
+is_out_of_memory (Done (Ok reply)) = false
+is_out_of_memory (Done (Err e)) = is_memory e

@@ -1,7 +1,7 @@
 //! One operation, one step at a time.
 ghost use Rattle.std.specs.Prelude.{◌≡◌, ◌<◌, ◌⊎◌, IfOk, true};
 ghost use Rattle.step_core.specs.Phase.{begun, wants, give, is_done, is_written, has_point, Done};
-ghost use Rattle.step_core.specs.Task.{phase_of, told_of, IsInside, IsReplied, IsWantOf, out_of_memory};
+ghost use Rattle.step_core.specs.Task.{phase_of, told_of, IsInside, IsReplied, IsWantOf, is_out_of_memory, out_of_memory};
 
 use crate::home::shard_of;
 use crate::round;
@@ -156,7 +156,7 @@ impl Task {
 
     /// Whether it is done because it found no memory.
     pub fn is_out_of_memory(&self) -> bool
-        ensures { self.now.phase ≡ out_of_memory → result ≡ true }
+        ensures { result ≡ is_out_of_memory self.now.phase }
     {
         match &self.state {
             State::Waiting(_) => false,

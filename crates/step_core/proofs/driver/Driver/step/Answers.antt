@@ -5,7 +5,7 @@ use Rattle.step_core.specs.declared.driver.Running.{Running}
 use Rattle.step_core.specs.declared.driver.Driver.{Driver}
 use Rattle.step_core.specs.Phase.{wants}
 use Rattle.step_core.specs.Run.{no_record}
-use Rattle.step_core.specs.Task.{IsWantOf}
+use Rattle.step_core.specs.Task.{IsWantOf, is_out_of_memory}
 use Rattle.step_core.specs.Driver.{left_by, told_by, marked, repointed_list, place_after}
 use Rattle.step_core.specs.declared.task.Want.{Want}
 use Rattle.step_core.proofs.Callers.{at_caller, at_caller_twice}
@@ -34,7 +34,7 @@ returns-clause-acts c = λ n rounds run h.
     (at_caller_twice old.callers c.remove.new.self c.insert-2.new.self c.args.caller None (Some y) (at_caller old.callers c.remove.new.self c.args.caller None c.in-Some.ensures.updates)
     (at_caller c.remove.new.self c.insert-2.new.self c.args.caller (Some y) c.in_ok-insert-2.ensures.updates))
     refl
-    (given_task n rounds x.task c.give.new.self _ _ _ own.task c.give.ensures.shards c.give.ensures.rounds c.give.ensures.phase (λ e. not_both _ (c.is_out_of_memory.ensures e) c.if-is_out_of_memory.false)
+    (given_task n rounds x.task c.give.new.self _ _ _ own.task c.give.ensures.shards c.give.ensures.rounds c.give.ensures.phase (λ e. not_both _ (c.is_out_of_memory.ensures ∙ ap is_out_of_memory e) c.if-is_out_of_memory.false)
     (c.in_ok-answer.ensures.told ∙ (λ i. told_by (c.deref_mut.ensures.value i) op (want_is i))))
     (with_items_is old.ops c.mark.new.ops (c.mark.auto.ops ∙ c.deref_mut-2.ensures.len) ∙ c.mark.ensures.marked ∙ (λ i. set (c.deref_mut-2.ensures.value i) x.number (marked (get_or (c.deref_mut-2.ensures.value i) x.number no_record) (c.has_written.ensures i))))
     (c.in_ok-running.ensures.points ∙ (λ i. repointed_list (c.has_point-had_point.ensures i) (c.has_point-has_point.ensures i) x.number x.place old.points.items))
