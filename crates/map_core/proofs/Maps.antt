@@ -1,16 +1,12 @@
 -- The laws of the plain map, its parts, and the parts together.
-use Rattle.std.proofs.Common.{◌≡◌, ◌≢◌, ℕ, zero, suc, ◌<◌, ◌==◌, nat_lt, Bool, true, false, cond, List, [], ◌∷◌, ◌++◌, Option, Some, None, arith, refl, sym, ap, subst, ◌∙◌}
+use Rattle.std.proofs.Common.{◌≡◌, ◌≢◌, ℕ, zero, suc, ◌<◌, ◌==◌, nat_lt, Bool, true, false, cond, List, [], ◌∷◌, ◌++◌, Option, Some, None, arith, refl, sym, ap, ◌∙◌}
 use Rattle.std.proofs.lemmas.Bool.Decides.{nat_tests}
 use Rattle.std.specs.declared.cmp.Ordering.{Ordering}
 use Rattle.std.specs.Ordering.{eq_by_cmp, is_eq}
-use Rattle.std.specs.declared.cmp.Ordering.TheVariants.{Less, Equal, Greater}
+use Rattle.std.specs.declared.cmp.Ordering.TheVariants.{Equal}
 use Rattle.std.specs.Cmp.{tied_itself}
 use Rattle.std.specs.Cmp.Lexicographic.{nat_list_cmp_total}
 use Rattle.std.specs.FinMap.{IsAntisymmetric, slice_cmp-IsAntisymmetric, nat_cmp-IsAntisymmetric, get-insert, get-remove, get-retain_keys, get-empty, get-entries, get-from_entries, same_map, find}
-use Rattle.std.specs.FinMap.Entries.{below_all}
-use Rattle.std.specs.Ordering.{is_lt}
-use Rattle.std.specs.FinMap.{is_sorted}
-use Rattle.std.proofs.Common.{T, ◌&&◌}
 use Rattle.std.specs.FinMap as finite
 use Rattle.map_core.specs.declared.held.Held.{Held}
 use Rattle.map_core.specs.Name.{Name, name_cmp}
@@ -139,50 +135,6 @@ either false x e = e
 
 pub part-empty : (n i : ℕ) → part n finite.empty i ≡ finite.empty
 part-empty n i = same_held _ _ (λ q. get-part n finite.empty i q ∙ either (home n q == i) _ (sym (get-empty name_cmp q)))
-
-or_none : (x : Option Held) → or_else x None ≡ x
-or_none (Some x) = refl
-or_none None = refl
-
-first : (a b : Bool) → T (a && b) → T a
-first true b h = tt
-first false b h = absurd h
-
-second : (a b : Bool) → T (a && b) → T b
-second true b h = h
-second false b h = absurd h
-
-find_none : (q : Name) (es : List (Name × Held)) → T (below_all name_cmp q es) → find name_cmp q es ≡ None
-find_none q [] h = refl
-find_none q (e ∷ es) h =
-    elim (name_cmp q e.0) as (λ o. T (is_lt o) → cond (is_eq o) (Some e.1) (find name_cmp q es) ≡ None) [
-      | Less ↦ λ l. find_none q es (second _ _ h)
-      | Equal ↦ λ l. absurd l
-      | Greater ↦ λ l. absurd l
-    ] (first _ _ h)
-
--- ---- taking in the entries of another map, one after the other
-taken_here : (q d : Name) (h : Held) (rest : List (Name × Held)) (y x : Option Held) → T (is_sorted name_cmp ((d, h) ∷ rest)) → or_else (find name_cmp q ((d, h) ∷ rest)) y ≡ x → or_else (find name_cmp q rest) (cond (is_name q d) (Some h) y) ≡ x
-taken_here q d h rest y x sorted =
-    elim (is_name q d) as (λ b. is_name q d ≡ b → or_else (cond b (Some h) (find name_cmp q rest)) y ≡ x → or_else (find name_cmp q rest) (cond b (Some h) y) ≡ x) [
-      | true ↦ λ e is.
-          let none : find name_cmp q rest ≡ None = find_none q rest (subst (λ (k : Name). T (below_all name_cmp k rest)) (sym (same_name q d e)) (first _ _ sorted)) in
-          ap (λ (z : Option Held). or_else z (Some h)) none ∙ is
-      | false ↦ λ e is. is
-    ] refl
-
-pub take_more : (m n : PlainMap) (d : Name) (h : Held) (rest : List (Name × Held)) (q : Name) (x : Option Held) → T (is_sorted name_cmp ((d, h) ∷ rest)) → n ≡ finite.insert m d h
-    → or_else (find name_cmp q ((d, h) ∷ rest)) (finite.get m q) ≡ x → or_else (find name_cmp q rest) (finite.get n q) ≡ x
-take_more m n d h rest q x sorted is before =
-    ap (λ (k : PlainMap). or_else (find name_cmp q rest) (finite.get k q)) is
-    ∙ ap (or_else (find name_cmp q rest)) (get-insert nat_list_cmp_total m d h q)
-    ∙ taken_here q d h rest (finite.get m q) x sorted before
-
-pub sorted_rest : (d : Name) (h : Held) (rest : List (Name × Held)) → T (is_sorted name_cmp ((d, h) ∷ rest)) → T (is_sorted name_cmp rest)
-sorted_rest d h rest s = second _ _ s
-
-pub join-empty : (m : PlainMap) → join finite.empty m ≡ m
-join-empty m = same_held _ _ (λ q. get-join finite.empty m q ∙ ap (or_else (finite.get m q)) (get-empty name_cmp q) ∙ or_none (finite.get m q))
 
 -- ---- parts that hold only names of their own are the parts of what they are together
 same_index : (h k : ℕ) → (h == k) ≡ true → h ≡ k

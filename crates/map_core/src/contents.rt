@@ -102,7 +102,10 @@ impl Contents {
     pub fn copy(&self) -> Result<Contents, AllocError>
         ensures { IfOk result (λ copy. copy ≡ self.now) }
     {
-        Contents::new(self.alloc).join(self)
+        Ok(Contents {
+            alloc: self.alloc,
+            held: self.held.clone()?,
+        })
     }
 
     /// What the other holds, and under other names what this one holds.
@@ -117,12 +120,8 @@ impl Contents {
     fn take_in(&mut self, other: &Contents) -> Result<(), AllocError>
         ensures { OnOk result (self.new ≡ join self.old other.now) }
     {
-        for (domain, held) in other.held.iter() {
-            let domain = domain.copy()?;
-            let held = held.copy()?;
-            self.store(domain, held)?;
-        }
-        Ok(())
+        let mut taken = other.held.clone()?;
+        self.held.append(&mut taken)
     }
 
     /// What the operation gives.

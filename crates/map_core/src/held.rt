@@ -30,3 +30,13 @@ impl Held {
         }
     }
 }
+
+impl Clone for Held {
+    ghost use Rattle.std.specs.Prelude.{◌≡◌};
+
+    ghost is_clone = { λ held clone. clone ≡ held };
+
+    fn clone(&self) -> Result<Held, AllocError> {
+        self.copy()
+    }
+}

@@ -131,6 +131,16 @@ fn is_name_byte(byte: u8) -> bool
     byte.is_ascii_lowercase() || byte.is_ascii_digit() || matches!(byte, b'.' | b'-' | b'_')
 }
 
+impl Clone for TrustDomain {
+    ghost use Rattle.std.specs.Prelude.{◌≡◌};
+
+    ghost is_clone = { λ domain clone. clone ≡ domain };
+
+    fn clone(&self) -> Result<TrustDomain, AllocError> {
+        self.copy()
+    }
+}
+
 impl PartialEq for TrustDomain {
     ghost use Rattle.std.specs.Prelude.{bytes_eq};
     ghost use Rattle.std.specs.Cmp.{partial_equiv_from_equiv};
