@@ -64,6 +64,7 @@ impl<W: Write> Write for Counted<W> {
         ensures bytes { WriteAppends (W.contents self.old.end) (W.contents self.new.end) result buf.now }
         ensures quiet { IfOk result (λ n. 0 < n → self.new.faults ≡ self.old.faults) }
         ensures none_taken { IfOk result (λ n. n ≡ 0 → 0 < length buf.now → self.new.faults ≡ next_count self.old.faults) }
+        ensures none_given { OnOk result (length buf.now ≡ 0 → self.new.faults ≡ self.old.faults) }
         ensures counted { OnErr result (self.new.faults ≡ next_count self.old.faults) }
     {
         match self.end.write(buf) {

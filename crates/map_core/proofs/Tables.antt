@@ -1,7 +1,7 @@
 -- What a name holds after a row of the table, by whether the reply tells of a change.
 use Rattle.std.proofs.Common.{◌≡◌, ◌≢◌, ℕ, Bool, true, false, cond, List, [], ◌∷◌, ◌++◌, length, length-append, Option, Some, None, option_map, Result, Ok, Err, arith, refl, sym, ap, ◌∙◌}
 use Rattle.std.specs.Prelude.{nat_le}
-use Rattle.std.specs.Option.{ok_or}
+use Rattle.std.specs.Option.{ok_or, unwrap_or}
 use Rattle.spiffe_doc.specs.declared.authority.Authority.{Authority}
 use Rattle.spiffe_doc.specs.declared.error.AppendError.{AppendError}
 use Rattle.spiffe_doc.specs.declared.error.AppendError.TheVariants as cannot
@@ -144,3 +144,14 @@ pub get_changes : (held : Option Held) → is_change (get held).reply ≡ true �
 get_changes None h = absurd (not_both _ h refl)
 get_changes (Some (Mark s)) h = absurd (not_both _ h refl)
 get_changes (Some (Published b)) h = absurd (not_both _ h refl)
+
+-- ---- a mark of 0 refuses nothing: to a Set it is as a name that holds nothing
+never_lower : (s : Option ℕ) → is_lower s 0 ≡ false
+never_lower s = grind arith
+
+pub set_on_mark : (b : BundleValue) (held : Option Held) → set b (Some (unwrap_or held (Mark 0))) ≡ set b held
+set_on_mark b None = ap (λ lower. cond lower (kept (Refused (Stale 0)) (Some (Mark 0))) (stored b)) (never_lower b.sequence)
+set_on_mark b (Some held) = refl
+
+pub set_leaves_some : (b : BundleValue) (held : Held) → (set b (Some held)).held ≢ None
+set_leaves_some b held none = grind arith

@@ -2,6 +2,7 @@
 ghost use Rattle.std.specs.Prelude.{◌≡◌, IfOk, OnOk, IfErr, OnErr, MatchOption, length, true, false, option_copied};
 ghost use Rattle.std.specs.FinMap as finite;
 ghost use Rattle.map_core.specs.Op.{domain_of};
+ghost use Rattle.map_core.specs.declared.op.Op.TheVariants.{Set};
 ghost use Rattle.map_core.specs.Outcome.{reply_of, left_by};
 ghost use Rattle.map_core.specs.PlainMap.{ask, join, bundles};
 ghost use Rattle.map_core.specs.Reply.{is_change};
@@ -11,7 +12,7 @@ use crate::op::Op;
 use crate::reply::{AskError, Reply, Snapshot};
 use crate::table;
 use crate::table::Outcome;
-use spiffe_doc::TrustDomain;
+use spiffe_doc::{Bundle, TrustDomain};
 use std::alloc::{AllocError, Global};
 use std::collections::BTreeMap;
 use std::marker::Model;
@@ -53,8 +54,34 @@ impl Contents {
         ensures refused { IfErr result (λ e. e ≡ AskError.Memory) }
         ensures err { OnErr result (self.new ≡ self.old) }
     {
-        let outcome = self.outcome(&op)?;
-        Ok(self.settle(op.into_domain(), outcome)?)
+        match op {
+            Op::Set(domain, bundle) => Ok(self.set(domain, bundle)?),
+            op => {
+                let outcome = self.outcome(&op)?;
+                Ok(self.settle(op.into_domain(), outcome)?)
+            }
+        }
+    }
+
+    /// Answers a `Set`, with one search for the name.
+    fn set(&mut self, domain: TrustDomain, bundle: Bundle) -> Result<Reply, AllocError>
+        ensures reply { IfOk result (λ reply. reply ≡ (ask self.old (Set domain bundle)).reply) }
+        ensures left { OnOk result (self.new ≡ (ask self.old (Set domain bundle)).map) }
+        ensures err { OnErr result (self.new ≡ self.old) }
+    {
+        let Ok(entry) = self.held.entry(domain) else {
+            return Err(AllocError);
+        };
+        // A mark of 0 refuses nothing: it stands where no name was.
+        let there = entry.or_insert(Held::Mark(0));
+        match table::set(Some(there), bundle) {
+            Outcome::Put(reply, held) => {
+                *there = held;
+                Ok(reply)
+            }
+            Outcome::Kept(reply) => Ok(reply),
+            Outcome::Cleared(reply) => Ok(reply),
+        }
     }
 
     /// The reply to the operation and, where it tells of a change, the map after it. This map stays as it is.

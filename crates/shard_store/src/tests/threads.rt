@@ -138,12 +138,12 @@ fn hundred(letter: char) -> Job {
     }
 }
 
-/// 2,500 turns over two domains: 5,000 sets, each with its get.
-fn ten_thousand_calls(letter: char) -> Job {
+/// 25,000 turns over two domains: 50,000 sets, each with its get.
+fn hundred_thousand_calls(letter: char) -> Job {
     Job {
         letter,
         domains: 2,
-        turns: 2_500,
+        turns: 25_000,
     }
 }
 
@@ -186,8 +186,8 @@ fn four_threads_lose_no_change(rt: HostRuntime) -> Result<(), Fail> {
     let mut c = store.split(&mut a, 2000);
     let b = store.split(&mut a, 1000);
     let d = store.split(&mut c, 1000);
-    let (job_a, job_b) = (ten_thousand_calls('a'), ten_thousand_calls('b'));
-    let (job_c, job_d) = (ten_thousand_calls('c'), ten_thousand_calls('d'));
+    let (job_a, job_b) = (hundred_thousand_calls('a'), hundred_thousand_calls('b'));
+    let (job_c, job_d) = (hundred_thousand_calls('c'), hundred_thousand_calls('d'));
     let threads = &rt;
     let lent = &store;
     let (one, two) = thread::join(
@@ -203,10 +203,10 @@ fn four_threads_lose_no_change(rt: HostRuntime) -> Result<(), Fail> {
     );
     let ((a, good_a), (b, good_b)) = one;
     let ((c, good_c), (d, good_d)) = two;
-    assert!(rt; good_a == 5_000 && good_b == 5_000 && good_c == 5_000 && good_d == 5_000);
+    assert!(rt; good_a == 50_000 && good_b == 50_000 && good_c == 50_000 && good_d == 50_000);
     let pass = store.join(store.join(a, b), store.join(c, d));
     let (pass, changes) = count_changes(&store, pass, 8);
-    assert!(rt; changes == 20_000);
+    assert!(rt; changes == 200_000);
     assert!(rt; store.close(pass)?.len() == 8);
     Ok(())
 }
