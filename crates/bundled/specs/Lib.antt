@@ -3,3 +3,4 @@ pub mod Status
 pub mod Fault
 pub mod Input
 pub mod Migrate
+pub mod Trace

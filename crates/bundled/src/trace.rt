@@ -1,5 +1,11 @@
 //! The command `trace`: a run of the machine over a list of events.
-ghost use Rattle.std.specs.Prelude.{◌≡◌, ◌<◌, ◌≤◌, ◌-◌, ◌^◌};
+ghost use Rattle.std.specs.Prelude.{◌≡◌, ◌<◌, ◌-◌, ◌^◌, ◌⊎◌, List, ℕ, Option, Result, Err, IfOk, IfErr};
+ghost use Rattle.frame_front.specs.declared.error.FrontError.TheVariants.{Memory, WriteFault};
+ghost use Rattle.bundled.specs.Input.{IsInput};
+ghost use Rattle.bundled.specs.Status.{HasStatus};
+ghost use Rattle.bundled.specs.Trace.{Traces};
+ghost use Rattle.bundled.specs.declared.fault.Fault.{Fault as Failed};
+ghost use Rattle.bundled.specs.declared.fault.Fault.TheVariants.{Front};
 
 mod event_lines;
 mod record_lines;
@@ -29,7 +35,8 @@ pub fn trace_over<R: Read + Drop, W: Write + Drop, E: Write>(
     requires shards { 0 < shards }
     requires rounds { 0 < rounds }
     requires reader_count { reader.old.faults < 2 ^ 64 - 1 }
-    ensures status { result ≤ 1 }
+    ensures traces { (ended : Result (Unit {0}) Failed) × HasStatus ended result
+        × Traces ended (R.remaining reader.old.end) (R.remaining reader.new.end) (W.contents out.old) (W.contents out.new) }
     ensures silent { result ≡ 0 → err.new ≡ err.old }
 {
     let ended = match traced(alloc, reader, shards, rounds) {
@@ -55,6 +62,8 @@ fn traced<R: Read>(
     requires shards { 0 < shards }
     requires rounds { 0 < rounds }
     requires reader_count { reader.old.faults < 2 ^ 64 - 1 }
+    ensures ok { IfOk result (λ trace. (input : List ℕ) × IsInput input (R.remaining reader.old.end) (R.remaining reader.new.end)) }
+    ensures err { IfErr result (λ fault. (held : Option (List ℕ)) → Traces (Err fault) (R.remaining reader.old.end) (R.remaining reader.new.end) held held) }
 {
     let input = read_input(alloc, reader)?;
     let events = match read_events(alloc, input.as_slice()) {
@@ -69,7 +78,9 @@ fn traced<R: Read>(
 }
 
 /// Writes the lines of a trace. All memory is taken before the first byte is written.
-fn write_lines<W: Write + Drop>(alloc: Global, out: &mut W, trace: &Trace) -> Result<(), Fault> {
+fn write_lines<W: Write + Drop>(alloc: Global, out: &mut W, trace: &Trace) -> Result<(), Fault>
+    ensures { IfErr result (λ fault. (fault ≡ Front Memory) ⊎ (fault ≡ Front WriteFault)) }
+{
     let Ok(mut lines) = BufWriter::new(alloc, out) else {
         return Err(Fault::Front(FrontError::Memory));
     };

@@ -1,5 +1,7 @@
 //! Readers and writers that fail where a test wants it.
-ghost use Rattle.std.specs.Prelude.{◌≡◌, ◌+◌, ◌-◌, ◌<◌, ◌≤◌, ◌++◌, [], take, drop, length, min, Some, OnOk, OnErr, IfOk};
+ghost use Rattle.std.specs.Prelude.{◌≡◌, ◌+◌, ◌-◌, ◌<◌, ◌≤◌, ◌++◌, [], take, drop, length, min, Some, IsOk, OnOk, OnErr, IfOk, IfErr, ◌⊎◌};
+ghost use Rattle.std.specs.IoError.{error_kind};
+ghost use Rattle.std.specs.declared.io.ErrorKind.TheVariants.{OutOfMemory};
 ghost use Rattle.std.specs.Io.{ReadsAtMost, WritesAtMost};
 ghost use Rattle.std.specs.Io.KnownBytes.{ReadConsumes, WriteAppends, Keeps};
 
@@ -47,6 +49,8 @@ impl Read for FaultyReader {
         ensures bytes { ReadConsumes (Some (drop self.old.given self.old.bytes.items)) (Some (drop self.new.given self.new.bytes.items)) result buf.new }
         ensures same { (self.new.bytes ≡ self.old.bytes) × (self.new.after ≡ self.old.after) }
         ensures ok { IfOk result (λ count. (self.new.given ≡ self.old.given + count) × (self.new.given ≤ min self.old.after (length self.old.bytes.items))) }
+        ensures count { IfOk result (λ count. count ≡ min (length buf.new) (min self.old.after (length self.old.bytes.items) - self.old.given)) }
+        ensures left { OnOk result (self.old.given < min self.old.after (length self.old.bytes.items)) }
         ensures fails { OnErr result ((min self.old.after (length self.old.bytes.items) ≤ self.old.given) × (self.new.given ≡ self.old.given)) }
     {
         let end = self.after.min(self.bytes.len());
@@ -83,7 +87,9 @@ impl Write for FaultyWriter {
         ensures bound { WritesAtMost result buf.now }
         ensures bytes { WriteAppends (Some self.old.taken.items) (Some self.new.taken.items) result buf.now }
         ensures ok { IfOk result (λ count. (count ≡ min (length buf.now) self.old.room) × (self.new.room + count ≡ self.old.room)) }
+        ensures full { OnOk result (0 < length buf.now → 0 < self.old.room) }
         ensures err { OnErr result (self.new.room ≡ self.old.room) }
+        ensures why { IfErr result (λ e. (self.old.room ≡ 0) ⊎ (error_kind e ≡ OutOfMemory)) }
     {
         let count = buf.len().min(self.room);
         if count == 0 && !buf.is_empty() {
@@ -98,6 +104,7 @@ impl Write for FaultyWriter {
     fn flush(&mut self) -> io::Result<()>
         ensures bytes { Keeps (Some self.old.taken.items) (Some self.new.taken.items) }
         ensures same { self.new ≡ self.old }
+        ensures ok { IsOk result }
     {
         Ok(())
     }

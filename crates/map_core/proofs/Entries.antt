@@ -1,5 +1,6 @@
 -- The entries of a `BTreeMap` as the plain map of them.
-use Rattle.std.proofs.Common.{◌≡◌, T, ◌&&◌, Bool, true, false, cond, List, [], ◌∷◌, Option, Some, None, refl, sym, ap, subst, ◌∙◌}
+use Rattle.std.proofs.Common.{◌≡◌, T, ◌&&◌, Bool, true, false, cond, List, [], ◌∷◌, Option, Some, None, refl, sym, ap, subst, ◌++◌, append-nil, ◌∙◌}
+use Rattle.spiffe_doc.specs.Authority.{BundleValue}
 use Rattle.std.specs.Ordering.{eq_by_cmp}
 use Rattle.std.specs.Cmp.{eq_by_cmp_equiv}
 use Rattle.std.specs.Cmp.Lexicographic.{nat_list_cmp_total}
@@ -84,3 +85,7 @@ shown-append m taken other n same ordered h =
     ∙ (λ i. or_else (lookup (is_at (name_cmp q)) (same i)) (tree.get name_cmp m q))
     ∙ (λ i. or_else (sym (get-shown other q) i) (sym (get-shown m q) i))
     ∙ sym (get-join (shown m) (shown other) q))
+
+-- with nothing left to push, the pairs are all
+pub all_pushed : (pairs rest all : List (Name × BundleValue)) → pairs ++ rest ≡ all → rest ≡ [] → pairs ≡ all
+all_pushed pairs rest all e none = sym (append-nil pairs) ∙ ap (λ x. pairs ++ x) (sym none) ∙ e

@@ -143,6 +143,21 @@ impl Contents {
         Ok(self)
     }
 
+    /// All bundles with their names, in order, taken out of the map.
+    pub fn into_snapshot(self) -> Result<Snapshot, AllocError>
+        ensures { IfOk result (λ all. all ≡ bundles self) }
+    {
+        let count = self.len();
+        let Contents { alloc, held } = self;
+        let mut taken = Vec::with_capacity(alloc, count)?;
+        for (domain, held) in held {
+            if let Held::Published(bundle) = held {
+                taken.push((domain, bundle))?;
+            }
+        }
+        Ok(Snapshot::from_pairs(taken))
+    }
+
     /// Holds what the other holds too.
     fn take_in(&mut self, other: &Contents) -> Result<(), AllocError>
         ensures { OnOk result (self.new ≡ join self.old other.now) }

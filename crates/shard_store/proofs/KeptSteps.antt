@@ -1,29 +1,22 @@
 -- Each kind of step on a word keeps the rule, and tells what it tells.
-use Rattle.std.proofs.Common.{◌≡◌, ◌≢◌, ◌⊎◌, ℕ, zero, suc, ◌+◌, ◌*◌, ◌/◌, ◌%◌, ◌^◌, ◌<◌, ◌≤◌, Bool, true, false, cond, eqb, List, [], ◌∷◌, ◌++◌, map, replicate, length, get_or, set, Option, Some, None, sym, refl, ap, ◌∙◌, subst, inl, inr, ⊎_elim, append_assoc, arith, length-set, get_or-set_other, get_or-set_same, eq-eqb, ne_eqb}
+use Rattle.std.proofs.Common.{◌≡◌, ◌≢◌, ℕ, ◌+◌, ◌*◌, ◌/◌, ◌%◌, ◌^◌, ◌<◌, ◌≤◌, eqb, List, [], ◌∷◌, ◌++◌, length, get_or, set, Option, Some, None, sym, refl, ap, ◌∙◌, subst, arith, get_or-set_same, eq-eqb, ne_eqb}
 use mathlib.Core.Logic.{dite}
 use mathlib.Core.Option.{none, some, some-injective, some-ne-none}
 use mathlib.Core.Option as maybe
 use native.Mathlib.Decide.{ℕ_discrete}
-use lib.ListN.{get_elem?, length-map, length-replicate}
-use Rattle.std.specs.Prelude.{nat_eq}
-use Rattle.std.specs.List.{All}
+use lib.ListN.{get_elem?}
 use lib.Seq.{set-get_or}
 use prog.Atomic.{either}
 use Rattle.std.proofs.lemmas.List.{append-nil}
 use Rattle.std.specs.Arc.{arc_value}
 use Rattle.std.specs.declared.sync.Arc.{Arc}
-use Rattle.atomic_table.specs.Table.{State, Me, step, Act, keeps, takes, gives, stepped, rest, put_back, Allows, Splits, Joins, opening, Final}
-use Rattle.atomic_table.specs.Table as Holds
-use Rattle.atomic_table.proofs.Lists.{at_set, set_here, set_else, at_longer}
-use Rattle.std.specs.FinMap as finite
+use Rattle.atomic_table.specs.Table.{step, keeps, takes, gives, rest, put_back, Allows}
 use Rattle.map_core.specs.PlainMap.{PlainMap, home}
-use Rattle.map_core.proofs.Maps.{part-empty}
 use Rattle.shard_store.specs.declared.change.Change.{Change}
-use Rattle.shard_store.specs.declared.change.Seen.{Seen}
 use Rattle.shard_store.specs.declared.change.View.{View}
-use Rattle.shard_store.specs.Changes.{count, IsPart, HasNumber, AreOthers, Extends, IsNumbered, IsParted, own_count, without_last, just_last}
-use Rattle.shard_store.specs.Rule.{joined_numbers, numbers, ExtendsEach, keeping, given, taking_in, spent, first_view, IsEmptyVersion, SlotValue, IsShard, IsView, MeetsRule}
-use Rattle.shard_store.specs.Steps.{updated, Sees, HasAllNumbers, looked, HasTaken, took, released, published}
+use Rattle.shard_store.specs.Changes.{count, IsPart, HasNumber, IsParted}
+use Rattle.shard_store.specs.Rule.{numbers, SlotValue, IsShard, IsView, MeetsRule}
+use Rattle.shard_store.specs.Steps.{updated, looked, took, released, published}
 use Rattle.shard_store.proofs.Changes.{others_append, others_none, others_fewer, has_number_left, has_number_right, has_number_either, numbered_append, extends_none, extends_more, count_append, is_part_stays, is_part_of_change, kept_fewer, given_fewer, kept_parted, given_parted, kept_given_apart, parted_append, some_same, not_some, counts_one, counts_none}
 use Rattle.shard_store.proofs.Kept.{put, put_here, set_there, St, M, seat_steps, Holding, fewer_updated, more_updated, updated_view, look_kept, alone_holds, sees_list}
 

@@ -1,5 +1,5 @@
 -- What a pass knows once a step has joined it the list.
-use Rattle.std.proofs.Common.{◌≡◌, ◌≢◌, ℕ, ◌+◌, ◌-◌, ◌*◌, ◌/◌, ◌%◌, ◌<◌, ◌≤◌, Bool, true, false, true≢false, List, [], ◌∷◌, ◌++◌, length, Option, Some, None, sym, refl, ap, ◌∙◌, subst, inl, arith, append_assoc, length-append}
+use Rattle.std.proofs.Common.{◌≡◌, ◌≢◌, ℕ, ◌+◌, ◌-◌, ◌*◌, ◌/◌, ◌%◌, ◌<◌, ◌≤◌, true, false, true≢false, List, [], ◌∷◌, ◌++◌, Option, Some, None, sym, refl, ap, ◌∙◌, subst, inl, arith, append_assoc}
 use Rattle.std.specs.Prelude.{MatchOption, MatchResult, Result, Ok, Err}
 use Rattle.std.specs.Result.{IsErrAnd}
 use Rattle.std.specs.Arc.{arc_value}
@@ -19,7 +19,7 @@ use Rattle.map_core.proofs.MapLaws.{part_reply}
 use Rattle.shard_store.specs.declared.change.Change.{Change}
 use Rattle.shard_store.specs.declared.change.Seen.{Seen}
 use Rattle.shard_store.specs.declared.change.View.{View}
-use Rattle.shard_store.specs.Changes.{after, change_of, IsPart, count, HasNumber, AreOthers, Extends, own_count, own_number, without_last, just_last}
+use Rattle.shard_store.specs.Changes.{after, change_of, IsPart, count, HasNumber, Extends, own_count, own_number, without_last, just_last}
 use Rattle.shard_store.specs.Rule.{joined_numbers, numbers, SlotValue}
 use Rattle.shard_store.specs.Steps.{updated, Sees, HasAllNumbers}
 use Rattle.shard_store.specs.Promise.{IsLater, IsAlone, Answered, IsRefusedAt, IsRefused}

@@ -1,5 +1,5 @@
 -- What a round of a fetch-all has read, and what it says.
-use Rattle.std.proofs.Common.{◌≡◌, ◌≢◌, ℕ, zero, suc, ◌+◌, ◌<◌, ◌≤◌, Bool, true, false, true≢false, length, get_or, List, [], ◌∷◌, ◌++◌, sym, refl, ap, ◌∙◌, subst, append_assoc, length-append, arith}
+use Rattle.std.proofs.Common.{◌≡◌, ◌≢◌, ℕ, zero, suc, ◌+◌, ◌<◌, ◌≤◌, true≢false, length, get_or, List, [], ◌∷◌, ◌++◌, sym, ap, ◌∙◌, subst, append_assoc, length-append, arith}
 use mathlib.Core.Logic.{dite}
 use native.Mathlib.Decide.{ℕ_discrete}
 use Rattle.std.proofs.lemmas.List.{append-nil}
@@ -18,7 +18,7 @@ use Rattle.shard_store.specs.declared.change.Seen.{Seen}
 use Rattle.shard_store.specs.declared.fetch.Movement.{Movement}
 use Rattle.shard_store.specs.Changes.{after, count, IsPart, Extends}
 use Rattle.shard_store.specs.Promise.{IsLater, IsAlone, HasMoved, Answered, IsRefused}
-use Rattle.shard_store.specs.Readings.{ArePartsOf, WasRead, WereRead, AreConfirmed, IsMovement, IsSnapshot}
+use Rattle.shard_store.specs.Readings.{WasRead, WereRead, AreConfirmed, IsMovement, IsSnapshot}
 use Rattle.shard_store.proofs.Changes.{count_append, is_part_stays}
 use Rattle.shard_store.proofs.Promise.{counts_more, later_then, extends_then, extends_since, alone_same}
 

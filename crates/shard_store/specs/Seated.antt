@@ -1,5 +1,5 @@
 -- What a pass at its store answers.
-use Rattle.std.specs.Prelude.{◌≡◌, Option, Some, None, Result}
+use Rattle.std.specs.Prelude.{◌≡◌, Some, None, Result}
 use Rattle.map_core.specs.declared.op.Op.{Op}
 use Rattle.map_core.specs.declared.reply.Reply.{Reply}
 use Rattle.map_core.specs.declared.reply.AskError.{AskError}

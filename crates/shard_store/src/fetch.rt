@@ -9,7 +9,7 @@ ghost use Rattle.shard_store.specs.Readings.{WereRead, AreConfirmed, IsMovement,
 
 use crate::holds::{look, try_hold};
 use crate::one_shard::read_version;
-use crate::parts::join_parts;
+use crate::parts::{all_of, join_parts};
 use crate::rule::{Shards, StoreSeat};
 use map_core::{AskError, Contents, Op, Reply};
 use std::alloc::{AllocError, Global};
@@ -73,8 +73,8 @@ pub(crate) fn ask_all(
         (IsRefused seat.old.table_id.slots rounds seat.old.me.0.seen seat.new.me.0.seen) }
 {
     let parts = fetch_parts(alloc, shards, seat, tries, rounds)?;
-    let mut all = join_parts(alloc, parts.as_slice())?;
-    all.ask(Op::FetchAll)
+    let all = join_parts(alloc, parts.as_slice())?;
+    all_of(all)
 }
 
 // Rounds until no shard has moved in one.

@@ -1,9 +1,10 @@
 //! The parts of a map, together.
-ghost use Rattle.std.specs.Prelude.{◌≡◌, ◌<◌, length, IfOk};
-ghost use Rattle.map_core.specs.PlainMap.{PlainMap};
+ghost use Rattle.std.specs.Prelude.{◌≡◌, ◌<◌, length, IfOk, IfErr};
+ghost use Rattle.map_core.specs.declared.op.Op.TheVariants.{FetchAll};
+ghost use Rattle.map_core.specs.PlainMap.{PlainMap, ask};
 ghost use Rattle.shard_store.specs.Readings.{ArePartsOf};
 
-use map_core::Contents;
+use map_core::{AskError, Contents, Reply};
 use std::alloc::{AllocError, Global};
 use std::sync::Arc;
 
@@ -17,4 +18,12 @@ pub(crate) fn join_parts(alloc: Global, parts: &[Arc<Contents>]) -> Result<Conte
         all = all.join(part)?;
     }
     Ok(all)
+}
+
+/// What a fetch-all of the map answers.
+pub(crate) fn all_of(map: Contents) -> Result<Reply, AskError>
+    ensures reply { IfOk result (λ reply. reply ≡ (ask map FetchAll).reply) }
+    ensures refused { IfErr result (λ e. e ≡ AskError.Memory) }
+{
+    Ok(Reply::All(map.into_snapshot()?))
 }

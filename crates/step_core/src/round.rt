@@ -5,7 +5,7 @@ ghost use Rattle.step_core.specs.Phase.{collected, confirm, confirmed, fetched};
 ghost use Rattle.step_core.specs.Task.{phase_of, IsInside, out_of_memory};
 
 use crate::task::State;
-use map_core::{AskError, Contents, Op, Reply};
+use map_core::{AskError, Contents, Reply};
 use std::alloc::{AllocError, Global};
 use std::marker::Model;
 use std::sync::Arc;
@@ -136,5 +136,5 @@ fn merged(alloc: Global, readings: &[Reading]) -> Result<Reply, AskError>
     for reading in readings {
         all = all.join(reading.contents())?;
     }
-    all.ask(Op::FetchAll)
+    Ok(Reply::All(all.into_snapshot()?))
 }

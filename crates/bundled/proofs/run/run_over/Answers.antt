@@ -1,4 +1,4 @@
-use Rattle.std.proofs.Common.{◌≡◌, List, ℕ, Option, None, Some, [], ◌++◌, Ok, Err, refl, ap, sym, append-nil, rules}
+use Rattle.std.proofs.Common.{List, ℕ, Option, None, Some, [], Ok, Err, refl, ap, rules}
 use Rattle.std.specs.Io.KnownBytes.{Consumes, Appends}
 use Rattle.std.specs.FinMap as finite
 use Rattle.frame_front.specs.declared.error.FrontError.TheVariants.{Memory}

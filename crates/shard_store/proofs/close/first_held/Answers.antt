@@ -1,4 +1,4 @@
-use Rattle.std.proofs.Common.{◌≡◌, ℕ, ◌%◌, rules, arith, sym, ap, ◌∙◌}
+use Rattle.std.proofs.Common.{ℕ, ◌%◌, rules, ap, ◌∙◌}
 use Rattle.std.specs.Mem.Slots.{slots_items}
 use Rattle.shard_store.proofs.Closed.{or_of_at, even_below}
 use Rattle.shard_store.proofs.close.first_held.Goals as goal

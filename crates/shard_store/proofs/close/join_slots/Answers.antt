@@ -1,6 +1,6 @@
-use Rattle.std.proofs.Common.{◌≡◌, ℕ, ◌<◌, length, get_or, rules, arith, sym, ap, ◌∙◌}
+use Rattle.std.proofs.Common.{length, rules, sym, ap, ◌∙◌}
 use Rattle.std.specs.Arc.{arc_value}
-use Rattle.map_core.specs.PlainMap.{PlainMap, join, part, together}
+use Rattle.map_core.specs.PlainMap.{join, part, together}
 use Rattle.shard_store.proofs.Together.{together_none, together_more, together_all, same_version, not_empty}
 use Rattle.shard_store.proofs.Closed.{whole_index}
 use Rattle.shard_store.proofs.close.join_slots.Goals as goal

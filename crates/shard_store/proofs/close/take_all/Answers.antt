@@ -1,5 +1,4 @@
-use Rattle.std.proofs.Common.{◌≡◌, ◌≢◌, ℕ, ◌+◌, ◌<◌, Bool, List, true, false, get_or, rules, arith, sym, ap, ◌∙◌, subst}
-use Rattle.std.specs.Mem.Slots.{slots_items, slots_filled, slots_len}
+use Rattle.std.proofs.Common.{◌≡◌, ◌≢◌, ℕ, ◌+◌, ◌<◌, Bool, List, false, get_or, arith, sym, ap, ◌∙◌, subst}
 use lib.ListN.{get_elem?}
 use Rattle.shard_store.proofs.Closed.{gone_more, left_less, taken_more}
 use Rattle.shard_store.proofs.close.take_all.Goals as goal

@@ -1,9 +1,8 @@
 use Rattle.map_core.specs.declared.reply.AskError.TheVariants.{Memory}
-use Rattle.std.proofs.Common.{◌≡◌, ℕ, ◌*◌, ◌/◌, ◌≤◌, arith, sym, ap, ◌∙◌, subst}
+use Rattle.std.proofs.Common.{◌≡◌, ℕ, ◌*◌, ◌/◌, arith, sym, ap, ◌∙◌, subst}
 use Rattle.std.specs.Arc.{arc_value}
 use Rattle.shard_store.specs.declared.change.Seen.{Seen}
 use Rattle.shard_store.specs.Changes.{count, IsPart}
-use Rattle.shard_store.specs.Promise.{IsLater}
 use Rattle.shard_store.specs.Seat.{Missed, IsHolding}
 use Rattle.shard_store.proofs.Promise.{later_then, later_same, missed_then, at_slots, error_passed}
 use Rattle.shard_store.proofs.fetch.collect.Goals as goal

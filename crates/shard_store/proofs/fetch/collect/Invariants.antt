@@ -1,4 +1,4 @@
-use Rattle.std.proofs.Common.{◌≡◌, ◌<◌}
+use Rattle.std.proofs.Common.{◌<◌}
 use Rattle.shard_store.specs.Promise.{IsLater}
 use Rattle.shard_store.specs.Seat.{Missed, IsIdle, IsSameSeat}
 use Rattle.shard_store.proofs.fetch.collect.Given as goal

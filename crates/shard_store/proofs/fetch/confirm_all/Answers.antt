@@ -1,4 +1,4 @@
-use Rattle.std.proofs.Common.{◌≡◌, ℕ, get_or, sym, ◌∙◌}
+use Rattle.std.proofs.Common.{◌≡◌, get_or, sym, ◌∙◌}
 use Rattle.shard_store.specs.Changes.{count}
 use Rattle.shard_store.proofs.Promise.{later_then, at_slots}
 use Rattle.shard_store.proofs.Readings.{still_more}

@@ -1,4 +1,4 @@
-use Rattle.std.proofs.Common.{◌≡◌, ℕ, ◌<◌, ◌≤◌, get_or}
+use Rattle.std.proofs.Common.{ℕ, ◌<◌, ◌≤◌, get_or}
 use Rattle.shard_store.specs.Changes.{count}
 use Rattle.shard_store.specs.Promise.{IsLater}
 use Rattle.shard_store.specs.Seat.{IsIdle, IsSameSeat}

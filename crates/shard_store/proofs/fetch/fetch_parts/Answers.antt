@@ -1,9 +1,8 @@
-use Rattle.std.proofs.Common.{◌≡◌, ℕ, ◌+◌, ◌≤◌, length, arith, sym, ◌∙◌, subst}
+use Rattle.std.proofs.Common.{◌+◌, ◌≤◌, length, arith, sym, ◌∙◌, subst}
 use Rattle.shard_store.specs.declared.fetch.Round.{Round}
 use Rattle.shard_store.specs.Promise.{IsLater, HasMoved, IsRefusedAt}
 use Rattle.shard_store.specs.Readings.{IsSnapshot}
 use Rattle.shard_store.specs.Readings.{IsRound}
-use Rattle.shard_store.proofs.Closed.{whole_index}
 use Rattle.shard_store.proofs.Promise.{later_then, refused_at, refused_since, at_slots, error_passed}
 use Rattle.shard_store.proofs.Readings.{snapshot_since, moved_since, moved_not_alone, longer}
 use Rattle.shard_store.proofs.fetch.fetch_parts.Goals as goal

@@ -1,5 +1,4 @@
-use Rattle.std.proofs.Common.{◌≡◌, ℕ, List, length, sym, ◌∙◌, subst}
-use Rattle.shard_store.specs.Changes.{count}
+use Rattle.std.proofs.Common.{ℕ, List, sym, subst}
 use Rattle.shard_store.specs.Readings.{AreConfirmed, IsMovement}
 use Rattle.shard_store.proofs.Promise.{at_slots}
 use Rattle.shard_store.proofs.Readings.{snapshot, moved}

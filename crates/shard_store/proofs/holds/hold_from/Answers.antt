@@ -1,4 +1,4 @@
-use Rattle.std.proofs.Common.{◌≡◌, ◌/◌, rules, refl, arith, ap, ◌∙◌}
+use Rattle.std.proofs.Common.{◌≡◌, ◌/◌, rules, refl, arith}
 use Rattle.shard_store.specs.Changes.{count}
 use Rattle.shard_store.specs.Seat.{IsHolding}
 use Rattle.shard_store.proofs.KeptSteps.{takes_shard}

@@ -1,4 +1,4 @@
-use Rattle.std.proofs.Common.{rules, ap, ◌∙◌}
+use Rattle.std.proofs.Common.{rules}
 use Rattle.shard_store.proofs.KeptSteps.{looks}
 use Rattle.shard_store.proofs.Promise.{all_alone, even_unless, free_or}
 use Rattle.shard_store.proofs.holds.look.Goals as goal

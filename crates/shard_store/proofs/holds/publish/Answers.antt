@@ -1,4 +1,4 @@
-use Rattle.std.proofs.Common.{◌≡◌, ◌*◌, ◌+◌, rules, refl, sym, ap, ◌∙◌, arith}
+use Rattle.std.proofs.Common.{rules, sym, ap, arith}
 use Rattle.map_core.proofs.MapLaws.{home_of}
 use Rattle.shard_store.proofs.KeptSteps.{publishes_new}
 use Rattle.shard_store.proofs.Promise.{hand_rest, has_own_number}

@@ -1,4 +1,4 @@
-use Rattle.std.proofs.Common.{◌≡◌, ◌*◌, rules, refl, sym, ap, ◌∙◌}
+use Rattle.std.proofs.Common.{◌≡◌, ◌*◌, rules, sym}
 use Rattle.std.specs.Arc.{arc_value}
 use Rattle.shard_store.specs.Changes.{count, IsPart}
 use Rattle.shard_store.proofs.KeptSteps.{releases}

@@ -1,4 +1,4 @@
-use Rattle.std.proofs.Common.{◌≡◌, ℕ, sym, ap, ◌∙◌, subst}
+use Rattle.std.proofs.Common.{sym, ◌∙◌, subst}
 use Rattle.shard_store.specs.declared.one_shard.Attempt.{Attempt}
 use Rattle.shard_store.specs.Promise.{IsRefusedAt}
 use Rattle.shard_store.specs.Seat.{Missed, Tried}

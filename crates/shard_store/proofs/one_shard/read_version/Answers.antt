@@ -1,4 +1,3 @@
-use Rattle.std.proofs.Common.{sym}
 use Rattle.shard_store.specs.Seat.{IsHolding}
 use Rattle.shard_store.proofs.Promise.{at_slots}
 use Rattle.shard_store.proofs.one_shard.read_version.Goals as goal

@@ -1,10 +1,10 @@
-use Rattle.std.proofs.Common.{◌≡◌, ℕ, List, ◌++◌, ◌∷◌, [], sym, ap, ◌∙◌, subst}
+use Rattle.std.proofs.Common.{ℕ, List, ◌++◌, ◌∷◌, [], sym, ap, ◌∙◌, subst}
 use Rattle.atomic_table.specs.Seated.{TableId}
 use Rattle.std.specs.Arc.{arc_value}
 use Rattle.map_core.specs.PlainMap.{PlainMap, ask}
 use Rattle.shard_store.specs.declared.change.Change.{Change}
 use Rattle.shard_store.specs.declared.change.Seen.{Seen}
-use Rattle.shard_store.specs.Changes.{IsPart, count}
+use Rattle.shard_store.specs.Changes.{IsPart}
 use Rattle.shard_store.specs.Promise.{IsLater}
 use Rattle.shard_store.specs.Seat.{Missed, Writes, IsHolding, change_by}
 use Rattle.shard_store.proofs.Promise.{later_then, later_same, missed_then, at_slots, answered_by_write, answered_by_read, part_after, with_new, with_none}

@@ -1,4 +1,4 @@
-use Rattle.std.proofs.Common.{rules, ◌≡◌, ◌<◌, arith, sym, ap, ◌∙◌, subst}
+use Rattle.std.proofs.Common.{rules}
 use Rattle.shard_store.proofs.KeptSeats.{joins}
 use Rattle.shard_store.proofs.KeptSteps.{looks}
 use Rattle.shard_store.proofs.pass.join_seats.Goals as goal

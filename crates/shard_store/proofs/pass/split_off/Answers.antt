@@ -1,7 +1,5 @@
-use Rattle.std.proofs.Common.{rules, ◌≡◌, ◌<◌, ◌≤◌, arith, sym, ap, ◌∙◌, subst}
-use Rattle.shard_store.specs.Changes.{own_count}
+use Rattle.std.proofs.Common.{rules, arith}
 use Rattle.shard_store.proofs.KeptSeats.{splits}
-use Rattle.shard_store.proofs.Promise.{own_kept, own_given}
 use Rattle.shard_store.proofs.pass.split_off.Goals as goal
 
 pub split_seat-requires : goal.split_seat-requires

@@ -1,10 +1,9 @@
-use Rattle.std.proofs.Common.{◌≡◌, ◌+◌, ◌<◌, ◌≤◌, ℕ, List, length, get_or, add-one, arith, refl, sym, ap, ◌∙◌, Result, Ok, Err, IfOk}
-use Rattle.map_core.specs.declared.reply.AskError.{AskError}
-use Rattle.map_core.specs.declared.reply.Reply.{Reply}
-use Rattle.map_core.specs.declared.op.Op.TheVariants.{FetchAll}
-use Rattle.map_core.specs.PlainMap.{PlainMap, together, join, ask}
+use Rattle.std.proofs.Common.{◌≡◌, ◌+◌, ◌<◌, ◌≤◌, ℕ, List, length, get_or, add-one, arith, refl, sym, ap, ◌∙◌}
+use Rattle.map_core.specs.declared.reply.Reply.TheVariants.{All}
+use Rattle.map_core.specs.PlainMap.{PlainMap, together, join, bundles}
 use Rattle.step_core.specs.Shard.{Version, reading}
 use Rattle.std.proofs.lemmas.Grind.{elements}
+use Rattle.map_core.proofs.Asks.{fetch_all}
 use Rattle.step_core.proofs.round.merged.Goals as goal
 
 together-next : (k : ℕ) (f : ℕ → PlainMap) → together (k + 1) f ≡ join (together k f) (f k)
@@ -28,10 +27,6 @@ loop-reading-preserved c =
     let part_is : c.contents.result.now ≡ f k = c.contents.ensures ∙ ap (λ (v : Version). v.part) (item c.args.readings.now k c.reading-item.result c.reading-item.is c.loop-reading-test.true) in
     c.in_ok-all.ensures ∙ (λ i. join (c.loop-reading.invariant i) (part_is i)) ∙ sym (together-next k f)
 
-fetched_all : (r : Result Reply AskError) (m n : PlainMap) → m ≡ n → IfOk r (λ x. x ≡ (ask m FetchAll).reply) → IfOk r (λ x. x ≡ (ask n FetchAll).reply)
-fetched_all (Ok x) m n is h = h ∙ ap (λ (q : PlainMap). (ask q FetchAll).reply) is
-fetched_all (Err x) m n is h = tt
-
 same_index : (k n : ℕ) → k ≤ n → n ≤ k → k ≡ n
 same_index k n a b = omega (arith, a, b)
 
@@ -39,4 +34,5 @@ pub returns : goal.returns
 returns c =
     let f : ℕ → PlainMap = (λ j. (reading c.args.readings.now j).part) in
     let whole = same_index c.loop-reading.reading-index (length c.args.readings.now) c.loop-reading.auto.reading-index-end c.loop-reading-test.false in
-    fetched_all c.ask.result c.loop-reading.all (together (length c.args.readings.now) f) (c.loop-reading.invariant ∙ ap (λ (x : ℕ). together x f) whole) c.ask.ensures.reply
+    let all = c.loop-reading.invariant ∙ ap (λ (x : ℕ). together x f) whole in
+    ap All (c.in_ok-into_snapshot.ensures ∙ ap bundles all) ∙ sym (fetch_all (together (length c.args.readings.now) f))

@@ -1,12 +1,7 @@
-use Rattle.std.proofs.Common.{◌≡◌, List, [], ◌++◌, append-nil, sym, ap, ◌∙◌}
-use Rattle.spiffe_doc.specs.Authority.{BundleValue}
-use Rattle.map_core.specs.Name.{Name}
+use Rattle.std.proofs.Common.{sym, ap, ◌∙◌}
 use Rattle.map_core.specs.PlainMap.{published}
-use Rattle.map_core.proofs.Entries.{entries_sorted, sorted_entries}
+use Rattle.map_core.proofs.Entries.{entries_sorted, sorted_entries, all_pushed}
 use Rattle.map_core.proofs.contents.Contents.snapshot.Goals as goal
-
-all_pushed : (pairs rest all : List (Name × BundleValue)) → pairs ++ rest ≡ all → rest ≡ [] → pairs ≡ all
-all_pushed pairs rest all e none = sym (append-nil pairs) ∙ ap (λ x. pairs ++ x) (sym none) ∙ e
 
 pub returns : goal.returns
 returns c =

@@ -1,4 +1,4 @@
-use Rattle.std.proofs.Common.{◌≡◌, Some, rules, arith, sym, ap, ◌∙◌}
+use Rattle.std.proofs.Common.{sym, ap, ◌∙◌}
 use Rattle.shard_store.proofs.Asked.{shard_answers, all_answer}
 use Rattle.shard_store.proofs.store.Store.ask.Goals as goal
 

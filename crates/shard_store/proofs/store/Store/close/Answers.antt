@@ -1,5 +1,5 @@
-use Rattle.std.proofs.Common.{◌≡◌, ℕ, ◌%◌, ◌<◌, ◌≤◌, List, length, get_or, Global, rules, arith, sym, ap, ◌∙◌, subst}
-use Rattle.std.specs.Mem.Slots.{slots_items, slots_len, slots_counts}
+use Rattle.std.proofs.Common.{ℕ, ◌<◌, List, Global, sym, ap, ◌∙◌, subst}
+use Rattle.std.specs.Mem.Slots.{slots_counts}
 use Rattle.shard_store.specs.declared.change.Seen.{Seen}
 use Rattle.shard_store.specs.Rule.{SlotValue}
 use Rattle.shard_store.specs.Changes.{after, Extends}

@@ -1,4 +1,4 @@
-use Rattle.std.proofs.Common.{rules, ◌≡◌, ◌*◌, ◌/◌, refl, sym, ap, ◌∙◌, subst}
+use Rattle.std.proofs.Common.{rules, ◌≡◌, ◌*◌, ◌/◌, refl, ap, ◌∙◌, subst}
 use Rattle.atomic_table.specs.Seated.{TableId}
 use Rattle.map_core.specs.declared.reply.AskError.TheVariants.{Held}
 use Rattle.shard_store.specs.declared.change.Seen.{Seen}

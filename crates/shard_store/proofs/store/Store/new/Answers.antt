@@ -1,4 +1,4 @@
-use Rattle.std.proofs.Common.{◌≡◌, replicate, sym, ap, ◌∙◌}
+use Rattle.std.proofs.Common.{replicate, sym, ap, ◌∙◌}
 use Rattle.shard_store.proofs.KeptEnds.{opens}
 use Rattle.shard_store.proofs.store.Store.new.Goals as goal
 

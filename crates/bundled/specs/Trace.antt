@@ -1,0 +1,20 @@
+-- What the command `trace` does to its input and its output; what its lines say is not defined here.
+use Rattle.std.specs.Prelude.{◌≡◌, ℕ, List, Option, Result, Ok, Err}
+use Rattle.frame_front.specs.declared.error.FrontError.TheVariants.{BadLength, Truncated, ReadFault, WriteFault, TurnsUsed, Memory}
+use Rattle.bundled.specs.declared.fault.Fault.{Fault}
+use Rattle.bundled.specs.declared.fault.Fault.TheVariants.{Front, Dump, BadLine, InputTooLong}
+use Rattle.bundled.specs.Input.{IsInput, InputFault}
+
+-- The input is read whole, and lines are written. Or one of its lines is no event, or it is not read, and nothing is
+-- written. (Of want of memory nothing is said.)
+abbrev pub Traces : Result (Unit {0}) Fault → Option (List ℕ) → Option (List ℕ) → Option (List ℕ) → Option (List ℕ) → Type 0
+Traces (Ok done) left_old left_new held_old held_new = (input : List ℕ) × IsInput input left_old left_new
+Traces (Err (BadLine line)) left_old left_new held_old held_new = (input : List ℕ) × IsInput input left_old left_new × (held_new ≡ held_old)
+Traces (Err InputTooLong) left_old left_new held_old held_new = InputFault InputTooLong left_old left_new × (held_new ≡ held_old)
+Traces (Err (Front TurnsUsed)) left_old left_new held_old held_new = InputFault (Front TurnsUsed) left_old left_new × (held_new ≡ held_old)
+Traces (Err (Front ReadFault)) left_old left_new held_old held_new = held_new ≡ held_old
+Traces (Err (Front WriteFault)) left_old left_new held_old held_new = (input : List ℕ) × IsInput input left_old left_new
+Traces (Err (Front Memory)) left_old left_new held_old held_new = Unit {0}
+Traces (Err (Front BadLength)) left_old left_new held_old held_new = ⊥
+Traces (Err (Front Truncated)) left_old left_new held_old held_new = ⊥
+Traces (Err (Dump error)) left_old left_new held_old held_new = ⊥
