@@ -4,6 +4,7 @@ ghost use Rattle.std.specs.Prelude.{◌<◌, ◌≤◌};
 use crate::command_line::{Wanted, wanted_by};
 use crate::migrate::migrate_over;
 use crate::run::run_over;
+use crate::trace::trace_over;
 use frame_front::{Counted, FaultyReader, FaultyWriter};
 use std::alloc::{AllocError, Global};
 use std::io;
@@ -47,6 +48,18 @@ fn migrate<R: Read + Drop>(alloc: Global, reader: R) -> Left {
     let status = migrate_over(alloc, &mut reader, &mut writer, &mut faults);
     Left {
         output: writer.end,
+        faults,
+        status,
+    }
+}
+
+fn trace<R: Read + Drop>(alloc: Global, reader: R) -> Left {
+    let mut reader = Counted::new(reader);
+    let mut output = Vec::new(alloc);
+    let mut faults = Vec::new(alloc);
+    let status = trace_over(alloc, &mut reader, &mut output, &mut faults, 4, 3);
+    Left {
+        output,
         faults,
         status,
     }
@@ -104,36 +117,83 @@ fn runs(rt: HostRuntime) {
     );
 }
 
-// Sets, an append, a get, a removal and fetch-alls: however many shards there are, the same bytes come back.
+/// Sessions: what comes in, and what goes out.
+const SESSIONS: [(&[u8], &[u8]); 7] = [
+    (FIRST_RUN, FIRST_REPLIES),
+    (
+        b"\x00\x00\x00\x0eS\x01a{\"keys\":[]}\x00\x00\x00\x01F",
+        b"\x00\x00\x00\x01s\x00\x00\x00\x09a\x00\x00\x00\x00\x00\x00\x00\x01\x00\x00\x00\x0ei\x01a{\"keys\":[]}",
+    ),
+    (
+        b"\x00\x00\x00\x01F",
+        b"\x00\x00\x00\x09a\x00\x00\x00\x00\x00\x00\x00\x00",
+    ),
+    (
+        b"\x00\x00\x00\x22S\x01a{\"keys\":[],\"spiffe_sequence\":9}\x00\x00\x00\x41A\x01a{\"use\":\"jwt-svid\",\"kty\":\"RSA\",\"kid\":\"k\",\"n\":\"AQAB\",\"e\":\"AQAB\"}",
+        b"\x00\x00\x00\x01s\x00\x00\x00\x0ap\x01\x00\x00\x00\x00\x00\x00\x00\x0a",
+    ),
+    (
+        b"\x00\x00\x00\x0eS\x01a{\"keys\":[]}\x00\x00\x00\x41A\x01a{\"use\":\"jwt-svid\",\"kty\":\"RSA\",\"kid\":\"k\",\"n\":\"AQAB\",\"e\":\"AQAB\"}",
+        b"\x00\x00\x00\x01s\x00\x00\x00\x02p\x00",
+    ),
+    (
+        b"\x00\x00\x00\x21A\x01a{\"kty\":\"OKP\",\"use\":\"jwt-svid\"}",
+        b"\x00\x00\x00\x01\x17",
+    ),
+    (
+        b"\x00\x00\x00\x01F\x00\x00\x00\x0eS\x01a{\"keys\":[]}\x00\x00\x00\x0eS\x01b{\"keys\":[]}\x00\x00\x00\x01F\x00\x00\x00\x03R\x01a\x00\x00\x00\x03G\x01a\x00\x00\x00\x01F\x00\x00\x00\x01Z",
+        b"\x00\x00\x00\x09a\x00\x00\x00\x00\x00\x00\x00\x00\x00\x00\x00\x01s\x00\x00\x00\x01s\x00\x00\x00\x09a\x00\x00\x00\x00\x00\x00\x00\x02\x00\x00\x00\x0ei\x01a{\"keys\":[]}\x00\x00\x00\x0ei\x01b{\"keys\":[]}\x00\x00\x00\x01d\x00\x00\x00\x01\x1e\x00\x00\x00\x09a\x00\x00\x00\x00\x00\x00\x00\x01\x00\x00\x00\x0ei\x01b{\"keys\":[]}\x00\x00\x00\x013",
+    ),
+];
+
+/// A reader that gives its bytes in two pieces.
+#[derive(Drop)]
+struct TwoPieces {
+    first: &'static [u8],
+    second: &'static [u8],
+}
+
+impl Read for TwoPieces {
+    fn read(&mut self, buf: &mut [u8]) -> io::Result<usize> {
+        let size = self.first.len().min(buf.len());
+        let (given, left) = self.first.split_at(size);
+        let (front, _) = buf.split_at_mut(size);
+        front.copy_from_slice(given);
+        self.first = left;
+        if left.is_empty() {
+            self.first = self.second;
+            self.second = b"";
+        }
+        Ok(size)
+    }
+}
+
+/// Runs the sessions over so many shards, and the first run in two pieces.
+fn same_bytes(rt: &impl Abort, alloc: Global, shards: usize)
+    requires { 0 < shards }
+{
+    for (input, output) in SESSIONS {
+        left_is(rt, &run(alloc, input, shards, 1_000_000), output, "", 0);
+    }
+    for cut in 1..25 {
+        let (first, second) = FIRST_RUN.split_at(cut);
+        let reader = TwoPieces { first, second };
+        left_is(
+            rt,
+            &run(alloc, reader, shards, 1_000_000),
+            FIRST_REPLIES,
+            "",
+            0,
+        );
+    }
+}
+
+// However many shards there are, the same bytes come back.
 #[test]
 fn any_number_of_shards(rt: HostRuntime) {
-    let session: &[u8] =
-        b"\x00\x00\x00\x01F\x00\x00\x00\x0eS\x01a{\"keys\":[]}\x00\x00\x00\x0eS\x01b{\"keys\":[]}\x00\x00\x00\x01F\x00\x00\x00\x03R\x01a\x00\x00\x00\x03G\x01a\x00\x00\x00\x01F\x00\x00\x00\x01Z";
-    let replies: &[u8] =
-        b"\x00\x00\x00\x09a\x00\x00\x00\x00\x00\x00\x00\x00\x00\x00\x00\x01s\x00\x00\x00\x01s\x00\x00\x00\x09a\x00\x00\x00\x00\x00\x00\x00\x02\x00\x00\x00\x0ei\x01a{\"keys\":[]}\x00\x00\x00\x0ei\x01b{\"keys\":[]}\x00\x00\x00\x01d\x00\x00\x00\x01\x1e\x00\x00\x00\x09a\x00\x00\x00\x00\x00\x00\x00\x01\x00\x00\x00\x0ei\x01b{\"keys\":[]}\x00\x00\x00\x013";
-    left_is(&rt, &run(rt.alloc(), session, 1, 1_000_000), replies, "", 0);
-    left_is(&rt, &run(rt.alloc(), session, 4, 1_000_000), replies, "", 0);
-    left_is(
-        &rt,
-        &run(rt.alloc(), session, 256, 1_000_000),
-        replies,
-        "",
-        0,
-    );
-    left_is(
-        &rt,
-        &run(rt.alloc(), FIRST_RUN, 1, 1_000_000),
-        FIRST_REPLIES,
-        "",
-        0,
-    );
-    left_is(
-        &rt,
-        &run(rt.alloc(), FIRST_RUN, 256, 1_000_000),
-        FIRST_REPLIES,
-        "",
-        0,
-    );
+    same_bytes(&rt, rt.alloc(), 1);
+    same_bytes(&rt, rt.alloc(), 4);
+    same_bytes(&rt, rt.alloc(), 256);
 }
 
 #[test]
@@ -160,6 +220,21 @@ fn ends_that_fail(rt: HostRuntime) -> Result<(), AllocError> {
     let mut faults = Vec::new(alloc);
     let status = migrate_over(alloc, &mut reader, &mut writer, &mut faults);
     assert!(rt; status == 1);
+    assert!(rt; faults.as_slice() == b"fault 54\n".as_slice());
+    Ok(())
+}
+
+#[test]
+fn ends_of_a_trace_that_fail(rt: HostRuntime) -> Result<(), AllocError> {
+    let alloc = rt.alloc();
+    let reader = FaultyReader::new(Vec::from_slice(alloc, b"step 1\n")?, 3);
+    left_is(&rt, &trace(alloc, reader), b"", "fault 53\n", 1);
+    let mut reader = Counted::new(b"step 1\n".as_slice());
+    let mut writer = FaultyWriter::new(alloc, 3);
+    let mut faults = Vec::new(alloc);
+    let status = trace_over(alloc, &mut reader, &mut writer, &mut faults, 4, 3);
+    assert!(rt; status == 1);
+    assert!(rt; writer.taken.as_slice() == b"ord".as_slice());
     assert!(rt; faults.as_slice() == b"fault 54\n".as_slice());
     Ok(())
 }
@@ -225,6 +300,20 @@ fn limits_its_input(rt: HostRuntime) {
     left_is(
         &rt,
         &migrate(rt.alloc(), Endless { size: 1 }),
+        b"",
+        "fault 55\n",
+        1,
+    );
+    left_is(
+        &rt,
+        &trace(rt.alloc(), Endless { size: 4096 }),
+        b"",
+        "fault 71\n",
+        1,
+    );
+    left_is(
+        &rt,
+        &trace(rt.alloc(), Endless { size: 1 }),
         b"",
         "fault 55\n",
         1,

@@ -21,7 +21,12 @@ fn letters(alloc: Global, letter: char, count: usize) -> Result<String, AllocErr
 
 /// Why a document is refused, if it is.
 fn refusal(alloc: Global, document: &str) -> Result<Option<DocError>, DocError> {
-    match read_document(alloc, document.as_bytes()) {
+    refusal_of(alloc, document.as_bytes())
+}
+
+/// Why bytes are refused as a document, if they are.
+fn refusal_of(alloc: Global, document: &[u8]) -> Result<Option<DocError>, DocError> {
+    match read_document(alloc, document) {
         Ok(_) => Ok(None),
         Err(DocError::Memory) => Err(DocError::Memory),
         Err(refusal) => Ok(Some(refusal)),

@@ -128,6 +128,7 @@ fn traces(rt: HostRuntime) -> Result<(), Fail> {
         let left = left_by(alloc, shards, rounds, input.as_bytes());
         if left.err.as_slice() == b"fault 22\n".as_slice() {
             assert_eq!(rt; left.out.as_slice(), b"".as_slice(), "{name}");
+            assert_eq!(rt; left.status, 1, "{name}");
             return Err("out of memory")?;
         }
         assert_eq!(rt; str::from_utf8(&left.out).ok(), Some(wanted), "{name}");

@@ -1,7 +1,10 @@
 //! Readers and writers that fail.
+use super::{ALL_OF_NONE, ALL_OF_ONE, FETCH_ALL, Pieces, SET};
 use crate::{Counted, FaultyReader, FaultyWriter, FrontError, serve};
 use map_core::Contents;
 use std::alloc::AllocError;
+use std::io;
+use std::io::Write;
 
 const INPUT: &[u8] = b"\x00\x00\x00\x0eS\x01a{\"keys\":[]}\x00\x00\x00\x03G\x01a";
 
@@ -53,5 +56,79 @@ fn a_writer_that_fails(rt: HostRuntime) -> Result<(), AllocError> {
         assert!(rt; writer.faults() == faults, "room {room}");
         assert!(rt; reader.faults() == 0);
     }
+    Ok(())
+}
+
+/// Whether the bytes are the first and then the second.
+fn is_joined(bytes: &[u8], first: &[u8], second: &[u8]) -> bool {
+    bytes.strip_prefix(first) == Some(second)
+}
+
+/// To be run with each allocation refused in turn: however the session ends, a row of the table allows it.
+#[test]
+fn a_refused_growth_is_answered(rt: HostRuntime) -> Result<(), AllocError> {
+    const STORED: &[u8] = b"\x00\x00\x00\x01s";
+    const NO_MEMORY: &[u8] = b"\x00\x00\x00\x01\x16";
+    let alloc = rt.alloc();
+    let mut input = Vec::from_slice(alloc, SET)?;
+    input.extend_from_slice(FETCH_ALL)?;
+    let mut reader = Counted::new(input.as_slice());
+    // Room for all replies, so that the writer has no growth of its own.
+    let mut writer = Counted::new(Vec::with_capacity(alloc, 64)?);
+    let mut map = Contents::new(alloc);
+    let ended = serve(alloc, &mut reader, &mut writer, &mut map, 100);
+    let written = writer.end.as_slice();
+    let both = is_joined(written, STORED, ALL_OF_ONE);
+    let allowed = match ended {
+        Ok(2) => {
+            both || is_joined(written, NO_MEMORY, ALL_OF_NONE)
+                || is_joined(written, STORED, NO_MEMORY)
+        }
+        Err(FrontError::Memory) => written.is_empty() || written == STORED || both,
+        _ => false,
+    };
+    assert!(rt; allowed, "{ended:?} {written:?}");
+    Ok(())
+}
+
+/// A writer that counts its calls.
+#[derive(Drop)]
+struct Calls {
+    writes: u64,
+    flushes: u64,
+}
+
+impl Write for Calls {
+    fn write(&mut self, buf: &[u8]) -> io::Result<usize> {
+        self.writes = self.writes.saturating_add(1);
+        Ok(buf.len())
+    }
+
+    fn flush(&mut self) -> io::Result<()> {
+        self.flushes = self.flushes.saturating_add(1);
+        Ok(())
+    }
+}
+
+/// Two requests come by one read and a third by the next: each round is one write, which is flushed.
+#[test]
+fn each_round_is_one_write(rt: HostRuntime) -> Result<(), AllocError> {
+    let alloc = rt.alloc();
+    let mut input = Vec::from_slice(alloc, INPUT)?;
+    input.extend_from_slice(FETCH_ALL)?;
+    let mut reader = Counted::new(Pieces {
+        bytes: input.as_slice(),
+        first: INPUT.len(),
+        size: 4096,
+    });
+    let mut writer = Counted::new(Calls {
+        writes: 0,
+        flushes: 0,
+    });
+    let mut map = Contents::new(alloc);
+    let ended = serve(alloc, &mut reader, &mut writer, &mut map, 100);
+    assert!(rt; ended == Ok(3), "{ended:?}");
+    assert!(rt; writer.end.writes == 2, "{}", writer.end.writes);
+    assert!(rt; writer.end.flushes == 2, "{}", writer.end.flushes);
     Ok(())
 }

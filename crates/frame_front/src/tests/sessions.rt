@@ -21,6 +21,12 @@ fn sets_gets_and_fetches(rt: HostRuntime) -> Result<(), AllocError> {
             output: FIRST_REPLIES,
         },
         Session {
+            name: "the first run without its last byte",
+            input: b"\x00\x00\x00\x0eS\x01a{\"keys\":[]}\x00\x00\x00\x03G\x01",
+            ended: Err(FrontError::Truncated),
+            output: b"\x00\x00\x00\x01s",
+        },
+        Session {
             name: "no input",
             input: b"",
             ended: Ok(0),
@@ -276,6 +282,24 @@ fn keeps_the_map_and_not_the_version(rt: HostRuntime) -> Result<(), AllocError> 
 }
 
 // The reads are used up before the input is at its end.
+/// The first run in pieces of ten bytes takes three reads, and a fourth finds its end.
+#[test]
+fn each_read_is_a_turn(rt: HostRuntime) -> Result<(), AllocError> {
+    for (turns, want) in [(3, Err(FrontError::TurnsUsed)), (4, Ok(2))] {
+        let mut contents = Contents::new(rt.alloc());
+        let mut reader = crate::Counted::new(Pieces {
+            bytes: FIRST_RUN,
+            first: 10,
+            size: 10,
+        });
+        let mut writer = crate::Counted::new(Vec::new(rt.alloc()));
+        let ended = crate::serve(rt.alloc(), &mut reader, &mut writer, &mut contents, turns);
+        assert!(rt; ended == want, "{turns} turns");
+        assert!(rt; writer.end.as_slice() == FIRST_REPLIES);
+    }
+    Ok(())
+}
+
 #[test]
 fn uses_up_its_turns(rt: HostRuntime) -> Result<(), AllocError> {
     for (turns, want) in [(1, Err(FrontError::TurnsUsed)), (2, Ok(1))] {

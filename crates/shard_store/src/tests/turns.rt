@@ -126,6 +126,32 @@ fn removed_sequences_are_remembered(rt: HostRuntime) -> Result<(), Fail> {
     close_with(store, pass, 1)
 }
 
+/// The same by one pass, as a front asks it.
+#[test]
+fn one_pass_remembers_removed_sequences(rt: HostRuntime) -> Result<(), Fail> {
+    let alloc = rt.alloc();
+    let rows = [
+        ("setif a absent 7", "stored"),
+        ("setif a absent 7", "refused 36 a bundle of sequence 7"),
+        ("setif a 7 8", "stored"),
+        ("setif a 8 3", "refused 31 8"),
+        ("remove a", "removed"),
+        ("fetch", "all 0"),
+        ("setif a absent 3", "refused 31 8"),
+        ("setif a none 3", "refused 36 no bundle"),
+        ("append a k", "refused 30"),
+        ("remove a", "refused 30"),
+        ("set a 8", "stored"),
+        ("set a 8", "unchanged"),
+        ("append a k", "appended 9"),
+        ("append a k", "unchanged"),
+        ("fetch", "all 1 a 9/1"),
+    ];
+    let (store, pass) = Store::new(alloc, 2, 2, 1)?;
+    let mut seated = Seated::new(&store, pass);
+    ask_front(alloc, &mut seated, &rows)
+}
+
 /// Holds shard 0, so that the other pass is refused.
 fn hold_one(alloc: Global, tries: u64) -> Result<(), Fail>
     requires { 0 < tries }
@@ -172,13 +198,14 @@ fn a_held_shard_refuses_others(rt: HostRuntime) -> Result<(), Fail> {
     hold_one(rt.alloc(), 1_000_000)
 }
 
-#[test]
-fn other_shards_are_free(rt: HostRuntime) -> Result<(), Fail> {
-    let alloc = rt.alloc();
-    let (store, mut p) = Store::new(alloc, 2, 2, 3)?;
+/// Holds shard 1, and sets in both.
+fn hold_other(alloc: Global, tries: u64) -> Result<(), Fail>
+    requires { 0 < tries }
+{
+    let (store, mut p) = Store::new(alloc, 2, 2, tries)?;
     let mut q = store.split(&mut p, 1000);
     let Ok(held) = store.hold(p, 1) else {
-        panic!(rt; "a free shard was refused")
+        return Err(Fail::from("a free shard was refused"));
     };
     // The name `b` is at home in shard 0, and `a` in shard 1.
     let answer = call(&store, &mut q, operation(alloc, "set b -")?);
@@ -187,6 +214,13 @@ fn other_shards_are_free(rt: HostRuntime) -> Result<(), Fail> {
     compare(alloc, "set a -", &answer, "held 1 0")?;
     let pass = store.join(held.let_go(&store), q);
     close_with(store, pass, 1)
+}
+
+#[test]
+fn other_shards_are_free(rt: HostRuntime) -> Result<(), Fail> {
+    hold_other(rt.alloc(), 1)?;
+    hold_other(rt.alloc(), 3)?;
+    hold_other(rt.alloc(), 1_000_000)
 }
 
 /// Sets three hundred domains.

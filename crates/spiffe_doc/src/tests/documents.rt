@@ -1,4 +1,4 @@
-use super::{bundle, jwt_point, keys, letters, refusal, x509_point};
+use super::{bundle, jwt_point, keys, letters, refusal, refusal_of, x509_point};
 use crate::{DocError, read_document, write_document};
 use std::alloc::{AllocError, Global};
 use std::test::Fail;
@@ -47,7 +47,7 @@ fn refused_documents(rt: HostRuntime) -> Result<(), Fail> {
         assert_eq!(rt; refusal(alloc, document)?, Some(wanted), "{document}");
     }
     assert_eq!(rt;
-        read_document(alloc, b"{\"keys\":[],\"z\":\"\xff\"}").err(),
+        refusal_of(alloc, b"{\"keys\":[],\"z\":\"\xff\"}")?,
         Some(DocError::NotJson)
     );
     Ok(())

@@ -75,6 +75,34 @@ fn a_revision_counts_changes(rt: HostRuntime) -> Result<(), Fail> {
     play(rt.alloc(), &mut shard, &rows)
 }
 
+/// A removed domain remembers its sequence, and the revision counts what the mark lets through.
+#[test]
+fn a_mark_lets_few_changes_through(rt: HostRuntime) -> Result<(), Fail> {
+    let rows = [
+        ("set a {\"keys\":[],\"spiffe_sequence\":5}", "stored", 1),
+        ("remove a", "removed", 2),
+        ("get a", "refused 30", 2),
+        (
+            "set a {\"keys\":[],\"spiffe_sequence\":4}",
+            "refused 31 5",
+            2,
+        ),
+        (
+            "append a {\"kty\":\"RSA\",\"use\":\"jwt-svid\",\"kid\":\"k\",\"n\":\"AQAB\",\"e\":\"AQAB\"}",
+            "refused 30",
+            2,
+        ),
+        ("remove a", "refused 30", 2),
+        ("set a {\"keys\":[],\"spiffe_sequence\":5}", "stored", 3),
+        ("remove a", "removed", 4),
+        ("set a {\"keys\":[]}", "stored", 5),
+        ("remove a", "removed", 6),
+        ("set a {\"keys\":[],\"spiffe_sequence\":1}", "stored", 7),
+    ];
+    let mut shard = Shard::new(rt.alloc())?;
+    play(rt.alloc(), &mut shard, &rows)
+}
+
 #[test]
 fn a_worn_shard_changes_no_more(rt: HostRuntime) -> Result<(), Fail> {
     let alloc = rt.alloc();
