@@ -4,6 +4,7 @@ ghost use Rattle.std.specs.Prelude.{◌<◌, ◌≤◌};
 use crate::command_line::{Wanted, wanted_by};
 use crate::migrate::migrate_over;
 use crate::run::run_over;
+use crate::show;
 use crate::trace::trace_over;
 use frame_front::{Counted, FaultyReader, FaultyWriter};
 use std::alloc::{AllocError, Global};
@@ -332,6 +333,22 @@ fn wanted(alloc: Global, words: &[&str]) -> Result<String, AllocError> {
         Ok(Wanted::Migrate) => format!(in alloc; "migrate"),
         Err(error) => format!(in alloc; "{error}"),
     }
+}
+
+/// What is refused ends with status 2, and help and the version with 0.
+#[test]
+fn shows_with_a_status(rt: HostRuntime) -> Result<(), AllocError> {
+    let alloc = rt.alloc();
+    for (word, status) in [("frames", 2), ("--help", 0), ("--version", 0)] {
+        let mut line = Vec::new(alloc);
+        line.push(String::from_str(alloc, "bundled")?)?;
+        line.push(String::from_str(alloc, word)?)?;
+        match wanted_by(alloc, line.as_slice()) {
+            Ok(_) => assert!(rt; false, "{word} is a command"),
+            Err(error) => assert!(rt; show(&rt, &error) == status, "{word}"),
+        }
+    }
+    Ok(())
 }
 
 #[test]
