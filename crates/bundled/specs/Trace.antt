@@ -5,8 +5,8 @@ use Rattle.bundled.specs.declared.fault.Fault.{Fault}
 use Rattle.bundled.specs.declared.fault.Fault.TheVariants.{Front, Dump, BadLine, InputTooLong}
 use Rattle.bundled.specs.Input.{IsInput, InputFault}
 
--- The input is read whole, and lines are written. Or one of its lines is no event, or it is not read, and nothing is
--- written. (Of want of memory nothing is said.)
+-- The input is read whole; what is written then is not said. Or one of its lines is no event, or it is not read, and
+-- nothing is written. (Of want of memory nothing is said.)
 abbrev pub Traces : Result (Unit {0}) Fault → Option (List ℕ) → Option (List ℕ) → Option (List ℕ) → Option (List ℕ) → Type 0
 Traces (Ok done) left_old left_new held_old held_new = (input : List ℕ) × IsInput input left_old left_new
 Traces (Err (BadLine line)) left_old left_new held_old held_new = (input : List ℕ) × IsInput input left_old left_new × (held_new ≡ held_old)
