@@ -11,6 +11,7 @@ use crate::fault::{Fault, show_fault};
 use frame_front::{Counted, FrontError, serve};
 use std::alloc::Global;
 use std::io::{Read, Write};
+use std::mem::forget;
 use step_core::Shards;
 
 /// Serves one session over an empty store of so many shards, and answers the exit status.
@@ -35,7 +36,10 @@ pub fn run_over<R: Read, W: Write, E: Write>(
         show_fault(err, Fault::Front(FrontError::Memory));
         return 1;
     };
-    match serve(alloc, reader, writer, &mut store, turns) {
+    let served = serve(alloc, reader, writer, &mut store, turns);
+    // The process ends with the session, and its memory goes back as a whole: no walk over every bundle.
+    forget(store);
+    match served {
         Ok(_) => 0,
         Err(error) => {
             show_fault(err, Fault::Front(error));

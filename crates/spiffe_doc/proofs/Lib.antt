@@ -1,4 +1,5 @@
 pub mod NameLemmas
+pub mod NameOrder
 pub mod IdLemmas
 pub mod IdLaws
 pub mod MemberLemmas

@@ -1,5 +1,6 @@
 pub mod Answer
 pub mod Name
+pub mod Prefix
 pub mod Id
 pub mod Key
 pub mod Authority

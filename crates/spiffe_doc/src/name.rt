@@ -3,6 +3,7 @@ ghost use Rattle.std.specs.Prelude.{◌≡◌, IfOk, not, position};
 ghost use Rattle.spiffe_doc.specs.Answer.{Gives};
 ghost use Rattle.spiffe_doc.specs.Name.{IsName, is_name_byte as name_byte, name_fault as fault, trust_domain};
 ghost use Rattle.spiffe_doc.specs.Number.{name_number};
+ghost use Rattle.spiffe_doc.specs.Prefix.{prefix_number};
 
 use std::alloc::{AllocError, Global};
 use std::cmp::Ordering;
@@ -44,18 +45,21 @@ impl NameError {
 /// equal and ordered by their bytes.
 #[derive(Drop)]
 pub struct TrustDomain {
+    /// The first 8 bytes, as one number: most names differ there, and a search finds them without going to the text.
+    prefix: u64,
     text: String,
 }
 
 impl Model for TrustDomain {
-    ghost use Rattle.std.specs.Prelude.{List, ℕ, string_bytes};
+    ghost use Rattle.std.specs.Prelude.{◌≡◌, List, ℕ, string_bytes};
     ghost use Rattle.spiffe_doc.specs.Name.{IsName};
+    ghost use Rattle.spiffe_doc.specs.Prefix.{prefix_number};
 
     ghost Value = { List ℕ };
 
     ghost view = { λ name. string_bytes name.text };
 
-    ghost invariant = { λ name. IsName (string_bytes name.text) };
+    ghost invariant = { λ name. IsName (string_bytes name.text) × (name.prefix ≡ prefix_number 8 (string_bytes name.text)) };
 }
 
 impl TrustDomain {
@@ -74,7 +78,10 @@ impl TrustDomain {
             return Err(fault);
         }
         match String::from_str(alloc, name_text(bytes)) {
-            Ok(text) => Ok(TrustDomain { text }),
+            Ok(text) => Ok(TrustDomain {
+                prefix: prefix_of(bytes),
+                text,
+            }),
             Err(_) => Err(NameError::Memory),
         }
     }
@@ -92,6 +99,7 @@ impl TrustDomain {
         ensures { IfOk result (λ copy. copy ≡ self.now) }
     {
         Ok(TrustDomain {
+            prefix: self.prefix,
             text: self.text.clone()?,
         })
     }
@@ -123,6 +131,18 @@ fn name_text(bytes: &[u8]) -> &str
     ensures { result.now ≡ bytes.now }
 {
     str::from_utf8(bytes).unwrap()
+}
+
+/// The first 8 bytes as one number, the first byte the greatest; 0 stands for each that there is not.
+fn prefix_of(bytes: &[u8]) -> u64
+    ensures { result ≡ prefix_number 8 bytes.now }
+{
+    let mut number = 0;
+    for place in 0..8 {
+        let byte = bytes.get(place).copied().unwrap_or(0);
+        number = number * 256 + u64::from(byte);
+    }
+    number
 }
 
 fn is_name_byte(byte: u8) -> bool
@@ -189,6 +209,9 @@ impl Ord for TrustDomain {
     ghost matches_eq = { texts_ties };
 
     fn cmp(&self, other: &TrustDomain) -> Ordering {
-        self.text.as_str().cmp(other.text.as_str())
+        match self.prefix.cmp(&other.prefix) {
+            Ordering::Equal => self.text.as_str().cmp(other.text.as_str()),
+            order => order,
+        }
     }
 }

@@ -35,12 +35,12 @@ returns-in_default-clause-session g c = (
   },
 )
 
-pub returns-in-Ok-serve-clause-session : goal.returns-in-Ok-serve-clause-session
-returns-in-Ok-serve-clause-session g c =
-    let served = c.in-Ok-serve.ensures.plain finite.empty (ap Some c.in-Ok.ensures.empty) in
-    (Ok c.in-Ok-serve.field-0, served.0, refl, served.2)
+pub returns-in-Ok-served-clause-session : goal.returns-in-Ok-served-clause-session
+returns-in-Ok-served-clause-session g c =
+    let served = c.in-Ok-served.ensures.plain finite.empty (ap Some c.in-Ok.ensures.empty) in
+    (Ok c.in-Ok-served.field-0, served.0, refl, served.2)
 
-pub returns-clause-session : goal.returns-clause-session
-returns-clause-session g c =
+pub returns-in-Err-clause-session : goal.returns-in-Err-clause-session
+returns-in-Err-clause-session g c =
     let served = c.in-Err.ensures.plain finite.empty (ap Some c.in-Ok.ensures.empty) in
     (Err c.in-Err.error, served.0, refl, served.2)
