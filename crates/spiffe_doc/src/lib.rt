@@ -17,6 +17,7 @@ pub mod key;
 pub mod laws;
 pub mod name;
 pub mod octets;
+mod short_text;
 #[cfg(test)]
 mod tests;
 mod text;

@@ -5,6 +5,7 @@ ghost use Rattle.spiffe_doc.specs.Name.{IsName, is_name_byte as name_byte, name_
 ghost use Rattle.spiffe_doc.specs.Number.{name_number};
 ghost use Rattle.spiffe_doc.specs.Prefix.{prefix_number};
 
+use crate::short_text::ShortText;
 use std::alloc::{AllocError, Global};
 use std::cmp::Ordering;
 use std::marker::Model;
@@ -47,19 +48,20 @@ impl NameError {
 pub struct TrustDomain {
     /// The first 8 bytes, as one number: most names differ there, and a search finds them without going to the text.
     prefix: u64,
-    text: String,
+    text: ShortText,
 }
 
 impl Model for TrustDomain {
-    ghost use Rattle.std.specs.Prelude.{◌≡◌, List, ℕ, string_bytes};
+    ghost use Rattle.std.specs.Prelude.{◌≡◌, List, ℕ};
     ghost use Rattle.spiffe_doc.specs.Name.{IsName};
     ghost use Rattle.spiffe_doc.specs.Prefix.{prefix_number};
+    ghost use Rattle.spiffe_doc.specs.ShortText.{bytes_of};
 
     ghost Value = { List ℕ };
 
-    ghost view = { λ name. string_bytes name.text };
+    ghost view = { λ name. bytes_of name.text };
 
-    ghost invariant = { λ name. IsName (string_bytes name.text) × (name.prefix ≡ prefix_number 8 (string_bytes name.text)) };
+    ghost invariant = { λ name. IsName (bytes_of name.text) × (name.prefix ≡ prefix_number 8 (bytes_of name.text)) };
 }
 
 impl TrustDomain {
@@ -77,7 +79,7 @@ impl TrustDomain {
         if let Some(fault) = name_fault(bytes) {
             return Err(fault);
         }
-        match String::from_str(alloc, name_text(bytes)) {
+        match ShortText::from_str(alloc, name_text(bytes)) {
             Ok(text) => Ok(TrustDomain {
                 prefix: prefix_of(bytes),
                 text,
@@ -94,13 +96,13 @@ impl TrustDomain {
         self.text.as_str()
     }
 
-    /// The same name, in memory of its own.
+    /// The same name.
     pub fn copy(&self) -> Result<TrustDomain, AllocError>
         ensures { IfOk result (λ copy. copy ≡ self.now) }
     {
         Ok(TrustDomain {
             prefix: self.prefix,
-            text: self.text.clone()?,
+            text: self.text.copy()?,
         })
     }
 }

@@ -55,6 +55,13 @@ fn names_are_ordered_by_their_bytes(rt: HostRuntime) -> Result<(), Fail> {
         ("_", "a"),
         ("a", "aa"),
         ("az", "b"),
+        // Around 8 bytes, which a name keeps as a number, and around 24, which lie in the value itself.
+        ("abcdefg", "abcdefgh"),
+        ("abcdefgh", "abcdefgha"),
+        ("abcdefgha", "abcdefghb"),
+        ("abcdefghz", "abcdefgi"),
+        ("abcdefghijklmnopqrstuvwx", "abcdefghijklmnopqrstuvwxy"),
+        ("abcdefghijklmnopqrstuvwwz", "abcdefghijklmnopqrstuvwx"),
     ];
     for (lower, higher) in rows {
         let lower = TrustDomain::parse(alloc, lower)?;
