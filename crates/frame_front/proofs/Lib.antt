@@ -7,4 +7,5 @@ pub mod PlainLemmas
 pub mod FramesExist
 pub mod DomainLists
 pub mod DumpLemmas
+pub mod DumpPlaces
 pub mod MigrationLemmas

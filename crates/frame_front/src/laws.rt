@@ -9,7 +9,7 @@ ghost use Rattle.map_core.specs.declared.reply.Reply.TheVariants.{Stored};
 ghost use Rattle.frame_front.specs.declared.request.Version.TheVariants.{One, Two};
 ghost use Rattle.frame_front.specs.Reply.{coded_reply, version_frame, memory_frame, is_error_reply};
 ghost use Rattle.frame_front.specs.PlainSession.{TellsError, answers_to, state_after};
-ghost use Rattle.frame_front.specs.Dump.{Domains, IsDump, AreLawful, requests_for, map_of};
+ghost use Rattle.frame_front.specs.Dump.{Domains, IsDump, IsBadDump, AreLawful, requests_for, map_of};
 ghost use Rattle.frame_front.specs.Session.{Answers};
 
 use map_core::Ask;
@@ -42,6 +42,11 @@ pub fn errors_change_nothing<A: Ask>()
 /// Over one map the only reply that tells an error is the one that says that memory ran out.
 pub fn one_map_tells_want_of_memory_alone()
     ensures { (text : List ℕ) → TellsError ContentsAnswer text → text ≡ memory_frame }
+{}
+
+/// A dump that is none is wrong at one place alone.
+pub fn bad_dumps_have_one_place()
+    ensures { (dump : List ℕ) (place other : ℕ) → IsBadDump dump place → IsBadDump dump other → place ≡ other }
 {}
 
 /// From the empty map, and in version 1, a migrated dump of lawful bundles is answered by the version and then
