@@ -7,11 +7,8 @@ use Rattle.std.specs.Cmp.Lexicographic.{nat_list_cmp_total}
 use Rattle.std.specs.BTreeMap.{BTreeMap, is_at}
 use Rattle.std.specs.BTreeMap as tree
 use Rattle.std.specs.Map.{lookup, keys_of}
-use Rattle.std.specs.List.{AllByRecursion, AllZip}
+use Rattle.std.specs.List.{AllByRecursion}
 use Rattle.std.specs.Option.{option_or}
-use Rattle.std.proofs.lemmas.List.Elements.{same_from_all_zip}
-use Rattle.std.proofs.lemmas.Map.Keys.{IsDistinct-from_sorted}
-use Rattle.std.proofs.lemmas.Map.Made.{update_all_distinct}
 use Rattle.std.specs.List.Sorted.{IsStrictlySortedBy}
 use Rattle.std.specs.Ordering.{is_lt}
 use Rattle.std.specs.declared.cmp.Ordering.TheVariants.{Less}
@@ -20,8 +17,8 @@ use Rattle.std.specs.FinMap.{find, get-from_entries, get-from_sorted, entries-fr
 use Rattle.std.specs.FinMap as finite
 use Rattle.map_core.specs.declared.held.Held.{Held}
 use Rattle.map_core.specs.Name.{Name, name_cmp}
-use Rattle.map_core.specs.PlainMap.{PlainMap, join}
-use Rattle.map_core.proofs.Maps.{same_held, or_else, get-join}
+use Rattle.map_core.specs.PlainMap.{PlainMap}
+use Rattle.map_core.proofs.Maps.{same_held, or_else}
 
 find_lookup : (q : Name) (es : List (Name × Held)) → find name_cmp q es ≡ lookup (is_at (name_cmp q)) es
 find_lookup q [] = refl
@@ -69,22 +66,9 @@ sorted_list (e ∷ es) h = both _ _ (below_those e.0 es h.0) (sorted_list es h.1
 pub sorted_entries : (m : BTreeMap Name Held) → tree.IsOrdered name_cmp m → T (is_sorted name_cmp m.entries)
 sorted_entries m h = sorted_list m.entries h
 
-pub copied_entries : (es fs : List (Name × Held)) → AllZip (λ e f. (f.0 ≡ e.0) × (f.1 ≡ e.1)) es fs → fs ≡ es
-copied_entries es fs h = same_from_all_zip _ es fs h (λ e f same. λ i. (same.0 i, same.1 i))
-
-option_or_else : (x y : Option Held) → option_or x y ≡ or_else x y
+pub option_or_else : (x y : Option Held) → option_or x y ≡ or_else x y
 option_or_else (Some x) y = refl
 option_or_else None y = refl
-
-pub shown-append : (m taken other n : BTreeMap Name Held) → taken.entries ≡ other.entries → tree.IsOrdered name_cmp taken → tree.InsertsAll name_cmp m taken.entries n → shown n ≡ join (shown m) (shown other)
-shown-append m taken other n same ordered h =
-    same_held _ _ (λ q.
-    get-shown n q ∙ h.0 q
-    ∙ update_all_distinct (eq_by_cmp_equiv nat_list_cmp_total) (eq_by_cmp name_cmp) (λ x y. refl) (tree.get name_cmp m) taken.entries q (IsDistinct-from_sorted name_cmp (keys_of taken.entries) ordered)
-    ∙ option_or_else (tree.get name_cmp taken q) (tree.get name_cmp m q)
-    ∙ (λ i. or_else (lookup (is_at (name_cmp q)) (same i)) (tree.get name_cmp m q))
-    ∙ (λ i. or_else (sym (get-shown other q) i) (sym (get-shown m q) i))
-    ∙ sym (get-join (shown m) (shown other) q))
 
 -- with nothing left to push, the pairs are all
 pub all_pushed : (pairs rest all : List (Name × BundleValue)) → pairs ++ rest ≡ all → rest ≡ [] → pairs ≡ all

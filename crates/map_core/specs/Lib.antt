@@ -4,6 +4,7 @@ pub mod Held
 pub mod Reply
 pub mod Table
 pub mod PlainMap
+pub mod Union
 pub mod Outcome
 pub mod Codes
 pub mod Ask

@@ -6,6 +6,7 @@ ghost use Rattle.map_core.specs.declared.op.Op.TheVariants.{Set};
 ghost use Rattle.map_core.specs.Outcome.{reply_of, left_by};
 ghost use Rattle.map_core.specs.PlainMap.{ask, join, bundles};
 ghost use Rattle.map_core.specs.Reply.{is_change};
+ghost use Rattle.map_core.specs.Union.{put_in_turn};
 
 use crate::held::Held;
 use crate::op::Op;
@@ -135,14 +136,6 @@ impl Contents {
         })
     }
 
-    /// What the other holds, and under other names what this one holds.
-    pub fn join(mut self, other: &Contents) -> Result<Contents, AllocError>
-        ensures { IfOk result (λ joined. joined ≡ join self other.now) }
-    {
-        self.take_in(other)?;
-        Ok(self)
-    }
-
     /// All bundles with their names, in order, taken out of the map.
     pub fn into_snapshot(self) -> Result<Snapshot, AllocError>
         ensures { IfOk result (λ all. all ≡ bundles self) }
@@ -158,12 +151,26 @@ impl Contents {
         Ok(Snapshot::from_pairs(taken))
     }
 
-    /// Holds what the other holds too.
-    fn take_in(&mut self, other: &Contents) -> Result<(), AllocError>
-        ensures { OnOk result (self.new ≡ join self.old other.now) }
+    /// Pushes all names with what they hold, in order. The bundles are shared.
+    pub(crate) fn push_entries(&self, out: &mut Vec<(TrustDomain, Held)>) -> Result<(), AllocError>
+        ensures { OnOk result (put_in_turn out.new.items ≡ join (put_in_turn out.old.items) self.now) }
     {
-        let mut taken = other.held.clone()?;
-        self.held.append(&mut taken)
+        out.reserve(self.held.len())?;
+        for (domain, held) in self.held.iter() {
+            out.push((domain.copy()?, held.copy()?))?;
+        }
+        Ok(())
+    }
+
+    /// The map of these entries, put in in turn.
+    pub(crate) fn from_entries(
+        alloc: Global,
+        entries: Vec<(TrustDomain, Held)>,
+    ) -> Result<Contents, AllocError>
+        ensures { IfOk result (λ all. all ≡ put_in_turn entries.items) }
+    {
+        let held = BTreeMap::from_iter(alloc, entries)?;
+        Ok(Contents { alloc, held })
     }
 
     /// What the operation gives.

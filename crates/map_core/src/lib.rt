@@ -10,9 +10,11 @@ pub mod reply;
 mod table;
 #[cfg(test)]
 mod tests;
+pub mod union;
 
 pub use ask::Ask;
 pub use contents::Contents;
 pub use held::Held;
 pub use op::{Expect, Op};
 pub use reply::{AskError, MapRefusal, Reply, Snapshot};
+pub use union::Union;

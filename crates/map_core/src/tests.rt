@@ -1,5 +1,5 @@
 //! Worked examples of the plain map. A row is what is asked and, beside it, what is answered.
-use crate::{Ask, AskError, Contents, Expect, Held, MapRefusal, Op, Reply, Snapshot};
+use crate::{Ask, AskError, Contents, Expect, Held, MapRefusal, Op, Reply, Snapshot, Union};
 use spiffe_doc::{Authority, Bundle, TrustDomain, read_document, read_entry};
 use std::alloc::{AllocError, Global};
 use std::test::Fail;
@@ -382,7 +382,10 @@ fn copies_and_joins(rt: HostRuntime) -> Result<(), Fail> {
         &mut copy,
         &[("remove a", "removed"), ("fetch", "all 2 b 2/0 c 3/0")],
     )?;
-    let mut joined = first.join(&second)?;
+    let mut joined = Union::new(alloc)
+        .join(&first)?
+        .join(&second)?
+        .into_contents()?;
     play(
         alloc,
         &mut joined,

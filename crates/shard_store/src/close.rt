@@ -10,7 +10,7 @@ use crate::pass::Pass;
 use crate::rule::Slot;
 use crate::store::Store;
 use atomic_table::Closed;
-use map_core::Contents;
+use map_core::{Contents, Union};
 use std::alloc::{AllocError, Global};
 use thiserror::Error;
 
@@ -115,11 +115,11 @@ fn join_slots(alloc: Global, slots: &[Slot]) -> Result<Contents, AllocError>
     requires { 0 < length slots.now }
     ensures { (m : PlainMap) → HoldPartsOf m slots.now → IfOk result (λ all. all ≡ m) }
 {
-    let mut all = Contents::new(alloc);
+    let mut all = Union::new(alloc);
     for slot in slots {
         if let Some(version) = slot {
             all = all.join(version)?;
         }
     }
-    Ok(all)
+    all.into_contents()
 }

@@ -4,16 +4,16 @@ ghost use Rattle.map_core.specs.declared.op.Op.TheVariants.{FetchAll};
 ghost use Rattle.map_core.specs.PlainMap.{PlainMap, ask};
 ghost use Rattle.shard_store.specs.Readings.{ArePartsOf};
 
-use map_core::{AskError, Contents, Reply};
+use map_core::{AskError, Contents, Reply, Union};
 use std::alloc::{AllocError, Global};
 use std::sync::Arc;
 
 /// The map of which these are the parts.
-pub(crate) fn join_parts(alloc: Global, parts: &[Arc<Contents>]) -> Result<Contents, AllocError>
+pub(crate) fn join_parts(alloc: Global, parts: &[Arc<Contents>]) -> Result<Union, AllocError>
     requires { 0 < length parts.now }
     ensures { (m : PlainMap) → ArePartsOf m parts.now → IfOk result (λ all. all ≡ m) }
 {
-    let mut all = Contents::new(alloc);
+    let mut all = Union::new(alloc);
     for part in parts {
         all = all.join(part)?;
     }
@@ -21,7 +21,7 @@ pub(crate) fn join_parts(alloc: Global, parts: &[Arc<Contents>]) -> Result<Conte
 }
 
 /// What a fetch-all of the map answers.
-pub(crate) fn all_of(map: Contents) -> Result<Reply, AskError>
+pub(crate) fn all_of(map: Union) -> Result<Reply, AskError>
     ensures reply { IfOk result (λ reply. reply ≡ (ask map FetchAll).reply) }
     ensures refused { IfErr result (λ e. e ≡ AskError.Memory) }
 {

@@ -5,7 +5,7 @@ ghost use Rattle.step_core.specs.Phase.{collected, confirm, confirmed, fetched};
 ghost use Rattle.step_core.specs.Task.{phase_of, IsInside, out_of_memory};
 
 use crate::task::State;
-use map_core::{AskError, Contents, Reply};
+use map_core::{AskError, Contents, Reply, Union};
 use std::alloc::{AllocError, Global};
 use std::marker::Model;
 use std::sync::Arc;
@@ -132,7 +132,7 @@ fn confirmed(
 fn merged(alloc: Global, readings: &[Reading]) -> Result<Reply, AskError>
     ensures { IfOk result (λ r. r ≡ fetched (length readings.now) readings.now) }
 {
-    let mut all = Contents::new(alloc);
+    let mut all = Union::new(alloc);
     for reading in readings {
         all = all.join(reading.contents())?;
     }

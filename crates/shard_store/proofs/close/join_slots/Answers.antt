@@ -1,4 +1,5 @@
 use Rattle.std.proofs.Common.{length, rules, sym, ap, ◌∙◌}
+use Rattle.std.proofs.lemmas.Result.{IfOk-weaker}
 use Rattle.std.specs.Arc.{arc_value}
 use Rattle.map_core.specs.PlainMap.{join, part, together}
 use Rattle.shard_store.proofs.Together.{together_none, together_more, together_all, same_version, not_empty}
@@ -19,5 +20,7 @@ loop-slot-preserved c = λ m p. let slot = c.slot-item.result in let here = p c.
     ]
 
 pub returns : goal.returns
-returns c = λ m p. c.loop-slot.invariant m p
-    ∙ (ap (λ k. together k (part (length c.args.slots.now) m)) (whole_index c.loop-slot.slot-index (length c.args.slots.now) (search rules) c.loop-slot-test.false) ∙ together_all (length c.args.slots.now) m c.requires)
+returns c = λ m p. IfOk-weaker c.into_contents.result _ _
+    (λ all is. is ∙ c.loop-slot.invariant m p
+    ∙ (ap (λ k. together k (part (length c.args.slots.now) m)) (whole_index c.loop-slot.slot-index (length c.args.slots.now) (search rules) c.loop-slot-test.false) ∙ together_all (length c.args.slots.now) m c.requires))
+    c.into_contents.ensures
