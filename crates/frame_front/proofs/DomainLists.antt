@@ -53,3 +53,9 @@ some_item a b same = cc
 
 pub none_item : (a : Name × BundleValue) → None ≡ Some a → ⊥
 none_item a same = cc
+
+pub cons_head : {X : Type 0} (a b : X) (xs ys : List X) → a ∷ xs ≡ b ∷ ys → a ≡ b
+cons_head a b xs ys same = cc
+
+pub cons_tail : {X : Type 0} (a b : X) (xs ys : List X) → a ∷ xs ≡ b ∷ ys → xs ≡ ys
+cons_tail a b xs ys same = cc

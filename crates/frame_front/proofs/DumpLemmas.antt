@@ -13,7 +13,7 @@ use Rattle.std.specs.Prelude.{◌==◌, true, false}
 use Rattle.frame_front.proofs.FrameLemmas.{frames_unique, frame_first}
 use Rattle.frame_front.proofs.FramesExist.{has_frames}
 use Rattle.frame_front.proofs.SessionLemmas.{stream_of-append, each-append, fewer_than_bytes}
-use Rattle.frame_front.proofs.DomainLists.{last_of, ReadsItems-length, ReadsItems-one, Ascends-one, last_of-one, lawful-one, map-one, stream-one, stream-more}
+use Rattle.frame_front.proofs.DomainLists.{cons_head, cons_tail, last_of, ReadsItems-length, ReadsItems-one, Ascends-one, last_of-one, lawful-one, map-one, stream-one, stream-more}
 
 -- So many domains of a dump are read, and written as requests.
 pub record Migrated (dump : List ℕ) (count : ℕ) (rest : List ℕ) (last : Option Name) (place : ℕ) (stream : List ℕ) : Type 0 where
@@ -71,12 +71,6 @@ module _ (dump : List ℕ) (count : ℕ) (rest : List ℕ) (last : Option Name) 
       let heads : other.head ≡ so_far.head = cons_head other.head so_far.head _ _ same.0 in
       let tails : other.payloads ≡ so_far.payloads ++ ps = cons_tail other.head so_far.head _ _ same.0 in
       (some_count (length items) count (sym other.counted ∙ ap count_of heads ∙ so_far.counted), sym same.1, subst (λ qs. ReadsItems qs items) tails other.read)
-    where
-      cons_head : (a b : List ℕ) (xs ys : List (List ℕ)) → a ∷ xs ≡ b ∷ ys → a ≡ b
-      cons_head a b xs ys same = cc
-
-      cons_tail : (a b : List ℕ) (xs ys : List (List ℕ)) → a ∷ xs ≡ b ∷ ys → xs ≡ ys
-      cons_tail a b xs ys same = cc
 
   -- no further domain is read where none stands
   none_further : NoItem last rest → (p : List ℕ) (more : List (List ℕ)) (r : List ℕ) (others : Domains) → HasFrames rest (p ∷ more) r

@@ -1,10 +1,11 @@
 -- A dump is wrong at one place.
-use Rattle.std.proofs.Common.{◌≡◌, ◌⊎◌, ℕ, ◌<◌, ◌≤◌, List, [], ◌∷◌, ◌++◌, length, append_assoc, arith, refl, sym, ap, ◌∙◌, inl, inr, subst}
+use Rattle.std.proofs.Common.{◌≡◌, ℕ, ◌<◌, ◌≤◌, List, [], ◌∷◌, ◌++◌, length, arith, refl, sym, inl, inr, subst}
 use Rattle.std.specs.Prelude.{Option, Some, None}
 use Rattle.std.proofs.lemmas.Bool.{cases_lt}
 use Rattle.map_core.specs.Name.{Name}
 use Rattle.frame_front.specs.Dump.{Domains, ReadsItems, Ascends, IsDumpFront, IsBadDump}
 use Rattle.frame_front.proofs.FrameLemmas.{frames_unique}
+use Rattle.frame_front.proofs.DomainLists.{cons_head, cons_tail}
 
 -- the first of some domains that ascend
 first_items : (ps qs : List (List ℕ)) (last : Option Name) (items : Domains) → ReadsItems (ps ++ qs) items → Ascends last items
@@ -21,12 +22,6 @@ shorter_front [] qs good = tt
 shorter_front (head ∷ ps) qs good =
     let first = first_items ps qs None good.1 good.3 good.4 in
     (good.0, first.0, good.2, first.1, first.2, omega (arith, first.3, good.5))
-
-cons_head : {X : Type 0} (a b : X) (xs ys : List X) → a ∷ xs ≡ b ∷ ys → a ≡ b
-cons_head a b xs ys same = cc
-
-cons_tail : {X : Type 0} (a b : X) (xs ys : List X) → a ∷ xs ≡ b ∷ ys → xs ≡ ys
-cons_tail a b xs ys same = cc
 
 -- where two fronts of one list are not as long, the longer one has the first element that the shorter one leaves
 longer_front : {X : Type 0} (xs us ys vs : List X) → xs ++ us ≡ ys ++ vs → length xs < length ys

@@ -1,4 +1,4 @@
--- Entries put into a map in turn.
+-- Entries inserted into a map in turn.
 use Rattle.std.proofs.Common.{◌≡◌, cond, List, [], ◌∷◌, ◌++◌, append-nil, Option, Some, None, refl, sym, ap, ◌∙◌}
 use Rattle.std.specs.Cmp.{eq_by_cmp_equiv}
 use Rattle.std.specs.Cmp.Lexicographic.{nat_list_cmp_total}
@@ -31,7 +31,7 @@ with_more : (m : PlainMap) (es fs : List (Name × Held)) → with_entries m (es 
 with_more m [] fs = refl
 with_more m (e ∷ es) fs = with_more (finite.insert m e.0 e.1) es fs
 
--- the entries of a map, put in after others
+-- the entries of a map, inserted after others
 pub with_map : (es : List (Name × Held)) (held : BTreeMap Name Held) → tree.IsOrdered name_cmp held → put_in_turn (es ++ held.entries) ≡ join (put_in_turn es) (shown held)
 with_map es held ordered =
     with_more finite.empty es held.entries
@@ -45,7 +45,7 @@ with_map es held ordered =
 none_in : (q : Name) → finite.get {R = name_cmp} (finite.empty {X = Held}) q ≡ None
 none_in q = get-empty name_cmp q
 
--- a tree made of entries shows them, put in in turn
+-- a tree made of entries shows them, inserted in turn
 pub shown-made : (es : List (Name × Held)) (held : BTreeMap Name Held) → tree.IsFromIterResult name_cmp es held → shown held ≡ put_in_turn es
 shown-made es held made =
     same_held _ _ (λ q. get-shown held q ∙ made.0 q ∙ same_updates _ _ es q (λ r. sym (none_in r)) ∙ sym (get-with_entries finite.empty es q))

@@ -162,7 +162,7 @@ impl Contents {
         Ok(())
     }
 
-    /// The map of these entries, put in in turn.
+    /// The map of these entries, inserted in turn: of two under one name the later one stays.
     pub(crate) fn from_entries(
         alloc: Global,
         entries: Vec<(TrustDomain, Held)>,

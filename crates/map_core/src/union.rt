@@ -1,5 +1,5 @@
 //! Maps put together.
-ghost use Rattle.std.specs.Prelude.{◌≡◌, ◌++◌, IfOk, OnOk};
+ghost use Rattle.std.specs.Prelude.{◌≡◌, IfOk};
 ghost use Rattle.std.specs.FinMap as finite;
 ghost use Rattle.map_core.specs.PlainMap.{join, bundles};
 
@@ -31,7 +31,7 @@ impl Model for Union {
 }
 
 impl Union {
-    /// No map.
+    /// The union of no map: it is empty.
     pub fn new(alloc: Global) -> Union
         ensures { result ≡ finite.empty }
     {
@@ -41,7 +41,8 @@ impl Union {
         }
     }
 
-    /// What the other holds, and under other names what these hold. The bundles are shared.
+    /// What the other holds, and under other names what these hold. The bundles are shared. Where memory runs out,
+    /// these are gone.
     pub fn join(mut self, other: &Contents) -> Result<Union, AllocError>
         ensures { IfOk result (λ joined. joined ≡ join self other.now) }
     {
