@@ -40,10 +40,12 @@ impl Certificate {
         self.der.lawful();
     }
 
-    /// The DER bytes.
+    /// The DER bytes, at least one.
     pub fn der(&self) -> &Octets
-        ensures { result.now ≡ self.now }
+        ensures value { result.now ≡ self.now }
+        ensures lawful { IsCertificate self.now }
     {
+        self.lawful();
         &self.der
     }
 

@@ -1,5 +1,5 @@
-use super::{authority, bundle, jwt_point, jwt_rsa, keys, letters, refusal};
-use crate::{AppendError, Bundle, DocError};
+use super::{authority, bundle, jwt_point, jwt_rsa, keys, letters, refusal, x509_point};
+use crate::{AppendError, Authority, Bundle, DocError};
 use std::alloc::{AllocError, Global};
 use std::test::Fail;
 
@@ -31,16 +31,16 @@ fn equal_authorities_and_key_ids(rt: HostRuntime) -> Result<(), Fail> {
     Ok(())
 }
 
-/// A document of so many JWT authorities with the key ids `k0`, `k1` and so on, and one more with this key id.
-fn many(alloc: Global, count: usize, last: &str) -> Result<String, AllocError> {
+/// A document of so many JWT authorities with the key ids `k0`, `k1` and so on, one more entry, and what follows `keys`.
+fn many(alloc: Global, count: usize, last: &str, rest: &str) -> Result<String, AllocError> {
     let mut entries = String::new(alloc);
     for place in 0..count {
         let kid = format!(in alloc; "k{place}")?;
         entries.push_str(&jwt_rsa(alloc, &kid, "AQAB")?)?;
         entries.push_str(",")?;
     }
-    entries.push_str(&jwt_rsa(alloc, last, "AQAB")?)?;
-    keys(alloc, &entries)
+    entries.push_str(last)?;
+    format!(in alloc; "{{\"keys\":[{entries}]{rest}}}")
 }
 
 fn append_refusal(
@@ -59,15 +59,55 @@ fn append_refusal(
 #[test]
 fn full_bundles(rt: HostRuntime) -> Result<(), Fail> {
     let alloc = rt.alloc();
-    let full = bundle(alloc, &many(alloc, 1023, "k1023")?)?;
+    let last = jwt_rsa(alloc, "k1023", "AQAB")?;
+    let full = bundle(alloc, &many(alloc, 1023, &last, "")?)?;
     assert_eq!(rt; full.authorities().len(), 1024usize);
     let refused = append_refusal(alloc, &full, &jwt_rsa(alloc, "z", "AQAB")?)?;
     assert_eq!(rt; refused, Some(AppendError::TooMany));
+    let more = jwt_rsa(alloc, "k1024", "AQAB")?;
     assert_eq!(rt;
-        refusal(alloc, &many(alloc, 1024, "k1024")?)?,
+        refusal(alloc, &many(alloc, 1024, &more, "")?)?,
         Some(DocError::TooMany)
     );
-    assert!(rt; bundle(alloc, &many(alloc, 1024, "k0")?)? == full);
+    let equal = jwt_rsa(alloc, "k0", "AQAB")?;
+    assert!(rt; bundle(alloc, &many(alloc, 1024, &equal, "")?)? == full);
+    // A taken key id is told before a full list.
+    let other = jwt_rsa(alloc, "k0", "AQAC")?;
+    assert_eq!(rt;
+        refusal(alloc, &many(alloc, 1024, &other, "")?)?,
+        Some(DocError::KidTwice(1024))
+    );
+    Ok(())
+}
+
+#[test]
+fn refused_appends_in_order(rt: HostRuntime) -> Result<(), Fail> {
+    let alloc = rt.alloc();
+    let first = jwt_rsa(alloc, "k0", "AQAB")?;
+    let greatest = ",\"spiffe_sequence\":18446744073709551615";
+    let last = jwt_rsa(alloc, "k1023", "AQAB")?;
+    let full = bundle(alloc, &many(alloc, 1023, &last, greatest)?)?;
+    let some = bundle(
+        alloc,
+        &format!(in alloc; "{{\"keys\":[{first}]{greatest}}}")?,
+    )?;
+    let other = jwt_rsa(alloc, "k0", "AQAC")?;
+    let more = jwt_rsa(alloc, "z", "AQAB")?;
+    let rows = [
+        (&full, &first, AppendError::Present),
+        (&full, &other, AppendError::KidTaken),
+        (&full, &more, AppendError::TooMany),
+        (&some, &first, AppendError::Present),
+        (&some, &other, AppendError::KidTaken),
+        (&some, &more, AppendError::SequenceFull),
+    ];
+    for (before, entry, wanted) in rows {
+        assert_eq!(rt;
+            append_refusal(alloc, before, entry)?,
+            Some(wanted),
+            "{entry}"
+        );
+    }
     Ok(())
 }
 
@@ -142,5 +182,60 @@ fn the_longest_canonical_text(rt: HostRuntime) -> Result<(), Fail> {
     assert_eq!(rt; long.text_len(), 1048575usize);
     let refused = append_refusal(alloc, &long, &jwt_rsa(alloc, "k", "AQAB")?)?;
     assert_eq!(rt; refused, Some(AppendError::TooLong));
+    Ok(())
+}
+
+#[test]
+fn the_longest_canonical_text_of_the_greatest_sequence(rt: HostRuntime) -> Result<(), Fail> {
+    let alloc = rt.alloc();
+    let der = letters(alloc, 'A', 1048460)?;
+    let document = format!(in alloc;
+        "{{\"keys\":[{{\"use\":\"x509-svid\",\"kty\":\"RSA\",\"n\":\"AQAB\",\"e\":\"AQAB\",\"x5c\":[\"{der}\"]}}],\"spiffe_sequence\":18446744073709551615}}"
+    )?;
+    let long = bundle(alloc, &document)?;
+    assert_eq!(rt; long.text_len(), 1048574usize);
+    let refused = append_refusal(alloc, &long, &jwt_rsa(alloc, "k", "AQAB")?)?;
+    assert_eq!(rt; refused, Some(AppendError::SequenceFull));
+    Ok(())
+}
+
+#[test]
+fn appends_of_each_kind(rt: HostRuntime) -> Result<(), Fail> {
+    let alloc = rt.alloc();
+    let a43 = letters(alloc, 'A', 43)?;
+    let ec = format!(in alloc; "\"crv\":\"P-256\"")?;
+    let rows = [
+        (
+            x509_point(alloc, "P-256", &a43, &a43, "[\"MAA=\"]")?,
+            format!(in alloc;
+                "{{\"keys\":[{{{ec},\"kty\":\"EC\",\"use\":\"x509-svid\",\"x\":\"{a43}\",\"x5c\":[\"MAA=\"],\"y\":\"{a43}\"}}]}}"
+            )?,
+        ),
+        (
+            String::from_str(
+                alloc,
+                "{\"use\":\"x509-svid\",\"kty\":\"RSA\",\"n\":\"AAAB\",\"e\":\"AQAB\",\"x5c\":[\"MAA=\"]}",
+            )?,
+            String::from_str(
+                alloc,
+                "{\"keys\":[{\"e\":\"AQAB\",\"kty\":\"RSA\",\"n\":\"AAAB\",\"use\":\"x509-svid\",\"x5c\":[\"MAA=\"]}]}",
+            )?,
+        ),
+        (
+            jwt_point(alloc, "k", &a43)?,
+            format!(in alloc;
+                "{{\"keys\":[{{{ec},\"kid\":\"k\",\"kty\":\"EC\",\"use\":\"jwt-svid\",\"x\":\"{a43}\",\"y\":\"{a43}\"}}]}}"
+            )?,
+        ),
+    ];
+    for (entry, wanted) in &rows {
+        let after = appended(alloc, "{\"keys\":[]}", entry)?;
+        assert_eq!(rt; after.text(), wanted.as_bytes());
+        assert!(rt; after == bundle(alloc, wanted)?, "{wanted}");
+        let kept = after.authorities().first().ok_or("an authority")?;
+        assert!(rt; *kept == authority(alloc, entry)?, "{wanted}");
+        let copy: Authority = kept.copy()?;
+        assert!(rt; copy == *kept, "{wanted}");
+    }
     Ok(())
 }

@@ -1,5 +1,5 @@
 use super::{bundle, jwt_point, keys, letters, refusal, refusal_of, x509_point};
-use crate::{DocError, read_document, write_document};
+use crate::{DocError, KeyMember, read_document, write_document};
 use std::alloc::{AllocError, Global};
 use std::test::Fail;
 
@@ -37,10 +37,36 @@ fn refused_documents(rt: HostRuntime) -> Result<(), Fail> {
             "{\"keys\":[5],\"spiffe_refresh_hint\":\"x\"}",
             DocError::BadHint,
         ),
+        (
+            "{\"keys\":[5],\"spiffe_refresh_hint\":-1,\"spiffe_sequence\":-1}",
+            DocError::BadSequence,
+        ),
         ("{\"keys\":[5]}", DocError::BadEntry(0)),
         (
             "{\"keys\":[{\"kty\":\"OKP\",\"use\":\"jwt-svid\"},5]}",
             DocError::BadEntry(1),
+        ),
+        (
+            "{\"keys\":[{\"kty\":\"OKP\",\"use\":\"jwt-svid\"},{},{\"kty\":\"EC\",\"use\":\"jwt-svid\"},5]}",
+            DocError::BadKey {
+                place: 2,
+                member: KeyMember::Crv,
+            },
+        ),
+        (
+            "{\"keys\":[{},{\"kty\":\"RSA\",\"use\":\"jwt-svid\",\"n\":\"AQAB\"}]}",
+            DocError::BadKey {
+                place: 1,
+                member: KeyMember::E,
+            },
+        ),
+        (
+            "{\"keys\":[{},{\"kty\":\"RSA\",\"use\":\"x509-svid\",\"n\":\"AQAB\",\"e\":\"AQAB\"}]}",
+            DocError::BadX5c(1),
+        ),
+        (
+            "{\"keys\":[{},{\"kty\":\"RSA\",\"use\":\"jwt-svid\",\"n\":\"AQAB\",\"e\":\"AQAB\"}]}",
+            DocError::BadKid(1),
         ),
     ];
     for (document, wanted) in rows {
@@ -102,6 +128,15 @@ fn canonical_texts(rt: HostRuntime) -> Result<(), Fail> {
         assert_eq!(rt; written.as_slice(), wanted.as_bytes(), "{document}");
         assert!(rt; read_document(alloc, &written)? == bundle, "{document}");
     }
+    Ok(())
+}
+
+#[test]
+fn the_empty_document(rt: HostRuntime) -> Result<(), Fail> {
+    let empty = bundle(rt.alloc(), "{\"keys\":[]}")?;
+    assert_eq!(rt; empty.sequence(), None);
+    assert_eq!(rt; empty.refresh_hint(), None);
+    assert_eq!(rt; empty.authorities().len(), 0usize);
     Ok(())
 }
 

@@ -198,3 +198,48 @@ fn members_are_kept(rt: HostRuntime) -> Result<(), Fail> {
     assert!(rt; !(copy == point));
     Ok(())
 }
+
+#[test]
+fn keys_are_copied(rt: HostRuntime) -> Result<(), Fail> {
+    let alloc = rt.alloc();
+    let x = format!(in alloc; "E{}", letters(alloc, 'A', 42)?)?;
+    let y = letters(alloc, 'A', 43)?;
+    let point = authority(alloc, &x509_point(alloc, "P-256", &x, &y, "[\"MAA=\"]")?)?;
+    let Authority::X509 { key, .. } = &point else {
+        return Err("no certificate")?;
+    };
+    let PublicKey::Ec(copy) = key.copy()? else {
+        return Err("no key over a curve")?;
+    };
+    assert!(rt; copy.curve() == Curve::P256);
+    assert_eq!(rt; copy.x().as_slice().first().copied(), Some(16u8));
+    assert_eq!(rt; copy.y().as_slice(), [0u8; 32].as_slice());
+    assert!(rt; PublicKey::Ec(copy) == *key);
+    // Zeros that a modulus begins with are kept.
+    let rsa = authority(alloc, &jwt_rsa(alloc, "k", "AAAB")?)?;
+    let Authority::Jwt { key: modulus, .. } = &rsa else {
+        return Err("no key id")?;
+    };
+    let PublicKey::Rsa(copy) = modulus.copy()? else {
+        return Err("no RSA key")?;
+    };
+    assert_eq!(rt; copy.n().as_slice(), [0u8, 0, 1].as_slice());
+    assert_eq!(rt; copy.e().as_slice(), [1u8, 0, 1].as_slice());
+    assert!(rt; !(PublicKey::Rsa(copy) == *key));
+    Ok(())
+}
+
+#[test]
+fn the_longest_entry(rt: HostRuntime) -> Result<(), Fail> {
+    let alloc = rt.alloc();
+    let entry = jwt_rsa(alloc, "k", "AQAB")?;
+    let spaces = letters(alloc, ' ', 1048576 - entry.len())?;
+    let longest = format!(in alloc; "{entry}{spaces}")?;
+    assert_eq!(rt; longest.len(), 1048576usize);
+    assert!(rt; authority(alloc, &longest)? == authority(alloc, &entry)?);
+    assert_eq!(rt;
+        entry_refusal(alloc, &format!(in alloc; "{longest} ")?)?,
+        Some(DocError::TooLong)
+    );
+    Ok(())
+}

@@ -82,6 +82,7 @@ fn ids(rt: HostRuntime) -> Result<(), Fail> {
     let longest = format!(in alloc; "spiffe://a/{}", letters(alloc, 'b', 2037)?)?;
     let too_long = format!(in alloc; "spiffe://a/{}", letters(alloc, 'b', 2038)?)?;
     let long_domain = format!(in alloc; "spiffe://{}/b", letters(alloc, 'a', 256)?)?;
+    let too_long_text = letters(alloc, 'a', 2049)?;
     assert_eq!(rt; longest.len(), 2048usize);
     let rows = [
         ("spiffe://a", None),
@@ -90,6 +91,7 @@ fn ids(rt: HostRuntime) -> Result<(), Fail> {
         (longest.as_str(), None),
         (too_long.as_str(), Some(IdError::TooLong)),
         (long_domain.as_str(), Some(IdError::TooLong)),
+        (too_long_text.as_str(), Some(IdError::TooLong)),
         ("SPIFFE://a", Some(IdError::NotSpiffe)),
         ("https://a", Some(IdError::NotSpiffe)),
         ("", Some(IdError::NotSpiffe)),
@@ -98,6 +100,8 @@ fn ids(rt: HostRuntime) -> Result<(), Fail> {
         ("spiffe://a:80/x", Some(IdError::BadChar(1))),
         ("spiffe://u@a/x", Some(IdError::BadChar(1))),
         ("spiffe://a?q", Some(IdError::BadChar(1))),
+        ("spiffe://A/.", Some(IdError::BadChar(0))),
+        ("spiffe:////", Some(IdError::Empty)),
         ("spiffe://a/", Some(IdError::BadPath(0))),
         ("spiffe://a/b//c", Some(IdError::BadPath(1))),
         ("spiffe://a/b/", Some(IdError::BadPath(1))),

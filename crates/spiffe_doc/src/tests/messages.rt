@@ -141,10 +141,54 @@ fn messages_and_numbers_of_names(rt: HostRuntime) -> Result<(), Fail> {
         assert_eq!(rt; text.as_str(), wanted);
         assert_eq!(rt; error.number(), number, "{wanted}");
     }
-    let full = AppendError::SequenceFull.to_string(alloc)?;
-    assert_eq!(rt;
-        full.as_str(),
-        "the sequence is the greatest, 18446744073709551615"
-    );
+    Ok(())
+}
+
+#[test]
+fn messages_of_appends(rt: HostRuntime) -> Result<(), Fail> {
+    let alloc = rt.alloc();
+    let rows = [
+        (AppendError::Present, "the bundle has this authority"),
+        (
+            AppendError::KidTaken,
+            "the bundle has the kid with another key",
+        ),
+        (AppendError::TooMany, "the bundle has 1024 authorities"),
+        (
+            AppendError::SequenceFull,
+            "the sequence is the greatest, 18446744073709551615",
+        ),
+        (
+            AppendError::TooLong,
+            "the canonical text would have over 1048576 bytes",
+        ),
+        (AppendError::Memory, "out of memory"),
+    ];
+    for (error, wanted) in rows {
+        let text = error.to_string(alloc)?;
+        assert_eq!(rt; text.as_str(), wanted);
+    }
+    Ok(())
+}
+
+#[test]
+fn messages_of_each_member_of_a_key(rt: HostRuntime) -> Result<(), Fail> {
+    let alloc = rt.alloc();
+    let rows = [
+        (KeyMember::Crv, "crv", "a text"),
+        (KeyMember::X(Curve::P256), "x", "32 bytes of base64url"),
+        (KeyMember::X(Curve::P384), "x", "48 bytes of base64url"),
+        (KeyMember::X(Curve::P521), "x", "66 bytes of base64url"),
+        (KeyMember::Y(Curve::P256), "y", "32 bytes of base64url"),
+        (KeyMember::Y(Curve::P384), "y", "48 bytes of base64url"),
+        (KeyMember::Y(Curve::P521), "y", "66 bytes of base64url"),
+        (KeyMember::N, "n", "1 to 1024 bytes of base64url"),
+        (KeyMember::E, "e", "1 to 1024 bytes of base64url"),
+    ];
+    for (member, name, form) in rows {
+        let text = DocError::BadKey { place: 9, member }.to_string(alloc)?;
+        let wanted = format!(in alloc; "the {name} member of key 9 is not {form}")?;
+        assert_eq!(rt; text.as_str(), wanted.as_str());
+    }
     Ok(())
 }
