@@ -117,7 +117,7 @@ impl Task {
     }
 
     /// Whether the operation has its place among all operations.
-    pub fn has_point(&self) -> bool
+    pub(crate) fn has_point(&self) -> bool
         ensures { result ≡ has_point self.now.phase }
     {
         match &self.state {
@@ -130,7 +130,7 @@ impl Task {
     }
 
     /// Whether the operation has changed its shard.
-    pub fn has_written(&self) -> bool
+    pub(crate) fn has_written(&self) -> bool
         ensures { result ≡ is_written self.now.phase }
     {
         match &self.state {
@@ -143,7 +143,7 @@ impl Task {
     }
 
     /// Whether the reply is there.
-    pub fn is_done(&self) -> bool
+    pub(crate) fn is_done(&self) -> bool
         ensures { result ≡ is_done self.now.phase }
     {
         match &self.state {
@@ -155,7 +155,7 @@ impl Task {
     }
 
     /// Whether it is done because it found no memory.
-    pub fn is_out_of_memory(&self) -> bool
+    pub(crate) fn is_out_of_memory(&self) -> bool
         ensures { result ≡ is_out_of_memory self.now.phase }
     {
         match &self.state {
@@ -171,9 +171,9 @@ impl Task {
         }
     }
 
-    /// The reply.
+    /// The reply, if nothing more is wanted.
     pub fn reply(self) -> Result<Reply, AskError>
-        requires { is_done self.phase ≡ true }
+        requires { wants self.phase ≡ Want.Done }
         ensures { self.phase ≡ Done result }
     {
         match self.state {
