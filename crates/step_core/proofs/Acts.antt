@@ -5,8 +5,7 @@ use Rattle.map_core.specs.declared.reply.AskError.{AskError}
 use Rattle.map_core.specs.declared.reply.Reply.{Reply}
 use Rattle.step_core.specs.declared.event.Event.{Event}
 use Rattle.step_core.specs.declared.event.Event.TheVariants.{Begin, Step, Quit, End}
-use Rattle.step_core.specs.declared.event.Why.{Why}
-use Rattle.step_core.specs.World.{World, Turn, turn, refusal, moved, started, to_phase}
+use Rattle.step_core.specs.World.{Turn, turn, refusal, moved, started, to_phase}
 use Rattle.step_core.specs.Phase.{Phase, Idle, Waiting, Collecting, Confirming, Done, begun, is_idle, is_open, is_done}
 use Rattle.step_core.specs.Run.{Run, in_world}
 use Rattle.step_core.specs.Run as notes
