@@ -1,8 +1,12 @@
 -- The laws of the plain map.
-use Rattle.std.specs.Prelude.{◌≡◌, ◌≢◌, ◌<◌, ℕ, true, Some}
+use Rattle.std.specs.Prelude.{◌≡◌, ◌≢◌, ◌<◌, ℕ, true, List, [], ◌∷◌, Option, Some, None}
 use Rattle.std.specs.FinMap as finite
+use Rattle.std.specs.declared.cmp.Ordering.TheVariants.{Less}
+use Rattle.spiffe_doc.specs.Authority.{BundleValue}
 use Rattle.map_core.specs.declared.op.Op.{Op}
-use Rattle.map_core.specs.Name.{Name}
+use Rattle.map_core.specs.declared.op.Op.TheVariants.{FetchAll}
+use Rattle.map_core.specs.declared.reply.Reply.TheVariants.{All}
+use Rattle.map_core.specs.Name.{Name, name_cmp}
 use Rattle.map_core.specs.Op.{domain_of}
 use Rattle.map_core.specs.Reply.{is_change}
 use Rattle.map_core.specs.PlainMap.{PlainMap, ask, shard_of, part, together}
@@ -28,3 +32,17 @@ AskedAtHome =
     (n : ℕ) (m : PlainMap) (op : Op) (i : ℕ) → shard_of n op ≡ Some i →
     ((ask (part n m i) op).reply ≡ (ask m op).reply) × (part n (ask m op).map i ≡ (ask (part n m i) op).map)
     × ((j : ℕ) → j ≢ i → part n (ask m op).map j ≡ part n m j)
+
+-- the name comes after the last one, if any
+abbrev pub IsAfter : Option Name → Name → Type 0
+IsAfter None name = Unit {0}
+IsAfter (Some last) name = name_cmp last name ≡ Less
+
+-- each name comes after the one before it, and the first after the last one given
+abbrev pub Ascends : Option Name → List (Name × BundleValue) → Type 0
+Ascends last [] = Unit {0}
+Ascends last (pair ∷ pairs) = IsAfter last pair.0 × Ascends (Some pair.0) pairs
+
+-- The names in the reply to a fetch-all rise strictly, in byte order.
+abbrev pub NamesRise : Type 0
+NamesRise = (m : PlainMap) (pairs : List (Name × BundleValue)) → (ask m FetchAll).reply ≡ All pairs → Ascends None pairs

@@ -15,6 +15,15 @@ domain_of (Remove d) = Some d
 domain_of (Get d) = Some d
 domain_of FetchAll = None
 
+-- whether it carries neither a bundle nor an authority
+abbrev pub carries_nothing : Op → Bool
+carries_nothing (Set d b) = false
+carries_nothing (SetIf d expect b) = false
+carries_nothing (Append d a) = false
+carries_nothing (Remove d) = true
+carries_nothing (Get d) = true
+carries_nothing FetchAll = true
+
 -- whether two expectations are the same
 abbrev pub expect_eq : Expect → Expect → Bool
 expect_eq Absent Absent = true

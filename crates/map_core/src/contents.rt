@@ -1,7 +1,7 @@
 //! The map of one caller, kept in a `BTreeMap`.
-ghost use Rattle.std.specs.Prelude.{◌≡◌, IfOk, OnOk, IfErr, OnErr, MatchOption, length, true, false, option_copied};
+ghost use Rattle.std.specs.Prelude.{◌≡◌, IfOk, OnOk, IfErr, OnErr, MatchOption, Ok, length, true, false, option_copied};
 ghost use Rattle.std.specs.FinMap as finite;
-ghost use Rattle.map_core.specs.Op.{domain_of};
+ghost use Rattle.map_core.specs.Op.{domain_of, carries_nothing};
 ghost use Rattle.map_core.specs.declared.op.Op.TheVariants.{Set};
 ghost use Rattle.map_core.specs.Outcome.{reply_of, left_by};
 ghost use Rattle.map_core.specs.PlainMap.{ask, join, bundles};
@@ -105,11 +105,14 @@ impl Contents {
         Ok((reply, Some(after)))
     }
 
-    /// Whether the operation would change the map. An append is tried on the bundle, which may want memory.
+    /// Whether the operation would change the map. A bundle is compared and an authority is appended to a copy, which
+    /// may want memory; an operation that carries neither is told without.
     pub fn would_change(&self, op: &Op) -> Result<bool, AllocError>
-        ensures { IfOk result (λ changes. changes ≡ is_change (ask self.now op.now).reply) }
+        ensures told { IfOk result (λ changes. changes ≡ is_change (ask self.now op.now).reply) }
+        ensures always { carries_nothing op.now ≡ true → result ≡ Ok (is_change (ask self.now op.now).reply) }
     {
         match op {
+            Op::Remove(domain) => Ok(table::remove(self.at(domain)).is_change()),
             Op::Get(_) => Ok(false),
             Op::FetchAll => Ok(false),
             _ => Ok(self.outcome(op)?.is_change()),

@@ -14,14 +14,14 @@ pub enum Held {
 
 impl Held {
     /// Whether it is a bundle.
-    pub fn is_published(&self) -> bool
+    pub(crate) fn is_published(&self) -> bool
         ensures { result ≡ is_published self.now }
     {
         matches!(self, Held::Published(_))
     }
 
     /// The same bundle, shared, or the same mark.
-    pub fn copy(&self) -> Result<Held, AllocError>
+    pub(crate) fn copy(&self) -> Result<Held, AllocError>
         ensures { IfOk result (λ copy. copy ≡ self.now) }
     {
         match self {

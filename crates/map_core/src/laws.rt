@@ -1,5 +1,5 @@
 //! Laws of the plain map.
-ghost use Rattle.map_core.specs.Laws.{AskedAtHome, DependsOnName, PartsTogether, TellsOfChange};
+ghost use Rattle.map_core.specs.Laws.{AskedAtHome, DependsOnName, NamesRise, PartsTogether, TellsOfChange};
 
 /// The reply of an operation on one name, and what that name holds then, follow from what it held; all
 /// other names keep theirs.
@@ -21,4 +21,9 @@ pub fn parts_together()
 /// the other parts stay.
 pub fn asked_at_home()
     ensures { AskedAtHome }
+{}
+
+/// The names in the reply to a fetch-all rise strictly, in byte order.
+pub fn names_rise()
+    ensures { NamesRise }
 {}

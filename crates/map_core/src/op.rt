@@ -64,7 +64,7 @@ impl Op {
     }
 
     /// The name that the operation is on; none for a fetch-all.
-    pub fn domain(&self) -> Option<&TrustDomain>
+    pub(crate) fn domain(&self) -> Option<&TrustDomain>
         ensures { option_copied result ≡ domain_of self.now }
     {
         match self {
@@ -75,7 +75,7 @@ impl Op {
     }
 
     /// The name that the operation was on; none for a fetch-all.
-    pub fn into_domain(self) -> Option<TrustDomain>
+    pub(crate) fn into_domain(self) -> Option<TrustDomain>
         ensures { result ≡ domain_of self }
     {
         match self {

@@ -1,11 +1,21 @@
 //! Worked examples of the plain map. A row is what is asked and, beside it, what is answered.
-use crate::{Ask, AskError, Contents, Expect, Held, MapRefusal, Op, Reply, Snapshot, Union};
+mod appends;
+mod snapshots;
+
+use crate::{Ask, AskError, Contents, Expect, Held, MapRefusal, Op, Reply, Snapshot};
 use spiffe_doc::{Authority, Bundle, TrustDomain, read_document, read_entry};
 use std::alloc::{AllocError, Global};
 use std::test::Fail;
 
-/// One JWT authority, written as its key ID and the modulus of its key: `k:AQAB`.
+/// The X.509 authority with an EC key that the word `x509` stands for.
+const X509_ENTRY: &str =
+    "{\"use\":\"x509-svid\",\"kty\":\"EC\",\"crv\":\"P-256\",\"x\":\"AAAAAAAAAAAAAAAAAAAAAAAAAAAAAAAAAAAAAAAAAAA\",\"y\":\"AAAAAAAAAAAAAAAAAAAAAAAAAAAAAAAAAAAAAAAAAAA\",\"x5c\":[\"MAA=\"]}";
+
+/// One JWT authority, written as its key ID and the modulus of its key: `k:AQAB`. Or an X.509 authority: `x509`.
 fn entry_text(alloc: Global, word: &str) -> Result<String, Fail> {
+    if word == "x509" {
+        return Ok(String::from_str(alloc, X509_ENTRY)?);
+    }
     let Some((kid, n)) = word.split_once(':') else {
         return Err(Fail::from("an entry is a key ID, a colon and a modulus"));
     };
@@ -127,14 +137,20 @@ fn reply_text(alloc: Global, reply: &Reply) -> Result<String, AllocError> {
     }
 }
 
-/// Asks whoever keeps the map. Where memory runs out nothing has changed, so it is asked again.
+/// Asks a copy of the operation. If memory runs out nothing has changed, so the operation itself is asked then.
 fn answer<A: Ask>(map: &mut A, op: Op) -> Result<Reply, Fail> {
-    let again = op.copy()?;
-    match map.ask(op) {
+    match map.ask(op.copy()?) {
         Ok(reply) => Ok(reply),
-        Err(AskError::Memory) => Ok(map.ask(again)?),
+        Err(AskError::Memory) => Ok(map.ask(op)?),
         Err(other) => Err(Fail::from(other)),
     }
+}
+
+/// The bundles of a copy of the map, and how many the map counts.
+fn left_text(alloc: Global, map: &Contents) -> Result<String, Fail> {
+    let all = map.copy()?.into_snapshot()?;
+    let text = snapshot_text(alloc, &all)?;
+    Ok(format!(in alloc; "{text} of {}", map.len())?)
 }
 
 /// One row: the reply is the expected one, and what is told beforehand agrees with it.
@@ -144,17 +160,19 @@ fn play_row(alloc: Global, map: &mut Contents, line: &str, expected: &str) -> Re
     let (told, after) = map.asked(&op)?;
     let reply = answer(map, op)?;
     let text = reply_text(alloc, &reply)?;
-    let len = match &after {
-        Some(after) => after.len(),
-        None => map.len(),
-    };
+    let left = left_text(alloc, map)?;
     if text.as_str() != expected {
         return Err(Fail::from(format!(in alloc; "{line}: {text}, and not {expected}")?));
     }
     if reply_text(alloc, &told)?.as_str() != expected || changes != reply.is_change() {
         return Err(Fail::from(format!(in alloc; "{line}: something else was told before")?));
     }
-    if after.is_some() != changes || len != map.len() {
+    if after.is_some() != changes {
+        return Err(Fail::from(format!(in alloc; "{line}: another change was told before")?));
+    }
+    if let Some(after) = after
+        && left_text(alloc, &after)?.as_str() != left.as_str()
+    {
         return Err(Fail::from(format!(in alloc; "{line}: another map was told before")?));
     }
     Ok(())
@@ -228,25 +246,6 @@ fn remembers_removed_sequences(rt: HostRuntime) -> Result<(), Fail> {
 }
 
 #[test]
-fn appends(rt: HostRuntime) -> Result<(), Fail> {
-    let rows = [
-        ("append a k:AQAB", "refused 30"),
-        ("set a 9", "stored"),
-        ("append a k:AQAB", "appended 10"),
-        ("append a k:AQAB", "unchanged"),
-        ("append a k:AQAC", "refused 32"),
-        ("append a l:AQAB", "appended 11"),
-        ("get a", "found 11/2"),
-        ("set b -", "stored"),
-        ("append b k:AQAB", "appended -"),
-        ("set c 18446744073709551615", "stored"),
-        ("append c k:AQAB", "refused 35"),
-        ("get c", "found 18446744073709551615/0"),
-    ];
-    play_new(rt.alloc(), &rows)
-}
-
-#[test]
 fn shows_bundles_in_order(rt: HostRuntime) -> Result<(), Fail> {
     let rows = [
         ("fetch", "all 0"),
@@ -268,131 +267,6 @@ fn shows_bundles_in_order(rt: HostRuntime) -> Result<(), Fail> {
     Ok(())
 }
 
-/// A document of so many authorities, whose moduli are this text.
-fn many(alloc: Global, count: usize, n: &str) -> Result<Bundle, Fail> {
-    let mut text = String::from_str(alloc, "{\"keys\":[")?;
-    for i in 0..count {
-        if i > 0 {
-            text.push(',')?;
-        }
-        text.push_str(entry_text(alloc, format!(in alloc; "k{i:04}:{n}")?.as_str())?.as_str())?;
-    }
-    text.push_str("]}")?;
-    Ok(read_document(alloc, text.as_bytes())?)
-}
-
-fn letters(alloc: Global, count: usize) -> Result<String, AllocError> {
-    let mut text = String::new(alloc);
-    for _ in 0..count {
-        text.push('A')?;
-    }
-    Ok(text)
-}
-
-#[test]
-fn takes_so_many_authorities(rt: HostRuntime) -> Result<(), Fail> {
-    let alloc = rt.alloc();
-    let mut map = Contents::new(alloc);
-    let domain = TrustDomain::parse(alloc, "a")?;
-    answer(&mut map, Op::Set(domain, many(alloc, 1023, "AQAB")?))?;
-    let rows = [
-        ("append a last:AQAB", "appended -"),
-        ("append a more:AQAB", "refused 33"),
-        ("append a last:AQAB", "unchanged"),
-        ("append a last:AQAC", "refused 32"),
-        ("get a", "found -/1024"),
-    ];
-    play(alloc, &mut map, &rows)
-}
-
-/// A modulus of 1,024 bytes is 1,366 letters and its entry 1,428 bytes, so 733 of them are a text of 1,047,467
-/// bytes and 734 would be too long.
-#[test]
-fn takes_so_long_a_text(rt: HostRuntime) -> Result<(), Fail> {
-    let alloc = rt.alloc();
-    let mut map = Contents::new(alloc);
-    let n = letters(alloc, 1366)?;
-    let domain = TrustDomain::parse(alloc, "a")?;
-    let full = many(alloc, 733, n.as_str())?;
-    assert_eq!(rt; full.text_len(), 1047467);
-    answer(&mut map, Op::Set(domain, full))?;
-    let line = format!(in alloc; "append a k9999:{n}")?;
-    let rows = [
-        (line.as_str(), "refused 34"),
-        ("append a k9999:AQAB", "appended -"),
-    ];
-    play(alloc, &mut map, &rows)
-}
-
-#[test]
-fn shows_a_thousand_names_in_order(rt: HostRuntime) -> Result<(), Fail> {
-    let alloc = rt.alloc();
-    let mut map = Contents::new(alloc);
-    for i in 0..1000u64 {
-        let number = i * 7 % 1000;
-        let domain = TrustDomain::parse(alloc, format!(in alloc; "n{number:03}")?.as_str())?;
-        answer(
-            &mut map,
-            Op::Set(
-                domain,
-                bundle(alloc, format!(in alloc; "{number}")?.as_str())?,
-            ),
-        )?;
-    }
-    assert_eq!(rt; map.len(), 1000);
-    let Reply::All(all) = answer(&mut map, Op::FetchAll)? else {
-        return Err(Fail::from("a fetch-all is answered otherwise"));
-    };
-    assert_eq!(rt; all.len(), 1000);
-    let mut next = 0;
-    for (domain, bundle) in &all.into_pairs() {
-        assert_eq!(rt; domain.as_str(), format!(in alloc; "n{next:03}")?.as_str());
-        assert_eq!(rt; bundle.sequence(), Some(next));
-        next = next.wrapping_add(1);
-    }
-    Ok(())
-}
-
-#[test]
-fn copies_and_joins(rt: HostRuntime) -> Result<(), Fail> {
-    let alloc = rt.alloc();
-    let mut first = Contents::new(alloc);
-    let mut second = Contents::new(alloc);
-    play(
-        alloc,
-        &mut first,
-        &[
-            ("set a 1", "stored"),
-            ("set b 2", "stored"),
-            ("set c 3", "stored"),
-        ],
-    )?;
-    play(
-        alloc,
-        &mut second,
-        &[
-            ("set b 9", "stored"),
-            ("set c 4", "stored"),
-            ("remove c", "removed"),
-        ],
-    )?;
-    let mut copy = first.copy()?;
-    play(
-        alloc,
-        &mut copy,
-        &[("remove a", "removed"), ("fetch", "all 2 b 2/0 c 3/0")],
-    )?;
-    let mut joined = Union::new(alloc)
-        .join(&first)?
-        .join(&second)?
-        .into_contents()?;
-    play(
-        alloc,
-        &mut joined,
-        &[("fetch", "all 2 a 1/0 b 9/0"), ("set c 3", "refused 31 4")],
-    )
-}
-
 #[test]
 fn parts_of_operations_and_replies(rt: HostRuntime) -> Result<(), Fail> {
     let alloc = rt.alloc();
@@ -411,8 +285,14 @@ fn parts_of_operations_and_replies(rt: HostRuntime) -> Result<(), Fail> {
     }
     assert!(rt; Op::FetchAll.domain().is_none());
     assert!(rt; Op::FetchAll.into_domain().is_none());
-    assert!(rt; Held::Published(bundle(alloc, "5")?).copy()?.is_published());
-    assert!(rt; !Held::Mark(5).copy()?.is_published());
+    let Held::Published(copy) = Held::Published(bundle(alloc, "5/k:AQAB")?).copy()? else {
+        return Err(Fail::from("a copied bundle is a mark"));
+    };
+    assert_eq!(rt; bundle_text(alloc, &copy)?.as_str(), "5/1");
+    let Held::Mark(copy) = Held::Mark(7).copy()? else {
+        return Err(Fail::from("a copied mark is a bundle"));
+    };
+    assert_eq!(rt; copy, 7);
     let mut pairs = Vec::new(alloc);
     pairs.push((TrustDomain::parse(alloc, "a")?, bundle(alloc, "5")?))?;
     let all = Reply::All(Snapshot::from_pairs(pairs));

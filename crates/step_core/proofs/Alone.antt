@@ -9,7 +9,8 @@ use Rattle.map_core.specs.declared.reply.AskError.TheVariants.{Memory}
 use Rattle.map_core.specs.Table.{meaning}
 use Rattle.map_core.specs.PlainMap.{shard_of}
 use Rattle.step_core.specs.Shard.{Version, reading}
-use Rattle.step_core.specs.Phase.{Phase, Collecting, Confirming, Done, Told, Seen, Revision, begun, fetched, collected, confirmed, disturbed, give, is_done}
+use Rattle.step_core.specs.declared.task.Want.TheVariants as want
+use Rattle.step_core.specs.Phase.{Phase, Idle, Waiting, Collecting, Confirming, Done, wants, Told, Seen, Revision, begun, fetched, collected, confirmed, disturbed, give, is_done}
 use Rattle.step_core.specs.TaskView.{TaskView}
 use Rattle.step_core.specs.Task.{out_of_memory}
 use Rattle.step_core.proofs.Parts.{item_here}
@@ -108,8 +109,15 @@ ended_at vs k x a b h =
     let at : confirming vs k ≡ Done (Ok (fetched (length vs) vs)) = ap (λ b. cond b (Done (Ok (fetched (length vs) vs))) (Confirming 1 vs k)) (ap (λ (m : ℕ). k == m) (sym full) ∙ number_itself k) in
     ⊎_elim (λ (e : x.phase ≡ confirming vs k). inl (e ∙ at)) (λ (e : x.phase ≡ out_of_memory). inr e) h.phase
 
-pub ended_done : (reply : Reply) (p : Phase) → (p ≡ Done (Ok reply)) ⊎ (p ≡ out_of_memory) → is_done p ≡ true
-ended_done reply p h = ⊎_elim (λ (e : p ≡ Done (Ok reply)). ap is_done e) (λ (e : p ≡ out_of_memory). ap is_done e) h
+pub ended_done : (reply : Reply) (p : Phase) → (p ≡ Done (Ok reply)) ⊎ (p ≡ out_of_memory) → wants p ≡ want.Done
+ended_done reply p h = ⊎_elim (λ (e : p ≡ Done (Ok reply)). ap wants e) (λ (e : p ≡ out_of_memory). ap wants e) h
+
+pub done_wants : (p : Phase) → is_done p ≡ true → wants p ≡ want.Done
+done_wants Idle h = cc
+done_wants (Waiting i) h = cc
+done_wants (Collecting round readings) h = cc
+done_wants (Confirming round readings k) h = cc
+done_wants (Done reply) h = refl
 
 pub ended_reply : (reply : Reply) (p : Phase) (r : Result Reply AskError) → (p ≡ Done (Ok reply)) ⊎ (p ≡ out_of_memory) → p ≡ Done r → IfOk r (λ x. x ≡ reply)
 ended_reply reply p (Ok x) h is = ⊎_elim (λ (e : p ≡ Done (Ok reply)). cc) (λ (e : p ≡ out_of_memory). let never : ⊥ = cc in absurd never) h

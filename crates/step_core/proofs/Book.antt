@@ -8,7 +8,8 @@ use Rattle.step_core.specs.World.{with_at, Turn}
 use Rattle.step_core.specs.Shard.{Version}
 use Rattle.step_core.specs.Phase.{Phase, Idle, Waiting, Collecting, Confirming, Done, is_written, begun, begun_at, is_idle, has_point}
 use Rattle.step_core.specs.declared.trace.OpRecord.{OpRecord}
-use Rattle.step_core.specs.Run.{Run, repointed, begin, pass, finish}
+use Rattle.step_core.specs.Run.{Run, repointed}
+use Rattle.step_core.proofs.Acts.{begin, pass, finish}
 use Rattle.step_core.proofs.Points.{same_number, other_number, with_at_same, with_at_other, with_at_keep}
 use Rattle.step_core.proofs.Claims.{IsPhaseOf}
 use Rattle.step_core.proofs.Moves.{Move}

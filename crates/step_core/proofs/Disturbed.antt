@@ -13,7 +13,8 @@ use Rattle.step_core.specs.Shard.{Version, reading, last_revision, Stepped, step
 use Rattle.step_core.specs.Phase.{Phase, Idle, Waiting, Collecting, Confirming, Done, collected, confirmed, fetched, disturbed, confirm, is_written, is_open, begun, begun_at, is_idle}
 use Rattle.step_core.specs.declared.event.Event.{Event}
 use Rattle.step_core.specs.declared.event.Event.TheVariants.{Begin, Step, Quit, End}
-use Rattle.step_core.specs.Run.{Run, begin, pass, give_up, end_at, act, tick, fresh_run, run_from, run_of}
+use Rattle.step_core.specs.Run.{Run, act, tick, fresh_run, run_from, run_of}
+use Rattle.step_core.proofs.Acts.{begin, pass, give_up, end_at, acted, act_is}
 use Rattle.map_core.specs.declared.reply.AskError.TheVariants as refused
 use Rattle.step_core.specs.declared.event.Why.{Why}
 use Rattle.step_core.specs.declared.event.Why.TheVariants as why
@@ -274,23 +275,27 @@ module _ (n rounds : ℕ) (some : 0 < n) (run : Run) (inv : Inv n run.events run
   scan_still : (event : Event) → ScanAll n rounds run (counted n rounds run event counts)
   scan_still event q l = scan_same n rounds run.world.shards (counts q) (more event q) (states run q) (scans q l)
 
-scan_act : (n rounds : ℕ) → 0 < n → (run : Run) → Inv n run.events run → (counts : ℕ → ℕ) → ScanAll n rounds run counts → (event : Event) → ScanAll n rounds (act n rounds run event) (counted n rounds run event counts)
-scan_act n rounds some run inv counts scans (Begin c op) =
+scan_acted : (n rounds : ℕ) → 0 < n → (run : Run) → Inv n run.events run → (counts : ℕ → ℕ) → ScanAll n rounds run counts → (event : Event) → ScanAll n rounds (acted n rounds run event) (counted n rounds run event counts)
+scan_acted n rounds some run inv counts scans (Begin c op) =
     elim (is_idle (run.world.phases c)) as (λ b. is_idle (run.world.phases c) ≡ b → ScanAll n rounds (cond b (begin n run c op) run) (counted n rounds run (Begin c op) counts)) [
       | true ↦ λ e. scan_begin n rounds some run inv counts scans c op e
       | false ↦ λ e. scan_still n rounds some run inv counts scans (Begin c op)
     ] refl
-scan_act n rounds some run inv counts scans (Step c) =
+scan_acted n rounds some run inv counts scans (Step c) =
     elim (is_open (run.world.phases c)) as (λ b. is_open (run.world.phases c) ≡ b → ScanAll n rounds (cond b (pass run c (turn n rounds run.world.shards (run.world.ops c) (run.world.phases c))) run) (counted n rounds run (Step c) counts)) [
       | true ↦ λ e. scan_step n rounds some run inv counts scans c e
       | false ↦ λ e. scan_still n rounds some run inv counts scans (Step c)
     ] refl
-scan_act n rounds some run inv counts scans (Quit c reason) =
+scan_acted n rounds some run inv counts scans (Quit c reason) =
     elim (is_open (run.world.phases c)) as (λ b. is_open (run.world.phases c) ≡ b → ScanAll n rounds (cond b (give_up run c (refusal reason)) run) (counted n rounds run (Quit c reason) counts)) [
       | true ↦ λ e. scan_quit n rounds some run inv counts scans c reason e
       | false ↦ λ e. scan_still n rounds some run inv counts scans (Quit c reason)
     ] refl
-scan_act n rounds some run inv counts scans (End c) = scan_end n rounds some run inv counts scans c (run.world.phases c) refl
+scan_acted n rounds some run inv counts scans (End c) = scan_end n rounds some run inv counts scans c (run.world.phases c) refl
+
+scan_act : (n rounds : ℕ) → 0 < n → (run : Run) → Inv n run.events run → (counts : ℕ → ℕ) → ScanAll n rounds run counts → (event : Event) → ScanAll n rounds (act n rounds run event) (counted n rounds run event counts)
+scan_act n rounds some run inv counts scans event =
+    subst (λ (x : Run). ScanAll n rounds x (counted n rounds run event counts)) (sym (act_is n rounds run event)) (scan_acted n rounds some run inv counts scans event)
 
 scan_from : (n rounds : ℕ) → 0 < n → (events : List Event) (run : Run) (counts : ℕ → ℕ) → Inv n run.events run → ScanAll n rounds run counts → ScanAll n rounds (run_from n rounds run events) (disturbances_from n rounds run counts events)
 scan_from n rounds some [] run counts inv scans = scans

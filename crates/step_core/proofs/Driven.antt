@@ -12,8 +12,8 @@ use Rattle.std.specs.BTreeMap as tree
 use Rattle.step_core.specs.declared.event.Event.{Event}
 use Rattle.step_core.specs.Shard.{fresh_shard, reading}
 use Rattle.step_core.specs.declared.trace.OpRecord.{OpRecord}
-use Rattle.step_core.specs.Run.{Point, Run, numbers, act, tick, no_record, fresh_run, run_from, run_of, stands, order_of}
-use Rattle.step_core.specs.Legal.{times}
+use Rattle.step_core.specs.Run.{Point, Run, numbers, act, tick, fresh_run, run_from, run_of, order_of}
+use Rattle.step_core.specs.Legal.{no_record, stands, times}
 use Rattle.step_core.specs.Trace.{records_of}
 use Rattle.step_core.specs.Driver.{taken, holds}
 use Rattle.step_core.specs.Shown.{IsCaller, IsShown}

@@ -14,7 +14,9 @@ use Rattle.step_core.specs.World.{with_at, Turn, turn, refusal, to_phase}
 use Rattle.step_core.specs.Shard.{Version, reading}
 use Rattle.step_core.specs.Phase.{confirmed, disturbed, fetched, Phase, Idle, Waiting, Collecting, Confirming, Done, wants, give, begun, begun_at, is_idle, is_open, is_done, is_written, Told, has_point}
 use Rattle.step_core.specs.declared.trace.OpRecord.{OpRecord}
-use Rattle.step_core.specs.Run.{Run, repointed, numbers, begin, pass, finish, give_up, end_at, act, no_record}
+use Rattle.step_core.specs.Run.{Run, repointed, numbers, act}
+use Rattle.step_core.proofs.Acts.{begin, pass, finish, give_up, end_at, act_is}
+use Rattle.step_core.specs.Legal.{no_record}
 use Rattle.step_core.specs.TaskView.{TaskView}
 use Rattle.step_core.specs.Task.{IsWantOf, out_of_memory}
 use Rattle.step_core.specs.Driver.{told_by, left_by, repointed_list, marked, ended}
@@ -82,9 +84,9 @@ new_apart n rounds run points d (Some x) h = λ same. let small : x.number < run
 -- events that do not fit
 pub idle_acts : (n rounds : ℕ) (run : Run) (c : ℕ) → run.world.phases c ≡ Idle → (act n rounds run (Step c) ≡ run) × ((why : Why) → act n rounds run (Quit c why) ≡ run) × (act n rounds run (End c) ≡ run)
 idle_acts n rounds run c idle = (
-  ap (λ (p : Phase). cond (is_open p) (pass run c (turn n rounds run.world.shards (run.world.ops c) (run.world.phases c))) run) idle,
-  λ why. ap (λ (p : Phase). cond (is_open p) (give_up run c (refusal why)) run) idle,
-  ap (end_at run c) idle,
+  act_is n rounds run (Step c) ∙ ap (λ (p : Phase). cond (is_open p) (pass run c (turn n rounds run.world.shards (run.world.ops c) (run.world.phases c))) run) idle,
+  λ why. act_is n rounds run (Quit c why) ∙ ap (λ (p : Phase). cond (is_open p) (give_up run c (refusal why)) run) idle,
+  act_is n rounds run (End c) ∙ ap (end_at run c) idle,
 )
 
 done_open : (p : Phase) → is_done p ≡ true → is_open p ≡ false
@@ -96,8 +98,10 @@ done_open (Done reply) h = refl
 
 pub done_acts : (n rounds : ℕ) (run : Run) (c : ℕ) → is_done (run.world.phases c) ≡ true → (act n rounds run (Step c) ≡ run) × ((why : Why) → act n rounds run (Quit c why) ≡ run)
 done_acts n rounds run c done =
-    let shut = done_open (run.world.phases c) done in
-    (ap (λ b. cond b (pass run c (turn n rounds run.world.shards (run.world.ops c) (run.world.phases c))) run) shut, λ why. ap (λ b. cond b (give_up run c (refusal why)) run) shut)
+    let shut = done_open (run.world.phases c) done in (
+      act_is n rounds run (Step c) ∙ ap (λ b. cond b (pass run c (turn n rounds run.world.shards (run.world.ops c) (run.world.phases c))) run) shut,
+      λ why. act_is n rounds run (Quit c why) ∙ ap (λ b. cond b (give_up run c (refusal why)) run) shut,
+    )
 
 ends_nothing : (run : Run) (c : ℕ) (p : Phase) → is_done p ≡ false → end_at run c p ≡ run
 ends_nothing run c Idle h = refl
@@ -107,10 +111,10 @@ ends_nothing run c (Confirming round readings k) h = refl
 ends_nothing run c (Done reply) h = cc
 
 pub open_ends_nothing : (n rounds : ℕ) (run : Run) (c : ℕ) → is_done (run.world.phases c) ≡ false → act n rounds run (End c) ≡ run
-open_ends_nothing n rounds run c h = ends_nothing run c (run.world.phases c) h
+open_ends_nothing n rounds run c h = act_is n rounds run (End c) ∙ ends_nothing run c (run.world.phases c) h
 
 pub busy_begins_nothing : (n rounds : ℕ) (run : Run) (c : ℕ) (op : Op) → is_idle (run.world.phases c) ≡ false → act n rounds run (Begin c op) ≡ run
-busy_begins_nothing n rounds run c op h = ap (λ b. cond b (begin n run c op) run) h
+busy_begins_nothing n rounds run c op h = act_is n rounds run (Begin c op) ∙ ap (λ b. cond b (begin n run c op) run) h
 
 -- an operation begins
 pub begun_shown : (n rounds : ℕ) (old new : Driver) (run : Run) (c : ℕ) (op : Op) (x : Running) (entry : OpRecord) → IsShown n rounds old run → tree.get nat_cmp old.callers c ≡ None → new.rounds ≡ old.rounds
@@ -144,7 +148,7 @@ begun_shown n rounds old new run c op x entry h none same shards at number task 
     } in
     let records : ShowsRecords new.ops.items (suc run.count) (with_at run.records run.count fresh) =
     subst (λ (list : List OpRecord). ShowsRecords list (suc run.count) (with_at run.records run.count fresh)) (sym (ops ∙ ap (λ (r : OpRecord). old.ops.items ++ r ∷ []) entry_is)) (records_push old.ops.items run.count run.records fresh h.records) in
-    subst (IsShown n rounds new) (sym (ap (λ (p : Phase). cond (is_idle p) next run) idle))
+    subst (IsShown n rounds new) (sym (act_is n rounds run (Begin c op) ∙ ap (λ (p : Phase). cond (is_idle p) next run) idle))
     (updated n rounds old new run next c run.count (Some x) h same (subst (λ (list : List Version). ShowsShards n list run.world.shards) (sym shards) h.shards) at own keeps
     (λ q has place ne is. subst (λ (l : List (Option ℕ)). IsPlaced l q has place) (sym points) is) (λ d ne. new_apart n rounds run old.points.items d (tree.get nat_cmp old.callers d) (h.callers d)) records (ap taken points ∙ h.points)
     (subst (λ (l : List (Option ℕ)). AreKnown l (suc run.count)) (sym points) (λ i q is. let l : q < run.count = h.known i q is in omega (arith, l))))
@@ -280,7 +284,7 @@ stepped_shown n rounds old new run c x y op h some undone inside op_is same shar
     let points' : taken new.points.items ≡ numbers next.points =
     ap taken points ∙ repointed_numbers had has there x.place (record { number = x.number; op = (run.records (run.current c)).op; event = run.events }) run.points own.place h.points
     ∙ (λ i. numbers (repointed (has_point (phase_is i)) (has_point (told i)) (record { number = own.number i; op = (run.records (run.current c)).op; event = run.events }) run.points)) in
-    subst (IsShown n rounds new) (sym (ap (λ b. cond b next run) (undone_open p own.busy undone')))
+    subst (IsShown n rounds new) (sym (act_is n rounds run (Step c) ∙ ap (λ b. cond b next run) (undone_open p own.busy undone')))
     (updated n rounds old new run next c x.number (Some y) h same
     (subst (λ (l : List Version). ShowsShards n l t.shards) (sym (shards ∙ (λ i. left_by old.shards.items (op_same i) (wants (phase_is i))))) (left_alike n rounds old.shards.items run.world.shards (run.world.ops c) p h.shards inside'))
     at caller (keeps_passed run c t) (λ q e k ne is. subst (λ (l : List (Option ℕ)). IsPlaced l q e k) (sym points) (other_placed had has there x.number x.place q e k ne own.place is)) (others_apart n rounds old run c x h own)
@@ -311,7 +315,7 @@ quit_shown n rounds old new run c x reason now h time some undone same shards at
     let points' : taken new.points.items ≡ numbers next.points =
     ap taken points ∙ repointed_numbers had false there x.place (record { number = x.number; op = (run.records (run.current c)).op; event = run.events }) run.points own.place h.points
     ∙ (λ i. numbers (repointed (has_point (phase_is i)) false (record { number = own.number i; op = (run.records (run.current c)).op; event = run.events }) run.points)) in
-    subst (IsShown n rounds new) (sym (ap (λ b. cond b next run) (undone_open p own.busy undone')))
+    subst (IsShown n rounds new) (sym (act_is n rounds run (Quit c reason) ∙ ap (λ b. cond b next run) (undone_open p own.busy undone')))
     (updated n rounds old new run next c x.number None h same (subst (λ (l : List Version). ShowsShards n l run.world.shards) (sym shards) h.shards) at
     (with_at_same passed.world.phases c Idle c refl) (λ d ne. keeps_both run passed next d (keeps_passed run c t d ne) (keeps_finished passed c (Err (refusal reason)) d ne))
     (λ q e k ne is. subst (λ (l : List (Option ℕ)). IsPlaced l q e k) (sym points) (other_placed had false there x.number x.place q e k ne own.place is)) (others_apart n rounds old run c x h own)
@@ -331,7 +335,7 @@ ends_shown n rounds old new run c x reply now h time some done same shards at op
     let records : ShowsRecords new.ops.items run.count next.records =
     subst (λ (l : List OpRecord). ShowsRecords l run.count next.records) (sym (ops ∙ ap (λ (k : ℕ). set list x.number (ended (get_or list x.number no_record) k reply)) (sym time)))
     (ended_shown list run.count run.records (run.current c) x.number run.events reply own.number own.known h.records) in
-    subst (IsShown n rounds new) (sym (ap (end_at run c) phase_is))
+    subst (IsShown n rounds new) (sym (act_is n rounds run (End c) ∙ ap (end_at run c) phase_is))
     (updated n rounds old new run next c x.number None h same (subst (λ (l : List Version). ShowsShards n l run.world.shards) (sym shards) h.shards) at
     (with_at_same run.world.phases c Idle c refl) (keeps_finished run c reply) (λ q e k ne is. subst (λ (l : List (Option ℕ)). IsPlaced l q e k) (sym points) is) (others_apart n rounds old run c x h own)
     records (ap taken points ∙ h.points) (subst (λ (l : List (Option ℕ)). AreKnown l run.count) (sym points) h.known))

@@ -10,8 +10,8 @@ use Rattle.step_core.specs.Shard.{Version}
 use Rattle.step_core.specs.Phase.{Phase, Idle, Waiting, Collecting, Confirming, Done, is_written, has_point}
 use Rattle.step_core.specs.declared.event.Event.{Event}
 use Rattle.step_core.specs.declared.trace.OpRecord.{OpRecord}
-use Rattle.step_core.specs.Run.{Point, Run, numbers, run_of, stands_by, stands, order_of}
-use Rattle.step_core.specs.Legal.{times, Rises, Replies, IsLegal}
+use Rattle.step_core.specs.Run.{Point, Run, numbers, run_of, order_of}
+use Rattle.step_core.specs.Legal.{stands_by, stands, times, Rises, Replies, IsLegal}
 use Rattle.std.specs.Prelude.{filter}
 use Rattle.step_core.proofs.Claims.{Claim, IsPhaseOf, claim_keeps}
 use Rattle.step_core.proofs.Core.{IsPoint, AtEnd}

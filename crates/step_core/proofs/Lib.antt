@@ -3,6 +3,7 @@ pub mod Claims
 pub mod Moves
 pub mod Core
 pub mod Book
+pub mod Acts
 pub mod Runs
 pub mod Legality
 pub mod Machine

@@ -9,8 +9,8 @@ use Rattle.map_core.specs.declared.reply.Reply.TheVariants.{All}
 use Rattle.map_core.specs.Table.{meaning}
 use Rattle.map_core.specs.PlainMap.{PlainMap, ask, bundles}
 use Rattle.step_core.specs.declared.trace.OpRecord.{OpRecord}
-use Rattle.step_core.specs.Run.{stands_by, stands, run_of, order_of}
-use Rattle.step_core.specs.Legal.{times, Replies}
+use Rattle.step_core.specs.Run.{run_of, order_of}
+use Rattle.step_core.specs.Legal.{stands_by, stands, times, Replies}
 use Rattle.step_core.specs.Laws.{HasPlaces, is_fetch_all, RepliesOf, NamesAreAnswered, FetchesAreAnswered, map_after, ShowsOneMoment}
 use Rattle.step_core.proofs.Points.{same_number}
 use Rattle.step_core.proofs.Legality.{one_order}

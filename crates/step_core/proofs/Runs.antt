@@ -7,7 +7,8 @@ use Rattle.step_core.specs.World.{Turn, turn, to_phase, refusal}
 use Rattle.step_core.specs.Phase.{Phase, Idle, Waiting, Collecting, Confirming, Done, is_open, is_idle, has_point}
 use Rattle.step_core.specs.declared.event.Event.{Event}
 use Rattle.step_core.specs.declared.event.Event.TheVariants.{Begin, Step, Quit, End}
-use Rattle.step_core.specs.Run.{Run, begin, pass, finish, give_up, end_at, act, tick, fresh_run, run_from, run_of}
+use Rattle.step_core.specs.Run.{Run, act, tick, fresh_run, run_from, run_of}
+use Rattle.step_core.proofs.Acts.{begin, pass, finish, give_up, end_at, acted, act_is}
 use Rattle.map_core.proofs.Maps.{part-empty}
 use Rattle.step_core.proofs.Claims.{IsPhaseOf}
 use Rattle.step_core.proofs.Moves.{Move, turn_moves, give_up_moves}
@@ -73,30 +74,33 @@ module _ (n rounds : ℕ) (some : 0 < n) (run : Run) (inv : Inv n run.events run
   end_events (Confirming round readings k) = refl
   end_events (Done reply) = refl
 
--- each event keeps the invariant
-pub inv_act : (n rounds : ℕ) → 0 < n → (run : Run) → Inv n run.events run → (event : Event) → Inv n (suc run.events) (act n rounds run event)
-inv_act n rounds some run inv (Begin c op) =
+inv_acted : (n rounds : ℕ) → 0 < n → (run : Run) → Inv n run.events run → (event : Event) → Inv n (suc run.events) (acted n rounds run event)
+inv_acted n rounds some run inv (Begin c op) =
     elim (is_idle (run.world.phases c)) as (λ b. is_idle (run.world.phases c) ≡ b → Inv n (suc run.events) (cond b (begin n run c op) run)) [
       | true ↦ λ e. inv_begin n run.events some run inv (omega arith) c op e
       | false ↦ λ e. inv_late n run.events (suc run.events) run (omega arith) inv
     ] refl
-inv_act n rounds some run inv (Step c) =
+inv_acted n rounds some run inv (Step c) =
     elim (is_open (run.world.phases c)) as (λ b. is_open (run.world.phases c) ≡ b → Inv n (suc run.events) (cond b (pass run c (turn n rounds run.world.shards (run.world.ops c) (run.world.phases c))) run)) [
       | true ↦ λ e. inv_step n rounds some run inv c e
       | false ↦ λ e. inv_late n run.events (suc run.events) run (omega arith) inv
     ] refl
-inv_act n rounds some run inv (Quit c reason) =
+inv_acted n rounds some run inv (Quit c reason) =
     elim (is_open (run.world.phases c)) as (λ b. is_open (run.world.phases c) ≡ b → Inv n (suc run.events) (cond b (give_up run c (refusal reason)) run)) [
       | true ↦ λ e. inv_give_up n rounds some run inv c (refusal reason) e
       | false ↦ λ e. inv_late n run.events (suc run.events) run (omega arith) inv
     ] refl
-inv_act n rounds some run inv (End c) = inv_end n rounds some run inv c (run.world.phases c) refl
+inv_acted n rounds some run inv (End c) = inv_end n rounds some run inv c (run.world.phases c) refl
 
-act_events : (n rounds : ℕ) (run : Run) (event : Event) → (act n rounds run event).events ≡ run.events
-act_events n rounds run (Begin c op) = elim (is_idle (run.world.phases c)) as (λ b. (let x : Run = cond b (begin n run c op) run in x).events ≡ run.events) [ true ↦ refl | false ↦ refl ]
-act_events n rounds run (Step c) = elim (is_open (run.world.phases c)) as (λ b. (let x : Run = cond b (pass run c (turn n rounds run.world.shards (run.world.ops c) (run.world.phases c))) run in x).events ≡ run.events) [ true ↦ refl | false ↦ refl ]
-act_events n rounds run (Quit c reason) = elim (is_open (run.world.phases c)) as (λ b. (let x : Run = cond b (give_up run c (refusal reason)) run in x).events ≡ run.events) [ true ↦ refl | false ↦ refl ]
-act_events n rounds run (End c) = ends (run.world.phases c)
+-- each event keeps the invariant
+pub inv_act : (n rounds : ℕ) → 0 < n → (run : Run) → Inv n run.events run → (event : Event) → Inv n (suc run.events) (act n rounds run event)
+inv_act n rounds some run inv event = subst (Inv n (suc run.events)) (sym (act_is n rounds run event)) (inv_acted n rounds some run inv event)
+
+acted_events : (n rounds : ℕ) (run : Run) (event : Event) → (acted n rounds run event).events ≡ run.events
+acted_events n rounds run (Begin c op) = elim (is_idle (run.world.phases c)) as (λ b. (let x : Run = cond b (begin n run c op) run in x).events ≡ run.events) [ true ↦ refl | false ↦ refl ]
+acted_events n rounds run (Step c) = elim (is_open (run.world.phases c)) as (λ b. (let x : Run = cond b (pass run c (turn n rounds run.world.shards (run.world.ops c) (run.world.phases c))) run in x).events ≡ run.events) [ true ↦ refl | false ↦ refl ]
+acted_events n rounds run (Quit c reason) = elim (is_open (run.world.phases c)) as (λ b. (let x : Run = cond b (give_up run c (refusal reason)) run in x).events ≡ run.events) [ true ↦ refl | false ↦ refl ]
+acted_events n rounds run (End c) = ends (run.world.phases c)
   where
     ends : (phase : Phase) → (end_at run c phase).events ≡ run.events
     ends Idle = refl
@@ -104,6 +108,9 @@ act_events n rounds run (End c) = ends (run.world.phases c)
     ends (Collecting round readings) = refl
     ends (Confirming round readings k) = refl
     ends (Done reply) = refl
+
+act_events : (n rounds : ℕ) (run : Run) (event : Event) → (act n rounds run event).events ≡ run.events
+act_events n rounds run event = subst (λ (x : Run). x.events ≡ run.events) (sym (act_is n rounds run event)) (acted_events n rounds run event)
 
 pub inv_next : (n rounds : ℕ) → 0 < n → (run : Run) → Inv n run.events run → (event : Event) → Inv n (tick (act n rounds run event)).events (tick (act n rounds run event))
 inv_next n rounds some run inv event =

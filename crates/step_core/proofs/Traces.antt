@@ -5,9 +5,9 @@ use Rattle.std.proofs.lemmas.Grind.{elements}
 use Rattle.map_core.specs.PlainMap.{PlainMap, ask}
 use Rattle.step_core.specs.declared.event.Event.{Event}
 use Rattle.step_core.specs.declared.trace.OpRecord.{OpRecord}
-use Rattle.step_core.specs.Run.{no_record, stands, run_of, order_of}
-use Rattle.step_core.specs.Legal.{times, IsDuring, Rises, Replies, IsLegal}
-use Rattle.step_core.specs.Trace.{first_records, records_of, IsLegalTrace}
+use Rattle.step_core.specs.Run.{run_of, order_of}
+use Rattle.step_core.specs.Legal.{no_record, stands, times, IsDuring, Rises, Replies, IsLegal, IsLegalTrace}
+use Rattle.step_core.specs.Trace.{first_records, records_of}
 use Rattle.step_core.proofs.Points.{number_itself}
 use Rattle.step_core.proofs.Legality.{one_order}
 

@@ -12,8 +12,8 @@ use Rattle.step_core.specs.declared.event.Event.TheVariants.{Begin, Step, Quit, 
 use Rattle.step_core.specs.World.{World, next, fresh_world, world_from}
 use Rattle.step_core.specs.Shard.{Version, reading}
 use Rattle.step_core.specs.Phase.{Collecting, Confirming}
-use Rattle.step_core.specs.Run.{run_of, order_of, stands}
-use Rattle.step_core.specs.Legal.{times, Rises, IsLegal}
+use Rattle.step_core.specs.Run.{run_of, order_of}
+use Rattle.step_core.specs.Legal.{stands, times, Rises, IsLegal}
 
 -- The order by points holds, each once, the answered operations and the unfinished ones that have written, and no other; and each of
 -- them has an event between its first and its last, and these events rise along the order.

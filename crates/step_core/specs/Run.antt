@@ -1,13 +1,14 @@
 -- A run of the machine over a list of events: the records of its operations, and their order by points.
-use Rattle.std.specs.Prelude.{ℕ, suc, ◌==◌, not, Bool, true, false, cond, List, [], ◌∷◌, ◌++◌, map, filter, Option, Some, None, Result, Ok, Err}
+use Rattle.std.specs.Prelude.{ℕ, suc, ◌==◌, not, Bool, true, false, cond, List, [], ◌∷◌, ◌++◌, map, filter, Some, None, Result, Err}
 use Rattle.map_core.specs.declared.op.Op.{Op}
 use Rattle.map_core.specs.declared.reply.AskError.{AskError}
 use Rattle.map_core.specs.declared.reply.Reply.{Reply}
 use Rattle.step_core.specs.declared.event.Event.{Event}
 use Rattle.step_core.specs.declared.event.Event.TheVariants.{Begin, Step, Quit, End}
-use Rattle.step_core.specs.World.{with_at, World, Turn, turn, refusal, moved, started, to_phase, fresh_world}
-use Rattle.step_core.specs.Phase.{Phase, Idle, Waiting, Collecting, Confirming, Done, begun, has_point, is_idle, is_open, is_written}
+use Rattle.step_core.specs.World.{with_at, World, turn, refusal, fresh_world, next}
+use Rattle.step_core.specs.Phase.{Phase, Idle, Waiting, Collecting, Confirming, Done, has_point, is_idle, is_open, is_written}
 use Rattle.step_core.specs.declared.trace.OpRecord.{OpRecord}
+use Rattle.step_core.specs.Legal.{no_record, stands}
 
 -- where an operation stands in the order: its number, what it asks, and the event
 pub record Point : Type 0 where
@@ -35,10 +36,12 @@ repointed false true p points = points ++ p ∷ []
 repointed true false p points = without p.number points
 repointed true true p points = points
 
-abbrev pub begin : ℕ → Run → ℕ → Op → Run
-begin n run c op =
+-- ---- what is noted of an event; the world is left to the machine
+-- a caller begins
+abbrev pub begin : Run → ℕ → Op → Run
+begin run c op =
     record {
-      world = started run.world c op (begun n op);
+      world = run.world;
       records = with_at run.records run.count (record { caller = c; op = op; first = run.events; last = None; reply = None; wrote = false });
       count = suc run.count;
       current = with_at run.current c run.count;
@@ -46,17 +49,17 @@ begin n run c op =
       events = run.events;
     }
 
--- the caller's operation goes on
-abbrev pub pass : Run → ℕ → Turn → Run
-pass run c t =
+-- the caller's operation goes on to this phase
+abbrev pub pass : Run → ℕ → Phase → Run
+pass run c phase =
     let number = run.current c in
     let old = run.records number in
     record {
-      world = moved run.world c t;
-      records = with_at run.records number (record { caller = old.caller; op = old.op; first = old.first; last = old.last; reply = old.reply; wrote = is_written t.phase });
+      world = run.world;
+      records = with_at run.records number (record { caller = old.caller; op = old.op; first = old.first; last = old.last; reply = old.reply; wrote = is_written phase });
       count = run.count;
       current = run.current;
-      points = repointed (has_point (run.world.phases c)) (has_point t.phase) (record { number = number; op = old.op; event = run.events }) run.points;
+      points = repointed (has_point (run.world.phases c)) (has_point phase) (record { number = number; op = old.op; event = run.events }) run.points;
       events = run.events;
     }
 
@@ -66,7 +69,7 @@ finish run c reply =
     let number = run.current c in
     let old = run.records number in
     record {
-      world = moved run.world c (to_phase run.world Idle);
+      world = run.world;
       records = with_at run.records number (record { caller = old.caller; op = old.op; first = old.first; last = Some run.events; reply = Some reply; wrote = old.wrote });
       count = run.count;
       current = run.current;
@@ -75,7 +78,7 @@ finish run c reply =
     }
 
 abbrev pub give_up : Run → ℕ → AskError → Run
-give_up run c why = finish (pass run c (to_phase run.world (Done (Err why)))) c (Err why)
+give_up run c why = finish (pass run c (Done (Err why))) c (Err why)
 
 abbrev pub end_at : Run → ℕ → Phase → Run
 end_at run c Idle = run
@@ -84,18 +87,24 @@ end_at run c (Collecting round readings) = run
 end_at run c (Confirming round readings k) = run
 end_at run c (Done reply) = finish run c reply
 
+-- what is noted of an event; one that does not fit leaves everything
+abbrev pub note : ℕ → ℕ → Run → Event → Run
+note n rounds run (Begin c op) = cond (is_idle (run.world.phases c)) (begin run c op) run
+note n rounds run (Step c) = cond (is_open (run.world.phases c)) (pass run c (turn n rounds run.world.shards (run.world.ops c) (run.world.phases c)).phase) run
+note n rounds run (Quit c reason) = cond (is_open (run.world.phases c)) (give_up run c (refusal reason)) run
+note n rounds run (End c) = end_at run c (run.world.phases c)
+
+-- the run, in this world
+abbrev pub in_world : World → Run → Run
+in_world world run = record { world = world; records = run.records; count = run.count; current = run.current; points = run.points; events = run.events }
+
+-- the machine goes on to its next world, and the event is noted
 abbrev pub act : ℕ → ℕ → Run → Event → Run
-act n rounds run (Begin c op) = cond (is_idle (run.world.phases c)) (begin n run c op) run
-act n rounds run (Step c) = cond (is_open (run.world.phases c)) (pass run c (turn n rounds run.world.shards (run.world.ops c) (run.world.phases c))) run
-act n rounds run (Quit c reason) = cond (is_open (run.world.phases c)) (give_up run c (refusal reason)) run
-act n rounds run (End c) = end_at run c (run.world.phases c)
+act n rounds run event = in_world (next n rounds run.world event) (note n rounds run event)
 
 -- the event is over
 abbrev pub tick : Run → Run
 tick run = record { world = run.world; records = run.records; count = run.count; current = run.current; points = run.points; events = suc run.events }
-
-abbrev pub no_record : OpRecord
-no_record = record { caller = 0; op = Rattle.map_core.specs.declared.op.Op.TheVariants.FetchAll; first = 0; last = None; reply = None; wrote = false }
 
 abbrev pub fresh_run : Run
 fresh_run = record { world = fresh_world; records = λ q. no_record; count = 0; current = λ c. 0; points = []; events = 0 }
@@ -107,18 +116,6 @@ run_from n rounds run (event ∷ events) = run_from n rounds (tick (act n rounds
 -- the run of a list of events
 abbrev pub run_of : ℕ → ℕ → List Event → Run
 run_of n rounds events = run_from n rounds fresh_run events
-
-abbrev pub gave_reply : Result Reply AskError → Bool
-gave_reply (Ok reply) = true
-gave_reply (Err why) = false
-
-abbrev pub stands_by : Option (Result Reply AskError) → Bool → Bool
-stands_by (Some reply) wrote = gave_reply reply
-stands_by None wrote = wrote
-
--- whether an operation stands in the order: it was answered, or it is not finished and has written
-abbrev pub stands : OpRecord → Bool
-stands r = stands_by r.reply r.wrote
 
 abbrev pub numbers : List Point → List ℕ
 numbers points = map (λ p. p.number) points

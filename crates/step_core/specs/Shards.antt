@@ -1,16 +1,24 @@
 -- Shards of one caller: the map that they are together, and what they answer.
-use Rattle.std.specs.Prelude.{◌≡◌, ◌⊎◌, ◌<◌, ℕ, true, List, length, Some, Result, Ok, Err}
+use Rattle.std.specs.Prelude.{◌≡◌, ◌⊎◌, ◌<◌, ℕ, true, List, length, slice_set, Option, Some, None, Result, Ok, Err}
 use Rattle.map_core.specs.declared.op.Op.{Op}
 use Rattle.map_core.specs.declared.reply.Reply.{Reply}
 use Rattle.map_core.specs.declared.reply.AskError.{AskError}
 use Rattle.map_core.specs.declared.reply.AskError.TheVariants.{Memory, Worn}
 use Rattle.map_core.specs.Reply.{is_change}
 use Rattle.map_core.specs.PlainMap.{PlainMap, ask, shard_of, part, together}
-use Rattle.step_core.specs.Shard.{Version, reading, last_revision}
+use Rattle.step_core.specs.Shard.{Version, reading, last_revision, step_on}
 
 -- all parts, together
 abbrev pub map_of : List Version → PlainMap
 map_of versions = together (length versions) (λ j. (reading versions j).part)
+
+-- the shards after an operation: the one that it is for has made its step, and all others stay; a fetch-all leaves all
+abbrev pub stepped_at : List Version → Op → Option ℕ → List Version
+stepped_at versions op (Some i) = slice_set versions i (step_on (reading versions i) op).shard
+stepped_at versions op None = versions
+
+abbrev pub stepped : List Version → Op → List Version
+stepped versions op = stepped_at versions op (shard_of (length versions) op)
 
 -- there is a shard, and each holds only names that are at home in it
 pub record AreParts (versions : List Version) : Type 0 where
@@ -28,7 +36,7 @@ pub record IsWorn (versions : List Version) (op : Op) (i : ℕ) : Type 0 where
 abbrev pub Refuses : List Version → Op → AskError → Type 0
 Refuses versions op e = (e ≡ Memory) ⊎ ((i : ℕ) × (e ≡ Worn i) × IsWorn versions op i)
 
--- The plain map's reply, and its map is left; or a refusal, and nothing has changed.
+-- The plain map's reply, and its map is left, by a step of one shard; or a refusal, and nothing has changed.
 abbrev pub ShardsAnswer : List Version → Op → Result Reply AskError → List Version → Type 0
-ShardsAnswer old op (Ok reply) new = (reply ≡ (ask (map_of old) op).reply) × (map_of new ≡ (ask (map_of old) op).map)
+ShardsAnswer old op (Ok reply) new = (reply ≡ (ask (map_of old) op).reply) × (map_of new ≡ (ask (map_of old) op).map) × (new ≡ stepped old op)
 ShardsAnswer old op (Err e) new = Refuses old op e × (new ≡ old)

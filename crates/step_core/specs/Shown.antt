@@ -5,7 +5,8 @@ use Rattle.std.specs.BTreeMap as tree
 use Rattle.step_core.specs.Shard.{Version, reading}
 use Rattle.step_core.specs.Phase.{Idle, has_point, is_idle}
 use Rattle.step_core.specs.declared.trace.OpRecord.{OpRecord}
-use Rattle.step_core.specs.Run.{Run, numbers, no_record}
+use Rattle.step_core.specs.Run.{Run, numbers}
+use Rattle.step_core.specs.Legal.{no_record}
 use Rattle.step_core.specs.Driver.{taken, holds, IsPlaced}
 use Rattle.step_core.specs.declared.driver.Running.{Running}
 use Rattle.step_core.specs.declared.driver.Driver.{Driver}

@@ -1,8 +1,9 @@
 -- How far one operation is, by the task that drives it.
-use Rattle.std.specs.Prelude.{◌≡◌, ℕ, ◌<◌, ◌≤◌, Bool, true, false, length, Ok, Err}
+use Rattle.std.specs.Prelude.{◌≡◌, ℕ, ◌+◌, ◌<◌, ◌≤◌, ◌==◌, ◌&&◌, Bool, true, false, length, vec_capacity, Ok, Err}
 use Rattle.std.specs.Arc.{arc_value}
 use Rattle.map_core.specs.declared.reply.AskError.{AskError}
 use Rattle.map_core.specs.declared.reply.AskError.TheVariants.{Memory}
+use Rattle.step_core.specs.Shard.{reading}
 use Rattle.step_core.specs.Phase.{Phase, Idle, Waiting, Collecting, Confirming, Done, Told, Replied, Seen, Revision}
 use Rattle.step_core.specs.declared.task.State.{State}
 use Rattle.step_core.specs.declared.task.State.TheVariants as state
@@ -32,11 +33,17 @@ IsInside n rounds (Collecting round readings) = (length readings < n) × (round 
 IsInside n rounds (Confirming round readings k) = (length readings ≡ n) × (k < n) × (round ≤ rounds)
 IsInside n rounds (Done reply) = Unit {0}
 
--- it is the answer of a shard to the operation
-abbrev pub IsReplied : Told → Type 0
-IsReplied (Replied reply) = Unit {0}
-IsReplied (Seen v) = ⊥
-IsReplied (Revision revision) = ⊥
+-- whether it is the last confirm, with which the reply is put together
+abbrev pub is_last_confirm : ℕ → Phase → Told → Bool
+is_last_confirm n (Confirming round readings k) (Revision now) = ((reading readings k).revision == now) && ((k + 1) == n)
+is_last_confirm n phase told = false
+
+-- there is room for all readings
+abbrev pub HasRoom : ℕ → State → Type 0
+HasRoom n (state.Waiting shard) = Unit {0}
+HasRoom n (state.Collecting round readings) = n ≤ vec_capacity readings
+HasRoom n (state.Confirming round readings k) = n ≤ vec_capacity readings
+HasRoom n (state.Done reply) = Unit {0}
 
 -- the shard that it wants is one of n
 abbrev pub IsWantOf : ℕ → Want → Type 0

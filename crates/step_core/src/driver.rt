@@ -2,7 +2,8 @@
 ghost use Rattle.std.specs.Prelude.{◌≡◌, ◌<◌, ℕ, IfOk, OnOk, None, length, get_or, slice_set};
 ghost use Rattle.step_core.specs.World.{refusal};
 ghost use Rattle.step_core.specs.Shard.{of_shard, step_on, reading, fresh_shard};
-ghost use Rattle.step_core.specs.Run.{Run, act, no_record, fresh_run};
+ghost use Rattle.step_core.specs.Run.{Run, act, fresh_run};
+ghost use Rattle.step_core.specs.Legal.{no_record};
 ghost use Rattle.step_core.specs.Task.{told_of, IsWantOf};
 ghost use Rattle.step_core.specs.Driver.{told_by, left_by, repointed_list, place_after, marked, ended};
 ghost use Rattle.step_core.specs.Shown.{IsShown};

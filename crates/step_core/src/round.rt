@@ -1,8 +1,8 @@
 //! One round of a fetch-all: it collects all shards, and then confirms each.
-ghost use Rattle.std.specs.Prelude.{◌≡◌, ◌<◌, ◌≤◌, ◌⊎◌, ◌++◌, ◌∷◌, [], length, IfOk};
+ghost use Rattle.std.specs.Prelude.{◌≡◌, ◌<◌, ◌≤◌, ◌⊎◌, ◌++◌, ◌∷◌, ◌==◌, [], false, length, vec_capacity, IfOk};
 ghost use Rattle.std.specs.Arc.{arc_value};
-ghost use Rattle.step_core.specs.Phase.{collected, confirm, confirmed, fetched};
-ghost use Rattle.step_core.specs.Task.{phase_of, IsInside, out_of_memory};
+ghost use Rattle.step_core.specs.Phase.{Confirming, Revision, collected, confirm, confirmed, fetched};
+ghost use Rattle.step_core.specs.Task.{phase_of, IsInside, HasRoom, is_last_confirm, out_of_memory};
 
 use crate::task::State;
 use map_core::{AskError, Contents, Reply, Union};
@@ -49,7 +49,7 @@ impl Reading {
     }
 }
 
-/// One more reading.
+/// One more reading, for which there is room.
 pub(crate) fn collected(
     shards: usize,
     rounds: usize,
@@ -58,9 +58,11 @@ pub(crate) fn collected(
     reading: Reading,
 ) -> State
     requires few { length readings.items < shards }
+    requires room { shards ≤ vec_capacity readings }
     requires round { round ≤ rounds }
     ensures inside { IsInside shards rounds (phase_of result) }
-    ensures phase { (phase_of result ≡ collected shards round (readings.items ++ reading ∷ [])) ⊎ (phase_of result ≡ out_of_memory) }
+    ensures room { HasRoom shards result }
+    ensures phase { phase_of result ≡ collected shards round (readings.items ++ reading ∷ []) }
 {
     if readings.push(reading).is_err() {
         return State::Done(Err(AskError::Memory));
@@ -83,10 +85,13 @@ pub(crate) fn compared(
     now: u64,
 ) -> State
     requires all { length readings.items ≡ shards }
+    requires room { shards ≤ vec_capacity readings }
     requires place { place < shards }
     requires round { round ≤ rounds }
     ensures inside { IsInside shards rounds (phase_of result) }
+    ensures room { HasRoom shards result }
     ensures phase { (phase_of result ≡ confirm shards rounds round readings.items place now) ⊎ (phase_of result ≡ out_of_memory) }
+    ensures exact { is_last_confirm shards (Confirming round readings.items place) (Revision now) ≡ false → phase_of result ≡ confirm shards rounds round readings.items place now }
 {
     let read = readings[place].revision();
     if read == now {
@@ -114,10 +119,13 @@ fn confirmed(
     count: usize,
 ) -> State
     requires all { length readings.items ≡ shards }
+    requires room { shards ≤ vec_capacity readings }
     requires count { count ≤ shards }
     requires round { round ≤ rounds }
     ensures inside { IsInside shards rounds (phase_of result) }
+    ensures room { HasRoom shards result }
     ensures phase { (phase_of result ≡ confirmed shards round readings.items count) ⊎ (phase_of result ≡ out_of_memory) }
+    ensures exact { (count == shards) ≡ false → phase_of result ≡ confirmed shards round readings.items count }
 {
     if count != shards {
         return State::Confirming(round, readings, count);

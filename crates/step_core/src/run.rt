@@ -1,8 +1,9 @@
 //! A run of the machine over a list of events.
 ghost use Rattle.std.specs.Prelude.{◌≡◌, ◌<◌, IfOk, length, filter, get_or};
-ghost use Rattle.step_core.specs.Run.{run_of, order_of, no_record, stands};
+ghost use Rattle.step_core.specs.Run.{run_of, order_of};
+ghost use Rattle.step_core.specs.Legal.{no_record, stands, IsLegalTrace};
 ghost use Rattle.step_core.specs.Driver.{taken};
-ghost use Rattle.step_core.specs.Trace.{records_of, IsLegalTrace};
+ghost use Rattle.step_core.specs.Trace.{records_of};
 
 use crate::driver::Driver;
 use crate::event::Event;

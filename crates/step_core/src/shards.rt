@@ -4,7 +4,7 @@ ghost use Rattle.std.specs.FinMap as finite;
 ghost use Rattle.map_core.specs.PlainMap.{ask, shard_of};
 ghost use Rattle.map_core.specs.declared.op.Op.TheVariants.{FetchAll};
 ghost use Rattle.step_core.specs.Shard.{fresh_shard, reading};
-ghost use Rattle.step_core.specs.Shards.{map_of, IsWorn, Refuses};
+ghost use Rattle.step_core.specs.Shards.{map_of, stepped, stepped_at, IsWorn, Refuses};
 
 use crate::home::shard_of;
 use crate::shard::{Shard, at_shard, fresh_shards};
@@ -48,11 +48,12 @@ impl Shards {
         Ok(Shards { alloc, shards })
     }
 
-    /// Answers an operation as the plain map does. It is refused where memory runs out, and as worn where it would
-    /// change a shard at its last revision; then nothing has changed.
+    /// Answers an operation as the plain map does. The shard that it is for makes one step, and the others stay. It is
+    /// refused if memory runs out, and as worn if it would change a shard at its last revision; then nothing has changed.
     pub fn ask(&mut self, op: Op) -> Result<Reply, AskError>
         ensures reply { IfOk result (λ reply. reply ≡ (ask (map_of self.old) op).reply) }
         ensures left { OnOk result (map_of self.new ≡ (ask (map_of self.old) op).map) }
+        ensures shards { OnOk result (self.new ≡ stepped self.old op) }
         ensures fit { OnOk result ((i : ℕ) → IsWorn self.old op i → ⊥) }
         ensures refused { IfErr result (λ e. Refuses self.old op e) }
         ensures err { OnErr result (self.new ≡ self.old) }
@@ -69,6 +70,7 @@ impl Shards {
         requires place { place < length self.old }
         ensures reply { IfOk result (λ reply. reply ≡ (ask (map_of self.old) op).reply) }
         ensures left { OnOk result (map_of self.new ≡ (ask (map_of self.old) op).map) }
+        ensures shards { OnOk result (self.new ≡ stepped_at self.old op (Some place)) }
         ensures fit { OnOk result ((i : ℕ) → IsWorn self.old op i → ⊥) }
         ensures refused { IfErr result (λ e. Refuses self.old op e) }
         ensures err { OnErr result (self.new ≡ self.old) }

@@ -1,7 +1,7 @@
 //! One operation, one step at a time.
-ghost use Rattle.std.specs.Prelude.{◌≡◌, ◌<◌, ◌⊎◌, IfOk, true};
+ghost use Rattle.std.specs.Prelude.{◌≡◌, ◌<◌, ◌⊎◌, IfOk, true, false};
 ghost use Rattle.step_core.specs.Phase.{begun, wants, give, is_done, is_written, has_point, Done};
-ghost use Rattle.step_core.specs.Task.{phase_of, told_of, IsInside, IsReplied, IsWantOf, is_out_of_memory, out_of_memory};
+ghost use Rattle.step_core.specs.Task.{phase_of, told_of, IsInside, HasRoom, IsWantOf, is_last_confirm, is_out_of_memory, out_of_memory};
 
 use crate::home::shard_of;
 use crate::round;
@@ -61,7 +61,7 @@ impl Model for Task {
     ghost use Rattle.std.specs.Coded.{codes};
     ghost use Rattle.map_core.specs.Codes.{plain_map_code};
     ghost use Rattle.step_core.specs.TaskView.{TaskView};
-    ghost use Rattle.step_core.specs.Task.{phase_of, IsInside};
+    ghost use Rattle.step_core.specs.Task.{phase_of, IsInside, HasRoom};
 
     ghost Value = { TaskView };
 
@@ -69,7 +69,7 @@ impl Model for Task {
 
     ghost view = { λ task. record { shards = task.shards; rounds = task.rounds; phase = phase_of task.state } };
 
-    ghost invariant = { λ task. IsInside task.shards task.rounds (phase_of task.state) };
+    ghost invariant = { λ task. IsInside task.shards task.rounds (phase_of task.state) × HasRoom task.shards task.state };
 }
 
 impl Task {
@@ -104,20 +104,20 @@ impl Task {
         }
     }
 
-    /// Takes what it wanted to be told; anything else changes nothing. Where memory runs out it is done with that; the
-    /// answer of a shard to the operation needs none.
+    /// Takes what it wanted to be told; anything else changes nothing. Only the last confirm takes memory, since with it
+    /// the reply is put together; if memory runs out there, the task is done with that.
     pub fn give(&mut self, answer: Answer)
         ensures shards { self.new.shards ≡ self.old.shards }
         ensures rounds { self.new.rounds ≡ self.old.rounds }
         ensures phase { (self.new.phase ≡ give self.old.shards self.old.rounds self.old.phase (told_of answer)) ⊎ (self.new.phase ≡ out_of_memory) }
-        ensures replied { IsReplied (told_of answer) → self.new.phase ≡ give self.old.shards self.old.rounds self.old.phase (told_of answer) }
+        ensures exact { is_last_confirm self.old.shards self.old.phase (told_of answer) ≡ false → self.new.phase ≡ give self.old.shards self.old.rounds self.old.phase (told_of answer) }
     {
         let state = std::mem::replace(&mut self.state, State::Done(Err(AskError::Memory)));
         self.state = given(self.alloc, self.shards, self.rounds, state, answer);
     }
 
     /// Whether the operation has its place among all operations.
-    pub fn has_point(&self) -> bool
+    pub(crate) fn has_point(&self) -> bool
         ensures { result ≡ has_point self.now.phase }
     {
         match &self.state {
@@ -130,7 +130,7 @@ impl Task {
     }
 
     /// Whether the operation has changed its shard.
-    pub fn has_written(&self) -> bool
+    pub(crate) fn has_written(&self) -> bool
         ensures { result ≡ is_written self.now.phase }
     {
         match &self.state {
@@ -143,7 +143,7 @@ impl Task {
     }
 
     /// Whether the reply is there.
-    pub fn is_done(&self) -> bool
+    pub(crate) fn is_done(&self) -> bool
         ensures { result ≡ is_done self.now.phase }
     {
         match &self.state {
@@ -155,7 +155,7 @@ impl Task {
     }
 
     /// Whether it is done because it found no memory.
-    pub fn is_out_of_memory(&self) -> bool
+    pub(crate) fn is_out_of_memory(&self) -> bool
         ensures { result ≡ is_out_of_memory self.now.phase }
     {
         match &self.state {
@@ -171,9 +171,9 @@ impl Task {
         }
     }
 
-    /// The reply.
+    /// The reply, if nothing more is wanted.
     pub fn reply(self) -> Result<Reply, AskError>
-        requires { is_done self.phase ≡ true }
+        requires { wants self.phase ≡ Want.Done }
         ensures { self.phase ≡ Done result }
     {
         match self.state {
@@ -187,10 +187,12 @@ impl Task {
 
 // The state after an answer.
 fn given(alloc: Global, shards: usize, rounds: usize, state: State, answer: Answer) -> State
-    requires { IsInside shards rounds (phase_of state) }
+    requires inside { IsInside shards rounds (phase_of state) }
+    requires room { HasRoom shards state }
     ensures inside { IsInside shards rounds (phase_of result) }
+    ensures room { HasRoom shards result }
     ensures phase { (phase_of result ≡ give shards rounds (phase_of state) (told_of answer)) ⊎ (phase_of result ≡ out_of_memory) }
-    ensures replied { IsReplied (told_of answer) → phase_of result ≡ give shards rounds (phase_of state) (told_of answer) }
+    ensures exact { is_last_confirm shards (phase_of state) (told_of answer) ≡ false → phase_of result ≡ give shards rounds (phase_of state) (told_of answer) }
 {
     match (state, answer) {
         (State::Waiting(_), Answer::Replied(reply)) => State::Done(reply),

@@ -5,7 +5,7 @@ mod shards;
 mod tasks;
 
 use crate::{Event, OpRecord, Why, run_events};
-use map_core::{AskError, Expect, MapRefusal, Op, Reply, Snapshot};
+use map_core::{AskError, Contents, Expect, MapRefusal, Op, Reply, Snapshot};
 use spiffe_doc::{Bundle, TrustDomain, read_document, read_entry};
 use std::alloc::{AllocError, Global};
 use std::test::Fail;
@@ -92,6 +92,11 @@ fn snapshot_text(alloc: Global, all: &Snapshot) -> Result<String, Fail> {
     Ok(text)
 }
 
+/// All bundles of the map.
+fn contents_text(alloc: Global, contents: &Contents) -> Result<String, Fail> {
+    snapshot_text(alloc, &contents.copy()?.into_snapshot()?)
+}
+
 fn expect_text(alloc: Global, expect: Expect) -> Result<String, AllocError> {
     match expect {
         Expect::Absent => format!(in alloc; "absent"),
@@ -149,6 +154,7 @@ fn answer_text(alloc: Global, answer: &Result<Reply, AskError>) -> Result<String
     }
 }
 
+/// A line of an operation: `wrote` stands at its end if a shard was changed.
 fn record_text(alloc: Global, number: usize, entry: &OpRecord) -> Result<String, Fail> {
     let last = match entry.last {
         Some(last) => format!(in alloc; "{last}")?,
@@ -158,9 +164,10 @@ fn record_text(alloc: Global, number: usize, entry: &OpRecord) -> Result<String,
         Some(answer) => answer_text(alloc, answer)?,
         None => format!(in alloc; "-")?,
     };
+    let wrote = if entry.wrote { " wrote" } else { "" };
     let (caller, first) = (entry.caller, entry.first);
     Ok(format!(in alloc;
-        "record {number} caller {caller} first {first} last {last} reply {reply}"
+        "record {number} caller {caller} first {first} last {last} reply {reply}{wrote}"
     )?)
 }
 

@@ -26,8 +26,8 @@ fn a_round_that_was_disturbed_is_read_again(rt: HostRuntime) -> Result<(), Fail>
         ],
         shows: &[
             "record 0 caller 1 first 0 last 14 reply all 2 a {\"keys\":[]} b {\"keys\":[]}",
-            "record 1 caller 2 first 2 last 4 reply stored",
-            "record 2 caller 2 first 5 last 7 reply stored",
+            "record 1 caller 2 first 2 last 4 reply stored wrote",
+            "record 2 caller 2 first 5 last 7 reply stored wrote",
             "order 1 2 0",
         ],
     };
@@ -53,8 +53,8 @@ fn contents_that_return_are_noticed(rt: HostRuntime) -> Result<(), Fail> {
         ],
         shows: &[
             "record 0 caller 1 first 0 last 9 reply moved 0 0 2",
-            "record 1 caller 2 first 2 last 4 reply stored",
-            "record 2 caller 2 first 5 last 7 reply removed",
+            "record 1 caller 2 first 2 last 4 reply stored wrote",
+            "record 2 caller 2 first 5 last 7 reply removed wrote",
             "order 1 2",
         ],
     };
@@ -77,7 +77,7 @@ fn a_write_between_collect_and_confirm_uses_up_the_round(rt: HostRuntime) -> Res
         ],
         shows: &[
             "record 0 caller 1 first 0 last 6 reply moved 0 0 1",
-            "record 1 caller 2 first 2 last 4 reply stored",
+            "record 1 caller 2 first 2 last 4 reply stored wrote",
             "order 1",
         ],
     };
@@ -109,7 +109,7 @@ fn a_write_after_the_confirm_stands_later(rt: HostRuntime) -> Result<(), Fail> {
         ],
         shows: &[
             "record 0 caller 1 first 0 last 8 reply all 0",
-            "record 1 caller 2 first 4 last 6 reply stored",
+            "record 1 caller 2 first 4 last 6 reply stored wrote",
             "order 0 1",
         ],
     };
@@ -130,7 +130,7 @@ fn an_unfinished_writer_stands_in_the_order(rt: HostRuntime) -> Result<(), Fail>
             "end 1",
         ],
         shows: &[
-            "record 0 caller 2 first 0 last - reply -",
+            "record 0 caller 2 first 0 last - reply - wrote",
             "record 1 caller 1 first 2 last 5 reply all 1 a {\"keys\":[]}",
             "order 0 1",
         ],
@@ -152,7 +152,7 @@ fn a_quit_fits_before_the_step_alone(rt: HostRuntime) -> Result<(), Fail> {
             "end 1",
         ],
         shows: &[
-            "record 0 caller 2 first 0 last - reply -",
+            "record 0 caller 2 first 0 last - reply - wrote",
             "record 1 caller 1 first 3 last 5 reply found {\"keys\":[]}",
             "order 0 1",
         ],
@@ -207,9 +207,9 @@ fn a_restless_writer_disturbs_each_round(rt: HostRuntime) -> Result<(), Fail> {
         events: RESTLESS,
         shows: &[
             "record 0 caller 1 first 0 last 16 reply moved 0 2 3",
-            "record 1 caller 2 first 2 last 4 reply stored",
-            "record 2 caller 2 first 7 last 9 reply removed",
-            "record 3 caller 2 first 12 last 14 reply stored",
+            "record 1 caller 2 first 2 last 4 reply stored wrote",
+            "record 2 caller 2 first 7 last 9 reply removed wrote",
+            "record 3 caller 2 first 12 last 14 reply stored wrote",
             "order 1 2 3",
         ],
     };
@@ -219,9 +219,9 @@ fn a_restless_writer_disturbs_each_round(rt: HostRuntime) -> Result<(), Fail> {
         events: RESTLESS,
         shows: &[
             "record 0 caller 1 first 0 last - reply -",
-            "record 1 caller 2 first 2 last 4 reply stored",
-            "record 2 caller 2 first 7 last 9 reply removed",
-            "record 3 caller 2 first 12 last 14 reply stored",
+            "record 1 caller 2 first 2 last 4 reply stored wrote",
+            "record 2 caller 2 first 7 last 9 reply removed wrote",
+            "record 3 caller 2 first 12 last 14 reply stored wrote",
             "order 1 2 3",
         ],
     };
@@ -249,8 +249,8 @@ fn a_removed_domain_remembers_its_sequence(rt: HostRuntime) -> Result<(), Fail> 
             "end 3",
         ],
         shows: &[
-            "record 0 caller 2 first 0 last 2 reply stored",
-            "record 1 caller 2 first 3 last - reply -",
+            "record 0 caller 2 first 0 last 2 reply stored wrote",
+            "record 1 caller 2 first 3 last - reply - wrote",
             "record 2 caller 1 first 5 last 8 reply all 0",
             "record 3 caller 3 first 9 last 11 reply refused 31 5",
             "order 0 1 2 3",
@@ -303,7 +303,7 @@ fn events_that_do_not_fit_change_nothing(rt: HostRuntime) -> Result<(), Fail> {
             "quit 4294967295 held 0 1",
         ],
         shows: &[
-            "record 0 caller 4294967295 first 0 last 6 reply stored",
+            "record 0 caller 4294967295 first 0 last 6 reply stored wrote",
             "record 1 caller 4294967295 first 8 last 9 reply held 0 1",
             "order 0",
         ],

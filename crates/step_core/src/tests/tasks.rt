@@ -1,5 +1,5 @@
 //! Single shards and tasks, step by step.
-use super::{answer_text, operation};
+use super::{answer_text, contents_text, operation};
 use crate::home::home;
 use crate::{Answer, Shard, Task, Want};
 use map_core::{AskError, Contents, Op, Reply};
@@ -27,23 +27,56 @@ fn names_have_homes(rt: HostRuntime) -> Result<(), Fail> {
     Ok(())
 }
 
-/// A row is what a shard is asked, what it answers, and its revision then.
-fn play(alloc: Global, shard: &mut Shard, rows: &[(&str, &str, u64)]) -> Result<(), Fail> {
-    for (line, expected, revision) in rows {
-        let answer = shard.step(operation(alloc, line)?);
-        let text = answer_text(alloc, &answer)?;
-        let (looked, contents) = shard.look();
-        let (shared, version) = shard.share()?;
-        if text.as_str() != *expected || looked != *revision {
-            return Err(Fail::from(format!(in alloc;
-                "{line}: {text} at {looked}, and not {expected} at {revision}"
-            )?));
-        }
-        if shared != looked || version.len() != contents.len() {
-            return Err(Fail::from(format!(in alloc; "{line}: share is not look")?));
+/// What a shard is asked, what it answers, and its revision then.
+type Row<'a> = (&'a str, &'a str, u64);
+
+/// The shard answers a row, and share gives what look gives.
+fn play_row(alloc: Global, shard: &mut Shard, row: &Row) -> Result<(), Fail> {
+    let (line, expected, revision) = *row;
+    let answer = shard.step(operation(alloc, line)?);
+    let text = answer_text(alloc, &answer)?;
+    let (looked, contents) = shard.look();
+    let (shared, version) = shard.share()?;
+    if text.as_str() != expected || looked != revision {
+        return Err(Fail::from(format!(in alloc;
+            "{line}: {text} at {looked}, and not {expected} at {revision}"
+        )?));
+    }
+    let (looked_at, given) = (
+        contents_text(alloc, contents)?,
+        contents_text(alloc, &version)?,
+    );
+    if shared != looked || given.as_str() != looked_at.as_str() {
+        return Err(Fail::from(format!(in alloc; "{line}: share is not look")?));
+    }
+    Ok(())
+}
+
+fn play(alloc: Global, shard: &mut Shard, rows: &[Row]) -> Result<(), Fail> {
+    for row in rows {
+        play_row(alloc, shard, row)?;
+    }
+    Ok(())
+}
+
+/// The same, while the version before each step is kept by another, for whom it stays as it was.
+fn play_shared(alloc: Global, shard: &mut Shard, rows: &[Row]) -> Result<(), Fail> {
+    for row in rows {
+        let (_, version) = shard.share()?;
+        let before = contents_text(alloc, &version)?;
+        play_row(alloc, shard, row)?;
+        if contents_text(alloc, &version)?.as_str() != before.as_str() {
+            let (line, _, _) = *row;
+            return Err(Fail::from(format!(in alloc; "{line}: a shared version has changed")?));
         }
     }
     Ok(())
+}
+
+/// Plays the rows on a new shard that nobody shares, and on one whose versions are shared.
+fn play_new(alloc: Global, rows: &[Row]) -> Result<(), Fail> {
+    play(alloc, &mut Shard::new(alloc)?, rows)?;
+    play_shared(alloc, &mut Shard::new(alloc)?, rows)
 }
 
 #[test]
@@ -71,8 +104,7 @@ fn a_revision_counts_changes(rt: HostRuntime) -> Result<(), Fail> {
         ("remove a", "refused 30", 4),
         ("set a {\"keys\":[]}", "stored", 5),
     ];
-    let mut shard = Shard::new(rt.alloc())?;
-    play(rt.alloc(), &mut shard, &rows)
+    play_new(rt.alloc(), &rows)
 }
 
 /// A removed domain remembers its sequence, and the revision counts what the mark lets through.
@@ -99,8 +131,53 @@ fn a_mark_lets_few_changes_through(rt: HostRuntime) -> Result<(), Fail> {
         ("remove a", "removed", 6),
         ("set a {\"keys\":[],\"spiffe_sequence\":1}", "stored", 7),
     ];
-    let mut shard = Shard::new(rt.alloc())?;
-    play(rt.alloc(), &mut shard, &rows)
+    play_new(rt.alloc(), &rows)
+}
+
+/// Each operation on one name, with an authority of either kind.
+#[test]
+fn each_operation_is_a_step(rt: HostRuntime) -> Result<(), Fail> {
+    let rows = [
+        ("setif a 3 {\"keys\":[]}", "refused 36 absent", 0),
+        (
+            "setif a absent {\"keys\":[],\"spiffe_sequence\":9}",
+            "stored",
+            1,
+        ),
+        (
+            "append a {\"kty\":\"RSA\",\"use\":\"jwt-svid\",\"kid\":\"k\",\"n\":\"AQAB\",\"e\":\"AQAB\"}",
+            "appended 10",
+            2,
+        ),
+        (
+            "append a {\"kty\":\"RSA\",\"use\":\"jwt-svid\",\"kid\":\"k\",\"n\":\"AQAB\",\"e\":\"AQAB\"}",
+            "unchanged",
+            2,
+        ),
+        (
+            "append a {\"kty\":\"RSA\",\"use\":\"jwt-svid\",\"kid\":\"k\",\"n\":\"AQAC\",\"e\":\"AQAB\"}",
+            "refused 32",
+            2,
+        ),
+        (
+            "append a {\"kty\":\"EC\",\"use\":\"x509-svid\",\"crv\":\"P-256\",\"x\":\"AAAAAAAAAAAAAAAAAAAAAAAAAAAAAAAAAAAAAAAAAAA\",\"y\":\"AAAAAAAAAAAAAAAAAAAAAAAAAAAAAAAAAAAAAAAAAAA\",\"x5c\":[\"MAA=\"]}",
+            "appended 11",
+            3,
+        ),
+        (
+            "get a",
+            "found {\"keys\":[{\"e\":\"AQAB\",\"kid\":\"k\",\"kty\":\"RSA\",\"n\":\"AQAB\",\"use\":\"jwt-svid\"},{\"crv\":\"P-256\",\"kty\":\"EC\",\"use\":\"x509-svid\",\"x\":\"AAAAAAAAAAAAAAAAAAAAAAAAAAAAAAAAAAAAAAAAAAA\",\"x5c\":[\"MAA=\"],\"y\":\"AAAAAAAAAAAAAAAAAAAAAAAAAAAAAAAAAAAAAAAAAAA\"}],\"spiffe_sequence\":11}",
+            3,
+        ),
+        ("remove a", "removed", 4),
+        ("setif a absent {\"keys\":[]}", "stored", 5),
+        (
+            "append a {\"kty\":\"RSA\",\"use\":\"jwt-svid\",\"kid\":\"k\",\"n\":\"AQAB\",\"e\":\"AQAB\"}",
+            "appended -",
+            6,
+        ),
+    ];
+    play_new(rt.alloc(), &rows)
 }
 
 #[test]
@@ -161,8 +238,7 @@ fn a_fetch_all_wants_all_again(rt: HostRuntime) -> Result<(), Fail> {
         assert_eq!(rt; task.wants(), Want::Confirm(1));
         task.give(Answer::Revision(now));
     }
-    assert_eq!(rt; task.wants(), Want::Done);
-    if !task.is_done() {
+    if task.wants() != Want::Done {
         return Err(Fail::from("the task is not done"));
     }
     assert_eq!(rt; answer_text(alloc, &task.reply())?.as_str(), "all 0");
@@ -177,7 +253,7 @@ fn a_fetch_all_names_the_last_shard_that_moved(rt: HostRuntime) -> Result<(), Fa
         task.give(seen(alloc, first)?);
         task.give(Answer::Revision(second));
     }
-    if !task.is_done() {
+    if task.wants() != Want::Done {
         return Err(Fail::from("the task is not done"));
     }
     assert_eq!(rt; answer_text(alloc, &task.reply())?.as_str(), "moved 0 7 9");
@@ -194,8 +270,7 @@ fn an_operation_on_a_name_is_one_step(rt: HostRuntime) -> Result<(), Fail> {
     assert_eq!(rt; task.wants(), Want::Do(1));
     task.give(Answer::Replied(Ok(Reply::Unchanged)));
     task.give(Answer::Replied(Err(AskError::Memory)));
-    assert_eq!(rt; task.wants(), Want::Done);
-    if !task.is_done() {
+    if task.wants() != Want::Done {
         return Err(Fail::from("the task is not done"));
     }
     assert_eq!(rt; answer_text(alloc, &task.reply())?.as_str(), "unchanged");

@@ -1,7 +1,7 @@
 use Rattle.std.proofs.Common.{◌≡◌, ◌+◌, ◌<◌, ◌≤◌, ℕ, Bool, true, false, cond, List, [], ◌∷◌, ◌++◌, length, get_or, take, arith, refl, sym, ap, ◌∙◌, append-nil}
 use Rattle.std.specs.Prelude.{filter}
 use Rattle.std.proofs.lemmas.Grind.{elements}
-use Rattle.step_core.specs.Run.{stands, no_record}
+use Rattle.step_core.specs.Legal.{stands, no_record}
 use Rattle.step_core.proofs.run.standing.Goals as goal
 use Rattle.step_core.proofs.run.standing.Goals.{then-stands_at+in_ok-push, else-stands_at}
 

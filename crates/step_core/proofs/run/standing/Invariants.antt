@@ -1,6 +1,6 @@
 use Rattle.std.proofs.Common.{◌≡◌, get_or, take}
 use Rattle.std.specs.Prelude.{filter}
-use Rattle.step_core.specs.Run.{stands, no_record}
+use Rattle.step_core.specs.Legal.{stands, no_record}
 use Rattle.step_core.proofs.run.standing.Given as goal
 
 abbrev pub invariant-loop-number : goal.invariant-loop-number

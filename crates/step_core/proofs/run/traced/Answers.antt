@@ -1,6 +1,7 @@
 use Rattle.std.proofs.Common.{◌<◌, ℕ, get_or, take, sym, ap, subst, ◌∙◌}
 use Rattle.std.specs.Prelude.{filter}
-use Rattle.step_core.specs.Run.{run_of, stands, no_record}
+use Rattle.step_core.specs.Run.{run_of}
+use Rattle.step_core.specs.Legal.{stands, no_record}
 use Rattle.step_core.specs.Driver.{taken}
 use Rattle.step_core.specs.Shown.{IsShown}
 use Rattle.step_core.proofs.Driven.{next_shown, all_taken, shown_records, shown_order, witness}

@@ -3,7 +3,7 @@ use Rattle.std.specs.Vec.{with_items}
 use Rattle.std.proofs.lemmas.List.{with_items_is}
 use Rattle.step_core.specs.declared.driver.Running.{Running}
 use Rattle.step_core.specs.declared.driver.Driver.{Driver}
-use Rattle.step_core.specs.Run.{no_record}
+use Rattle.step_core.specs.Legal.{no_record}
 use Rattle.step_core.specs.Driver.{marked, ended, repointed_list}
 use Rattle.step_core.proofs.Callers.{at_caller}
 use Rattle.step_core.proofs.Driving.{quit_shown}

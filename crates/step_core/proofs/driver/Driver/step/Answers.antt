@@ -4,7 +4,7 @@ use Rattle.std.proofs.lemmas.List.{with_items_is}
 use Rattle.step_core.specs.declared.driver.Running.{Running}
 use Rattle.step_core.specs.declared.driver.Driver.{Driver}
 use Rattle.step_core.specs.Phase.{wants}
-use Rattle.step_core.specs.Run.{no_record}
+use Rattle.step_core.specs.Legal.{no_record}
 use Rattle.step_core.specs.Task.{IsWantOf, is_out_of_memory}
 use Rattle.step_core.specs.Driver.{left_by, told_by, marked, repointed_list, place_after}
 use Rattle.step_core.specs.declared.task.Want.{Want}

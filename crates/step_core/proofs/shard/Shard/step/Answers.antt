@@ -36,7 +36,7 @@ returns-clause-shard c =
     let new : PlainMap = arc_value c.ask_version.new.version in
     let low : true ≡ is_change c.in_ok-reply.reply → revision ≢ last_revision =
     (λ change. elim c.else-self-eq-LAST_REVISION.branch [
-      | else-self-eq-LAST_REVISION-via-then-self-eq-LAST_REVISION+in_ok-would_change+else-branch w ↦ (λ is. not_both (change ∙ ap is_change c.in_ok-reply.ensures.reply ∙ ap (λ (m : PlainMap). is_change (ask m op).reply) (sym w.deref.ensures) ∙ sym w.in_ok-would_change.ensures ∙ w.if-branch.false))
+      | else-self-eq-LAST_REVISION-via-then-self-eq-LAST_REVISION+in_ok-would_change+else-branch w ↦ (λ is. not_both (change ∙ ap is_change c.in_ok-reply.ensures.reply ∙ ap (λ (m : PlainMap). is_change (ask m op).reply) (sym w.deref.ensures) ∙ sym w.in_ok-would_change.ensures.told ∙ w.if-branch.false))
       | else-self-eq-LAST_REVISION-via-else-self-eq-LAST_REVISION w ↦ w.if-self-eq-LAST_REVISION.false
     ]) in
     rw (← c.self.view_is) (elim c.if-is_change.branch [

@@ -1,9 +1,9 @@
-use Rattle.std.proofs.Common.{◌≡◌, ◌<◌, ℕ, List, length, Some, Result, Ok, Err, IfOk, OnOk, IfErr, OnErr, slice_set, ◌⊎◌, sym, subst}
+use Rattle.std.proofs.Common.{◌≡◌, ◌<◌, ℕ, List, length, Some, Result, Ok, Err, IfOk, OnOk, IfErr, OnErr, slice_set, ◌⊎◌, sym, ap, subst}
 use Rattle.map_core.specs.declared.reply.Reply.{Reply}
 use Rattle.map_core.specs.declared.reply.AskError.{AskError}
-use Rattle.map_core.specs.declared.reply.AskError.TheVariants.{Memory}
+use Rattle.map_core.specs.declared.reply.AskError.TheVariants.{Memory, Worn, Moved, Held, GateShut}
 use Rattle.map_core.specs.PlainMap.{ask, shard_of}
-use Rattle.step_core.specs.Shard.{Version, reading, step_on}
+use Rattle.step_core.specs.Shard.{Version, reading, step_on, of_shard}
 use Rattle.step_core.specs.Shards.{map_of, IsWorn, Refuses}
 use Rattle.step_core.proofs.Parts.{item_here, if_reply, on_left, on_fit, if_refused, still_parts}
 use Rattle.step_core.proofs.shards.Shards.step.Goals as goal
@@ -58,3 +58,24 @@ returns-clause-fit c =
     let here : c.index_mut.result.now ≡ reading vs c.args.place = item_here vs c.args.place _ c.index_mut.ensures.value small in
     rw (← c.self.view_is) (subst (λ (r : Result Reply AskError). OnOk r ((j : ℕ) → IsWorn vs c.args.op j → ⊥)) (sym c.at_shard.ensures)
     (on_fit vs c.args.op c.args.place c.self.invariant at small c.step.result (subst (λ (v : Version). IfOk c.step.result (λ x. (step_on v c.args.op).answer ≡ Ok x)) here c.step.ensures.answer)))
+
+after_set : (r : Result Reply AskError) (vs : List Version) (place : ℕ) (left right : Version) → OnOk r (left ≡ right) → OnOk r (slice_set vs place left ≡ slice_set vs place right)
+after_set (Ok x) vs place left right is = ap (λ (v : Version). slice_set vs place v) is
+after_set (Err e) vs place left right is = tt
+
+pub returns-clause-shards : goal.returns-clause-shards
+returns-clause-shards c =
+    let vs = c.self.inside.shards.items in
+    let small = subst (λ (x : List Version). c.args.place < length x) (sym c.self.view_is) c.requires.place in
+    let here : c.index_mut.result.now ≡ reading vs c.args.place = item_here vs c.args.place _ c.index_mut.ensures.value small in
+    rw (← c.self.view_is) (subst (λ (r : Result Reply AskError). OnOk r (slice_set vs c.args.place c.step.new.self ≡ slice_set vs c.args.place (step_on (reading vs c.args.place) c.args.op).shard)) (sym c.at_shard.ensures)
+    (of_shard_ok c.args.place c.step.result _ (after_set c.step.result vs c.args.place _ _
+    (subst (λ (v : Version). OnOk c.step.result (c.step.new.self ≡ (step_on v c.args.op).shard)) here c.step.ensures.shard))))
+  where
+    of_shard_ok : (place : ℕ) (r : Result Reply AskError) (P : Type 0) → OnOk r P → OnOk (of_shard place r) P
+    of_shard_ok place (Ok x) P h = h
+    of_shard_ok place (Err Memory) P h = tt
+    of_shard_ok place (Err (Worn i)) P h = tt
+    of_shard_ok place (Err (Moved i first second)) P h = tt
+    of_shard_ok place (Err (Held i revision)) P h = tt
+    of_shard_ok place (Err GateShut) P h = tt

@@ -1,0 +1,67 @@
+-- The names of the bundles of a map rise strictly.
+use Rattle.std.proofs.Common.{◌≡◌, T, ◌&&◌, Bool, true, false, List, [], ◌∷◌, Option, Some, None, refl, sym, ap, subst, ◌∙◌}
+use Rattle.std.specs.Ordering.{is_lt}
+use Rattle.std.specs.declared.cmp.Ordering.{Ordering}
+use Rattle.std.specs.declared.cmp.Ordering.TheVariants.{Less, Equal, Greater}
+use Rattle.std.specs.FinMap.Entries.{below_all}
+use Rattle.std.specs.FinMap.{is_sorted}
+use Rattle.std.specs.FinMap as finite
+use Rattle.spiffe_doc.specs.Authority.{BundleValue}
+use Rattle.map_core.specs.declared.held.Held.{Held}
+use Rattle.map_core.specs.declared.held.Held.TheVariants.{Published, Mark}
+use Rattle.map_core.specs.declared.op.Op.TheVariants.{FetchAll}
+use Rattle.map_core.specs.declared.reply.Reply.{Reply}
+use Rattle.map_core.specs.declared.reply.Reply.TheVariants.{Stored, Unchanged, Appended, Removed, Found, All, Refused}
+use Rattle.map_core.specs.Name.{Name, name_cmp}
+use Rattle.map_core.specs.PlainMap.{PlainMap, published, bundles, ask}
+use Rattle.map_core.specs.Laws.{IsAfter, Ascends}
+use Rattle.map_core.proofs.Asks.{fetch_all}
+
+first : (a b : Bool) → T (a && b) → T a
+first true b p = tt
+first false b p = p
+
+second : (a b : Bool) → T (a && b) → T b
+second true b p = p
+second false b p = absurd p
+
+less : (o : Ordering) → T (is_lt o) → o ≡ Less
+less Less p = refl
+less Equal p = absurd p
+less Greater p = absurd p
+
+-- the name of the last one, if any, is below all names of the entries
+abbrev IsBelow : Option Name → List (Name × Held) → Type 0
+IsBelow None es = Unit {0}
+IsBelow (Some last) es = T (below_all name_cmp last es)
+
+after_last : (last : Option Name) (e : Name × Held) (es : List (Name × Held)) → IsBelow last (e ∷ es) → IsAfter last e.0
+after_last None e es h = tt
+after_last (Some last) e es h = less (name_cmp last e.0) (first _ _ h)
+
+below_rest : (last : Option Name) (e : Name × Held) (es : List (Name × Held)) → IsBelow last (e ∷ es) → IsBelow last es
+below_rest None e es h = tt
+below_rest (Some last) e es h = second _ _ h
+
+published_rise : (last : Option Name) (es : List (Name × Held)) → IsBelow last es → T (is_sorted name_cmp es) → Ascends last (published es)
+published_rise last [] below sorted = tt
+published_rise last ((d, Published b) ∷ es) below sorted =
+    (after_last last (d, Published b) es below, published_rise (Some d) es (first _ _ sorted) (second _ _ sorted))
+published_rise last ((d, Mark s) ∷ es) below sorted = published_rise last es (below_rest last (d, Mark s) es below) (second _ _ sorted)
+
+pub bundles_rise : (m : PlainMap) → Ascends None (bundles m)
+bundles_rise m = published_rise None (finite.entries m) tt (finite.entries_sorted m)
+
+-- the pairs of a reply to a fetch-all
+pairs_of : Reply → List (Name × BundleValue)
+pairs_of (All pairs) = pairs
+pairs_of Stored = []
+pairs_of Unchanged = []
+pairs_of (Appended sequence) = []
+pairs_of Removed = []
+pairs_of (Found b) = []
+pairs_of (Refused why) = []
+
+pub names_rise : (m : PlainMap) (pairs : List (Name × BundleValue)) → (ask m FetchAll).reply ≡ All pairs → Ascends None pairs
+unfolding pairs_of
+names_rise m pairs is = subst (Ascends None) (ap pairs_of (sym (fetch_all m) ∙ is)) (bundles_rise m)
