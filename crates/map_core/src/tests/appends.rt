@@ -39,8 +39,14 @@ fn an_x509_authority_is_appended_whole(rt: HostRuntime) -> Result<(), Fail> {
     let alloc = rt.alloc();
     let there = Held::Published(bundle(alloc, "9")?);
     let outcome = table::append(alloc, Some(&there), &authority(alloc, "x509")?)?;
-    let Outcome::Put(Reply::Appended(sequence), Held::Published(longer)) = outcome else {
+    let Outcome::Put(reply, held) = outcome else {
+        return Err(Fail::from("the bundle is not replaced"));
+    };
+    let Reply::Appended(sequence) = reply else {
         return Err(Fail::from("the authority is not appended"));
+    };
+    let Held::Published(longer) = held else {
+        return Err(Fail::from("a mark is left"));
     };
     assert_eq!(rt; sequence, Some(10));
     assert_eq!(rt; std::str::from_utf8(longer.text())?, WITH_X509);
