@@ -1,16 +1,21 @@
 -- A text reads as a SPIFFE ID exactly where it is one.
-use Rattle.std.proofs.Common.{◌≡◌, ℕ, ◌≤◌, List, [], ◌∷◌, ◌++◌, length, append-nil, drop, codes, true, false, nat_lt, Option, Some, None, Ok, refl, sym, ap, ◌∙◌, arith}
-use Rattle.std.specs.List.{AllByRecursion, All, slice_split, position_or_len}
-use Rattle.std.proofs.lemmas.Bool.{and_parts}
+use Rattle.std.proofs.Common.{◌≡◌, ℕ, ◌≤◌, List, [], ◌∷◌, ◌++◌, length, append-nil, drop, codes, true, false, nat_lt, Option, Some, None, Ok, refl, sym, ap, ◌∙◌, arith, inl, inr}
+use Rattle.std.specs.List.{AllByRecursion, All, slice_split, position_or_len, starts_with}
+use Rattle.std.specs.Prelude.{nat_eq, option_map}
+use Rattle.std.specs.Option.{option_or}
+use Rattle.std.proofs.lemmas.Bool.{and_parts, cases_Bool}
 use Rattle.std.proofs.lemmas.Bool.Decides.{nat_tests}
 use Rattle.std.proofs.lemmas.List.{take-append-drop}
 use Rattle.std.proofs.lemmas.List.Splits.{slice_split_none, slice_split_at}
 use Rattle.std.proofs.lemmas.List.Sums.{AllPass-from_list_all}
+use Rattle.spiffe_doc.specs.declared.name.NameError.{NameError}
+use Rattle.spiffe_doc.specs.declared.name.NameError.TheVariants as name
 use Rattle.spiffe_doc.specs.declared.id.IdError.{IdError}
-use Rattle.spiffe_doc.specs.Name.{is_name_byte}
+use Rattle.spiffe_doc.specs.declared.id.IdError.TheVariants.{BadPath, Memory}
+use Rattle.spiffe_doc.specs.Name.{is_name_byte, name_fault}
 use Rattle.spiffe_doc.specs.Answer.{unless}
-use Rattle.spiffe_doc.specs.Id.{id_of, is_slash, is_segment_byte, is_segment, path_text, IdValue, IsId, domain_of, segments_of, rest_fault, id_fault, spiffe_id}
-use Rattle.spiffe_doc.proofs.NameLemmas.{IsName-from_no_fault, no_fault-IsName}
+use Rattle.spiffe_doc.specs.Id.{id_of, is_slash, is_segment_byte, is_segment, path_text, IdValue, IsId, id_text, of_name, first_bad, domain_of, segments_of, rest_fault, id_fault, spiffe_id}
+use Rattle.spiffe_doc.proofs.NameLemmas.{IsName-from_no_fault, no_fault-IsName, name_fault-not_memory}
 use Rattle.spiffe_doc.proofs.IdLemmas.{split_first, path_is, none_bad, IsFaultless-from}
 
 abbrev id_with : List ℕ → List ℕ → IdValue
@@ -65,3 +70,31 @@ IsId-spiffe_id text id h =
     let fits : length (codes "spiffe://" ++ rest) ≤ 2048 = rw spelled at h.short in
     let short = fits_limit _ fits in
     rw (spelled, short, domain, no_fault-IsName id.domain h.named, segments, none_bad 0 h.walked.0 h.walked.2) (ap (λ p. Ok (id_with id.domain p)) path)
+
+-- ---- a text without a fault
+
+pub IsId-from_no_fault : (text : List ℕ) → id_fault text ≡ None → IsId text (id_of (drop 9 text))
+IsId-from_no_fault text h = spiffe_id-IsId text (id_of (drop 9 text)) (rw h refl)
+
+-- a SPIFFE ID is spelled by its parts
+pub IsId-id_text : (text : List ℕ) (id : IdValue) → IsId text id → IsId (id_text id) id
+IsId-id_text text id h = record { spelled = refl; short = rw h.spelled at h.short; named = h.named; walked = h.walked }
+
+-- the definition never wants memory
+pub id_fault-not_memory : (text : List ℕ) → id_fault text ≡ Some Memory → ⊥
+unfolding id_fault rest_fault
+id_fault-not_memory text h = elim (cases_Bool (nat_lt 2048 (length text))) [
+  | inl long ↦ cc (rw long at h)
+  | inr short ↦ elim (cases_Bool (starts_with nat_eq text (codes "spiffe://"))) [
+    | inl scheme ↦ rest (name_fault (domain_of (drop 9 text))) refl (first_bad 0 (segments_of (drop 9 text))) (rw (short, scheme) at h)
+    | inr other ↦ cc (rw (short, other) at h)
+  ]
+]
+  where
+    rest : (o : Option NameError) → name_fault (domain_of (drop 9 text)) ≡ o → (at : Option ℕ) → option_or (option_map of_name o) (option_map BadPath at) ≡ Some Memory → ⊥
+    rest None is None h = cc h
+    rest None is (Some at) h = cc h
+    rest (Some name.Empty) is at h = cc h
+    rest (Some name.TooLong) is at h = cc h
+    rest (Some (name.BadChar place)) is at h = cc h
+    rest (Some name.Memory) is at h = name_fault-not_memory (domain_of (drop 9 text)) is

@@ -17,3 +17,6 @@ pub mod RoundTrip
 pub mod AuthorityLists
 pub mod SetLemmas
 pub mod AppendLaws
+pub mod TokenCounts
+pub mod TextTrees
+pub mod DocumentLaws

@@ -6,7 +6,9 @@ use Rattle.std.proofs.lemmas.Bool.{cases_Bool, cases_lt, eqb-true, ltb-false, lt
 use Rattle.std.proofs.lemmas.Bool.Decides.{nat_tests}
 use Rattle.std.proofs.lemmas.List.{get_or_past}
 use Rattle.std.proofs.lemmas.List.Sums.{prefix_len_passes, prefix_len_stops}
+use Rattle.std.specs.Prelude.{option_map, position}
 use Rattle.spiffe_doc.specs.declared.name.NameError.{NameError}
+use Rattle.spiffe_doc.specs.declared.name.NameError.TheVariants.{BadChar, Memory}
 use Rattle.spiffe_doc.specs.Answer.{unless}
 use Rattle.spiffe_doc.specs.Name.{IsName, is_name_byte, name_fault, trust_domain}
 
@@ -65,3 +67,17 @@ trust_domain-IsName text name h = go (name_fault text) refl h
 
 pub IsName-trust_domain : (text name : List ℕ) → name ≡ text → IsName text → trust_domain text ≡ Ok name
 IsName-trust_domain text name same h = rw (no_fault-IsName text h) (ap Ok (sym same))
+
+-- the definition never wants memory
+pub name_fault-not_memory : (text : List ℕ) → name_fault text ≡ Some Memory → ⊥
+name_fault-not_memory text h = elim (cases_Bool (length text == 0)) [
+  | inl e ↦ cc (rw e at h)
+  | inr some ↦ elim (cases_Bool (nat_lt 255 (length text))) [
+    | inl long ↦ cc (rw (some, long) at h)
+    | inr short ↦ place (position (λ x. not (is_name_byte x)) text) (rw (some, short) at h)
+  ]
+]
+  where
+    place : (o : Option ℕ) → option_map BadChar o ≡ Some Memory → ⊥
+    place None h = cc h
+    place (Some at) h = cc h

@@ -1,5 +1,5 @@
 -- The canonical text of a lawful bundle is a document of that bundle.
-use Rattle.std.proofs.Common.{◌≡◌, ℕ, zero, suc, ◌<◌, ◌≤◌, ◌&&◌, List, [], ◌∷◌, length, get_or, take, Bool, true, false, nat_lt, nat_le, Option, Some, None, Ok, refl, ap, arith}
+use Rattle.std.proofs.Common.{◌≡◌, ℕ, zero, suc, ◌<◌, ◌≤◌, ◌&&◌, List, [], ◌∷◌, length, get_or, take, Bool, true, false, nat_lt, nat_le, Option, Some, None, Ok, refl, sym, ap, ◌∙◌, arith}
 use Rattle.std.specs.List.{list_any, AllPairs, AllByRecursion}
 use Rattle.std.specs.Str.{is_utf8}
 use Rattle.std.proofs.Math.Seq.{take-suc}
@@ -122,3 +122,9 @@ document-text_of p h =
     let short = fits_limit (length (text_of p)) h.short in
     let utf8 : is_utf8 (text_of p) ≡ true = is_utf8-from_IsUtf8 _ (text_utf8 p h) in
     rw (short, utf8, text_reads p h, bundle_of-document_tree p h, short) refl
+
+-- one text is of one bundle
+pub text_of-injective : (a b : BundleValue) → IsBundle a → IsBundle b → text_of a ≡ text_of b → a ≡ b
+text_of-injective a b is_a is_b same =
+    let read = sym (document-text_of a is_a) ∙ ap document same ∙ document-text_of b is_b in
+    cc read

@@ -7,7 +7,7 @@ use Rattle.serde_json.specs.Find.{get, as_array, as_object, as_u64}
 use Rattle.serde_json.specs.Read.{read}
 use Rattle.spiffe_doc.specs.declared.authority.Authority.{Authority}
 use Rattle.spiffe_doc.specs.declared.error.DocError.{DocError}
-use Rattle.spiffe_doc.specs.declared.error.DocError.TheVariants.{TooLong, NotJson, NotObject, NoKeys, BadSequence, BadHint, KidTwice, TooMany}
+use Rattle.spiffe_doc.specs.declared.error.DocError.TheVariants.{TooLong, NotJson, NotObject, NoKeys, BadSequence, BadHint, BadEntry, BadKey, BadX5c, BadKid, KidTwice, TooMany, Memory}
 use Rattle.spiffe_doc.specs.Answer.{unless, ◌>>=◌}
 use Rattle.spiffe_doc.specs.Authority.{BundleValue}
 use Rattle.spiffe_doc.specs.Equal.{authority_eq}
@@ -100,3 +100,20 @@ entry bytes = do
   input ← within 1048576 bytes
   tree ← ok_or (json_tree input) NotJson
   judge 0 tree
+
+-- ---- the place in `keys` that a refusal names
+
+abbrev pub place_of : DocError → Option ℕ
+place_of TooLong = None
+place_of NotJson = None
+place_of NotObject = None
+place_of NoKeys = None
+place_of BadSequence = None
+place_of BadHint = None
+place_of (BadEntry place) = Some place
+place_of (BadKey place member) = Some place
+place_of (BadX5c place) = Some place
+place_of (BadKid place) = Some place
+place_of (KidTwice place) = Some place
+place_of TooMany = None
+place_of Memory = None

@@ -32,9 +32,13 @@ pub record IdValue : Type 0 where
   pub domain : List ℕ
   pub path : List ℕ
 
+-- how it is spelled
+abbrev pub id_text : IdValue → List ℕ
+id_text id = codes "spiffe://" ++ id.domain ++ id.path
+
 -- the text is the SPIFFE ID of this domain and this path
 pub record IsId (text : List ℕ) (id : IdValue) : Type 0 where
-  pub spelled : text ≡ codes "spiffe://" ++ id.domain ++ id.path
+  pub spelled : text ≡ id_text id
   pub short : length text ≤ 2048
   pub named : IsName id.domain
   pub walked : IsPath id.path

@@ -1,5 +1,5 @@
 //! Appending an authority to a bundle.
-ghost use Rattle.std.specs.Prelude.{◌≡◌, ◌++◌, ◌∷◌, [], ◌&&◌, not, IfOk};
+ghost use Rattle.std.specs.Prelude.{◌≡◌, ◌⊎◌, ◌++◌, ◌∷◌, [], ◌&&◌, not, Err, IsOk, IfOk};
 ghost use Rattle.spiffe_doc.specs.Answer.{Gives};
 ghost use Rattle.spiffe_doc.specs.Writing.{front_text};
 ghost use Rattle.spiffe_doc.specs.Append.{appended, risen as risen_sequence};
@@ -14,10 +14,12 @@ use std::alloc::{AllocError, Global};
 impl Bundle {
     /// The bundle with one more authority at the end, and a present sequence one higher. Refused, in this order, where an
     /// equal authority is there, where its key id is there with another key, where there are 1,024, where the sequence is
-    /// the greatest, and where the canonical text would have over 1,048,576 bytes.
+    /// the greatest, and where the canonical text would have over 1,048,576 bytes. The first four take no memory.
     #[tactic(auto, unfolding(crate::specs::Append::appended))]
     pub fn appended(&self, alloc: Global, authority: &Authority) -> Result<Bundle, AppendError>
-        ensures { Gives AppendError.Memory result (appended self.now authority.now) }
+        ensures value { Gives AppendError.Memory result (appended self.now authority.now) }
+        ensures memory { result ≡ Err AppendError.Memory
+            → IsOk (appended self.now authority.now) ⊎ (appended self.now authority.now ≡ Err AppendError.TooLong) }
     {
         let present = self.authorities();
         if is_among(present, authority) {

@@ -1,5 +1,5 @@
 //! Bundle documents (RFC 7517, section 5; SPIFFE Trust Domain and Bundle, section 4).
-ghost use Rattle.std.specs.Prelude.{◌≡◌, ◌⊎◌, codes, Ok, Err, Some, None, option_map, option_and_then, MatchResult, IfOk, OnOk};
+ghost use Rattle.std.specs.Prelude.{◌≡◌, ◌⊎◌, ◌≤◌, length, codes, Ok, Err, Some, None, option_map, option_and_then, MatchResult, IfOk, OnOk};
 ghost use Rattle.serde_json.specs.Find.{get, as_array};
 ghost use Rattle.serde_json.specs.View.{view, items_view};
 ghost use Rattle.spiffe_doc.specs.Answer.{Gives};
@@ -21,10 +21,11 @@ use std::alloc::Global;
 /// A document is a JWK set (RFC 7517, section 5) with the members `spiffe_sequence` and `spiffe_refresh_hint` (SPIFFE
 /// Trust Domain and Bundle, section 4), of at most 1,048,576 bytes. Entries of unknown `use` or `kty`, or of an unknown
 /// curve, are passed over; a known entry that is faulty refuses the document. A later entry that gives an equal authority
-/// is dropped.
+/// is dropped. Memory may be wanting only for a document that is not over that limit.
 #[tactic(auto, unfolding(crate::specs::Document::document))]
 pub fn read_document(alloc: Global, bytes: &[u8]) -> Result<Bundle, DocError>
-    ensures { Gives DocError.Memory result (document bytes.now) }
+    ensures value { Gives DocError.Memory result (document bytes.now) }
+    ensures memory { result ≡ Err DocError.Memory → length bytes.now ≤ 1048576 }
 {
     if bytes.len() > MAX_TEXT {
         return Err(DocError::TooLong);
@@ -40,7 +41,8 @@ pub fn read_document(alloc: Global, bytes: &[u8]) -> Result<Bundle, DocError>
 /// One JWK by itself (RFC 7517, section 4): its authority, or none where it is passed over. A fault names place 0.
 #[tactic(auto, unfolding(crate::specs::Document::entry))]
 pub fn read_entry(alloc: Global, bytes: &[u8]) -> Result<Option<Authority>, DocError>
-    ensures { Gives DocError.Memory result (entry bytes.now) }
+    ensures value { Gives DocError.Memory result (entry bytes.now) }
+    ensures memory { result ≡ Err DocError.Memory → length bytes.now ≤ 1048576 }
 {
     if bytes.len() > MAX_TEXT {
         return Err(DocError::TooLong);

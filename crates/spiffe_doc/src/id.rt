@@ -1,9 +1,9 @@
 //! SPIFFE IDs (SPIFFE-ID, section 2).
-ghost use Rattle.std.specs.Prelude.{◌≡◌, ◌<◌, ◌≤◌, ◌==◌, ◌&&◌, not, length, IfOk, MatchOption, drop, position};
+ghost use Rattle.std.specs.Prelude.{◌≡◌, ◌<◌, ◌≤◌, ◌==◌, ◌&&◌, not, length, Err, IfOk, MatchOption, drop, position};
 ghost use Rattle.std.specs.List.{list_all, slice_split, position_or_len, before_first, after_first};
 ghost use Rattle.spiffe_doc.specs.Answer.{Gives};
 ghost use Rattle.spiffe_doc.specs.Number.{id_number};
-ghost use Rattle.spiffe_doc.specs.Id.{IsPath, is_slash, is_segment_byte as segment_byte, is_segment as segment_test, first_bad as first_bad_from, segments_of, rest_fault as fault_of_rest, id_fault as fault, spiffe_id};
+ghost use Rattle.spiffe_doc.specs.Id.{IdValue, IsId, id_text, IsPath, is_slash, is_segment_byte as segment_byte, is_segment as segment_test, first_bad as first_bad_from, segments_of, rest_fault as fault_of_rest, id_fault as fault, spiffe_id};
 
 use crate::name::{NameError, TrustDomain, name_fault};
 use std::alloc::{AllocError, Global};
@@ -11,7 +11,7 @@ use std::marker::Model;
 use thiserror::Error;
 
 /// The most bytes of a SPIFFE ID.
-pub const MAX_ID: usize = 2048;
+const MAX_ID: usize = 2048;
 
 /// Why a text is no SPIFFE ID.
 #[derive(Clone, Copy, Debug, PartialEq, Eq, Drop, Error)]
@@ -84,19 +84,20 @@ pub struct SpiffeId {
 
 impl Model for SpiffeId {
     ghost use Rattle.std.specs.Prelude.{string_bytes};
-    ghost use Rattle.spiffe_doc.specs.Id.{IdValue, IsPath};
+    ghost use Rattle.spiffe_doc.specs.Id.{IdValue, IsId, id_text};
 
     ghost Value = { IdValue };
 
     ghost view = { λ id. record { domain = id.domain; path = string_bytes id.path } };
 
-    ghost invariant = { λ id. IsPath (string_bytes id.path) };
+    ghost invariant = { λ id. IsId (id_text (record { domain = id.domain; path = string_bytes id.path })) (record { domain = id.domain; path = string_bytes id.path }) };
 }
 
 impl SpiffeId {
-    /// The SPIFFE ID that a text is, or the first reason why it is none.
+    /// The SPIFFE ID that a text is, or the first reason why it is not one. Memory may be wanting only for a SPIFFE ID.
     pub fn parse(alloc: Global, text: &str) -> Result<SpiffeId, IdError>
-        ensures { Gives IdError.Memory result (spiffe_id text.now) }
+        ensures value { Gives IdError.Memory result (spiffe_id text.now) }
+        ensures memory { result ≡ Err IdError.Memory → (id : IdValue) × IsId text.now id }
     {
         let bytes = text.as_bytes();
         if let Some(fault) = id_fault(bytes) {
@@ -115,7 +116,8 @@ impl SpiffeId {
 
     /// The trust domain.
     pub fn domain(&self) -> &TrustDomain
-        ensures { result.now ≡ self.now.domain }
+        ensures value { result.now ≡ self.now.domain }
+        ensures lawful { IsId (id_text self.now) self.now }
     {
         &self.domain
     }
@@ -124,6 +126,7 @@ impl SpiffeId {
     pub fn path(&self) -> &str
         ensures value { result.now ≡ self.now.path }
         ensures path { IsPath result.now }
+        ensures lawful { IsId (id_text self.now) self.now }
     {
         self.path.as_str()
     }

@@ -1,17 +1,19 @@
 //! What holds of the definitions alone. Each law is the contract of a function that does nothing.
-ghost use Rattle.std.specs.Prelude.{◌≡◌, ◌↔◌, List, ℕ, Ok, Err, Some, None, Option, Result, true};
+ghost use Rattle.std.specs.Prelude.{◌≡◌, ◌↔◌, ◌<◌, List, ℕ, Ok, Err, Some, None, Option, Result, IfSome, true};
 ghost use Rattle.serde_json.specs.Data.{Data};
+ghost use Rattle.spiffe_doc.specs.declared.key.PublicKey.{PublicKey};
 ghost use Rattle.spiffe_doc.specs.declared.authority.Authority.{Authority};
 ghost use Rattle.spiffe_doc.specs.declared.error.DocError.{DocError};
 ghost use Rattle.spiffe_doc.specs.Name.{IsName, trust_domain};
 ghost use Rattle.spiffe_doc.specs.Id.{IdValue, IsId, spiffe_id};
+ghost use Rattle.spiffe_doc.specs.Key.{EcKeyValue, RsaKeyValue};
 ghost use Rattle.spiffe_doc.specs.Authority.{IsAuthority, BundleValue};
-ghost use Rattle.spiffe_doc.specs.Equal.{authority_eq, bundle_eq};
+ghost use Rattle.spiffe_doc.specs.Equal.{ec_eq, rsa_eq, key_eq, authority_eq, bundle_eq};
 ghost use Rattle.spiffe_doc.specs.Text.{text_of};
 ghost use Rattle.spiffe_doc.specs.Entry.{GivesAuthority, IsPassedOver, IsAtFault, IsOutcome, HasOneOutcome};
 ghost use Rattle.spiffe_doc.specs.Judgement.{judge};
 ghost use Rattle.spiffe_doc.specs.Bundle.{IsBundle};
-ghost use Rattle.spiffe_doc.specs.Document.{document};
+ghost use Rattle.spiffe_doc.specs.Document.{document, entry, place_of};
 ghost use Rattle.spiffe_doc.specs.Append.{appended};
 
 /// A text reads as a trust domain name exactly where it is one, and then as itself.
@@ -21,6 +23,9 @@ pub fn names_are_read_as_they_stand()
 
 /// The tests of equality say whether all parts are equal.
 pub fn equality_is_of_all_parts()
+    ensures ec_keys { (a b : EcKeyValue) → (ec_eq a b ≡ true) ↔ (a ≡ b) }
+    ensures rsa_keys { (a b : RsaKeyValue) → (rsa_eq a b ≡ true) ↔ (a ≡ b) }
+    ensures keys { (a b : PublicKey) → (key_eq a b ≡ true) ↔ (a ≡ b) }
     ensures authorities { (a b : Authority) → (authority_eq a b ≡ true) ↔ (a ≡ b) }
     ensures bundles { (a b : BundleValue) → (bundle_eq a b ≡ true) ↔ (a ≡ b) }
 {}
@@ -61,4 +66,20 @@ pub fn entries_have_one_outcome()
 pub fn appended_bundles_are_lawful()
     ensures { (bundle : BundleValue) (more : BundleValue) (authority : Authority) →
         IsBundle bundle → IsAuthority authority → appended bundle authority ≡ Ok more → IsBundle more }
+{}
+
+/// A document gives a lawful bundle.
+pub fn documents_give_lawful_bundles()
+    ensures { (text : List ℕ) (bundle : BundleValue) → document text ≡ Ok bundle → IsBundle bundle }
+{}
+
+/// A place that a document's refusal names is below 1,048,576, and one that an entry's names is 0.
+pub fn places_are_within_the_document()
+    ensures documents { (text : List ℕ) (fault : DocError) → document text ≡ Err fault → IfSome (place_of fault) (λ place. place < 1048576) }
+    ensures entries { (text : List ℕ) (fault : DocError) → entry text ≡ Err fault → IfSome (place_of fault) (λ place. place ≡ 0) }
+{}
+
+/// Lawful bundles are equal exactly if their canonical texts are.
+pub fn texts_tell_bundles_apart()
+    ensures { (a b : BundleValue) → IsBundle a → IsBundle b → (text_of a ≡ text_of b) ↔ (a ≡ b) }
 {}

@@ -1,5 +1,5 @@
 //! Trust domain names (SPIFFE-ID, section 2).
-ghost use Rattle.std.specs.Prelude.{◌≡◌, IfOk, not, position};
+ghost use Rattle.std.specs.Prelude.{◌≡◌, ◌<◌, length, Err, MatchResult, not, position};
 ghost use Rattle.spiffe_doc.specs.Answer.{Gives};
 ghost use Rattle.spiffe_doc.specs.Name.{IsName, is_name_byte as name_byte, name_fault as fault, trust_domain};
 ghost use Rattle.spiffe_doc.specs.Number.{name_number};
@@ -12,7 +12,7 @@ use std::marker::Model;
 use thiserror::Error;
 
 /// The most bytes of a trust domain name.
-pub const MAX_NAME: usize = 255;
+const MAX_NAME: usize = 255;
 
 /// Why a text is no trust domain name.
 #[derive(Clone, Copy, Debug, PartialEq, Eq, Drop, Error)]
@@ -55,26 +55,30 @@ impl Model for TrustDomain {
     ghost use Rattle.std.specs.Prelude.{◌≡◌, List, ℕ};
     ghost use Rattle.spiffe_doc.specs.Name.{IsName};
     ghost use Rattle.spiffe_doc.specs.Prefix.{prefix_number};
-    ghost use Rattle.spiffe_doc.specs.ShortText.{bytes_of};
+    ghost use Rattle.spiffe_doc.specs.ShortText.{bytes_of, IsPlaced};
 
     ghost Value = { List ℕ };
 
     ghost view = { λ name. bytes_of name.text };
 
-    ghost invariant = { λ name. IsName (bytes_of name.text) × (name.prefix ≡ prefix_number 8 (bytes_of name.text)) };
+    ghost invariant = { λ name. IsName (bytes_of name.text) × (name.prefix ≡ prefix_number 8 (bytes_of name.text)) × IsPlaced name.text };
 }
 
 impl TrustDomain {
-    /// The name that a text is, or the first reason why it is none.
+    /// The name that a text is, or the first reason why it is not one. Memory may be wanting only for a name of over 24
+    /// bytes.
     pub fn parse(alloc: Global, text: &str) -> Result<TrustDomain, NameError>
-        ensures { Gives NameError.Memory result (trust_domain text.now) }
+        ensures value { Gives NameError.Memory result (trust_domain text.now) }
+        ensures memory { result ≡ Err NameError.Memory → IsName text.now × (24 < length text.now) }
     {
         Self::parse_bytes(alloc, text.as_bytes())
     }
 
-    /// The name that bytes are, or the first reason why they are none.
+    /// The name that bytes are, or the first reason why they are not one. Memory may be wanting only for a name of over 24
+    /// bytes.
     pub fn parse_bytes(alloc: Global, bytes: &[u8]) -> Result<TrustDomain, NameError>
-        ensures { Gives NameError.Memory result (trust_domain bytes.now) }
+        ensures value { Gives NameError.Memory result (trust_domain bytes.now) }
+        ensures memory { result ≡ Err NameError.Memory → IsName bytes.now × (24 < length bytes.now) }
     {
         if let Some(fault) = name_fault(bytes) {
             return Err(fault);
@@ -96,9 +100,9 @@ impl TrustDomain {
         self.text.as_str()
     }
 
-    /// The same name.
+    /// The same name. Errors only for want of memory, and only for a name of over 24 bytes.
     pub fn copy(&self) -> Result<TrustDomain, AllocError>
-        ensures { IfOk result (λ copy. copy ≡ self.now) }
+        ensures { MatchResult result (λ copy. copy ≡ self.now) (λ _. 24 < length self.now) }
     {
         Ok(TrustDomain {
             prefix: self.prefix,
@@ -154,9 +158,11 @@ fn is_name_byte(byte: u8) -> bool
 }
 
 impl Clone for TrustDomain {
-    ghost use Rattle.std.specs.Prelude.{◌≡◌};
+    ghost use Rattle.std.specs.Prelude.{◌≡◌, ◌≤◌, length};
 
     ghost is_clone = { λ domain clone. clone ≡ domain };
+
+    ghost is_infallible = { λ domain. length domain ≤ 24 };
 
     fn clone(&self) -> Result<TrustDomain, AllocError> {
         self.copy()

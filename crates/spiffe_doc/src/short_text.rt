@@ -1,6 +1,6 @@
 //! Texts that lie in the value itself where they are short.
-ghost use Rattle.std.specs.Prelude.{◌≡◌, IfOk};
-ghost use Rattle.spiffe_doc.specs.ShortText.{bytes_of};
+ghost use Rattle.std.specs.Prelude.{◌≡◌, ◌<◌, length, MatchResult};
+ghost use Rattle.spiffe_doc.specs.ShortText.{bytes_of, IsPlaced};
 
 use arrayvec::ArrayString;
 use std::alloc::{AllocError, Global};
@@ -13,9 +13,11 @@ pub(crate) enum ShortText {
 }
 
 impl ShortText {
-    /// This text.
+    /// This text. Errors only for want of memory, and only for a text of over 24 bytes.
     pub(crate) fn from_str(alloc: Global, text: &str) -> Result<ShortText, AllocError>
-        ensures { IfOk result (λ kept. bytes_of kept ≡ text.now) }
+        ensures { MatchResult result
+            (λ kept. (bytes_of kept ≡ text.now) × IsPlaced kept)
+            (λ _. 24 < length text.now) }
     {
         match ArrayString::from(text) {
             Ok(inline) => Ok(ShortText::Inline(inline)),
@@ -33,9 +35,12 @@ impl ShortText {
         }
     }
 
-    /// The same text.
+    /// The same text. Errors only for want of memory, and only for a text of over 24 bytes.
     pub(crate) fn copy(&self) -> Result<ShortText, AllocError>
-        ensures { IfOk result (λ copy. bytes_of copy ≡ bytes_of self.now) }
+        requires { IsPlaced self.now }
+        ensures { MatchResult result
+            (λ copy. (bytes_of copy ≡ bytes_of self.now) × IsPlaced copy)
+            (λ _. 24 < length (bytes_of self.now)) }
     {
         match self {
             ShortText::Inline(text) => Ok(ShortText::Inline(*text)),

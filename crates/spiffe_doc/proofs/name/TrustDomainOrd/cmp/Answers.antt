@@ -5,5 +5,5 @@ use Rattle.spiffe_doc.proofs.name.TrustDomainOrd.cmp.Goals as goal
 
 pub returns-in_default : goal.returns-in_default
 returns-in_default c =
-    let decides = names_by_prefix _ _ c.self.inside.prefix c.other.inside.prefix c.self.invariant c.other.invariant (λ tied. c.in_default.not-Equal (c.cmp.ensures ∙ tied)) in
+    let decides = names_by_prefix _ _ c.self.inside.prefix c.other.inside.prefix (c.self.invariant.0, c.self.invariant.1) (c.other.invariant.0, c.other.invariant.1) (λ tied. c.in_default.not-Equal (c.cmp.ensures ∙ tied)) in
     c.cmp.ensures ∙ decides ∙ (λ i. slice_cmp nat_cmp (c.self.view_is i) (c.other.view_is i))
