@@ -1,5 +1,5 @@
 //! What holds of the definitions alone.
-ghost use Rattle.std.specs.Prelude.{◌≡◌, ℕ, List, [], ◌∷◌, ◌++◌, ◌<◌, map, slice_index, Some, true};
+ghost use Rattle.std.specs.Prelude.{◌≡◌, ◌↔◌, ℕ, List, [], ◌∷◌, ◌++◌, ◌<◌, map, slice_index, Some, true};
 ghost use Rattle.map_core.specs.Ask.{ContentsAnswer};
 ghost use Rattle.map_core.specs.PlainMap.{PlainMap, bundles};
 ghost use Rattle.frame_front.specs.Frame.{HasFrames, frames, stream_of};
@@ -9,7 +9,7 @@ ghost use Rattle.map_core.specs.declared.reply.Reply.TheVariants.{Stored};
 ghost use Rattle.frame_front.specs.declared.request.Version.TheVariants.{One, Two};
 ghost use Rattle.frame_front.specs.Reply.{coded_reply, version_frame, memory_frame, is_error_reply};
 ghost use Rattle.frame_front.specs.PlainSession.{TellsError, answers_to, state_after};
-ghost use Rattle.frame_front.specs.Dump.{Domains, IsDump, IsBadDump, AreLawful, requests_for, map_of};
+ghost use Rattle.frame_front.specs.Dump.{Domains, IsDump, IsBadDump, AreValid, requests_for, map_of, dump_of};
 ghost use Rattle.frame_front.specs.Session.{Answers};
 
 use map_core::Ask;
@@ -49,12 +49,18 @@ pub fn bad_dumps_have_one_place()
     ensures { (dump : List ℕ) (place other : ℕ) → IsBadDump dump place → IsBadDump dump other → place ≡ other }
 {}
 
-/// From the empty map, and in version 1, a migrated dump of lawful bundles is answered by the version and then
-/// one reply for each domain, which is stored. The map after it is that of the dump.
+/// What a dump holds is valid. From the empty map, and in version 1, the requests that it becomes are
+/// answered by the version and then one reply for each domain, which is stored. The map after it is that of the dump.
 pub fn migrated_dumps_are_stored()
-    ensures { (dump : List ℕ) (items : Domains) → IsDump dump items → AreLawful items
-        → HasFrames (stream_of (requests_for items) []) (requests_for items) []
+    ensures { (dump : List ℕ) (items : Domains) → IsDump dump items → AreValid items
+        × HasFrames (stream_of (requests_for items) []) (requests_for items) []
         × (answers_to (One, finite.empty) (requests_for items) ≡ version_frame Two ∷ map (λ item. coded_reply Stored) items)
         × (state_after (One, finite.empty) (requests_for items) ≡ (Two, map_of items))
         × (bundles (map_of items) ≡ items) }
+{}
+
+/// Two maps of valid bundles have equal dumps exactly if they have the same bundles under the same names.
+/// So a dump, or a hash of it that has no collisions, tells what a federation publishes.
+pub fn equal_dumps_are_of_equal_bundles()
+    ensures { (m n : PlainMap) → AreValid (bundles m) → AreValid (bundles n) → (dump_of m ≡ dump_of n) ↔ (bundles m ≡ bundles n) }
 {}
