@@ -9,4 +9,5 @@ pub mod DomainLists
 pub mod DumpLemmas
 pub mod DumpPlaces
 pub mod DumpTexts
+pub mod PlaceLemmas
 pub mod MigrationLemmas

@@ -1,5 +1,5 @@
 //! What holds of the definitions alone.
-ghost use Rattle.std.specs.Prelude.{◌≡◌, ◌↔◌, ℕ, List, [], ◌∷◌, ◌++◌, ◌<◌, map, slice_index, Some, true};
+ghost use Rattle.std.specs.Prelude.{◌≡◌, ◌↔◌, ℕ, List, [], ◌∷◌, ◌++◌, ◌<◌, map, slice_index, Err, Some, true};
 ghost use Rattle.map_core.specs.Ask.{ContentsAnswer};
 ghost use Rattle.map_core.specs.PlainMap.{PlainMap, bundles};
 ghost use Rattle.frame_front.specs.Frame.{HasFrames, frames, stream_of};
@@ -7,7 +7,11 @@ ghost use Rattle.frame_front.specs.declared.request.Version.{Version};
 ghost use Rattle.std.specs.FinMap as finite;
 ghost use Rattle.map_core.specs.declared.reply.Reply.TheVariants.{Stored};
 ghost use Rattle.frame_front.specs.declared.request.Version.TheVariants.{One, Two};
-ghost use Rattle.frame_front.specs.Reply.{coded_reply, version_frame, memory_frame, is_error_reply};
+ghost use Rattle.frame_front.specs.declared.refusal.Refusal.{Refusal};
+ghost use Rattle.frame_front.specs.Refusal.{refusal_place};
+ghost use Rattle.frame_front.specs.Request.{request_of};
+ghost use Rattle.std.specs.Int.{w32, to_be_bytes};
+ghost use Rattle.frame_front.specs.Reply.{coded_reply, place_bytes, version_frame, memory_frame, is_error_reply};
 ghost use Rattle.frame_front.specs.PlainSession.{TellsError, answers_to, state_after};
 ghost use Rattle.frame_front.specs.Dump.{Domains, IsDump, IsBadDump, AreValid, requests_for, map_of, dump_of};
 ghost use Rattle.frame_front.specs.Session.{Answers};
@@ -37,6 +41,12 @@ pub fn each_stream_has_frames()
 pub fn errors_change_nothing<A: Ask>()
     ensures { (version next : Version) (old new : A) (payload text : List ℕ) (m : PlainMap) → A.shows old ≡ Some m
         → Answers A.answers (version, old) payload text (next, new) → is_error_reply text ≡ true → (A.shows new ≡ Some m) × (next ≡ version) }
+{}
+
+/// A place that the refusal of a request names is below 1,048,576, so the 4 bytes of a reply spell it.
+pub fn places_are_coded_exactly()
+    ensures { (version : Version) (payload : List ℕ) (refusal : Refusal) (place : ℕ) → request_of version payload ≡ Err refusal
+        → refusal_place refusal ≡ Some place → (place < 1048576) × (place_bytes place ≡ to_be_bytes w32 place) }
 {}
 
 /// Over one map the only reply that tells an error is the one that says that memory ran out.
