@@ -8,4 +8,6 @@ pub mod FramesExist
 pub mod DomainLists
 pub mod DumpLemmas
 pub mod DumpPlaces
+pub mod DumpTexts
+pub mod PlaceLemmas
 pub mod MigrationLemmas

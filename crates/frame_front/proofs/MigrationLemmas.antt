@@ -14,9 +14,12 @@ use Rattle.spiffe_doc.specs.Authority.{BundleValue}
 use Rattle.spiffe_doc.specs.Bundle.{IsBundle}
 use Rattle.spiffe_doc.specs.Name.{IsName, trust_domain}
 use Rattle.spiffe_doc.specs.Text.{text_of}
+use Rattle.spiffe_doc.specs.Document.{document}
+use Rattle.spiffe_doc.specs.declared.error.DocError.{DocError}
 use Rattle.spiffe_doc.specs.declared.name.NameError.{NameError}
 use Rattle.spiffe_doc.proofs.NameLemmas.{trust_domain-IsName, IsName-trust_domain}
 use Rattle.spiffe_doc.proofs.RoundTrip.{document-text_of}
+use Rattle.spiffe_doc.proofs.DocumentLaws.{IsBundle-document}
 use Rattle.map_core.specs.declared.held.Held.{Held}
 use Rattle.map_core.specs.declared.held.Held.TheVariants.{Published}
 use Rattle.map_core.specs.declared.op.Op.TheVariants.{SetIf}
@@ -30,18 +33,15 @@ use Rattle.frame_front.specs.declared.request.Request.TheVariants.{Ask, Speak}
 use Rattle.frame_front.specs.declared.refusal.Refusal.{Refusal}
 use Rattle.frame_front.specs.declared.refusal.Refusal.TheVariants.{BadRequest}
 use Rattle.frame_front.specs.Frame.{IsPayload, HasFrames, stream_of}
-use Rattle.frame_front.specs.Refusal.{name_refusal}
+use Rattle.frame_front.specs.Refusal.{name_refusal, document_refusal}
 use Rattle.frame_front.specs.Request.{◌>>=◌, split_name, split_expect, named, name_of, bundle_of, named_bundle, set_if_of, version_of, request_of}
 use Rattle.frame_front.specs.Request as requests
 use Rattle.frame_front.specs.Reply.{coded_reply, version_frame}
 use Rattle.frame_front.specs.PlainSession.{text_for, state_for, answers_to, state_after}
-use Rattle.frame_front.specs.Dump.{Domains, unless_refused, item_of, ReadsItems, IsAfter, Ascends, IsDump, AreLawful, request_for, requests_for, held_of, map_of}
+use Rattle.frame_front.specs.Dump.{Domains, unless_refused, item_of, ReadsItems, IsAfter, Ascends, IsDump, AreValid, request_for, requests_for, held_of, map_of}
 use Rattle.frame_front.proofs.DomainLists.{last_of, last_of-one, Ascends-one, some_item, none_item}
 
--- ---- a domain that was read has a name
-
-AreNamed : Domains → Type 0
-AreNamed = AllByRecursion (λ (item : Name × BundleValue). IsName item.0)
+-- ---- a domain that was read is valid
 
 same_ok : {A : Type 0} (x y : A) → (let r : Result A Refusal = Ok x in let s : Result A Refusal = Ok y in r ≡ s) → x ≡ y
 same_ok x y same = cc
@@ -58,19 +58,32 @@ name_read : (bytes name : List ℕ) → name_of bytes ≡ Ok name → IsName nam
 unfolding name_of
 name_read bytes name same = named_name bytes name (trust_domain bytes) refl same
 
+published_bundle : (bytes : List ℕ) (bundle : BundleValue) (d : Result BundleValue DocError) → document bytes ≡ d → requests.published d ≡ Ok bundle → IsBundle bundle
+published_bundle bytes bundle (Ok b) is same = subst IsBundle (same_ok b bundle same) (IsBundle-document bytes b is)
+published_bundle bytes bundle (Err e) is same = absurd (no_ok (document_refusal e) bundle same)
+
+bundle_read : (bytes : List ℕ) (bundle : BundleValue) → bundle_of bytes ≡ Ok bundle → IsBundle bundle
+unfolding bundle_of
+bundle_read bytes bundle same = published_bundle bytes bundle (document bytes) refl same
+
 -- the parts of what was read
 parts_read : (parts : Result (List ℕ × List ℕ) Refusal) (item : Name × BundleValue)
-    → (parts >>= (λ p. name_of p.0 >>= (λ name. bundle_of p.1 >>= (λ bundle. Ok (name, bundle))))) ≡ Ok item → IsName item.0
+    → (parts >>= (λ p. name_of p.0 >>= (λ name. bundle_of p.1 >>= (λ bundle. Ok (name, bundle))))) ≡ Ok item → IsName item.0 × IsBundle item.1
 parts_read (Err refusal) item same = absurd (no_ok refusal item same)
 parts_read (Ok p) item same = of_name (name_of p.0) refl same
   where
-    of_bundle : (name : Name) (b : Result BundleValue Refusal) → (b >>= (λ bundle. Ok (name, bundle))) ≡ Ok item → name ≡ item.0
-    of_bundle name (Err refusal) same = absurd (no_ok refusal item same)
-    of_bundle name (Ok bundle) same = ap (λ (i : Name × BundleValue). i.0) (same_ok (name, bundle) item same)
+    of_bundle : (name : Name) (b : Result BundleValue Refusal) → bundle_of p.1 ≡ b → (b >>= (λ bundle. Ok (name, bundle))) ≡ Ok item
+        → (name ≡ item.0) × IsBundle item.1
+    of_bundle name (Err refusal) is same = absurd (no_ok refusal item same)
+    of_bundle name (Ok bundle) is same =
+        let read = same_ok (name, bundle) item same in
+        (ap (λ (i : Name × BundleValue). i.0) read, subst IsBundle (ap (λ (i : Name × BundleValue). i.1) read) (bundle_read p.1 bundle is))
 
-    of_name : (n : Result Name Refusal) → name_of p.0 ≡ n → (n >>= (λ name. bundle_of p.1 >>= (λ bundle. Ok (name, bundle)))) ≡ Ok item → IsName item.0
+    of_name : (n : Result Name Refusal) → name_of p.0 ≡ n → (n >>= (λ name. bundle_of p.1 >>= (λ bundle. Ok (name, bundle)))) ≡ Ok item
+        → IsName item.0 × IsBundle item.1
     of_name (Err refusal) is same = absurd (no_ok refusal item same)
-    of_name (Ok name) is same = subst IsName (of_bundle name (bundle_of p.1) same) (name_read p.0 name is)
+    of_name (Ok name) is same =
+        let parts = of_bundle name (bundle_of p.1) refl same in (subst IsName parts.0 (name_read p.0 name is), parts.1)
 
 item_read : (read : Result (Name × BundleValue) Refusal) (item : Name × BundleValue) → unless_refused read ≡ Some item → read ≡ Ok item
 item_read (Ok i) item same = ap Ok (some_item i item same)
@@ -80,17 +93,16 @@ item_coded : (b : Bool) (read : Result (Name × BundleValue) Refusal) (item : Na
 item_coded true read item same = item_read read item same
 item_coded false read item same = absurd (none_item item same)
 
-named_item : (payload : List ℕ) (item : Name × BundleValue) → item_of payload ≡ Some item → IsName item.0
+valid_item : (payload : List ℕ) (item : Name × BundleValue) → item_of payload ≡ Some item → IsName item.0 × IsBundle item.1
 unfolding item_of named_bundle
-named_item [] item reads = absurd (none_item item reads)
-named_item (code ∷ bytes) item reads = parts_read (split_name bytes) item (item_coded _ (named_bundle bytes) item reads)
+valid_item [] item reads = absurd (none_item item reads)
+valid_item (code ∷ bytes) item reads = parts_read (split_name bytes) item (item_coded _ (named_bundle bytes) item reads)
 
-named_items : (payloads : List (List ℕ)) (items : Domains) → ReadsItems payloads items → AreNamed items
-unfolding AreNamed
-named_items [] [] reads = tt
-named_items [] (i ∷ is) reads = absurd reads
-named_items (p ∷ ps) [] reads = absurd reads
-named_items (p ∷ ps) (i ∷ is) reads = (named_item p i reads.0, named_items ps is reads.1)
+valid_items : (payloads : List (List ℕ)) (items : Domains) → ReadsItems payloads items → AreValid items
+valid_items [] [] reads = tt
+valid_items [] (i ∷ is) reads = absurd reads
+valid_items (p ∷ ps) [] reads = absurd reads
+valid_items (p ∷ ps) (i ∷ is) reads = (valid_item p i reads.0, valid_items ps is reads.1)
 
 -- ---- its request is read
 
@@ -152,16 +164,15 @@ module _ (item : Name × BundleValue) (m : Domains) (ascending : Ascends None m)
   unfolding ask meaning
   stored_map = ap (λ held. put (map_of m) item.0 (set_if Absent item.1 held).held) not_there ∙ sym one_more
 
-all_stored : (items m : Domains) → AreNamed items → AreLawful items → Ascends None m → Ascends (last_of None m) items
+all_stored : (items m : Domains) → AreValid items → Ascends None m → Ascends (last_of None m) items
     → (answers_to (Two, map_of m) (map request_for items) ≡ map (λ item. coded_reply Stored) items)
     × (state_after (Two, map_of m) (map request_for items) ≡ (Two, map_of (m ++ items)))
-unfolding AreNamed
-all_stored [] m names lawful below ascending = (refl, ap (λ n. (Two, map_of n)) (sym (append-nil m)))
-all_stored (item ∷ items) m names lawful below ascending =
-    let read = request_read item names.0 lawful.0 in
+all_stored [] m valid below ascending = (refl, ap (λ n. (Two, map_of n)) (sym (append-nil m)))
+all_stored (item ∷ items) m valid below ascending =
+    let read = request_read item valid.0.0 valid.0.1 in
     let text : text_for (Two, map_of m) (request_of Two (request_for item)) ≡ coded_reply Stored = ap (text_for (Two, map_of m)) read ∙ ap coded_reply (stored_reply item m below ascending.0) in
     let state : state_for (Two, map_of m) (request_of Two (request_for item)) ≡ (Two, map_of (m ++ item ∷ [])) = ap (state_for (Two, map_of m)) read ∙ ap (λ n. (Two, n)) (stored_map item m below ascending.0) in
-    let others = all_stored items (m ++ item ∷ []) names.1 lawful.1 (Ascends-one None m item below ascending.0) (subst (λ l. Ascends l items) (sym (last_of-one None m item)) ascending.1) in (
+    let others = all_stored items (m ++ item ∷ []) valid.1 (Ascends-one None m item below ascending.0) (subst (λ l. Ascends l items) (sym (last_of-one None m item)) ascending.1) in (
       ap (λ t. t ∷ answers_to (state_for (Two, map_of m) (request_of Two (request_for item))) (map request_for items)) text
           ∙ ap (λ s. coded_reply Stored ∷ answers_to s (map request_for items)) state ∙ ap (λ ts. coded_reply Stored ∷ ts) others.0,
       ap (λ s. state_after s (map request_for items)) state ∙ others.1 ∙ ap (λ n. (Two, map_of n)) (append_assoc m (item ∷ []) items),
@@ -191,28 +202,29 @@ published_all : (items : Domains) → published (map held_of items) ≡ items
 published_all [] = refl
 published_all (item ∷ items) = ap (λ rest. item ∷ rest) (published_all items)
 
-are_payloads : (items : Domains) → AreNamed items → AreLawful items → AllByRecursion IsPayload (map request_for items)
-unfolding AreNamed
-are_payloads [] names lawful = tt
-are_payloads (item ∷ items) names lawful =
+are_payloads : (items : Domains) → AreValid items → AllByRecursion IsPayload (map request_for items)
+are_payloads [] valid = tt
+are_payloads (item ∷ items) valid =
     let size : length (request_for item) ≡ 3 + length item.0 + length (text_of item.1) = omega (arith, length-append item.0 (0 ∷ text_of item.1)) in
-    ((omega (arith, size), omega (arith, size, names.0.short, lawful.0.short)), are_payloads items names.1 lawful.1)
+    ((omega (arith, size), omega (arith, size, valid.0.0.short, valid.0.1.short)), are_payloads items valid.1)
 
 version_read : request_of One (86 ∷ 2 ∷ []) ≡ Ok (Speak Two)
 unfolding request_of version_of
 version_read = refl
 
-pub migration : (dump : List ℕ) (items : Domains) → IsDump dump items → AreLawful items
-    → HasFrames (stream_of (requests_for items) []) (requests_for items) []
+pub migration : (dump : List ℕ) (items : Domains) → IsDump dump items
+    → AreValid items
+    × HasFrames (stream_of (requests_for items) []) (requests_for items) []
     × (answers_to (One, finite.empty) (requests_for items) ≡ version_frame Two ∷ map (λ item. coded_reply Stored) items)
     × (state_after (One, finite.empty) (requests_for items) ≡ (Two, map_of items))
     × (bundles (map_of items) ≡ items)
-migration dump items is lawful =
-    let names = named_items is.payloads items is.read in
-    let stored = all_stored items [] names lawful tt is.ascending in (
+migration dump items is =
+    let valid = valid_items is.payloads items is.read in
+    let stored = all_stored items [] valid tt is.ascending in (
+      valid,
       record {
         whole = refl;
-        each = ((omega arith, omega arith), are_payloads items names lawful);
+        each = ((omega arith, omega arith), are_payloads items valid);
         ends = inl (record { good = λ h. absurd (omega (arith, h)); short = λ h. absurd (omega (arith, h)) });
       },
       ap (λ r. text_for (One, finite.empty) r ∷ answers_to (state_for (One, finite.empty) r) (map request_for items)) version_read

@@ -224,6 +224,7 @@ module _ {S : Type 0} (answers : S → Op → Result Reply AskError → S → Ty
             whole = s.serves.whole;
             each = s.serves.each;
             ends = s.ends;
+            few_read = t.few_read;
             used = t.used;
             ended = t.ended;
             stands = stands;
@@ -254,6 +255,7 @@ module _ {S : Type 0} (answers : S → Op → Result Reply AskError → S → Ty
             whole = s.serves.whole ∙ k.whole;
             each = k.each;
             ends = tt;
+            few_read = t.few_read;
             used = tt;
             ended = tt;
             stands = k.stands;

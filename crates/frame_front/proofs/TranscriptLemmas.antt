@@ -14,7 +14,7 @@ use Rattle.frame_front.specs.declared.request.Version.{Version}
 use Rattle.frame_front.specs.declared.request.Version.TheVariants.{One}
 use Rattle.frame_front.specs.Frame.{IsUnfinished}
 use Rattle.frame_front.specs.Session.{SessionState, Serves, EndsAt, Writes, Round, RoundEndsAt}
-use Rattle.frame_front.specs.Transcript.{Transcript, EndsInput, UsesTurns}
+use Rattle.frame_front.specs.Transcript.{Transcript, EndsInput, UsesTurns, IsReadIn}
 use Rattle.frame_front.proofs.SessionLemmas.{Serves-none, Serves-read, Serves-then, fewer_than_bytes}
 
 -- After some turns all whole frames read are answered, and no bad length follows them.
@@ -141,12 +141,16 @@ module _ {S : Type 0} (answers : S → Op → Result Reply AskError → S → Ty
       at_most = omega (arith, so_far.at_most, length-append so_far.read piece);
     }
 
+    -- what is read, with one more piece
+    read_in : (piece : List ℕ) (turns : ℕ) → 4096 * turn + length piece ≤ 4096 * turns → IsReadIn turns (so_far.read ++ piece)
+    read_in piece turns few = omega (arith, few, so_far.at_most, length-append so_far.read piece)
+
     -- a round after one more piece failed
     pub Transcript-round : (left_new held_new : Option (List ℕ)) (piece written kept_new : List ℕ) (new : S) (last : Version) (fault : FrontError) (turns : ℕ)
-        → Consumes left left_new piece → Appends held held_new written
+        → 4096 * turn + length piece ≤ 4096 * turns → Consumes left left_new piece → Appends held held_new written
         → Round answers (Err fault) (kept ++ piece) kept_new (version, now) (last, new) written
         → Transcript answers (Err fault) turns left_old left_new held_old held_new start new
-    Transcript-round left_new held_new piece written kept_new new last fault turns took wrote round = record {
+    Transcript-round left_new held_new piece written kept_new new last fault turns few took wrote round = record {
       read = so_far.read ++ piece;
       written = concat so_far.texts ++ written;
       version = last;
@@ -160,16 +164,17 @@ module _ {S : Type 0} (answers : S → Op → Result Reply AskError → S → Ty
         ends = Round-ends fault _ _ round.rest kept_new round.ends;
         writes = Round-writes fault so_far.texts round.texts written round.writes;
       };
+      few_read = read_in piece turns few;
       used = Round-used fault (length round.payloads) turns _ round.rest kept_new round.ends;
       ended = Round-input fault (length round.payloads) round.rest kept_new left_new round.ends;
     }
 
     -- the session ends with no further byte
     pub Transcript-still : (left_new : Option (List ℕ)) (piece : List ℕ) (result : Result ℕ FrontError) (turns : ℕ)
-        → Consumes left left_new piece → piece ≡ [] → EndsAt result (length so_far.payloads) kept → Writes result so_far.texts (concat so_far.texts)
+        → 4096 * turn + length piece ≤ 4096 * turns → Consumes left left_new piece → piece ≡ [] → EndsAt result (length so_far.payloads) kept → Writes result so_far.texts (concat so_far.texts)
         → UsesTurns result turns turn → EndsInput result left_new
         → Transcript answers result turns left_old left_new held_old held start now
-    Transcript-still left_new piece result turns took none ends writes used ended = record {
+    Transcript-still left_new piece result turns few took none ends writes used ended = record {
       read = so_far.read ++ piece;
       written = concat so_far.texts;
       version = version;
@@ -183,14 +188,15 @@ module _ {S : Type 0} (answers : S → Op → Result Reply AskError → S → Ty
         ends = subst (EndsAt result (length so_far.payloads)) (sym (append-nil kept) ∙ ap (λ p. kept ++ p) (sym none)) ends;
         writes = writes;
       };
+      few_read = read_in piece turns few;
       used = more_bytes result turns turn (length (so_far.read ++ piece)) (omega (arith, so_far.at_least, length-append so_far.read piece)) used;
       ended = ended;
     }
 
     -- a piece was read, and there was no memory to keep it
-    pub Transcript-unkept : (left_new : Option (List ℕ)) (piece : List ℕ) (turns : ℕ) → Consumes left left_new piece
+    pub Transcript-unkept : (left_new : Option (List ℕ)) (piece : List ℕ) (turns : ℕ) → 4096 * turn + length piece ≤ 4096 * turns → Consumes left left_new piece
         → Transcript answers (Err Memory) turns left_old left_new held_old held start now
-    Transcript-unkept left_new piece turns took = record {
+    Transcript-unkept left_new piece turns few took = record {
       read = so_far.read ++ piece;
       written = concat so_far.texts;
       version = version;
@@ -204,6 +210,7 @@ module _ {S : Type 0} (answers : S → Op → Result Reply AskError → S → Ty
         ends = tt;
         writes = refl;
       };
+      few_read = read_in piece turns few;
       used = tt;
       ended = tt;
     }

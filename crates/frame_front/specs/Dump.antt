@@ -5,17 +5,20 @@ use Rattle.std.specs.List.{AllByRecursion}
 use Rattle.std.specs.FinMap as finite
 use Rattle.std.specs.declared.cmp.Ordering.TheVariants.{Less}
 use Rattle.spiffe_doc.specs.Authority.{BundleValue}
+use Rattle.spiffe_doc.specs.Name.{IsName}
 use Rattle.spiffe_doc.specs.Bundle.{IsBundle}
 use Rattle.spiffe_doc.specs.Text.{text_of}
 use Rattle.map_core.specs.declared.held.Held.{Held}
 use Rattle.map_core.specs.declared.held.Held.TheVariants.{Published}
 use Rattle.map_core.specs.Name.{Name, name_cmp}
-use Rattle.map_core.specs.PlainMap.{PlainMap}
+use Rattle.map_core.specs.declared.reply.Reply.TheVariants.{All}
+use Rattle.map_core.specs.PlainMap.{PlainMap, bundles}
 use Rattle.frame_front.specs.declared.refusal.Refusal.{Refusal}
 use Rattle.frame_front.specs.declared.dump.DumpError.{DumpError}
 use Rattle.frame_front.specs.declared.dump.DumpError.TheVariants.{BadDump, Memory}
 use Rattle.frame_front.specs.Frame.{HasFrames, IsPayload, frame}
 use Rattle.frame_front.specs.Request.{named_bundle}
+use Rattle.frame_front.specs.Reply.{coded_reply}
 
 -- trust domains with their bundles
 abbrev pub Domains : Type 0
@@ -85,6 +88,14 @@ FaultOfDump Memory dump = Unit {0}
 -- all bundles are lawful
 abbrev pub AreLawful : Domains → Type 0
 AreLawful items = AllByRecursion (λ item. IsBundle item.1) items
+
+-- each name is a trust domain name, and each bundle is lawful
+abbrev pub AreValid : Domains → Type 0
+AreValid items = AllByRecursion (λ item. IsName item.0 × IsBundle item.1) items
+
+-- the dump of a map: the reply to a fetch-all, which has the names and the bundles and no tombstone
+abbrev pub dump_of : PlainMap → List ℕ
+dump_of m = coded_reply (All (bundles m))
 
 -- the request that sets a domain where it is absent: C, the name, the expectation, and the canonical text
 abbrev pub request_for : Name × BundleValue → List ℕ

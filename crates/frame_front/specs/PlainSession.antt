@@ -16,7 +16,7 @@ use Rattle.frame_front.specs.Frame.{stream_of, IsPayload}
 use Rattle.frame_front.specs.Request.{request_of}
 use Rattle.frame_front.specs.Reply.{coded, coded_reply, memory_frame, refusal_frame, version_frame}
 use Rattle.frame_front.specs.Session.{SessionState, EndsAt}
-use Rattle.frame_front.specs.Transcript.{EndsInput, UsesTurns}
+use Rattle.frame_front.specs.Transcript.{EndsInput, UsesTurns, IsReadIn}
 
 -- the answer to a payload that reads so
 abbrev pub text_for : SessionState PlainMap → Result Request Refusal → List ℕ
@@ -81,6 +81,7 @@ module _ {S : Type 0} (answers : S → Op → Result Reply AskError → S → Ty
     pub whole : read ≡ stream_of payloads rest
     pub each : AllByRecursion IsPayload payloads
     pub ends : EndsAt result (length payloads) rest
+    pub few_read : IsReadIn turns read
     pub used : UsesTurns result turns (length read)
     pub ended : EndsInput result left_new
     pub stands : Stands result texts written

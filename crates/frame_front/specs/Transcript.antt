@@ -1,5 +1,5 @@
 -- What a call of `serve` did to its reader, its writer and the map that it asks.
-use Rattle.std.specs.Prelude.{ℕ, ◌≤◌, List, length, Result, Ok, Err, Option}
+use Rattle.std.specs.Prelude.{ℕ, ◌≤◌, ◌*◌, List, length, Result, Ok, Err, Option}
 use Rattle.std.specs.Io.KnownBytes.{Appends, Consumes, IsAtEnd}
 use Rattle.map_core.specs.declared.op.Op.{Op}
 use Rattle.map_core.specs.declared.reply.Reply.{Reply}
@@ -30,6 +30,10 @@ UsesTurns (Err ReadFault) turns bytes = Unit {0}
 UsesTurns (Err WriteFault) turns bytes = Unit {0}
 UsesTurns (Err Memory) turns bytes = Unit {0}
 
+-- at most so many reads, each of at most 4096 bytes
+abbrev pub IsReadIn : ℕ → List ℕ → Type 0
+IsReadIn turns read = length read ≤ 4096 * turns
+
 -- A session in version one from the start: what it took from the reader and gave to the writer, and from which
 -- state of the map to which.
 pub record Transcript {S : Type 0} (answers : S → Op → Result Reply AskError → S → Type 0) (result : Result ℕ FrontError) (turns : ℕ)
@@ -40,5 +44,6 @@ pub record Transcript {S : Type 0} (answers : S → Op → Result Reply AskError
   pub consumes : Consumes left_old left_new read
   pub appends : Appends held_old held_new written
   pub session : Session answers result (One, old) (version, new) read written
+  pub few_read : IsReadIn turns read
   pub used : UsesTurns result turns (length read)
   pub ended : EndsInput result left_new

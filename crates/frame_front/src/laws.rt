@@ -1,5 +1,5 @@
 //! What holds of the definitions alone.
-ghost use Rattle.std.specs.Prelude.{◌≡◌, ℕ, List, [], ◌∷◌, ◌++◌, ◌<◌, map, slice_index, Some, true};
+ghost use Rattle.std.specs.Prelude.{◌≡◌, ◌↔◌, ℕ, List, [], ◌∷◌, ◌++◌, ◌<◌, map, slice_index, Err, Some, true};
 ghost use Rattle.map_core.specs.Ask.{ContentsAnswer};
 ghost use Rattle.map_core.specs.PlainMap.{PlainMap, bundles};
 ghost use Rattle.frame_front.specs.Frame.{HasFrames, frames, stream_of};
@@ -7,9 +7,13 @@ ghost use Rattle.frame_front.specs.declared.request.Version.{Version};
 ghost use Rattle.std.specs.FinMap as finite;
 ghost use Rattle.map_core.specs.declared.reply.Reply.TheVariants.{Stored};
 ghost use Rattle.frame_front.specs.declared.request.Version.TheVariants.{One, Two};
-ghost use Rattle.frame_front.specs.Reply.{coded_reply, version_frame, memory_frame, is_error_reply};
+ghost use Rattle.frame_front.specs.declared.refusal.Refusal.{Refusal};
+ghost use Rattle.frame_front.specs.Refusal.{refusal_place};
+ghost use Rattle.frame_front.specs.Request.{request_of};
+ghost use Rattle.std.specs.Int.{w32, to_be_bytes};
+ghost use Rattle.frame_front.specs.Reply.{coded_reply, place_bytes, version_frame, memory_frame, is_error_reply};
 ghost use Rattle.frame_front.specs.PlainSession.{TellsError, answers_to, state_after};
-ghost use Rattle.frame_front.specs.Dump.{Domains, IsDump, IsBadDump, AreLawful, requests_for, map_of};
+ghost use Rattle.frame_front.specs.Dump.{Domains, IsDump, IsBadDump, AreValid, requests_for, map_of, dump_of};
 ghost use Rattle.frame_front.specs.Session.{Answers};
 
 use map_core::Ask;
@@ -39,6 +43,12 @@ pub fn errors_change_nothing<A: Ask>()
         → Answers A.answers (version, old) payload text (next, new) → is_error_reply text ≡ true → (A.shows new ≡ Some m) × (next ≡ version) }
 {}
 
+/// A place that the refusal of a request names is below 1,048,576, so the 4 bytes of a reply spell it.
+pub fn places_are_coded_exactly()
+    ensures { (version : Version) (payload : List ℕ) (refusal : Refusal) (place : ℕ) → request_of version payload ≡ Err refusal
+        → refusal_place refusal ≡ Some place → (place < 1048576) × (place_bytes place ≡ to_be_bytes w32 place) }
+{}
+
 /// Over one map the only reply that tells an error is the one that says that memory ran out.
 pub fn one_map_tells_want_of_memory_alone()
     ensures { (text : List ℕ) → TellsError ContentsAnswer text → text ≡ memory_frame }
@@ -49,12 +59,18 @@ pub fn bad_dumps_have_one_place()
     ensures { (dump : List ℕ) (place other : ℕ) → IsBadDump dump place → IsBadDump dump other → place ≡ other }
 {}
 
-/// From the empty map, and in version 1, a migrated dump of lawful bundles is answered by the version and then
-/// one reply for each domain, which is stored. The map after it is that of the dump.
+/// What a dump holds is valid. From the empty map, and in version 1, the requests that it becomes are
+/// answered by the version and then one reply for each domain, which is stored. The map after it is that of the dump.
 pub fn migrated_dumps_are_stored()
-    ensures { (dump : List ℕ) (items : Domains) → IsDump dump items → AreLawful items
-        → HasFrames (stream_of (requests_for items) []) (requests_for items) []
+    ensures { (dump : List ℕ) (items : Domains) → IsDump dump items → AreValid items
+        × HasFrames (stream_of (requests_for items) []) (requests_for items) []
         × (answers_to (One, finite.empty) (requests_for items) ≡ version_frame Two ∷ map (λ item. coded_reply Stored) items)
         × (state_after (One, finite.empty) (requests_for items) ≡ (Two, map_of items))
         × (bundles (map_of items) ≡ items) }
+{}
+
+/// Two maps of valid bundles have equal dumps exactly if they have the same bundles under the same names.
+/// So a dump, or a hash of it that has no collisions, tells what a federation publishes.
+pub fn equal_dumps_are_of_equal_bundles()
+    ensures { (m n : PlainMap) → AreValid (bundles m) → AreValid (bundles n) → (dump_of m ≡ dump_of n) ↔ (bundles m ≡ bundles n) }
 {}

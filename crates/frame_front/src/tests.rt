@@ -1,8 +1,12 @@
 //! Worked examples of sessions: a row is what comes in and, beside it, what goes out.
+mod bundles;
 mod decoders;
 mod dumps;
 mod ends;
+mod numbers;
+mod refusals;
 mod replies;
+mod rounds;
 mod sessions;
 mod sizes;
 
@@ -59,6 +63,19 @@ where
     let mut writer = Counted::new(Vec::new(alloc));
     let ended = serve(alloc, &mut reader, &mut writer, contents, 1_000_000_000);
     Ok((ended, writer.end))
+}
+
+/// Adds a frame: a length of 4 bytes, and the parts of a payload.
+fn put_frame(out: &mut Vec<u8>, parts: &[&[u8]]) -> Result<(), AllocError> {
+    let mut size: u32 = 0;
+    for part in parts {
+        size = size.saturating_add(u32::try_from(part.len()).unwrap_or(u32::MAX));
+    }
+    out.extend_from_slice(&size.to_be_bytes())?;
+    for part in parts {
+        out.extend_from_slice(part)?;
+    }
+    Ok(())
 }
 
 /// A session: its name, what comes in, how it ends, and what goes out.

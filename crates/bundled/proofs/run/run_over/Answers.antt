@@ -1,4 +1,4 @@
-use Rattle.std.proofs.Common.{List, ℕ, Option, None, Some, [], Ok, Err, refl, ap, rules}
+use Rattle.std.proofs.Common.{List, ℕ, Option, None, Some, [], Ok, Err, arith, refl, ap, rules}
 use Rattle.std.specs.Io.KnownBytes.{Consumes, Appends}
 use Rattle.std.specs.FinMap as finite
 use Rattle.frame_front.specs.declared.error.FrontError.TheVariants.{Memory}
@@ -28,6 +28,7 @@ returns-in_default-clause-session g c = (
     whole = refl;
     each = tt;
     ends = tt;
+    few_read = omega arith;
     used = tt;
     ended = tt;
     stands = refl;

@@ -1,0 +1,208 @@
+-- A place that a refusal names fits in 4 bytes.
+use Rattle.std.proofs.Common.{◌≡◌, ℕ, ◌<◌, ◌≤◌, List, [], ◌∷◌, length, take, drop, arith, refl, sym, ap, subst, Result, Ok, Err, Some, None, Bool, true, false, cond}
+use Rattle.std.specs.Prelude.{Option, option_map, nat_le, nat_lt, ◌==◌, ◌&&◌, ◌-◌, ◌^◌, min, position, not, IfSome}
+use Rattle.std.specs.Int.{w32, to_be_bytes}
+use Rattle.std.proofs.lemmas.Bool.Decides.{nat_tests}
+use Rattle.std.proofs.lemmas.List.Quantifiers.{position-Some}
+use Rattle.spiffe_doc.specs.Answer.{unless}
+use Rattle.spiffe_doc.specs.Authority.{BundleValue}
+use Rattle.spiffe_doc.specs.declared.authority.Authority.{Authority}
+use Rattle.spiffe_doc.specs.declared.name.NameError.{NameError}
+use Rattle.spiffe_doc.specs.declared.name.NameError.TheVariants as name
+use Rattle.spiffe_doc.specs.declared.error.DocError.{DocError}
+use Rattle.spiffe_doc.specs.declared.error.DocError.TheVariants as doc
+use Rattle.spiffe_doc.specs.Name.{is_name_byte, name_fault, trust_domain}
+use Rattle.spiffe_doc.specs.Document.{document, entry, place_of}
+use Rattle.spiffe_doc.proofs.DocumentLaws.{document-place, entry-place}
+use Rattle.map_core.specs.Name.{Name}
+use Rattle.frame_front.specs.declared.request.Version.{Version}
+use Rattle.frame_front.specs.declared.request.Version.TheVariants.{One, Two}
+use Rattle.frame_front.specs.declared.request.Request.{Request}
+use Rattle.frame_front.specs.declared.refusal.Refusal.{Refusal}
+use Rattle.frame_front.specs.Refusal.{refusal_place}
+use Rattle.frame_front.specs.Reply.{place_bytes}
+use Rattle.frame_front.specs.Request.{◌>>=◌, split_name, split_expect, at_end, named, name_of, published, bundle_of, given, authority_of, only_name, named_bundle, set_of, set_if_of, append_of, remove_of, get_of, fetch_all_of, version_of, later_letter, lettered, request_of}
+
+-- if it is a refusal that names a place, the place is small
+abbrev HasSmallPlace : {A : Type 0} → Result A Refusal → Type 0
+HasSmallPlace (Ok x) = Unit {0}
+HasSmallPlace (Err refusal) = IfSome (refusal_place refusal) (λ place. place < 1048576)
+
+small_then : {A B : Type 0} (r : Result A Refusal) (f : A → Result B Refusal) → HasSmallPlace r → ((x : A) → HasSmallPlace (f x)) → HasSmallPlace (r >>= f)
+small_then (Ok x) f small next = next x
+small_then (Err refusal) f small next = small
+
+small_if : {A : Type 0} (b : Bool) (r s : Result A Refusal) → HasSmallPlace r → HasSmallPlace s → HasSmallPlace (cond b r s)
+small_if true r s first second = first
+small_if false r s first second = second
+
+-- ---- names
+
+no_empty : (at : ℕ) → (let r : Result (List ℕ) NameError = Err name.Empty in r ≡ Err (name.BadChar at)) → ⊥
+no_empty at same = cc
+
+no_long : (at : ℕ) → (let r : Result (List ℕ) NameError = Err name.TooLong in r ≡ Err (name.BadChar at)) → ⊥
+no_long at same = cc
+
+no_name : (text : List ℕ) (at : ℕ) → (let r : Result (List ℕ) NameError = Ok text in r ≡ Err (name.BadChar at)) → ⊥
+no_name text at same = cc
+
+same_char : (a b : ℕ) → (let r : Result (List ℕ) NameError = Err (name.BadChar a) in r ≡ Err (name.BadChar b)) → a ≡ b
+same_char a b same = cc
+
+char_place : (text : List ℕ) (at : ℕ) (b c : Bool) (o : Option ℕ) → nat_lt 255 (length text) ≡ c → position (λ x. not (is_name_byte x)) text ≡ o
+    → unless (cond b (Some name.Empty) (cond c (Some name.TooLong) (option_map name.BadChar o))) text ≡ Err (name.BadChar at) → at < 1048576
+char_place text at true c o long is same = absurd (no_empty at same)
+char_place text at false true o long is same = absurd (no_long at same)
+char_place text at false false None long is same = absurd (no_name text at same)
+char_place text at false false (Some i) long is same =
+    let short : length text ≤ 255 = grind (arith, nat_tests, long) in
+    let inside = (position-Some (λ x. not (is_name_byte x)) text i 0 is).0 in
+    omega (arith, same_char i at same, inside, short)
+
+small_name : (bytes : List ℕ) → HasSmallPlace (name_of bytes)
+unfolding name_of
+small_name bytes = of_read (trust_domain bytes) refl
+  where
+    of_read : (t : Result Name NameError) → trust_domain bytes ≡ t → HasSmallPlace (named t)
+    of_read (Ok n) is = tt
+    of_read (Err name.Empty) is = tt
+    of_read (Err name.TooLong) is = tt
+    of_read (Err name.Memory) is = tt
+    of_read (Err (name.BadChar at)) is = char_place bytes at (length bytes == 0) (nat_lt 255 (length bytes)) (position (λ x. not (is_name_byte x)) bytes) refl refl is
+
+-- ---- documents and entries
+
+small_bundle : (bytes : List ℕ) → HasSmallPlace (bundle_of bytes)
+unfolding bundle_of
+small_bundle bytes = of_read (document bytes) refl
+  where
+    of_read : (d : Result BundleValue DocError) → document bytes ≡ d → HasSmallPlace (published d)
+    of_read (Ok b) is = tt
+    of_read (Err doc.TooLong) is = tt
+    of_read (Err doc.NotJson) is = tt
+    of_read (Err doc.NotObject) is = tt
+    of_read (Err doc.NoKeys) is = tt
+    of_read (Err doc.BadSequence) is = tt
+    of_read (Err doc.BadHint) is = tt
+    of_read (Err (doc.BadEntry place)) is = document-place bytes (doc.BadEntry place) is
+    of_read (Err (doc.BadKey place member)) is = document-place bytes (doc.BadKey place member) is
+    of_read (Err (doc.BadX5c place)) is = document-place bytes (doc.BadX5c place) is
+    of_read (Err (doc.BadKid place)) is = document-place bytes (doc.BadKid place) is
+    of_read (Err (doc.KidTwice place)) is = document-place bytes (doc.KidTwice place) is
+    of_read (Err doc.TooMany) is = tt
+    of_read (Err doc.Memory) is = tt
+
+zero_small : (place : ℕ) → place ≡ 0 → place < 1048576
+zero_small place none = omega (arith, none)
+
+small_authority : (bytes : List ℕ) → HasSmallPlace (authority_of bytes)
+unfolding authority_of
+small_authority bytes = of_read (entry bytes) refl
+  where
+    of_read : (d : Result (Option Authority) DocError) → entry bytes ≡ d → HasSmallPlace (given d)
+    of_read (Ok (Some a)) is = tt
+    of_read (Ok None) is = tt
+    of_read (Err doc.TooLong) is = tt
+    of_read (Err doc.NotJson) is = tt
+    of_read (Err doc.NotObject) is = tt
+    of_read (Err doc.NoKeys) is = tt
+    of_read (Err doc.BadSequence) is = tt
+    of_read (Err doc.BadHint) is = tt
+    of_read (Err (doc.BadEntry place)) is = zero_small place (entry-place bytes (doc.BadEntry place) is)
+    of_read (Err (doc.BadKey place member)) is = zero_small place (entry-place bytes (doc.BadKey place member) is)
+    of_read (Err (doc.BadX5c place)) is = zero_small place (entry-place bytes (doc.BadX5c place) is)
+    of_read (Err (doc.BadKid place)) is = zero_small place (entry-place bytes (doc.BadKid place) is)
+    of_read (Err (doc.KidTwice place)) is = zero_small place (entry-place bytes (doc.KidTwice place) is)
+    of_read (Err doc.TooMany) is = tt
+    of_read (Err doc.Memory) is = tt
+
+-- ---- requests
+
+small_split : (bytes : List ℕ) → HasSmallPlace (split_name bytes)
+unfolding split_name
+small_split [] = tt
+small_split (size ∷ bytes) = small_if (nat_le size (length bytes)) _ _ tt tt
+
+small_expect : (bytes : List ℕ) → HasSmallPlace (split_expect bytes)
+unfolding split_expect
+small_expect [] = tt
+small_expect (kind ∷ bytes) =
+    small_if (kind == 0) _ _ tt (small_if ((kind == 1) && nat_le 8 (length bytes)) _ _ tt (small_if (kind == 2) _ _ tt tt))
+
+small_end : (bytes : List ℕ) → HasSmallPlace (at_end bytes)
+small_end [] = tt
+small_end (byte ∷ bytes) = tt
+
+small_only : (bytes : List ℕ) → HasSmallPlace (only_name bytes)
+unfolding only_name
+small_only bytes = small_then (split_name bytes) _ (small_split bytes) (λ parts. small_then (at_end parts.1) _ (small_end parts.1) (λ nothing. small_name parts.0))
+
+small_named : (bytes : List ℕ) → HasSmallPlace (named_bundle bytes)
+unfolding named_bundle
+small_named bytes =
+    small_then (split_name bytes) _ (small_split bytes)
+    (λ parts. small_then (name_of parts.0) _ (small_name parts.0) (λ name. small_then (bundle_of parts.1) _ (small_bundle parts.1) (λ bundle. tt)))
+
+small_set : (bytes : List ℕ) → HasSmallPlace (set_of bytes)
+unfolding set_of
+small_set bytes = small_then (named_bundle bytes) _ (small_named bytes) (λ item. tt)
+
+small_set_if : (bytes : List ℕ) → HasSmallPlace (set_if_of bytes)
+unfolding set_if_of
+small_set_if bytes =
+    small_then (split_name bytes) _ (small_split bytes)
+    (λ parts. small_then (split_expect parts.1) _ (small_expect parts.1)
+    (λ expected. small_then (name_of parts.0) _ (small_name parts.0) (λ name. small_then (bundle_of expected.1) _ (small_bundle expected.1) (λ bundle. tt))))
+
+small_append : (bytes : List ℕ) → HasSmallPlace (append_of bytes)
+unfolding append_of
+small_append bytes =
+    small_then (split_name bytes) _ (small_split bytes)
+    (λ parts. small_then (name_of parts.0) _ (small_name parts.0) (λ name. small_then (authority_of parts.1) _ (small_authority parts.1) (λ authority. tt)))
+
+small_remove : (bytes : List ℕ) → HasSmallPlace (remove_of bytes)
+unfolding remove_of
+small_remove bytes = small_then (only_name bytes) _ (small_only bytes) (λ name. tt)
+
+small_get : (bytes : List ℕ) → HasSmallPlace (get_of bytes)
+unfolding get_of
+small_get bytes = small_then (only_name bytes) _ (small_only bytes) (λ name. tt)
+
+small_fetch_all : (bytes : List ℕ) → HasSmallPlace (fetch_all_of bytes)
+unfolding fetch_all_of
+small_fetch_all bytes = small_then (at_end bytes) _ (small_end bytes) (λ nothing. tt)
+
+small_version : (bytes : List ℕ) → HasSmallPlace (version_of bytes)
+unfolding version_of
+small_version [] = tt
+small_version (number ∷ []) = small_if (number == 1) _ _ tt (small_if (number == 2) _ _ tt tt)
+small_version (number ∷ byte ∷ bytes) = tt
+
+small_later : (version : Version) (letter : ℕ) (bytes : List ℕ) → HasSmallPlace (later_letter version letter bytes)
+small_later One letter bytes = tt
+small_later Two letter bytes = small_if (letter == 67) _ _ (small_set_if bytes) tt
+
+small_request : (version : Version) (payload : List ℕ) → HasSmallPlace (request_of version payload)
+unfolding request_of
+small_request version [] = tt
+small_request version (letter ∷ bytes) =
+    small_if (letter == 83) _ _ (small_set bytes)
+    (small_if (letter == 65) _ _ (small_append bytes)
+    (small_if (letter == 82) _ _ (small_remove bytes)
+    (small_if (letter == 71) _ _ (small_get bytes)
+    (small_if (letter == 70) _ _ (small_fetch_all bytes)
+    (small_if (letter == 86) _ _ (small_version bytes) (small_later version letter bytes))))))
+
+exact : (place : ℕ) → place < 1048576 → place_bytes place ≡ to_be_bytes w32 place
+unfolding place_bytes
+exact place small =
+    let same : min place (2 ^ 32 - 1) ≡ place = omega (arith, small) in
+    ap (to_be_bytes w32) same
+
+pub place_coded : (version : Version) (payload : List ℕ) (refusal : Refusal) (place : ℕ) → request_of version payload ≡ Err refusal
+    → refusal_place refusal ≡ Some place → (place < 1048576) × (place_bytes place ≡ to_be_bytes w32 place)
+place_coded version payload refusal place is named =
+    let small : IfSome (refusal_place refusal) (λ at. at < 1048576) = subst HasSmallPlace is (small_request version payload) in
+    let below : place < 1048576 = subst (λ (o : Option ℕ). IfSome o (λ at. at < 1048576)) named small in
+    (below, exact place below)
