@@ -1,7 +1,8 @@
--- The numbers of faults.
-use Rattle.std.specs.Prelude.{ℕ}
+-- The numbers of faults, and the lines that tell them.
+use Rattle.std.specs.Prelude.{ℕ, List, [], ◌∷◌, ◌++◌, Option, Some, None, codes, decimal}
 use Rattle.frame_front.specs.Error.{front_number}
 use Rattle.frame_front.specs.Dump.{dump_number}
+use Rattle.frame_front.specs.declared.dump.DumpError.TheVariants as dumps
 use Rattle.bundled.specs.declared.fault.Fault.{Fault}
 use Rattle.bundled.specs.declared.fault.Fault.TheVariants.{Front, Dump, BadLine, InputTooLong}
 
@@ -10,3 +11,20 @@ fault_number (Front error) = front_number error
 fault_number (Dump error) = dump_number error
 fault_number (BadLine line) = 70
 fault_number InputTooLong = 71
+
+-- the number that says where, if there is one: a frame of a dump, or a line
+abbrev pub fault_place : Fault → Option ℕ
+fault_place (Front error) = None
+fault_place (Dump (dumps.BadDump frame)) = Some frame
+fault_place (Dump dumps.Memory) = None
+fault_place (BadLine line) = Some line
+fault_place InputTooLong = None
+
+-- a space and the number
+abbrev pub place_text : Option ℕ → List ℕ
+place_text (Some place) = 32 ∷ decimal place
+place_text None = []
+
+-- `fault`, its number and its place in decimal, with single spaces between; a line feed ends it
+abbrev pub fault_line : Fault → List ℕ
+fault_line fault = codes "fault " ++ decimal (fault_number fault) ++ place_text (fault_place fault) ++ 10 ∷ []

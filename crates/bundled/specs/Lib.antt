@@ -1,6 +1,8 @@
 pub mod Settings
-pub mod Status
 pub mod Fault
+pub mod Streams
 pub mod Input
+pub mod Run
 pub mod Migrate
 pub mod Trace
+pub mod Command

@@ -5,6 +5,6 @@ use Rattle.bundled.specs.declared.command_line.Wanted.TheVariants.{Run, Trace, M
 
 -- numbers within their ranges
 abbrev pub AreSettings : Wanted → Type 0
-AreSettings (Run shards turns) = (0 < shards) × (shards ≤ 256) × (turns ≤ 1000000000)
+AreSettings (Run shards turns) = (0 < shards) × (shards ≤ 256) × (0 < turns) × (turns ≤ 1000000000)
 AreSettings (Trace shards rounds) = (0 < shards) × (shards ≤ 256) × (0 < rounds) × (rounds ≤ 16)
 AreSettings Migrate = Unit {0}

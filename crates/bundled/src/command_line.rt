@@ -118,10 +118,11 @@ fn rounds_of(trace: &ArgMatches<'_>) -> usize
 }
 
 fn turns_of(run: &ArgMatches<'_>) -> u64
-    ensures { result ≤ 1000000000 }
+    ensures some { 0 < result }
+    ensures few { result ≤ 1000000000 }
 {
     let asked = run.get_one::<u64>("turns");
-    asked.unwrap_or(TURNS).min(MAX_TURNS)
+    asked.unwrap_or(TURNS).clamp(1, MAX_TURNS)
 }
 
 fn run_command<'a>(alloc: Global) -> Result<Command<'a>, AllocError> {

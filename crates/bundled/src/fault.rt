@@ -1,20 +1,26 @@
 //! Faults of commands.
-ghost use Rattle.std.specs.Prelude.{◌≡◌};
-ghost use Rattle.bundled.specs.Fault.{fault_number};
+ghost use Rattle.std.specs.Prelude.{◌≡◌, ◌<◌, ◌-◌, ◌^◌, ◌++◌};
+ghost use Rattle.bundled.specs.Fault.{fault_number, fault_place, fault_line};
+ghost use Rattle.bundled.specs.Streams.{Tells, end_of};
 
-use frame_front::{DumpError, FrontError};
-use std::fmt::{Display, Formatter};
-use std::{fmt, io};
+use crate::output::tell;
+use arrayvec::ArrayVec;
+use frame_front::{Counted, DumpError, FrontError};
+use itoa::Buffer;
+use std::io::Write;
 
-/// Why a command ends with status 1. It is shown as one line: `fault`, its number, and the numbers that
-/// say where.
+/// The most bytes of a fault's line: `fault`, a number of 3 digits and a place of 20, two spaces and a line feed.
+const LINE_BYTES: usize = 31;
+
+/// Why a command ends with status 1. It is told as one line: `fault`, its number, and the place, if
+/// it has one.
 #[derive(Clone, Copy, Debug, PartialEq, Eq)]
 pub enum Fault {
     /// Memory ran out, an end failed, the reads are used up, or frames are wrong.
     Front(FrontError),
-    /// The input is no dump.
+    /// The input is not a dump.
     Dump(DumpError),
-    /// This line of the input, from 1, is no event.
+    /// This line of the input, from 1, is not an event.
     BadLine(u64),
     /// The input has over 16,777,216 bytes.
     InputTooLong,
@@ -31,21 +37,42 @@ impl Fault {
             Fault::InputTooLong => 71,
         }
     }
-}
 
-impl Display for Fault {
-    fn fmt<W: fmt::Write>(&self, f: &mut Formatter<W>) -> fmt::Result {
+    /// The frame of a dump, from 0, or the line, from 1, where the fault is.
+    fn place(&self) -> Option<u64>
+        ensures { result ≡ fault_place self.now }
+    {
         match self {
-            Fault::Dump(DumpError::BadDump(frame)) => {
-                write!(f, "fault {} {frame}", self.number())
-            }
-            Fault::BadLine(line) => { write!(f, "fault {} {line}", self.number()) }
-            _ => write!(f, "fault {}", self.number()),
+            Fault::Dump(DumpError::BadDump(frame)) => Some(*frame),
+            Fault::BadLine(line) => Some(*line),
+            _ => None,
         }
     }
-}
 
-/// Writes the fault as a line. A line that isn't taken is passed over.
-pub fn show_fault<E: io::Write>(err: &mut E, fault: Fault) {
-    let _ = writeln!(err, "{fault}");
+    fn line(&self) -> ArrayVec<u8, LINE_BYTES>
+        ensures { result.items ≡ fault_line self.now }
+    {
+        let mut line = ArrayVec::new();
+        let mut digits = Buffer::new();
+        let _fits = line.try_extend_from_slice(b"fault ");
+        let _fits = line.try_extend_from_slice(digits.format(self.number()).as_bytes());
+        if let Some(place) = self.place() {
+            let _fits = line.try_extend_from_slice(b" ");
+            let _fits = line.try_extend_from_slice(digits.format(place).as_bytes());
+        }
+        let _fits = line.try_extend_from_slice(b"\n");
+        line
+    }
+
+    /// Writes the line of the fault, and answers the exit status that goes with it. A line that standard error does not
+    /// take is dropped.
+    pub fn tell<E: Write>(&self, err: &mut Counted<E>) -> u8
+        requires { err.old.faults < 2 ^ 64 - 1 }
+        ensures status { result ≡ 1 }
+        ensures told { Tells (end_of E.contents err.old) (end_of E.contents err.new) (fault_line self.now) }
+    {
+        let line = self.line();
+        tell(err, line.as_slice());
+        1
+    }
 }

@@ -1,14 +1,14 @@
 //! The command `migrate`: a dump of version 1 becomes requests of version 2.
-ghost use Rattle.std.specs.Prelude.{◌≡◌, ◌<◌, ◌-◌, ◌^◌, Result, Err};
+ghost use Rattle.std.specs.Prelude.{◌≡◌, ◌<◌, ◌-◌, ◌^◌, Err};
 ghost use Rattle.frame_front.specs.declared.error.FrontError.TheVariants.{ReadFault, WriteFault};
-ghost use Rattle.bundled.specs.Migrate.{Migrates};
-ghost use Rattle.bundled.specs.Status.{HasStatus};
-ghost use Rattle.bundled.specs.declared.fault.Fault.{Fault as Failed};
+ghost use Rattle.bundled.specs.Migrate.{Migrates, Migration};
+ghost use Rattle.bundled.specs.Streams.{streams};
 ghost use Rattle.bundled.specs.declared.fault.Fault.TheVariants.{Front};
 
-use crate::fault::{Fault, show_fault};
+use crate::fault::Fault;
 use crate::input::read_input;
-use frame_front::{Counted, FrontError, migrate};
+use crate::output::write_flushed;
+use frame_front::{Counted, migrate};
 use std::alloc::Global;
 use std::io::{Read, Write};
 
@@ -17,20 +17,19 @@ pub fn migrate_over<R: Read, W: Write, E: Write>(
     alloc: Global,
     reader: &mut Counted<R>,
     out: &mut Counted<W>,
-    err: &mut E,
+    err: &mut Counted<E>,
 ) -> u8
     requires reader_count { reader.old.faults < 2 ^ 64 - 1 }
     requires out_count { out.old.faults < 2 ^ 64 - 1 }
-    ensures migrates { (ended : Result (Unit {0}) Failed) × HasStatus ended result
-        × Migrates ended (R.remaining reader.old.end) (R.remaining reader.new.end) (W.contents out.old.end) (W.contents out.new.end) }
+    requires err_count { err.old.faults < 2 ^ 64 - 1 }
+    ensures migrates { Migration result
+        (streams R.remaining W.contents E.contents reader.old out.old err.old)
+        (streams R.remaining W.contents E.contents reader.new out.new err.new) }
     ensures silent { result ≡ 0 → err.new ≡ err.old }
 {
     match migrate_input(alloc, reader, out) {
         Ok(()) => 0,
-        Err(fault) => {
-            show_fault(err, fault);
-            1
-        }
+        Err(fault) => fault.tell(err),
     }
 }
 
@@ -43,6 +42,7 @@ fn migrate_input<R: Read, W: Write>(
     requires out_count { out.old.faults < 2 ^ 64 - 1 }
     ensures migrates { Migrates result (R.remaining reader.old.end) (R.remaining reader.new.end) (W.contents out.old.end) (W.contents out.new.end) }
     ensures read_fault { result ≡ Err (Front ReadFault) → reader.old.faults < reader.new.faults }
+    ensures write_fault { result ≡ Err (Front WriteFault) → out.old.faults < out.new.faults }
 {
     let input = match read_input(alloc, reader) {
         Ok(input) => input,
@@ -52,11 +52,5 @@ fn migrate_input<R: Read, W: Write>(
         Ok(stream) => stream,
         Err(error) => return Err(Fault::Dump(error)),
     };
-    if let Err(_) = out.write_all(stream.as_slice()) {
-        return Err(Fault::Front(FrontError::WriteFault));
-    }
-    if let Err(_) = out.flush() {
-        return Err(Fault::Front(FrontError::WriteFault));
-    }
-    Ok(())
+    write_flushed(out, stream.as_slice())
 }

@@ -14,8 +14,8 @@ struct Left {
 
 fn left_by(alloc: Global, shards: usize, rounds: usize, input: &[u8]) -> Left {
     let mut reader = Counted::new(input);
-    let mut out = Vec::new(alloc);
-    let mut err = Vec::new(alloc);
+    let mut out = Counted::new(Vec::new(alloc));
+    let mut err = Counted::new(Vec::new(alloc));
     let status = trace_over(
         alloc,
         &mut reader,
@@ -24,7 +24,11 @@ fn left_by(alloc: Global, shards: usize, rounds: usize, input: &[u8]) -> Left {
         shards.max(1),
         rounds.max(1),
     );
-    Left { status, out, err }
+    Left {
+        status,
+        out: out.end,
+        err: err.end,
+    }
 }
 
 #[test]
@@ -122,6 +126,34 @@ fn traces(rt: HostRuntime) -> Result<(), Fail> {
             1,
             "begin 4294967295 set a {\"keys\":[],\"spiffe_sequence\":9}\nstep 4294967295\nend 4294967295\nbegin 0 append a {\"kty\":\"RSA\",\"use\":\"jwt-svid\",\"n\":\"AQAB\",\"e\":\"AQAB\",\"kid\":\"k\"}\nstep 0\nend 0\nbegin 0 get a\nquit 0 held 255 18446744073709551615\n",
             "record 0 caller 4294967295 first 0 last 2 reply stored\nrecord 1 caller 0 first 3 last 5 reply appended 10\nrecord 2 caller 0 first 6 last 7 reply held 255 18446744073709551615\norder 0 1\n",
+        ),
+        (
+            "a document that is set twice",
+            1,
+            1,
+            "begin 1 set a {\"keys\":[]}\nstep 1\nend 1\nbegin 1 set a {\"keys\":[]}\nstep 1\nend 1\n",
+            "record 0 caller 1 first 0 last 2 reply stored\nrecord 1 caller 1 first 3 last 5 reply unchanged\norder 0 1\n",
+        ),
+        (
+            "an append to a bundle without a sequence",
+            1,
+            1,
+            "begin 1 set a {\"keys\":[]}\nstep 1\nend 1\nbegin 1 append a {\"kty\":\"RSA\",\"use\":\"jwt-svid\",\"n\":\"AQAB\",\"e\":\"AQAB\",\"kid\":\"k\"}\nstep 1\nend 1\n",
+            "record 0 caller 1 first 0 last 2 reply stored\nrecord 1 caller 1 first 3 last 5 reply appended -\norder 0 1\n",
+        ),
+        (
+            "expectations of a bundle with a sequence",
+            1,
+            1,
+            "begin 1 setif a absent {\"keys\":[],\"spiffe_sequence\":7}\nstep 1\nend 1\nbegin 1 setif a none {\"keys\":[]}\nstep 1\nend 1\nbegin 1 setif a absent {\"keys\":[]}\nstep 1\nend 1\nbegin 1 setif a 7 {\"keys\":[],\"spiffe_sequence\":8}\nstep 1\nend 1\n",
+            "record 0 caller 1 first 0 last 2 reply stored\nrecord 1 caller 1 first 3 last 5 reply refused 36 7\nrecord 2 caller 1 first 6 last 8 reply refused 36 7\nrecord 3 caller 1 first 9 last 11 reply stored\norder 0 1 2 3\n",
+        ),
+        (
+            "expectations of a bundle without one",
+            1,
+            1,
+            "begin 1 set a {\"keys\":[]}\nstep 1\nend 1\nbegin 1 setif a 0 {\"keys\":[]}\nstep 1\nend 1\nbegin 1 setif a none {\"keys\":[],\"spiffe_sequence\":3}\nstep 1\nend 1\n",
+            "record 0 caller 1 first 0 last 2 reply stored\nrecord 1 caller 1 first 3 last 5 reply refused 36 none\nrecord 2 caller 1 first 6 last 8 reply stored\norder 0 1 2\n",
         ),
     ];
     for (name, shards, rounds, input, wanted) in rows {

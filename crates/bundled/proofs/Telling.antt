@@ -1,0 +1,23 @@
+-- What is told where no call failed, and whose fault is told.
+use Rattle.std.proofs.Common.{◌≡◌, ℕ, ◌<◌, ◌-◌, ◌^◌, Result, Ok, Err, OnOk, OnErr, refl, arith}
+use Rattle.frame_front.specs.Counted.{next_count}
+use Rattle.frame_front.specs.declared.error.FrontError.{FrontError}
+use Rattle.frame_front.specs.declared.error.FrontError.TheVariants.{BadLength, Truncated, ReadFault, WriteFault, TurnsUsed, Memory}
+use Rattle.bundled.specs.declared.fault.Fault.TheVariants.{Front}
+use Rattle.bundled.specs.Streams.{Streams, Blames}
+
+-- a call that fails is counted, so what holds if it did not fail holds if no more calls are counted
+pub holds_if_none_failed : {T F A : Type 0} (written : Result T F) (old new : ℕ) → old < 2 ^ 64 - 1 → OnOk written A
+    → OnErr written (new ≡ next_count old) → new ≡ old → A
+holds_if_none_failed (Ok value) old new few ok failed same = ok
+holds_if_none_failed (Err fault) old new few ok failed same = absurd (omega (arith, few, failed, same))
+
+-- a session's error blames an end only if that failed
+pub blames_a_session : (error : FrontError) (old new : Streams) → (error ≡ ReadFault → old.input.faults < new.input.faults)
+    → (error ≡ WriteFault → old.output.faults < new.output.faults) → Blames (Front error) old new
+blames_a_session ReadFault old new reads writes = reads refl
+blames_a_session WriteFault old new reads writes = writes refl
+blames_a_session BadLength old new reads writes = tt
+blames_a_session Truncated old new reads writes = tt
+blames_a_session TurnsUsed old new reads writes = tt
+blames_a_session Memory old new reads writes = tt

@@ -1,0 +1,46 @@
+-- What the program does: one of its commands, or a text in place of one.
+use Rattle.std.specs.Prelude.{◌≡◌, ℕ, List, Result, Ok, Err, ◌⊎◌}
+use Rattle.std.specs.Io.KnownBytes.{Appends}
+use Rattle.frame_front.specs.Outbox.{WritesFront}
+use Rattle.frame_front.specs.declared.error.FrontError.TheVariants.{Memory, WriteFault}
+use Rattle.bundled.specs.declared.command_line.Wanted.{Wanted}
+use Rattle.bundled.specs.declared.command_line.Wanted.TheVariants.{Run, Trace, Migrate}
+use Rattle.bundled.specs.declared.fault.Fault.{Fault}
+use Rattle.bundled.specs.declared.fault.Fault.TheVariants.{Front}
+use Rattle.bundled.specs.Settings.{AreSettings}
+use Rattle.bundled.specs.Streams.{Streams, End, EndsWith, Tells}
+use Rattle.bundled.specs.Run.{Runs}
+use Rattle.bundled.specs.Trace.{Tracing}
+use Rattle.bundled.specs.Migrate.{Migration}
+
+-- a command, with its settings
+abbrev pub Does : Wanted → ℕ → Streams → Streams → Type 0
+Does (Run shards turns) status old new = Runs turns status old new
+Does (Trace shards rounds) status old new = Tracing status old new
+Does Migrate status old new = Migration status old new
+
+-- some text is written; a front of it if the writer failed; nothing if memory ran out
+abbrev pub WritesText : Result (Unit {0}) Fault → End → End → Type 0
+WritesText (Ok done) old new = (text : List ℕ) × Appends old.bytes new.bytes text
+WritesText (Err fault) old new =
+    ((fault ≡ Front Memory) × (new ≡ old)) ⊎ ((fault ≡ Front WriteFault) × ((text : List ℕ) × WritesFront old.bytes new.bytes text))
+
+-- Help or the version is written to standard output, and nothing is read. Or memory ran out before that or a command.
+pub record Shows (status : ℕ) (old new : Streams) : Type 0 where
+  pub ended : Result (Unit {0}) Fault
+  pub ends : EndsWith ended status old new
+  pub reads : new.input ≡ old.input
+  pub writes : WritesText ended old.output new.output
+
+-- The command line is refused: some text is written to standard error, and nothing else is done.
+pub record Refuses (status : ℕ) (old new : Streams) : Type 0 where
+  pub two : status ≡ 2
+  pub reads : new.input ≡ old.input
+  pub writes : new.output ≡ old.output
+  pub text : List ℕ
+  pub told : Tells old.error new.error text
+
+-- The whole program.
+abbrev pub Commands : ℕ → Streams → Streams → Type 0
+Commands status old new =
+    ((wanted : Wanted) × AreSettings wanted × Does wanted status old new) ⊎ (Shows status old new ⊎ Refuses status old new)

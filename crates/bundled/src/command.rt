@@ -1,0 +1,98 @@
+//! The program, from its arguments to its exit status.
+ghost use Rattle.std.specs.Prelude.{◌≡◌, ◌<◌, ◌-◌, ◌^◌, ◌⊎◌};
+ghost use Rattle.bundled.specs.Command.{Commands, Shows, Refuses};
+ghost use Rattle.bundled.specs.Streams.{End, Streams, Tells, end_of, streams};
+
+use crate::command_line::{Wanted, wanted_by};
+use crate::fault::Fault;
+use crate::migrate::migrate_over;
+use crate::output::{tell, write_flushed};
+use crate::run::run_over;
+use crate::trace::trace_over;
+use clap::error::ErrorKind;
+use frame_front::{Counted, FrontError};
+use std::alloc::{AllocError, Global};
+use std::env::Env;
+use std::io::{Read, Write};
+use std::{env, io};
+
+const NOT_TEXT: &[u8] = b"error: an argument is not UTF-8\n\nFor more information, try '--help'.\n";
+
+/// Does what the arguments want, and answers the exit status: 0 if all went well, 1 after a fault, 2 if the arguments
+/// are refused.
+pub fn command_over<V: Env, R: Read, W: Write, E: Write>(
+    alloc: Global,
+    args: &V,
+    reader: &mut Counted<R>,
+    out: &mut Counted<W>,
+    err: &mut Counted<E>,
+) -> u8
+    requires reader_count { reader.old.faults < 2 ^ 64 - 1 }
+    requires out_count { out.old.faults < 2 ^ 64 - 1 }
+    requires err_count { err.old.faults < 2 ^ 64 - 1 }
+    ensures commands { Commands result
+        (streams R.remaining W.contents E.contents reader.old out.old err.old)
+        (streams R.remaining W.contents E.contents reader.new out.new err.new) }
+    ensures silent { result ≡ 0 → err.new ≡ err.old }
+{
+    let words = match env::args(&(args, alloc)) {
+        Ok(words) => words,
+        Err(error) if error.kind() == io::ErrorKind::InvalidData => return refuse(NOT_TEXT, err),
+        Err(_) => return Fault::Front(FrontError::Memory).tell(err),
+    };
+    let Ok(words) = words.collect::<Vec<String>>(alloc) else {
+        return Fault::Front(FrontError::Memory).tell(err);
+    };
+    match wanted_by(alloc, words.as_slice()) {
+        Ok(Wanted::Run { shards, turns }) => run_over(alloc, reader, out, err, shards, turns),
+        Ok(Wanted::Trace { shards, rounds }) => {
+            trace_over(alloc, reader, out, err, shards, rounds)
+        }
+        Ok(Wanted::Migrate) => migrate_over(alloc, reader, out, err),
+        Err(error) => show(alloc, &error, out, err),
+    }
+}
+
+/// Shows what the command line gave in place of a command: help or the version on standard output, or on standard
+/// error why it is refused.
+fn show<W: Write, E: Write>(
+    alloc: Global,
+    error: &clap::Error,
+    out: &mut Counted<W>,
+    err: &mut Counted<E>,
+) -> u8
+    requires out_count { out.old.faults < 2 ^ 64 - 1 }
+    requires err_count { err.old.faults < 2 ^ 64 - 1 }
+    ensures shows { (input : End) → let old : Streams = record { input = input; output = end_of W.contents out.old; error = end_of E.contents err.old } in
+        let new : Streams = record { input = input; output = end_of W.contents out.new; error = end_of E.contents err.new } in
+        Shows result old new ⊎ Refuses result old new }
+    ensures silent { result ≡ 0 → err.new ≡ err.old }
+{
+    let Ok(text) = text_of(alloc, error) else {
+        return Fault::Front(FrontError::Memory).tell(err);
+    };
+    if error.use_stderr() {
+        return refuse(text.as_bytes(), err);
+    }
+    match write_flushed(out, text.as_bytes()) {
+        Ok(()) => 0,
+        Err(fault) => fault.tell(err),
+    }
+}
+
+fn text_of(alloc: Global, error: &clap::Error) -> Result<String, AllocError> {
+    if error.kind() == ErrorKind::OutOfMemory {
+        return Err(AllocError);
+    }
+    format!(in alloc; "{error}")
+}
+
+/// Says on standard error why the arguments are refused.
+fn refuse<E: Write>(text: &[u8], err: &mut Counted<E>) -> u8
+    requires { err.old.faults < 2 ^ 64 - 1 }
+    ensures status { result ≡ 2 }
+    ensures told { Tells (end_of E.contents err.old) (end_of E.contents err.new) text.now }
+{
+    tell(err, text);
+    2
+}
