@@ -8,7 +8,6 @@ also together with all growths after it. A run that met a refusal says that memo
 the reply 22 or a test's error, or it ends as if nothing had been refused. Any other end is a failure.
 """
 import collections
-import itertools
 import os
 import re
 import subprocess
@@ -36,6 +35,7 @@ ANSWERED_MEMORY = re.compile(r'error: ".*: memory\b.*, and not .*"')
 Run = collections.namedtuple("Run", "name words given allows")
 Ended = collections.namedtuple("Ended", "status out err")
 OUT_OF_MEMORY = Ended(1, b"", b"fault 22\n")
+NO_MEMORY = b"\0\0\0\1\x16"
 
 
 def run_once(words, given, first=0, last=0, shim=None):
@@ -50,7 +50,7 @@ def run_once(words, given, first=0, last=0, shim=None):
             os.close(writing)
         marks = report.read()
     if shim and not marks.startswith(b"+"):
-        raise RuntimeError("what refuses memory was not loaded into the program")
+        raise RuntimeError(f"what refuses memory was not loaded into {words[0]}")
     return Ended(ran.returncode, ran.stdout, ran.stderr), b"-" in marks
 
 
@@ -99,31 +99,35 @@ def session(name, options, rows):
         if left_out not in known:
             given = b"".join(it for place, it in enumerate(requests) if place not in left_out)
             rest = replies(run_once(words, given)[0].out)
-            known[left_out] = [frame(b"\x16") if place in left_out else next(rest, b"") for place in range(len(rows))]
+            known[left_out] = [NO_MEMORY if place in left_out else next(rest, b"") for place in range(len(rows))]
         return known[left_out]
 
     def allows(ended, refused):
-        is_fault = refused and (ended.status, ended.err) == (1, OUT_OF_MEMORY.err)
+        is_fault = (ended.status, ended.err) == (1, OUT_OF_MEMORY.err)
         if not is_fault and (ended.status, ended.err) != (0, b""):
             return False
-        for count in range(min(refused - is_fault, len(rows)) + 1):
-            for left_out in itertools.combinations(range(len(rows)), count):
-                ends = range(len(rows) + 1) if is_fault else [len(rows)]
-                if any(ended.out == b"".join(answers(left_out)[:end]) for end in ends):
-                    return True
-        return False
+        given = list(replies(ended.out))
+        left_out = tuple(place for place, reply in enumerate(given) if reply == NO_MEMORY)
+        wanted = answers(left_out)[: len(given) if is_fault else len(rows)]
+        return given == wanted and is_fault + len(left_out) <= refused
 
     return Run(name, words, b"".join(requests), allows)
 
 
 def command(words, given, is_plain):
     """A command that out of memory writes nothing but `fault 22`."""
-    name = f"bundled {' '.join(words)}".strip()
-    return Run(name, [program("bundled"), *words], given, lambda it, refused: is_plain(it) or refused and it == OUT_OF_MEMORY)
+
+    def allows(ended, refused):
+        return is_plain(ended) or refused and ended == OUT_OF_MEMORY
+
+    return Run(f"bundled {' '.join(words)}".strip(), [program("bundled"), *words], given, allows)
 
 
 def program(name):
-    return f"{ROOT}/crates/{name.replace('_tests', '')}/out/{name}"
+    path = f"{ROOT}/crates/{name.replace('_tests', '')}/out/{name}"
+    if not os.path.isfile(path):
+        sys.exit(f"{path} is not built: ./check builds all, rt run the program, and rt test a crate's tests")
+    return path
 
 
 def file(name):
@@ -142,7 +146,11 @@ def program_runs():
     yield session("a real bundle", [], [(b"S\x01a" + real, [b"s"]), (b"G\x01a", [b"f" + text])])
     rows = [(b"S\x01b" + empty, [b"s"]), (b"A\x01b" + entry, [b"p\x00"]), (b"V\x02", [b"v\x02"])]
     rows += [(b"C\x01a\x00" + real, [b"s"]), (b"G\x01b", [b"f" + one_key]), (b"R\x01a", [b"d"])]
-    yield session("all kinds of requests", ["--shards", "2"], [*rows, (b"F", [of_one, b"i\x01b" + one_key])])
+    yield session("all kinds of requests", ["--shards", "1"], [*rows, (b"F", [of_one, b"i\x01b" + one_key])])
+    names = [b"n%02d" % number for number in range(40)]
+    rows = [(b"V\x02", [b"v\x02"]), *((b"C\x03" + name + b"\x00" + empty, [b"s"]) for name in names)]
+    of_all = [b"a" + len(names).to_bytes(8, "big"), *(b"i\x03" + name + empty for name in names)]
+    yield session("many names", ["--shards", "1"], [*rows, (b"F", of_all)])
     dump = [b"a" + (2).to_bytes(8, "big"), b"i\x01a" + real, b"i\x01b" + empty]
     stream = b"".join(map(frame, [b"V\x02", b"C\x01a\x00" + text, b"C\x01b\x00" + empty]))
     yield command(["migrate"], b"".join(map(frame, dump)), lambda it: it == Ended(0, stream, b""))
@@ -159,8 +167,7 @@ def test_allows(name):
         error = ended.err.decode(errors="replace").split("\n")[0]
         # A test for refused growths has to go on after an answer of 22, and never meets a second one.
         is_answer = "a_refused_growth" not in name and ANSWERED_MEMORY.fullmatch(error)
-        is_want = refused and ended.status == 101 and (WANT_OF_MEMORY.fullmatch(error) or is_answer)
-        return ended.status == 0 or is_want
+        return ended.status == 0 or refused and ended.status == 101 and (WANT_OF_MEMORY.fullmatch(error) or is_answer)
 
     return allows
 
@@ -172,7 +179,7 @@ def test_runs():
         names = re.findall(r"^(\S+): test$", listed, re.M)
         for word in words:
             if not any(word in name for name in names):
-                raise RuntimeError(f"no test of {crate} has the name {word}: gate/refused_growths.py names it")
+                sys.exit(f"no test of {crate} has {word} in its name, which gate/refused_growths.py looks for")
         for name in names:
             if any(word in name for word in words) == (crate in ONLY):
                 yield Run(f"{crate} {name}", [tests, name], b"", test_allows(name))
@@ -184,12 +191,11 @@ def main():
         kit = os.path.dirname(subprocess.run(["rt", "doc"], stdout=subprocess.PIPE, check=True).stdout.decode().strip())
         clang = [f"{kit}/toolchain/bin/clang", "--no-default-config", "-shared", "-fPIC", "-O1", "-nostdlib", "-fuse-ld=lld"]
         subprocess.run([*clang, "-o", shim, f"{ROOT}/gate/refuse.c"], check=True)
-        runs, failed, total = [*program_runs(), *test_runs()], 0, 0
+        runs, failed = [*program_runs(), *test_runs()], 0
         with ThreadPoolExecutor(os.cpu_count()) as pool:
             for run, (growths, why) in zip(runs, pool.map(lambda it: sweep(it, shim), runs)):
-                failed, total = failed + bool(why), total + growths
+                failed += why is not None
                 print(f"{run.name}: {f'FAILED: {why}' if why else f'{growths} growths refused'}", flush=True)
-    print(f"{total} growths were refused, one after the other, in {len(runs)} runs")
     print(f"{len(runs) - failed} passed, {failed} failed")
     return 1 if failed else 0
 
