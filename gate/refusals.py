@@ -6,7 +6,7 @@ import sys
 
 ROOT = os.path.dirname(os.path.dirname(os.path.abspath(__file__)))
 SECONDS = 60
-MOST_GROWTHS = 5000
+MOST_GROWTHS = 2000
 
 # `allows` says whether an end is right where up to so many growths were refused.
 Run = collections.namedtuple("Run", "name words given allows")
@@ -45,10 +45,17 @@ def run_once(words, given, first=0, last=0, shim=None):
     return Ended(ran.returncode, ran.stdout, ran.stderr), b"-" in marks
 
 
+def has_too_many(run, shim):
+    """Whether the run has more growths than can be tried one after the other."""
+    return run_once(run.words, run.given, MOST_GROWTHS + 1, MOST_GROWTHS + 1, shim)[1]
+
+
 def sweep(run, shim):
     """Refuses each growth of the run. Answers how many it has, and what went wrong, if something did."""
     is_test = "_tests" in run.words[0]
-    for growth in range(1, MOST_GROWTHS + 1):
+    if is_test and has_too_many(run, shim):
+        return None, None
+    for growth in range(1, MOST_GROWTHS + 2):
         for last in [growth] if is_test else [growth, 2**63]:
             try:
                 ended, was_refused = run_once(run.words, run.given, growth, last, shim)

@@ -16,17 +16,13 @@ from concurrent.futures import ThreadPoolExecutor
 sys.dont_write_bytecode = True
 
 from program_runs import program_runs  # noqa: E402
-from refusals import Run, build_shim, program, run_once, sweep  # noqa: E402
+from refusals import MOST_GROWTHS, Run, build_shim, program, run_once, sweep  # noqa: E402
 
-# The tests that are run, by words of their names. Those with too many growths to try each are left out, and so are
-# threads, which may take memory in any order.
-ONLY = {"frame_front": ["a_refused_growth"]}
-ALL_BUT = {
-    "spiffe_doc": ["full_bundles"],
-    "map_core": ["takes_so_many_authorities", "takes_so_long_a_text", "shows_a_thousand_names"],
-    "step_core": ["many_rounds_are_thrown_away"],
-    "shard_store": ["threads::", "two_passes_in_turn", "a_held_shard", "other_shards", "there_may_be_256_shards"],
-}
+# The crates of which all tests are run, but for those that have too many growths to try each.
+ALL = ["spiffe_doc", "map_core", "step_core"]
+# Of others those with such a word in their names: the rest starts threads, which take memory in any order, or asks
+# whether an answer is a certain one, which 22 is not.
+SOME = {"frame_front": ["a_refused_growth"], "shard_store": ["a_refused_growth", "removed_sequences", "a_front_asks"]}
 WANT_OF_MEMORY = re.compile(r'error: (Memory|AllocError|AllocFailed \{ \.\. \}|"out of memory")', re.I)
 ANSWERED_MEMORY = re.compile(r'error: ".*: memory\b.*, and not .*"')
 
@@ -42,27 +38,30 @@ def test_allows(name):
 
 
 def test_runs():
-    for crate, words in [*ONLY.items(), *ALL_BUT.items()]:
+    for crate in [*ALL, *SOME]:
         tests = program(f"{crate}_tests")
-        listed = run_once([tests, "--list"], b"")[0].out.decode()
-        names = re.findall(r"^(\S+): test$", listed, re.M)
+        names = re.findall(r"^(\S+): test$", run_once([tests, "--list"], b"")[0].out.decode(), re.M)
+        words = SOME.get(crate, [""])
         for word in words:
             if not any(word in name for name in names):
                 sys.exit(f"no test of {crate} has {word} in its name, which gate/refused_growths.py looks for")
         for name in names:
-            if any(word in name for word in words) == (crate in ONLY):
+            if any(word in name for word in words):
                 yield Run(f"{crate} {name}", [tests, name], b"", test_allows(name))
 
 
 def main():
     with tempfile.TemporaryDirectory(prefix="refused-growths-") as room:
         shim = build_shim(room)
-        runs, failed = [*program_runs(), *test_runs()], 0
+        runs, passed, failed = [*program_runs(), *test_runs()], 0, 0
         with ThreadPoolExecutor(os.cpu_count()) as pool:
             for run, (growths, why) in zip(runs, pool.map(lambda it: sweep(it, shim), runs)):
-                failed += why is not None
+                if growths is None:
+                    print(f"{run.name}: left out, since it has over {MOST_GROWTHS} growths", flush=True)
+                    continue
+                passed, failed = passed + (why is None), failed + (why is not None)
                 print(f"{run.name}: {f'FAILED: {why}' if why else f'{growths} growths refused'}", flush=True)
-    print(f"{len(runs) - failed} passed, {failed} failed")
+    print(f"{passed} passed, {failed} failed")
     return 1 if failed else 0
 
 
