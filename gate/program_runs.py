@@ -1,0 +1,89 @@
+"""The runs of the program to which memory is refused: what goes in, and what comes out."""
+from refusals import ROOT, Ended, Run, program, run_once
+
+OUT_OF_MEMORY = Ended(1, b"", b"fault 22\n")
+NO_MEMORY = b"\0\0\0\1\x16"
+
+
+def frame(payload):
+    return len(payload).to_bytes(4, "big") + payload
+
+
+def replies(stream):
+    """The replies of a session, one for each request: a fetch-all's is a frame and then one for each domain."""
+    frames = []
+    while stream:
+        end = 4 + int.from_bytes(stream[:4], "big")
+        frames.append(stream[:end])
+        stream = stream[end:]
+    while frames:
+        count = 1 + int.from_bytes(frames[0][5:], "big") if frames[0][4:5] == b"a" else 1
+        yield b"".join(frames[:count])
+        frames = frames[count:]
+
+
+def session(name, options, rows):
+    """A session of requests and their replies. A request that met a refusal is answered by 22, and the others are
+    answered as if it had not been asked; or the session ends by fault 22, and whole replies stand written."""
+    words = [program("bundled"), "run", *options]
+    requests = [frame(request) for request, _ in rows]
+    known = {(): [b"".join(frame(it) for it in reply) for _, reply in rows]}
+
+    def answers(left_out):
+        if left_out not in known:
+            given = b"".join(it for place, it in enumerate(requests) if place not in left_out)
+            rest = replies(run_once(words, given)[0].out)
+            known[left_out] = [NO_MEMORY if place in left_out else next(rest, b"") for place in range(len(rows))]
+        return known[left_out]
+
+    def allows(ended, refused):
+        is_fault = (ended.status, ended.err) == (1, OUT_OF_MEMORY.err)
+        if not is_fault and (ended.status, ended.err) != (0, b""):
+            return False
+        given = list(replies(ended.out))
+        left_out = tuple(place for place, reply in enumerate(given) if reply == NO_MEMORY)
+        wanted = answers(left_out)[: len(given) if is_fault else len(rows)]
+        return given == wanted and is_fault + len(left_out) <= refused
+
+    return Run(name, words, b"".join(requests), allows)
+
+
+def command(words, given, is_plain):
+    """A command that out of memory writes nothing but `fault 22`."""
+
+    def allows(ended, refused):
+        return is_plain(ended) or refused and ended == OUT_OF_MEMORY
+
+    return Run(f"bundled {' '.join(words)}".strip(), [program("bundled"), *words], given, allows)
+
+
+def file(name):
+    with open(f"{ROOT}/gate/{name}", "rb") as it:
+        return it.read()
+
+
+def program_runs():
+    empty, real, text = b'{"keys":[]}', file("rotation.json"), file("rotation.canonical").rstrip()
+    entry = b'{"use":"jwt-svid","kty":"RSA","kid":"k","n":"AQAB","e":"AQAB"}'
+    one_key = b'{"keys":[{"e":"AQAB","kid":"k","kty":"RSA","n":"AQAB","use":"jwt-svid"}]}'
+    of_one = b"a" + (1).to_bytes(8, "big")
+    set_and_fetch = [(b"S\x01a" + empty, [b"s"]), (b"F", [of_one, b"i\x01a" + empty])]
+    yield session("a set and a fetch-all", [], set_and_fetch)
+    yield session("a set and a fetch-all, 256 shards", ["--shards", "256"], set_and_fetch)
+    yield session("a real bundle", [], [(b"S\x01a" + real, [b"s"]), (b"G\x01a", [b"f" + text])])
+    rows = [(b"S\x01b" + empty, [b"s"]), (b"A\x01b" + entry, [b"p\x00"]), (b"V\x02", [b"v\x02"])]
+    rows += [(b"C\x01a\x00" + real, [b"s"]), (b"G\x01b", [b"f" + one_key]), (b"R\x01a", [b"d"])]
+    yield session("all kinds of requests", ["--shards", "1"], [*rows, (b"F", [of_one, b"i\x01b" + one_key])])
+    names = [b"n%02d" % number for number in range(40)]
+    rows = [(b"V\x02", [b"v\x02"]), *((b"C\x03" + name + b"\x00" + empty, [b"s"]) for name in names)]
+    of_all = [b"a" + len(names).to_bytes(8, "big"), *(b"i\x03" + name + empty for name in names)]
+    yield session("many names", ["--shards", "1"], [*rows, (b"F", of_all)])
+    dump = [b"a" + (2).to_bytes(8, "big"), b"i\x01a" + real, b"i\x01b" + empty]
+    stream = b"".join(map(frame, [b"V\x02", b"C\x01a\x00" + text, b"C\x01b\x00" + empty]))
+    yield command(["migrate"], b"".join(map(frame, dump)), lambda it: it == Ended(0, stream, b""))
+    race, lines = ["trace", "--shards", "2", "--rounds", "2"], file("race.trace")
+    yield command(race, file("race.events"), lambda it: it == Ended(0, lines, b""))
+    for words in (["--help"], ["run", "--help"], ["trace", "--help"], ["migrate", "--help"], ["--version"]):
+        yield command(words, b"", lambda it: it.status == 0 and it.out and not it.err)
+    for words in (["run", "--shards", "0"], ["frames"], []):
+        yield command(words, b"", lambda it: it.status == 2 and it.err and not it.out)

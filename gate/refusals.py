@@ -1,0 +1,69 @@
+"""Runs of programs to which memory is refused."""
+import collections
+import os
+import subprocess
+import sys
+
+ROOT = os.path.dirname(os.path.dirname(os.path.abspath(__file__)))
+SECONDS = 60
+MOST_GROWTHS = 2000
+
+# `allows` says whether an end is right where up to so many growths were refused.
+Run = collections.namedtuple("Run", "name words given allows")
+Ended = collections.namedtuple("Ended", "status out err")
+
+
+def build_shim(room):
+    """Compiles what refuses memory, by the compiler of the Rattle kit."""
+    kit = os.path.dirname(subprocess.run(["rt", "doc"], stdout=subprocess.PIPE, check=True).stdout.decode().strip())
+    clang = [f"{kit}/toolchain/bin/clang", "--no-default-config", "-shared", "-fPIC", "-O1", "-nostdlib"]
+    shim = f"{room}/refuse.so"
+    subprocess.run([*clang, "-fuse-ld=lld", "-o", shim, f"{ROOT}/gate/refuse.c"], check=True)
+    return shim
+
+
+def program(name):
+    path = f"{ROOT}/crates/{name.replace('_tests', '')}/out/{name}"
+    if not os.path.isfile(path):
+        sys.exit(f"{path} is not built: ./check builds all, rt run the program, and rt test a crate's tests")
+    return path
+
+
+def run_once(words, given, first=0, last=0, shim=None):
+    """Runs a program, its growths from the first to the last refused. Answers its end, and whether one was refused."""
+    reading, writing = os.pipe()
+    env = {"REFUSE_FROM": str(first), "REFUSE_TO": str(last), "REFUSE_REPORT": str(writing)}
+    how = {"env": {**env, "LD_PRELOAD": shim} if shim else {}, "pass_fds": [writing], "timeout": SECONDS}
+    with os.fdopen(reading, "rb") as report:
+        try:
+            ran = subprocess.run(words, input=given, stdout=subprocess.PIPE, stderr=subprocess.PIPE, **how)
+        finally:
+            os.close(writing)
+        marks = report.read()
+    if shim and not marks.startswith(b"+"):
+        raise RuntimeError(f"what refuses memory was not loaded into {words[0]}")
+    return Ended(ran.returncode, ran.stdout, ran.stderr), b"-" in marks
+
+
+def has_too_many(run, shim):
+    """Whether the run has more growths than can be tried one after the other."""
+    return run_once(run.words, run.given, MOST_GROWTHS + 1, MOST_GROWTHS + 1, shim)[1]
+
+
+def sweep(run, shim):
+    """Refuses each growth of the run. Answers how many it has, and what went wrong, if something did."""
+    is_test = "_tests" in run.words[0]
+    if is_test and has_too_many(run, shim):
+        return None, None
+    for growth in range(1, MOST_GROWTHS + 2):
+        for last in [growth] if is_test else [growth, 2**63]:
+            try:
+                ended, was_refused = run_once(run.words, run.given, growth, last, shim)
+            except subprocess.TimeoutExpired:
+                return growth, f"with growth {growth} refused it had not ended after {SECONDS} seconds"
+            if not run.allows(ended, was_refused * (1 + last - growth)):
+                what = f"growth {growth}{' and all after it' if last > growth else ''}" if was_refused else "nothing"
+                return growth, f"{what} refused: status {ended.status}, {ended.out[:300]!r}, {ended.err[:300]!r}"
+        if not was_refused:
+            return growth - 1, None if growth > 1 or is_test else "it met no refusal"
+    return MOST_GROWTHS, f"it has more than {MOST_GROWTHS} growths"

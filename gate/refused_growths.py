@@ -1,0 +1,69 @@
+#!/usr/bin/env python3
+"""Refuses memory to the built programs and tests: each growth of each run below, one after the other.
+
+usage: gate/refused_growths.py   (over what rt ci, rt run and rt test have built in crates/*/out)
+
+The growths of a run are counted up from 1 until a run meets no refusal. Each is refused by itself, and to the program
+also together with all growths after it. A run that met a refusal says that memory ran out in its own words, `fault 22`,
+the reply 22 or a test's error, or it ends as if nothing had been refused. Any other end is a failure.
+"""
+import os
+import re
+import sys
+import tempfile
+from concurrent.futures import ThreadPoolExecutor
+
+sys.dont_write_bytecode = True
+
+from program_runs import program_runs  # noqa: E402
+from refusals import MOST_GROWTHS, Run, build_shim, program, run_once, sweep  # noqa: E402
+
+# The crates of which all tests are run, but for those that have too many growths to try each.
+ALL = ["spiffe_doc", "map_core", "step_core"]
+# Of others those with such a word in their names: the rest starts threads, which take memory in any order, or asks
+# whether an answer is a certain one, which 22 is not.
+SOME = {"frame_front": ["a_refused_growth"], "shard_store": ["a_refused_growth", "removed_sequences", "a_front_asks"]}
+WANT_OF_MEMORY = re.compile(r'error: (Memory|AllocError|AllocFailed \{ \.\. \}|"out of memory")', re.I)
+ANSWERED_MEMORY = re.compile(r'error: ".*: memory\b.*, and not .*"')
+
+
+def test_allows(name):
+    def allows(ended, refused):
+        error = ended.err.decode(errors="replace").split("\n")[0]
+        # A test for refused growths has to go on after an answer of 22, and never meets a second one.
+        is_answer = "a_refused_growth" not in name and ANSWERED_MEMORY.fullmatch(error)
+        return ended.status == 0 or refused and ended.status == 101 and (WANT_OF_MEMORY.fullmatch(error) or is_answer)
+
+    return allows
+
+
+def test_runs():
+    for crate in [*ALL, *SOME]:
+        tests = program(f"{crate}_tests")
+        names = re.findall(r"^(\S+): test$", run_once([tests, "--list"], b"")[0].out.decode(), re.M)
+        words = SOME.get(crate, [""])
+        for word in words:
+            if not any(word in name for name in names):
+                sys.exit(f"no test of {crate} has {word} in its name, which gate/refused_growths.py looks for")
+        for name in names:
+            if any(word in name for word in words):
+                yield Run(f"{crate} {name}", [tests, name], b"", test_allows(name))
+
+
+def main():
+    with tempfile.TemporaryDirectory(prefix="refused-growths-") as room:
+        shim = build_shim(room)
+        runs, passed, failed = [*program_runs(), *test_runs()], 0, 0
+        with ThreadPoolExecutor(os.cpu_count()) as pool:
+            for run, (growths, why) in zip(runs, pool.map(lambda it: sweep(it, shim), runs)):
+                if growths is None:
+                    print(f"{run.name}: left out, since it has over {MOST_GROWTHS} growths", flush=True)
+                    continue
+                passed, failed = passed + (why is None), failed + (why is not None)
+                print(f"{run.name}: {f'FAILED: {why}' if why else f'{growths} growths refused'}", flush=True)
+    print(f"{passed} passed, {failed} failed")
+    return 1 if failed else 0
+
+
+if __name__ == "__main__":
+    sys.exit(main())
