@@ -10,7 +10,7 @@ pub enum FrontError {
     /// The decoder found no memory.
     #[error("out of memory")]
     Memory,
-    /// A length of no payload: 0, or more than [`MAX_PAYLOAD`](crate::MAX_PAYLOAD).
+    /// A length of no payload: 0, or more than 1,049,000.
     #[error("a frame has a length of 0 or of more than 1049000")]
     BadLength,
     #[error("the input ended inside a frame")]

@@ -6,7 +6,7 @@ use crate::FrontError;
 use std::alloc::AllocError;
 
 /// The most bytes of a payload. A payload has at least one.
-pub const MAX_PAYLOAD: usize = 1_049_000;
+pub(crate) const MAX_PAYLOAD: usize = 1_049_000;
 
 /// The bytes of a length.
 pub(crate) const LENGTH_BYTES: usize = 4;

@@ -24,7 +24,6 @@ pub use decoder::Decoder;
 pub use dump::{DumpError, migrate};
 pub use error::FrontError;
 pub use faulty::{FaultyReader, FaultyWriter};
-pub use frame::MAX_PAYLOAD;
 pub use refusal::Refusal;
 pub use request::{Request, Version, read_request};
 pub use session::serve;
