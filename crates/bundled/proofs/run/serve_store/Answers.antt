@@ -1,4 +1,4 @@
-use Rattle.std.proofs.Common.{List, ℕ, Option, None, Some, [], refl, ap, rules}
+use Rattle.std.proofs.Common.{List, ℕ, Option, None, Some, [], arith, refl, ap, rules}
 use Rattle.std.specs.Io.KnownBytes.{Consumes, Appends}
 use Rattle.std.specs.FinMap as finite
 use Rattle.bundled.proofs.run.serve_store.Goals as goal
@@ -25,6 +25,7 @@ returns-in_default-clause-session g c = (
     whole = refl;
     each = tt;
     ends = tt;
+    few_read = omega arith;
     used = tt;
     ended = tt;
     stands = refl;
