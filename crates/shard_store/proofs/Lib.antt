@@ -6,5 +6,6 @@ pub mod KeptEnds
 pub mod Promise
 pub mod Asked
 pub mod Readings
+pub mod Continue
 pub mod Together
 pub mod Closed

@@ -10,6 +10,7 @@ use Rattle.std.proofs.lemmas.List.{append-nil}
 use Rattle.atomic_table.specs.Table.{Me, rest}
 use Rattle.atomic_table.specs.Seated.{TableId}
 use Rattle.map_core.specs.declared.op.Op.{Op}
+use Rattle.map_core.specs.declared.op.Op.TheVariants.{FetchAll}
 use Rattle.map_core.specs.declared.reply.Reply.{Reply}
 use Rattle.map_core.specs.declared.reply.AskError.{AskError}
 use Rattle.map_core.specs.declared.reply.AskError.TheVariants.{Memory, Worn, Moved, Held, GateShut}
@@ -22,7 +23,8 @@ use Rattle.shard_store.specs.declared.change.View.{View}
 use Rattle.shard_store.specs.Changes.{after, change_of, IsPart, count, HasNumber, Extends, own_count, own_number, without_last, just_last}
 use Rattle.shard_store.specs.Rule.{joined_numbers, numbers, SlotValue}
 use Rattle.shard_store.specs.Steps.{updated, Sees, HasAllNumbers}
-use Rattle.shard_store.specs.Promise.{IsLater, IsAlone, Answered, IsRefusedAt, IsRefused}
+use Rattle.shard_store.specs.Promise.{IsLater, IsAlone, Concerns, Answered, IsRefusedAt, IsRefused}
+use Rattle.shard_store.specs.Pass.{StoreView}
 use Rattle.shard_store.specs.Seat.{IsIdle, IsHolding, Missed, Writes, change_by}
 use Rattle.shard_store.proofs.Changes.{count_append, none_by_others, others_append, has_number_left, not_some, is_part_stays, is_part_of_change, same_change, part_written, home_named}
 
@@ -84,19 +86,14 @@ free_or i held e h = not_some i (sym e ∙ h)
 -- a miss, where others made changes or have the shard
 pub missed : (n i word found : ℕ) (s t : Seen) → IsLater t s → found / 2 ≡ count n t.log i → word ≡ 2 * count n s.log i → found ≢ word
     → (IsAlone s → found % 2 ≡ 0) → Missed n i s found t
-missed n i word found s t l counted is miss even = let total : count n s.log i ≤ count n t.log i = counts_more n i s t.log l.0 in (
+missed n i word found s t l counted is miss even = (
   (λ alone. miss (missed_alone word found (count n s.log i) (count n t.log i) is counted (even alone) (ap (λ (x : List Change). count n x i) (alone_same s t.log alone l.0)))),
-  omega arith,
-  omega arith,
+  counted,
 )
 
 -- an odd word, where another has the shard
 pub missed_odd : (n i found : ℕ) (s t : Seen) → IsLater t s → found / 2 ≡ count n t.log i → (IsAlone s → found % 2 ≡ 0) → found % 2 ≡ 1 → Missed n i s found t
-missed_odd n i found s t l counted even odd = let total : count n s.log i ≤ count n t.log i = counts_more n i s t.log l.0 in (
-  (λ alone. let e : found % 2 ≡ 0 = even alone in let never : ⊥ = omega arith in never),
-  omega arith,
-  omega arith,
-)
+missed_odd n i found s t l counted even odd = ((λ alone. let e : found % 2 ≡ 0 = even alone in let never : ⊥ = omega arith in never), counted)
 
 updated_own : (v : View) (list : List Change) (held : Option ℕ) → v.joined ≡ [] → 0 < own_count v.seen.ranges → 0 < own_count (updated list v held).seen.ranges
 updated_own v list held e l = subst (λ (r : List (ℕ × ℕ)). 0 < own_count r) (sym (own_ranges v e)) l
@@ -119,8 +116,7 @@ pub bare : {S : Type 0} (c : List (ℕ × S)) (x : ℕ × S) → c ≡ x ∷ [] 
 bare c x e = ap rest e
 
 pub missed_then : (n i found : ℕ) (s t u : Seen) → IsLater t s → Missed n i t found u → Missed n i s found u
-missed_then n i found s t u l m = let more : count n s.log i ≤ count n t.log i = counts_more n i s t.log l.0 in let low = m.1 in
-    ((λ alone. m.0 (alone_later s t l alone)), omega arith, m.2)
+missed_then n i found s t u l m = ((λ alone. m.0 (alone_later s t l alone)), m.1)
 
 -- where the shard has no new change, what was the part is
 pub part_since : (n i : ℕ) (s : Seen) (list : List Change) (contents : PlainMap) → Extends list s → count n list i ≡ count n s.log i → IsPart n i s.log contents → IsPart n i list contents
@@ -156,6 +152,11 @@ answered_by_write n i op s t u old reply at l p is write w = (
   λ kept. absurd (true≢false (sym write ∙ kept)),
 )
 
+-- what the version says of an operation's change, the map says
+pub changes_of_part : (n i : ℕ) (op : Op) (log : List Change) (contents : PlainMap) (reply : Reply) → shard_of n op ≡ Some i → IsPart n i log contents → reply ≡ (ask contents op).reply
+    → is_change reply ≡ true → is_change (ask (after log) op).reply ≡ true
+changes_of_part n i op log contents reply at p is write = ap (λ (r : Reply). is_change r) (sym (reply_of_part n i op log contents at p)) ∙ (ap (λ (r : Reply). is_change r) (sym is) ∙ write)
+
 pub answered_by_read : (n i : ℕ) (op : Op) (s t : Seen) (old : PlainMap) (reply : Reply) → shard_of n op ≡ Some i → IsLater t s → IsPart n i t.log old
     → reply ≡ (ask old op).reply → is_change reply ≡ false → Answered op s reply t
 answered_by_read n i op s t old reply at l p is kept = (
@@ -184,31 +185,42 @@ answered_since op s t u reply l a = (
   λ kept. subst (λ (r : List (ℕ × ℕ)). Extends u.log (record { log = a.0; ranges = r })) l.1 (a.5 kept),
 )
 
-pub refused_since : (n : ℕ) (s t u : Seen) (e : AskError) → IsLater t s → IsRefusedAt n t u e → IsRefusedAt n s u e
-refused_since n s t u Memory l r = later_then s t u l r
-refused_since n s t u (Worn i) l r = (later_then s t u l r.0, r.1)
-refused_since n s t u (Held i k) l r = let more : count n s.log i ≤ count n t.log i = counts_more n i s t.log l.0 in let low = r.2 in
-    (later_then s t u l r.0, (λ alone. r.1 (alone_later s t l alone)), omega arith, r.3)
-refused_since n s t u (Moved i k m) l r = absurd r
-refused_since n s t u GateShut l r = absurd r
+pub refused_since : (n : ℕ) (op : Op) (s t u : Seen) (e : AskError) → IsLater t s → IsRefusedAt n op t u e → IsRefusedAt n op s u e
+refused_since n op s t u Memory l r = later_then s t u l r
+refused_since n op s t u (Worn i) l r = (later_then s t u l r.0, r.1)
+refused_since n op s t u (Held i k) l r = (later_then s t u l r.0, (λ alone. r.1 (alone_later s t l alone)), r.2, r.3)
+refused_since n op s t u (Moved i k m) l r = absurd r
+refused_since n op s t u GateShut l r = absurd r
 
--- a refusal by one shard is one by all
-pub refused_at : (n rounds : ℕ) (s t : Seen) (e : AskError) → IsRefusedAt n s t e → IsRefused n rounds s t e
-refused_at n rounds s t Memory r = r
-refused_at n rounds s t (Worn i) r = r
-refused_at n rounds s t (Held i k) r = r
-refused_at n rounds s t (Moved i k m) r = absurd r
-refused_at n rounds s t GateShut r = absurd r
+-- a refusal by one shard is one by the store
+pub refused_at : (store : StoreView) (op : Op) (s t : Seen) (e : AskError) → IsRefusedAt store.id.slots op s t e → IsRefused store op s t e
+refused_at store op s t Memory r = r
+refused_at store op s t (Worn i) r = r
+refused_at store op s t (Held i k) r = r
+refused_at store op s t (Moved i k m) r = absurd r
+refused_at store op s t GateShut r = absurd r
 
 pub answered_ranges : (op : Op) (s t : Seen) (reply : Reply) → Answered op s reply t → t.ranges ≡ s.ranges
 answered_ranges op s t reply a = a.3
 
-pub refused_ranges : (n rounds : ℕ) (s t : Seen) (e : AskError) → IsRefused n rounds s t e → t.ranges ≡ s.ranges
-refused_ranges n rounds s t Memory r = r.1
-refused_ranges n rounds s t (Worn i) r = r.0.1
-refused_ranges n rounds s t (Held i k) r = r.0.1
-refused_ranges n rounds s t (Moved i k m) r = r.0.1
-refused_ranges n rounds s t GateShut r = absurd r
+pub refused_ranges : (store : StoreView) (op : Op) (s t : Seen) (e : AskError) → IsRefused store op s t e → t.ranges ≡ s.ranges
+refused_ranges store op s t Memory r = r.1
+refused_ranges store op s t (Worn i) r = r.0.1
+refused_ranges store op s t (Held i k) r = r.0.1
+refused_ranges store op s t (Moved i k m) r = r.0.1
+refused_ranges store op s t GateShut r = absurd r
+
+-- the shard that an operation on one name is for is its home
+pub at_home : (n i : ℕ) (op : Op) → shard_of n op ≡ Some i → Concerns n op i
+at_home n i op at = subst (λ (o : Option ℕ). MatchOption o (i < n) (λ home. i ≡ home)) (sym at) refl
+
+-- and each shard is one that a fetch-all reads
+pub at_each : (n i : ℕ) (op : Op) → shard_of n op ≡ None → i < n → Concerns n op i
+at_each n i op none inside = subst (λ (o : Option ℕ). MatchOption o (i < n) (λ home. i ≡ home)) (sym none) inside
+
+pub fetch_has_no_home : (n : ℕ) → shard_of n FetchAll ≡ None
+unfolding shard_of
+fetch_has_no_home n = refl
 
 pub own_kept : (share : ℕ) (rs : List (ℕ × ℕ)) → own_count (without_last share rs) ≡ own_count rs - share
 own_kept share [] = zero_less share
@@ -249,3 +261,7 @@ part_after n i op s old new at p e = part_written n i op s.log (own_number s.ran
 pub error_passed : {A E : Type 0} (r : Result A E) (e : E) (P : A → Type 0) (Q : E → Type 0) → IsErrAnd r (λ x. x ≡ e) → Q e → MatchResult r P Q
 error_passed (Ok x) e P Q is q = absurd is
 error_passed (Err x) e P Q is q = subst Q (sym is) q
+
+-- what holds of an error holds of one that is equal
+pub error_is : (e e' : AskError) (Q : AskError → Type 0) → e ≡ e' → Q e' → Q e
+error_is e e' Q is q = subst Q (sym is) q

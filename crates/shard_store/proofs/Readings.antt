@@ -17,6 +17,7 @@ use Rattle.shard_store.specs.declared.change.Change.{Change}
 use Rattle.shard_store.specs.declared.change.Seen.{Seen}
 use Rattle.shard_store.specs.declared.fetch.Movement.{Movement}
 use Rattle.shard_store.specs.Changes.{after, count, IsPart, Extends}
+use Rattle.shard_store.specs.Pass.{StoreView}
 use Rattle.shard_store.specs.Promise.{IsLater, IsAlone, HasMoved, Answered, IsRefused}
 use Rattle.shard_store.specs.Readings.{WasRead, WereRead, AreConfirmed, IsMovement, IsSnapshot}
 use Rattle.shard_store.proofs.Changes.{count_append, is_part_stays}
@@ -68,13 +69,13 @@ read_at n from log rs [] i were inside = absurd (omega arith)
 read_at n from log rs (v ∷ vs) i were inside = (get_or (v ∷ vs) i v, were.1 i v inside)
 
 -- the shard that was found with another revision has moved
-pub moved : {Z : Type 0} (n : ℕ) (s t u : Seen) (rs : List ℕ) (vs : List (Arc PlainMap Z)) (movement : Movement) → IsLater t s → IsLater u t → WereRead n s.log t.log rs vs → IsMovement n t.log u.log rs movement
-    → IsLater u s × HasMoved n s u movement.shard movement.first movement.second
-moved {Z} n s t u rs vs movement l m were g = let long : length rs ≡ length vs = were.0 in let here : movement.shard < length rs = g.0 in let was = (read_at n s.log t.log rs vs movement.shard were (omega arith)).1 in
+pub moved : {Z : Type 0} (n : ℕ) (s t u : Seen) (rs : List ℕ) (vs : List (Arc PlainMap Z)) (movement : Movement) → IsLater t s → IsLater u t → length vs ≡ n → WereRead n s.log t.log rs vs → IsMovement n t.log u.log rs movement
+    → IsLater u s × (movement.shard < n) × HasMoved n s u movement.shard movement.first movement.second
+moved {Z} n s t u rs vs movement l m size were g = let long : length rs ≡ length vs = were.0 in let here : movement.shard < length rs = g.0 in let was = (read_at n s.log t.log rs vs movement.shard were (omega arith)).1 in
     let first : movement.first ≡ get_or rs movement.shard 0 = g.1 in let seen : count n was.0 movement.shard ≡ get_or rs movement.shard 0 = was.3 in
     let total : count n t.log movement.shard ≡ count n was.0 movement.shard + count n was.1 movement.shard = ap (λ (x : List Change). count n x movement.shard) was.2 ∙ count_append n was.0 was.1 movement.shard in
     let least : count n s.log movement.shard ≤ get_or rs movement.shard 0 = was.5 in let other : movement.first ≢ movement.second = g.2 in let low : count n t.log movement.shard ≤ movement.second = g.3 in
-    (later_then s t u l m, (omega arith, less movement.first movement.second other (omega arith), g.4))
+    (later_then s t u l m, omega arith, (omega arith, less movement.first movement.second other (omega arith), g.4))
   where
     less : (a b : ℕ) → a ≢ b → a ≤ b → a < b
     less a b ne le = omega (arith, ne)
@@ -114,10 +115,10 @@ answered_all n s t vs all reply x e is = (
 )
 
 -- what the map of a snapshot answers to a fetch-all
-pub snapshot_answers : {Z : Type 0} (n rounds : ℕ) (s t : Seen) (vs : List (Arc PlainMap Z)) (all : PlainMap) (r : Result Reply AskError) (x : IsSnapshot n s t vs) → all ≡ after x.0
-    → IfOk r (λ reply. reply ≡ (ask all FetchAll).reply) → IfErr r (λ e. e ≡ Memory) → MatchResult r (λ reply. Answered FetchAll s reply t) (IsRefused n rounds s t)
-snapshot_answers n rounds s t vs all (Ok reply) x e is memory = answered_all n s t vs all reply x e is
-snapshot_answers n rounds s t vs all (Err error) x e is memory = subst (λ (w : AskError). IsRefused n rounds s t w) (sym memory) (later_snapshot n s t vs x)
+pub snapshot_answers : {Z : Type 0} (n : ℕ) (store : StoreView) (s t : Seen) (vs : List (Arc PlainMap Z)) (all : PlainMap) (r : Result Reply AskError) (x : IsSnapshot n s t vs) → all ≡ after x.0
+    → IfOk r (λ reply. reply ≡ (ask all FetchAll).reply) → IfErr r (λ e. e ≡ Memory) → MatchResult r (λ reply. Answered FetchAll s reply t) (IsRefused store FetchAll s t)
+snapshot_answers n store s t vs all (Ok reply) x e is memory = answered_all n s t vs all reply x e is
+snapshot_answers n store s t vs all (Err error) x e is memory = subst (λ (w : AskError). IsRefused store FetchAll s t w) (sym memory) (later_snapshot n s t vs x)
 
 -- one shard more has no more changes than its revision says
 pub still_more : (n i : ℕ) (s u : Seen) (rs : List ℕ) → IsLater u s → count n u.log i ≡ get_or rs i 0 → ((k : ℕ) → k < i → count n s.log k ≤ get_or rs k 0) → (k : ℕ) → k < i + 1 → count n s.log k ≤ get_or rs k 0

@@ -3,10 +3,12 @@ use Rattle.std.specs.Prelude.{◌≡◌, ℕ}
 use Rattle.atomic_table.specs.Seated.{TableId}
 use Rattle.shard_store.specs.declared.change.Seen.{Seen}
 
--- which store it is, with how many shards, and how many rounds a fetch-all makes
+-- which store it is, with how many shards, how many rounds a fetch-all makes, and how many tries a call makes at one
+-- shard
 pub record StoreView : Type 0 where
   pub id : TableId
   pub rounds : ℕ
+  pub tries : ℕ
 
 -- the store that it comes from, and what it has seen
 pub record PassView : Type 0 where

@@ -37,7 +37,7 @@ AreConfirmed n log revisions = (k : ℕ) → k < length revisions → count n lo
 -- the shard was found with another revision, after the first log and before the second
 abbrev pub IsMovement : ℕ → List Change → List Change → List ℕ → Movement → Type 0
 IsMovement n from log revisions movement = (movement.shard < length revisions) × (movement.first ≡ slice_index_or revisions movement.shard 0) × (movement.first ≢ movement.second)
-    × (count n from movement.shard ≤ movement.second) × (movement.second ≤ count n log movement.shard)
+    × (count n from movement.shard ≤ movement.second) × (movement.second ≡ count n log movement.shard)
 
 -- these are the parts of the map after a list that begins with what the pass had seen, and that it has seen now
 abbrev pub IsSnapshot : {Z : Type 0} → ℕ → Seen → Seen → List (Arc PlainMap Z) → Type 0
@@ -47,4 +47,4 @@ IsSnapshot n s t parts = (list : List Change) × Extends list s × Extends t.log
 -- what one round of a fetch-all says
 abbrev pub IsRound : ℕ → Seen → Seen → Round → Type 0
 IsRound n s t (Confirmed parts) = IsSnapshot n s t parts.items
-IsRound n s t (Moved movement) = IsLater t s × HasMoved n s t movement.shard movement.first movement.second
+IsRound n s t (Moved movement) = IsLater t s × (movement.shard < n) × HasMoved n s t movement.shard movement.first movement.second

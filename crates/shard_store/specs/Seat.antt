@@ -38,9 +38,10 @@ module _ {Z : Type 0} where
   IsHolding n shard m = (version : Arc PlainMap Z) × (m.1 ≡ (shard, Some version) ∷ []) × IsPart n shard m.0.seen.log (arc_value version)
       × (m.0.joined ≡ []) × (m.0.held ≡ Some shard) × (0 < own_count m.0.seen.ranges)
 
--- what a word says that was found in place of the one expected: others have the shard or changed it
+-- What a word says that was found in place of the one expected: others have the shard or changed it, and the word
+-- counts the changes that are seen now.
 abbrev pub Missed : ℕ → ℕ → Seen → ℕ → Seen → Type 0
-Missed n shard s found t = (¬ IsAlone s) × (count n s.log shard ≤ found / 2) × (found / 2 ≤ count n t.log shard)
+Missed n shard s found t = (¬ IsAlone s) × (found / 2 ≡ count n t.log shard)
 
 -- the change that the operation would make of what was seen
 abbrev pub change_by : Op → Seen → Change

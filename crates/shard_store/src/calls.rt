@@ -15,7 +15,7 @@ use step_core::home::shard_of;
 impl Store {
     /// Answers an operation as the plain map does, after some list of changes that begins with what the pass has
     /// seen. After an error the pass has changed nothing.
-    pub fn ask(&self, pass: &mut Pass, op: Op) -> Result<Reply, AskError>
+    pub(crate) fn ask(&self, pass: &mut Pass, op: Op) -> Result<Reply, AskError>
         requires own { IsOf pass.old self.now }
         ensures own { IsOf pass.new self.now }
         ensures answer { StoreAnswer self.now op pass.old.seen result pass.new.seen }

@@ -50,6 +50,18 @@ pub(crate) struct Movement {
     pub second: u64,
 }
 
+impl Movement {
+    pub(crate) fn into_error(self) -> AskError
+        ensures { result ≡ AskError.Moved self.shard self.first self.second }
+    {
+        AskError::Moved {
+            shard: self.shard,
+            first: self.first,
+            second: self.second,
+        }
+    }
+}
+
 /// What one round gave.
 pub(crate) enum Round {
     Confirmed(Vec<Arc<Contents>>),
@@ -70,7 +82,7 @@ pub(crate) fn ask_all(
     ensures seat { IsSameSeat seat.old seat.new × IsIdle seat.new.me }
     ensures answer { MatchResult result
         (λ reply. Answered Op.FetchAll seat.old.me.0.seen reply seat.new.me.0.seen)
-        (IsRefused seat.old.table_id.slots rounds seat.old.me.0.seen seat.new.me.0.seen) }
+        (IsRefused (record { id = seat.old.table_id; rounds = rounds; tries = tries }) Op.FetchAll seat.old.me.0.seen seat.new.me.0.seen) }
 {
     let parts = fetch_parts(alloc, shards, seat, tries, rounds)?;
     let all = join_parts(alloc, parts.as_slice())?;
@@ -91,7 +103,7 @@ fn fetch_parts(
     ensures seat { IsSameSeat seat.old seat.new × IsIdle seat.new.me }
     ensures parts { MatchResult result
         (λ parts. IsSnapshot seat.old.table_id.slots seat.old.me.0.seen seat.new.me.0.seen parts.items)
-        (IsRefused seat.old.table_id.slots rounds seat.old.me.0.seen seat.new.me.0.seen) }
+        (IsRefused (record { id = seat.old.table_id; rounds = rounds; tries = tries }) Op.FetchAll seat.old.me.0.seen seat.new.me.0.seen) }
 {
     let mut last = Movement {
         shard: 0,
@@ -104,11 +116,7 @@ fn fetch_parts(
             Round::Moved(movement) => last = movement,
         }
     }
-    Err(AskError::Moved {
-        shard: last.shard,
-        first: last.first,
-        second: last.second,
-    })
+    Err(last.into_error())
 }
 
 // One round: the parts of the map after one list, or a shard that has moved.
@@ -124,7 +132,7 @@ fn read_round(
     ensures seat { IsSameSeat seat.old seat.new × IsIdle seat.new.me }
     ensures round { MatchResult result
         (IsRound seat.old.table_id.slots seat.old.me.0.seen seat.new.me.0.seen)
-        (IsRefusedAt seat.old.table_id.slots seat.old.me.0.seen seat.new.me.0.seen) }
+        (IsRefusedAt seat.old.table_id.slots Op.FetchAll seat.old.me.0.seen seat.new.me.0.seen) }
 {
     let Readings {
         revisions,
@@ -136,8 +144,8 @@ fn read_round(
     }
 }
 
-// Reads each shard, in order.
-fn collect_all(
+/// Reads each shard, in order.
+pub(crate) fn collect_all(
     alloc: Global,
     shards: &Shards,
     seat: &mut StoreSeat,
@@ -150,7 +158,7 @@ fn collect_all(
     ensures read { MatchResult result
         (λ r. IsLater seat.new.me.0.seen seat.old.me.0.seen × (length r.versions.items ≡ seat.old.table_id.slots)
         × WereRead seat.old.table_id.slots seat.old.me.0.seen.log seat.new.me.0.seen.log r.revisions.items r.versions.items)
-        (IsRefusedAt seat.old.table_id.slots seat.old.me.0.seen seat.new.me.0.seen) }
+        (IsRefusedAt seat.old.table_id.slots Op.FetchAll seat.old.me.0.seen seat.new.me.0.seen) }
 {
     let mut readings = Readings::new(alloc);
     for shard in 0..shards.slot_count() {
@@ -175,7 +183,7 @@ fn collect(
     ensures read { MatchResult result
         (λ r. IsLater seat.new.me.0.seen seat.old.me.0.seen × (count seat.old.table_id.slots seat.new.me.0.seen.log shard ≡ r.0)
         × IsPart seat.old.table_id.slots shard seat.new.me.0.seen.log (arc_value r.1))
-        (IsRefusedAt seat.old.table_id.slots seat.old.me.0.seen seat.new.me.0.seen) }
+        (IsRefusedAt seat.old.table_id.slots Op.FetchAll seat.old.me.0.seen seat.new.me.0.seen) }
 {
     let mut word = 0;
     for _ in 0..tries {
@@ -193,8 +201,12 @@ fn collect(
     })
 }
 
-// Loads each word once. The first shard that has another revision ends it.
-fn confirm_all(shards: &Shards, seat: &mut StoreSeat, revisions: &[u64]) -> Option<Movement>
+/// Loads each word once. The first shard that has another revision ends it.
+pub(crate) fn confirm_all(
+    shards: &Shards,
+    seat: &mut StoreSeat,
+    revisions: &[u64],
+) -> Option<Movement>
     requires own { IsAt seat.old shards.now.shared.table_id }
     requires idle { IsIdle seat.old.me }
     requires each { length revisions.now ≡ seat.old.table_id.slots }

@@ -39,7 +39,7 @@ pub(crate) fn ask_shard(
     ensures seat { IsSameSeat seat.old seat.new × IsIdle seat.new.me }
     ensures answer { MatchResult result
         (λ reply. Answered op.now seat.old.me.0.seen reply seat.new.me.0.seen)
-        (IsRefusedAt seat.old.table_id.slots seat.old.me.0.seen seat.new.me.0.seen) }
+        (IsRefusedAt seat.old.table_id.slots op.now seat.old.me.0.seen seat.new.me.0.seen) }
 {
     let mut word = 0;
     for _ in 0..tries {
@@ -69,7 +69,7 @@ fn try_once(
     ensures seat { IsSameSeat seat.old seat.new × IsIdle seat.new.me }
     ensures tried { MatchResult result
         (Tried seat.old.table_id.slots shard op.now seat.old.me.0.seen seat.new.me.0.seen)
-        (IsRefusedAt seat.old.table_id.slots seat.old.me.0.seen seat.new.me.0.seen) }
+        (IsRefusedAt seat.old.table_id.slots op.now seat.old.me.0.seen seat.new.me.0.seen) }
 {
     let word = match try_hold(shards, seat, shard) {
         Ok(word) => word,

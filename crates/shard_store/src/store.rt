@@ -28,7 +28,7 @@ impl Model for Store {
 
     ghost Value = { StoreView };
 
-    ghost view = { λ s. record { id = s.shards.shared.table_id; rounds = s.rounds } };
+    ghost view = { λ s. record { id = s.shards.shared.table_id; rounds = s.rounds; tries = s.tries } };
 
     ghost invariant = { λ s. IsPaired s.shards.shared.table_id × (0 < s.rounds) × (0 < s.tries) };
 }
@@ -45,7 +45,8 @@ impl Store {
         requires shards { (0 < shards) × (shards ≤ 256) }
         requires rounds { 0 < rounds }
         requires tries { 0 < tries }
-        ensures own { IfOk result (λ made. IsOf made.1 made.0 × (made.0.id.slots ≡ shards) × (made.0.rounds ≡ rounds)) }
+        ensures own { IfOk result (λ made. IsOf made.1 made.0 × (made.0.id.slots ≡ shards)) }
+        ensures limits { IfOk result (λ made. (made.0.rounds ≡ rounds) × (made.0.tries ≡ tries)) }
         ensures seen { IfOk result (λ made. (made.1.seen.log ≡ []) × (made.1.seen.ranges ≡ (0, 4294967296) ∷ [])) }
     {
         let words = zeros(alloc, shards)?;

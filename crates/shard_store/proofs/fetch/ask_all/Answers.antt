@@ -14,5 +14,5 @@ returns-in_err-all-clause-answer c = error_passed c.from_residual-in_err-all.res
 
 pub returns-clause-answer : goal.returns-clause-answer
 returns-clause-answer c = let x = c.in_ok-parts.ensures.parts in
-    snapshot_answers c.args.seat.now.table_id.slots c.args.rounds c.args.seat.now.me.0.seen c.fetch_parts.new.seat.me.0.seen c.in_ok-parts.parts.items c.in_ok-all.all c.all_of.result x
+    snapshot_answers c.args.seat.now.table_id.slots (record { id = c.args.seat.now.table_id; rounds = c.args.rounds; tries = c.args.tries }) c.args.seat.now.me.0.seen c.fetch_parts.new.seat.me.0.seen c.in_ok-parts.parts.items c.in_ok-all.all c.all_of.result x
     (c.in_ok-all.ensures (after x.0) (subst (λ (l : List (Arc PlainMap Global)). ArePartsOf (after x.0) l) (sym c.as_slice.ensures.value) x.5)) c.all_of.ensures.reply c.all_of.ensures.refused

@@ -1,10 +1,11 @@
+use Rattle.map_core.specs.declared.op.Op.TheVariants.{FetchAll}
 use Rattle.map_core.specs.declared.reply.AskError.TheVariants.{Memory}
 use Rattle.std.proofs.Common.{◌≡◌, ℕ, ◌*◌, ◌/◌, arith, sym, ap, ◌∙◌, subst}
 use Rattle.std.specs.Arc.{arc_value}
 use Rattle.shard_store.specs.declared.change.Seen.{Seen}
 use Rattle.shard_store.specs.Changes.{count, IsPart}
 use Rattle.shard_store.specs.Seat.{Missed, IsHolding}
-use Rattle.shard_store.proofs.Promise.{later_then, later_same, missed_then, at_slots, error_passed}
+use Rattle.shard_store.proofs.Promise.{later_then, later_same, missed_then, at_slots, error_passed, at_each, fetch_has_no_home}
 use Rattle.shard_store.proofs.fetch.collect.Goals as goal
 
 pub read_version-requires-clause-holds : goal.read_version-requires-clause-holds
@@ -34,3 +35,7 @@ loop-preserved c = let i = c.loop.invariant in let t = c.try_hold.ensures in let
   later = later_then s mid u i.later t.later;
   missed = λ _. missed_then _ _ _ s mid u i.later (at_slots (λ z. Missed z.slots c.args.shard mid c.in-Err.found u) _ _ (sym i.seat.0) c.in-Err.ensures.found.1);
 }
+
+pub returns-clause-read : goal.returns-clause-read
+returns-clause-read c = let i = c.loop.invariant in let end = c.loop.auto.counter-end in let done = c.loop-test.false in let some = c.requires.tries in
+    let m = i.missed (omega (arith, end, done, some)) in (i.later, m.0, at_each _ c.args.shard FetchAll (fetch_has_no_home c.args.seat.now.table_id.slots) c.requires.shard, m.1)

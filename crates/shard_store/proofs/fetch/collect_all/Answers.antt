@@ -1,3 +1,4 @@
+use Rattle.map_core.specs.declared.op.Op.TheVariants.{FetchAll}
 use Rattle.map_core.specs.declared.reply.AskError.TheVariants.{Memory}
 use Rattle.std.proofs.Common.{◌≡◌, ◌+◌, [], ◌∷◌, length, length-append, sym, ap, ◌∙◌}
 use Rattle.std.specs.Arc.{arc_value}
@@ -14,7 +15,7 @@ returns-in_err-push-clause-read c = error_passed c.from_residual-in_err-push.res
 pub returns-in_err-revision-clause-read : goal.returns-in_err-revision-clause-read
 returns-in_err-revision-clause-read c = let s = c.args.seat.now.me.0.seen in let t = c.loop-shard.seat.me.0.seen in let u = c.collect.new.seat.me.0.seen in let i = c.loop-shard.invariant in
     let e = c.in_err-revision.field-0.0 in
-    error_passed c.from_residual.result e _ _ c.from_residual.ensures.1 (refused_since _ s t u e i.later (at_slots (λ z. IsRefusedAt z.slots t u e) _ _ (sym i.seat.0) c.in_err-revision.ensures.read))
+    error_passed c.from_residual.result e _ _ c.from_residual.ensures.1 (refused_since _ FetchAll s t u e i.later (at_slots (λ z. IsRefusedAt z.slots FetchAll t u e) _ _ (sym i.seat.0) c.in_err-revision.ensures.read))
 
 pub loop-shard-preserved : goal.loop-shard-preserved
 loop-shard-preserved c = let i = c.loop-shard.invariant in let e = c.collect.ensures.seat in let r = c.in_ok-revision.ensures.read in let s = c.args.seat.now.me.0.seen in let t = c.loop-shard.seat.me.0.seen in let u = c.collect.new.seat.me.0.seen in

@@ -8,6 +8,6 @@ invariant-loop l = record {
   seat : IsSameSeat l.fn.seat l.seat;
   idle : IsIdle l.seat.me;
   later : IsLater l.seat.me.0.seen l.fn.seat.me.0.seen;
-  moved : 0 < l.counter → HasMoved l.fn.seat.table_id.slots l.fn.seat.me.0.seen l.seat.me.0.seen l.last.shard l.last.first l.last.second;
+  moved : 0 < l.counter → (l.last.shard < l.fn.seat.table_id.slots) × HasMoved l.fn.seat.table_id.slots l.fn.seat.me.0.seen l.seat.me.0.seen l.last.shard l.last.first l.last.second;
   more : length l.fn.seat.me.0.seen.log + l.counter ≤ length l.seat.me.0.seen.log;
 }

@@ -12,6 +12,6 @@ returns-in-None-clause-round c = let s = c.args.seat.now.me.0.seen in let t = c.
 
 pub returns-clause-round : goal.returns-clause-round
 returns-clause-round c = let s = c.args.seat.now.me.0.seen in let t = c.collect_all.new.seat.me.0.seen in let u = c.confirm_all.new.seat.me.0.seen in let r = c.in_ok-revisions.ensures.read in
-    moved c.args.seat.now.table_id.slots s t u c.in_ok-revisions.field-0.revisions.items c.in_ok-revisions.field-0.versions.items c.in-Some.movement r.0 c.confirm_all.ensures.later r.2
+    moved c.args.seat.now.table_id.slots s t u c.in_ok-revisions.field-0.revisions.items c.in_ok-revisions.field-0.versions.items c.in-Some.movement r.0 c.confirm_all.ensures.later r.1 r.2
     (at_slots (λ z. IsMovement z.slots t.log u.log c.in_ok-revisions.field-0.revisions.items c.in-Some.movement) _ _ (sym c.collect_all.ensures.seat.0.0)
     (subst (λ (l : List ℕ). IsMovement c.collect_all.new.seat.table_id.slots t.log u.log l c.in-Some.movement) c.as_slice.ensures.value c.in-Some.ensures.found))

@@ -1,8 +1,8 @@
-use Rattle.std.proofs.Common.{sym, ◌∙◌, subst}
+use Rattle.std.proofs.Common.{arith, sym, ◌∙◌, subst}
 use Rattle.shard_store.specs.declared.one_shard.Attempt.{Attempt}
 use Rattle.shard_store.specs.Promise.{IsRefusedAt}
 use Rattle.shard_store.specs.Seat.{Missed, Tried}
-use Rattle.shard_store.proofs.Promise.{later_then, missed_then, answered_since, refused_since, at_slots, error_passed}
+use Rattle.shard_store.proofs.Promise.{later_then, missed_then, answered_since, refused_since, at_slots, error_passed, at_home}
 use Rattle.shard_store.proofs.one_shard.ask_shard.Goals as goal
 
 pub returns-in-Replied-clause-answer : goal.returns-in-Replied-clause-answer
@@ -13,7 +13,7 @@ returns-in-Replied-clause-answer c = let s = c.args.seat.now.me.0.seen in let t 
 pub returns-in_err-reply-clause-answer : goal.returns-in_err-reply-clause-answer
 returns-in_err-reply-clause-answer c = let s = c.args.seat.now.me.0.seen in let t = c.loop.seat.me.0.seen in let u = c.try_once.new.seat.me.0.seen in let i = c.loop.invariant in
     let e = c.in_err-reply.field-0.0 in
-    error_passed c.from_residual.result e _ _ c.from_residual.ensures.1 (refused_since _ s t u e i.later (at_slots (λ z. IsRefusedAt z.slots t u e) _ _ (sym i.seat.0) c.in_err-reply.ensures.tried))
+    error_passed c.from_residual.result e _ _ c.from_residual.ensures.1 (refused_since _ c.args.op.now s t u e i.later (at_slots (λ z. IsRefusedAt z.slots c.args.op.now t u e) _ _ (sym i.seat.0) c.in_err-reply.ensures.tried))
 
 pub loop-preserved : goal.loop-preserved
 loop-preserved c = let s = c.args.seat.now.me.0.seen in let t = c.loop.seat.me.0.seen in let u = c.try_once.new.seat.me.0.seen in let i = c.loop.invariant in let e = c.try_once.ensures.seat in
@@ -23,3 +23,7 @@ loop-preserved c = let s = c.args.seat.now.me.0.seen in let t = c.loop.seat.me.0
       later = later_then s t u i.later f.0;
       missed = λ _. missed_then _ _ _ s t u i.later (at_slots (λ z. Missed z.slots c.args.shard t c.in-Blocked.found u) _ _ (sym i.seat.0) f.1);
     }
+
+pub returns-clause-answer : goal.returns-clause-answer
+returns-clause-answer c = let i = c.loop.invariant in let end = c.loop.auto.counter-end in let done = c.loop-test.false in let some = c.requires.tries in
+    let m = i.missed (omega (arith, end, done, some)) in (i.later, m.0, at_home _ c.args.shard c.args.op.now c.requires.home, m.1)

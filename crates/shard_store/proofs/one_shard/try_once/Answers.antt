@@ -1,13 +1,13 @@
-use Rattle.std.proofs.Common.{ℕ, List, ◌++◌, ◌∷◌, [], sym, ap, ◌∙◌, subst}
+use Rattle.std.proofs.Common.{◌≡◌, ℕ, ◌*◌, ◌/◌, ◌^◌, ◌≤◌, List, ◌++◌, ◌∷◌, [], arith, sym, ap, ◌∙◌, subst}
 use Rattle.atomic_table.specs.Seated.{TableId}
 use Rattle.std.specs.Arc.{arc_value}
 use Rattle.map_core.specs.PlainMap.{PlainMap, ask}
 use Rattle.shard_store.specs.declared.change.Change.{Change}
 use Rattle.shard_store.specs.declared.change.Seen.{Seen}
-use Rattle.shard_store.specs.Changes.{IsPart}
+use Rattle.shard_store.specs.Changes.{count, IsPart}
 use Rattle.shard_store.specs.Promise.{IsLater}
 use Rattle.shard_store.specs.Seat.{Missed, Writes, IsHolding, change_by}
-use Rattle.shard_store.proofs.Promise.{later_then, later_same, missed_then, at_slots, answered_by_write, answered_by_read, part_after, with_new, with_none}
+use Rattle.shard_store.proofs.Promise.{later_then, later_same, missed_then, at_slots, answered_by_write, answered_by_read, changes_of_part, part_after, with_new, with_none}
 use Rattle.shard_store.proofs.one_shard.try_once.Goals as goal
 
 pub read_version-requires-clause-holds : goal.read_version-requires-clause-holds
@@ -50,3 +50,22 @@ returns-in-Ok-store_version-clause-tried c = let s = c.args.seat.now.me.0.seen i
     answered_by_write c.args.seat.now.table_id.slots c.args.shard c.args.op.now s u x old c.in_ok-reply.reply c.requires.home l shown
     (step.reply ∙ ap (λ (m : PlainMap). (ask m c.args.op.now).reply) c.deref.ensures) (with_new _ _ _ _ c.in-Some.is step.left).0
     (at_slots (λ k. Writes k.slots c.args.shard c.args.op.now u x) _ _ (sym z) c.in-Ok-store_version.ensures.written)
+
+worn_at : (word a : ℕ) → word ≡ 2 * a → word ≤ 2 ^ 63 → 2 ^ 62 ≤ word / 2 → a ≡ 2 ^ 62
+worn_at word a e most least = omega arith
+
+pub returns-then-word-ge-LAST_REVISION-clause-tried : goal.returns-then-word-ge-LAST_REVISION-clause-tried
+returns-then-word-ge-LAST_REVISION-clause-tried c = let s = c.args.seat.now.me.0.seen in let t = c.try_hold.new.seat.me.0.seen in let u = c.read_version.new.seat.me.0.seen in
+    let held = c.try_hold.ensures in let read = c.read_version.ensures.seat in let old : PlainMap = arc_value c.in_ok-version.version in let n = c.args.seat.now.table_id.slots in
+    let l : IsLater u s = later_same s t u held.later read.2 in
+    let shown : IsPart n c.args.shard u.log old =
+    subst (λ (s : ℕ × List Change). IsPart s.0 c.args.shard s.1 old) (λ k. (ap (λ (t : TableId). t.slots) held.seat.0 k, sym (ap (λ (s : Seen). s.log) read.2) k)) c.in_ok-version.ensures.version in
+    let step = c.in_ok-reply.ensures in let word = c.in-Ok.ensures.found in (
+      l,
+      (
+        c.requires.home,
+        ap (λ (x : Seen). count n x.log c.args.shard) read.2 ∙ worn_at _ _ word.1 word.2 c.if-word-ge-LAST_REVISION.true,
+        changes_of_part n c.args.shard c.args.op.now u.log old c.in_ok-reply.reply c.requires.home shown (step.reply ∙ ap (λ (m : PlainMap). (ask m c.args.op.now).reply) c.deref.ensures)
+            (with_new _ _ _ _ c.in-Some.is step.left).0,
+      ),
+    )

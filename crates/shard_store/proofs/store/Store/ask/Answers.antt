@@ -1,4 +1,5 @@
-use Rattle.std.proofs.Common.{sym, ap, ◌∙◌}
+use Rattle.std.proofs.Common.{◌≡◌, rules, sym, ap, ◌∙◌}
+use Rattle.shard_store.specs.Pass.{StoreView}
 use Rattle.shard_store.proofs.Asked.{shard_answers, all_answer}
 use Rattle.shard_store.proofs.store.Store.ask.Goals as goal
 
@@ -7,5 +8,8 @@ returns-in-Some-clause-answer c = shard_answers c.ask_shard.result c.args.self.n
     (ap (λ p. p.store) c.pass.view_is ∙ c.requires.own) (ap (λ p. p.seen) c.pass.view_is) c.ask_shard.ensures.answer
 
 pub returns-clause-answer : goal.returns-clause-answer
-returns-clause-answer c = all_answer c.ask_all.result c.slot_count.result c.args.self.now c.args.op c.pass.inside.seat.table_id c.self.inside.rounds _ _ c.ask_all.new.seat.me.0.seen
-    (sym c.in-None.ensures.shard) (ap (λ p. p.store) c.pass.view_is ∙ c.requires.own) (ap (λ s. s.rounds) c.self.view_is) (ap (λ p. p.seen) c.pass.view_is) c.ask_all.ensures.answer
+returns-clause-answer c = let here : StoreView = record { id = c.pass.inside.seat.table_id; rounds = c.self.inside.rounds; tries = c.self.inside.tries } in
+    let z : c.pass.inside.seat.table_id ≡ c.args.self.now.id = ap (λ p. p.store) c.pass.view_is ∙ c.requires.own in
+    let same : here ≡ c.args.self.now = (λ i. record { id = z i; rounds = (c.self.view_is i).rounds; tries = (c.self.view_is i).tries }) in
+    all_answer c.ask_all.result c.slot_count.result c.args.self.now here c.args.op _ _ c.ask_all.new.seat.me.0.seen
+    (sym c.in-None.ensures.shard) (search rules) same (ap (λ p. p.seen) c.pass.view_is) c.ask_all.ensures.answer

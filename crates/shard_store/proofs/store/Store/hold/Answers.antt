@@ -1,8 +1,7 @@
-use Rattle.std.proofs.Common.{rules, ◌≡◌, ◌*◌, ◌/◌, refl, ap, ◌∙◌, subst}
+use Rattle.std.proofs.Common.{rules, ◌≡◌, ◌*◌, ◌/◌, sym, ap, ◌∙◌, subst}
 use Rattle.atomic_table.specs.Seated.{TableId}
 use Rattle.map_core.specs.declared.reply.AskError.TheVariants.{Held}
-use Rattle.shard_store.specs.declared.change.Seen.{Seen}
-use Rattle.shard_store.specs.Promise.{IsRefusedAt}
+use Rattle.shard_store.specs.Promise.{IsLater, IsAlone}
 use Rattle.shard_store.specs.Changes.{count}
 use Rattle.shard_store.specs.Seat.{IsHolding}
 use Rattle.shard_store.proofs.Promise.{at_slots}
@@ -19,9 +18,9 @@ invariant_of-result c = let f = c.in-Ok.ensures.found in let z = c.try_hold.ensu
 
 pub returns-in-Err : goal.returns-in-Err
 returns-in-Err c = let z : c.pass.inside.seat.table_id ≡ c.args.self.now.id = ap (λ p. p.store) c.pass.view_is ∙ c.requires.own in
-    let seen : c.pass.inside.seat.me.0.seen ≡ c.args.pass.seen = ap (λ p. p.seen) c.pass.view_is in let revision = c.in-Err.found / 2 in let missed = c.in-Err.ensures.found.1 in (
+    let same : c.pass.inside.seat.me.0.seen ≡ c.args.pass.seen = ap (λ p. p.seen) c.pass.view_is in let missed = c.in-Err.ensures.found.1 in let t = c.try_hold.new.seat.me.0.seen in (
       c.try_hold.ensures.seat.0 ∙ z,
-      revision,
-      refl,
-      subst (λ (x : TableId × Seen). IsRefusedAt x.0.slots x.1 c.try_hold.new.seat.me.0.seen (Held c.args.shard revision)) (λ i. (z i, seen i)) (c.try_hold.ensures.later, missed.0, missed.1, missed.2),
+      subst (IsLater t) same c.try_hold.ensures.later,
+      (λ alone. missed.0 (subst IsAlone (sym same) alone)),
+      ap (Held c.args.shard) (missed.1 ∙ ap (λ (k : TableId). count k.slots t.log c.args.shard) z),
     )
