@@ -237,32 +237,48 @@ fn sequence_of(all: &Snapshot, name: &str) -> u64 {
     0
 }
 
-/// Whether a fetch-all showed `a` level with `b` or one ahead of it, or was refused as held or moved.
-fn is_one_moment(answer: &Result<Reply, AskError>) -> bool {
-    match answer {
-        Ok(Reply::All(all)) => {
-            let (a, b) = (sequence_of(all, "a"), sequence_of(all, "b"));
-            a == b || (a > b && a - b == 1)
+/// Whether the snapshot has `a` level with `b` or one ahead of it.
+fn is_one_moment(all: &Snapshot) -> bool {
+    let (a, b) = (sequence_of(all, "a"), sequence_of(all, "b"));
+    a == b || (a > b && a - b == 1)
+}
+
+/// What the fetch-alls of a watcher gave: snapshots of one moment, refusals as held or moved, and anything else.
+#[derive(Clone, Copy)]
+struct Watched {
+    moments: u64,
+    refused: u64,
+    other: u64,
+}
+
+impl Watched {
+    fn count(&mut self, answer: &Result<Reply, AskError>) {
+        match answer {
+            Ok(Reply::All(all)) if is_one_moment(all) => {
+                self.moments = self.moments.saturating_add(1);
+            }
+            Err(AskError::Moved { .. }) => self.refused = self.refused.saturating_add(1),
+            Err(AskError::Held { .. }) => self.refused = self.refused.saturating_add(1),
+            _ => self.other = self.other.saturating_add(1),
         }
-        Err(AskError::Moved { .. }) => true,
-        Err(AskError::Held { .. }) => true,
-        _ => false,
     }
 }
 
-/// A thousand fetch-alls. The answer is how many showed one moment, or were refused.
-fn watch(store: &Store, mut pass: Pass) -> (Pass, u64)
+/// A thousand fetch-alls.
+fn watch(store: &Store, mut pass: Pass) -> (Pass, Watched)
     requires { IsOf pass store.now }
     ensures { IsOf result.0 store.now }
 {
-    let mut good: u64 = 0;
+    let mut watched = Watched {
+        moments: 0,
+        refused: 0,
+        other: 0,
+    };
     for _ in 0..1000u64 {
         let answer = store.fetch_all(&mut pass);
-        if is_one_moment(&answer) {
-            good = good.saturating_add(1);
-        }
+        watched.count(&answer);
     }
-    (pass, good)
+    (pass, watched)
 }
 
 #[test]
@@ -282,7 +298,9 @@ fn a_fetch_all_shows_one_moment_of_a_restless_writer(rt: HostRuntime) -> Result<
             ensures { IsOf result.0 lent.entry.now }
         { watch(lent, watcher) },
     );
-    assert!(rt; wrote.1 == 100 && watched.1 == 1000);
+    let seen = watched.1;
+    assert!(rt; wrote.1 == 100 && seen.other == 0 && seen.moments > 0);
+    assert!(rt; seen.moments.saturating_add(seen.refused) == 1000);
     let mut pass = store.join(wrote.0, watched.0);
     let answer = store.fetch_all(&mut pass);
     compare(alloc, "fetch", &answer, "all 2 a 100/0 b 100/0")?;

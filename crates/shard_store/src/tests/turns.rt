@@ -1,8 +1,9 @@
 //! One thread with one pass or with two.
-ghost use Rattle.std.specs.Prelude.{◌<◌, IfOk};
+ghost use Rattle.std.specs.Prelude.{◌<◌, ◌≤◌, IfOk};
 ghost use Rattle.shard_store.specs.Pass.{IsOf};
 
 use super::words::{call, compare, operation};
+use crate::fetch::{collect_all, confirm_all};
 use crate::{CloseError, Pass, Seated, Store};
 use map_core::{Ask, AskError, Op, Reply};
 use std::alloc::Global;
@@ -221,6 +222,105 @@ fn other_shards_are_free(rt: HostRuntime) -> Result<(), Fail> {
     hold_other(rt.alloc(), 1)?;
     hold_other(rt.alloc(), 3)?;
     hold_other(rt.alloc(), 1_000_000)
+}
+
+/// Plays rows of one pass.
+fn play_one(
+    alloc: Global,
+    store: &Store,
+    pass: &mut Pass,
+    rows: &[(&str, &str)],
+) -> Result<(), Fail>
+    requires { IsOf pass.old store.now }
+    ensures { IsOf pass.new store.now }
+{
+    for row in rows {
+        let (line, expected) = *row;
+        let answer = call(store, pass, operation(alloc, line)?);
+        compare(alloc, line, &answer, expected)?;
+    }
+    Ok(())
+}
+
+/// Holds shard 1 of two to the end. The answer is what `close` tells then.
+fn close_while_held(alloc: Global, tries: u64) -> Result<CloseError, Fail>
+    requires { 0 < tries }
+{
+    let (store, mut p) = Store::new(alloc, 2, 2, tries)?;
+    let mut q = store.split(&mut p, 1000);
+    let Ok(held) = store.hold(p, 1) else {
+        return Err(Fail::from("a free shard was refused"));
+    };
+    let rows = [
+        ("set b 3", "stored"),
+        ("set a -", "held 1 0"),
+        ("append a k", "held 1 0"),
+        ("remove a", "held 1 0"),
+        ("get a", "held 1 0"),
+        ("get b", "found 3/0"),
+        ("fetch", "held 1 0"),
+        ("set b 4", "stored"),
+    ];
+    play_one(alloc, &store, &mut q, &rows)?;
+    drop(held);
+    match store.close(q) {
+        Err(error) => Ok(error),
+        Ok(_) => Err(Fail::from("a store with a held shard was closed")),
+    }
+}
+
+#[test]
+fn the_shard_that_is_held_at_the_end_is_named(rt: HostRuntime) -> Result<(), Fail> {
+    let alloc = rt.alloc();
+    assert!(rt; close_while_held(alloc, 1)? == CloseError::HeldAtEnd(1));
+    assert!(rt; close_while_held(alloc, 3)? == CloseError::HeldAtEnd(1));
+    assert!(rt; close_while_held(alloc, 1_000_000)? == CloseError::HeldAtEnd(1));
+    Ok(())
+}
+
+/// One pass reads each shard, the other writes, and the first confirms what it has read: the steps of one round of a
+/// fetch-all, with a write between. The answer is what the round tells of a shard that has moved.
+fn write_between(
+    alloc: Global,
+    shards: usize,
+    before: &[(&str, &str)],
+    between: &[(&str, &str)],
+) -> Result<Option<AskError>, Fail>
+    requires { (0 < shards) × (shards ≤ 256) }
+{
+    let (store, mut p) = Store::new(alloc, shards, 1, 1)?;
+    let mut q = store.split(&mut p, 1000);
+    play_one(alloc, &store, &mut p, before)?;
+    let Ok(read) = collect_all(alloc, &store.shards, &mut q.seat, 1) else {
+        return Err(Fail::from("a free shard was not read"));
+    };
+    play_one(alloc, &store, &mut p, between)?;
+    match confirm_all(&store.shards, &mut q.seat, read.revisions.as_slice()) {
+        Some(movement) => Ok(Some(movement.into_error())),
+        None => Ok(None),
+    }
+}
+
+fn moved(shard: usize, first: u64, second: u64) -> Option<AskError> {
+    Some(AskError::Moved {
+        shard,
+        first,
+        second,
+    })
+}
+
+#[test]
+fn a_write_between_reading_and_confirming_is_seen(rt: HostRuntime) -> Result<(), Fail> {
+    let alloc = rt.alloc();
+    let one = [("set a 1", "stored")];
+    let two = [("set b 1", "stored"), ("set a 2", "stored")];
+    let other = [("set b 1", "stored")];
+    assert!(rt; write_between(alloc, 1, &[], &one)? == moved(0, 0, 1));
+    assert!(rt; write_between(alloc, 1, &one, &two)? == moved(0, 1, 3));
+    // The name `a` is at home in shard 1, and `b` in shard 0.
+    assert!(rt; write_between(alloc, 2, &other, &one)? == moved(1, 0, 1));
+    assert!(rt; write_between(alloc, 2, &two, &[])? == None);
+    Ok(())
 }
 
 /// Sets three hundred domains.
