@@ -37,7 +37,7 @@ abbrev pub TellsNoChange : Result Reply AskError → Type 0
 TellsNoChange (Ok reply) = is_change reply ≡ false
 TellsNoChange (Err e) = Unit {0}
 
--- After such an answer the pass has seen what it had, and besides changes of others alone.
+-- After such an answer the pass has seen what it had, and besides that only changes of others.
 abbrev pub UnchangedIsLater : Type 0
 UnchangedIsLater = (store : StoreView) (op : Op) (s t : Seen) (answer : Result Reply AskError)
     → StoreAnswer store op s answer t → TellsNoChange answer → IsLater t s
@@ -53,7 +53,7 @@ abbrev pub told : Reply → Op → List Change → ℕ → List Change
 told reply op list number = if is_change reply then change_of op list number ∷ [] else []
 
 -- Two replies to a pass, one after the other, are replies of one history: the second is given after a list that
--- begins with the first one's list and the change that the first reply told of, and else has changes of others alone.
+-- begins with the first one's list and the change that the first reply told of, and else has only changes of others.
 abbrev pub RepliesFollow : Type 0
 RepliesFollow = (store : StoreView) (first second : Op) (s t u : Seen) (one two : Reply)
     → StoreAnswer store first s (Ok one) t → StoreAnswer store second t (Ok two) u

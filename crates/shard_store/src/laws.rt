@@ -21,7 +21,7 @@ pub fn changes_as_asked()
     ensures { ChangesAsAsked }
 {}
 
-/// After an answer that tells of no change, a pass has seen what it had, and besides changes of others alone.
+/// After an answer that tells of no change, a pass has seen what it had, and besides that only changes of others.
 pub fn unchanged_is_later()
     ensures { UnchangedIsLater }
 {}
