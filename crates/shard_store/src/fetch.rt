@@ -8,7 +8,7 @@ ghost use Rattle.shard_store.specs.Seat.{IsAt, IsSameSeat, IsIdle};
 ghost use Rattle.shard_store.specs.Readings.{WereRead, AreConfirmed, IsMovement, IsSnapshot, IsRound};
 
 use crate::holds::{look, try_hold};
-use crate::one_shard::read_version;
+use crate::one_shard::{given_up, read_version};
 use crate::parts::{all_of, join_parts};
 use crate::rule::{Shards, StoreSeat};
 use map_core::{AskError, Contents, Op, Reply};
@@ -186,6 +186,7 @@ fn collect(
         (IsRefusedAt seat.old.table_id.slots Op.FetchAll seat.old.me.0.seen seat.new.me.0.seen) }
 {
     let mut word = 0;
+    let mut failed = 0;
     for _ in 0..tries {
         match try_hold(shards, seat, shard) {
             Ok(found) => {
@@ -194,14 +195,12 @@ fn collect(
             }
             Err(found) => word = found,
         }
+        failed += 1;
     }
-    Err(AskError::Held {
-        shard,
-        revision: word / 2,
-    })
+    Err(given_up(tries, failed, shard, word))
 }
 
-/// Loads each word once. The first shard that has another revision ends it.
+// Loads each word once. The first shard that has another revision ends it.
 pub(crate) fn confirm_all(
     shards: &Shards,
     seat: &mut StoreSeat,

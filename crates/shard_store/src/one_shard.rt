@@ -1,5 +1,5 @@
 //! One operation on one name, at the shard where the name is at home.
-ghost use Rattle.std.specs.Prelude.{◌≡◌, ◌*◌, ◌^◌, ◌<◌, [], ◌∷◌, ◌++◌, Some, IfOk, MatchResult};
+ghost use Rattle.std.specs.Prelude.{◌≡◌, ◌*◌, ◌/◌, ◌^◌, ◌<◌, [], ◌∷◌, ◌++◌, Some, IfOk, MatchResult};
 ghost use Rattle.std.specs.Arc.{arc_value};
 ghost use Rattle.map_core.specs.PlainMap.{shard_of};
 ghost use Rattle.shard_store.specs.Changes.{count, IsPart};
@@ -42,16 +42,28 @@ pub(crate) fn ask_shard(
         (IsRefusedAt seat.old.table_id.slots op.now seat.old.me.0.seen seat.new.me.0.seen) }
 {
     let mut word = 0;
+    let mut failed = 0;
     for _ in 0..tries {
         match try_once(alloc, shards, seat, shard, op)? {
             Attempt::Replied(reply) => return Ok(reply),
             Attempt::Blocked(found) => word = found,
         }
+        failed += 1;
     }
-    Err(AskError::Held {
+    Err(given_up(tries, failed, shard, word))
+}
+
+/// The answer if as many tries have failed as may be made. The word is the one that the last of them found.
+pub(crate) fn given_up(tries: u64, failed: u64, shard: usize, word: u64) -> AskError
+    requires all { failed ≡ tries }
+    requires some { 0 < failed }
+    ensures { result ≡ AskError.Held shard (word / 2) }
+{
+    prove!(failed == tries);
+    AskError::Held {
         shard,
         revision: word / 2,
-    })
+    }
 }
 
 // One try: the version is read, and the one after it made while nothing is held.

@@ -1,9 +1,10 @@
 use Rattle.map_core.specs.declared.op.Op.TheVariants.{FetchAll}
 use Rattle.map_core.specs.declared.reply.AskError.TheVariants.{Memory}
-use Rattle.std.proofs.Common.{◌≡◌, ℕ, ◌*◌, ◌/◌, arith, sym, ap, ◌∙◌, subst}
+use Rattle.std.proofs.Common.{◌≡◌, ℕ, ◌+◌, ◌*◌, ◌/◌, arith, sym, ap, ◌∙◌, subst}
 use Rattle.std.specs.Arc.{arc_value}
 use Rattle.shard_store.specs.declared.change.Seen.{Seen}
 use Rattle.shard_store.specs.Changes.{count, IsPart}
+use Rattle.shard_store.specs.Promise.{IsRefusedAt}
 use Rattle.shard_store.specs.Seat.{Missed, IsHolding}
 use Rattle.shard_store.proofs.Promise.{later_then, later_same, missed_then, at_slots, error_passed, at_each, fetch_has_no_home}
 use Rattle.shard_store.proofs.fetch.collect.Goals as goal
@@ -30,6 +31,7 @@ returns-in_err-version-in-Ok-clause-read c = let s = c.args.seat.now.me.0.seen i
 
 pub loop-preserved : goal.loop-preserved
 loop-preserved c = let i = c.loop.invariant in let t = c.try_hold.ensures in let s = c.args.seat.now.me.0.seen in let mid = c.loop.seat.me.0.seen in let u = c.try_hold.new.seat.me.0.seen in record {
+  failed = ap (λ k. k + 1) i.failed;
   seat = (t.seat.0 ∙ i.seat.0, t.seat.1 ∙ i.seat.1);
   idle = c.in-Err.ensures.found.0;
   later = later_then s mid u i.later t.later;
@@ -38,4 +40,6 @@ loop-preserved c = let i = c.loop.invariant in let t = c.try_hold.ensures in let
 
 pub returns-clause-read : goal.returns-clause-read
 returns-clause-read c = let i = c.loop.invariant in let end = c.loop.auto.counter-end in let done = c.loop-test.false in let some = c.requires.tries in
-    let m = i.missed (omega (arith, end, done, some)) in (i.later, m.0, at_each _ c.args.shard FetchAll (fetch_has_no_home c.args.seat.now.table_id.slots) c.requires.shard, m.1)
+    let m = i.missed (omega (arith, end, done, some)) in
+    subst (IsRefusedAt c.args.seat.now.table_id.slots FetchAll c.args.seat.now.me.0.seen c.loop.seat.me.0.seen) (sym c.given_up.ensures)
+    (i.later, m.0, at_each _ c.args.shard FetchAll (fetch_has_no_home c.args.seat.now.table_id.slots) c.requires.shard, m.1)

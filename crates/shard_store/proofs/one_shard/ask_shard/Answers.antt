@@ -1,4 +1,4 @@
-use Rattle.std.proofs.Common.{arith, sym, ◌∙◌, subst}
+use Rattle.std.proofs.Common.{◌+◌, arith, ap, sym, ◌∙◌, subst}
 use Rattle.shard_store.specs.declared.one_shard.Attempt.{Attempt}
 use Rattle.shard_store.specs.Promise.{IsRefusedAt}
 use Rattle.shard_store.specs.Seat.{Missed, Tried}
@@ -18,6 +18,7 @@ returns-in_err-reply-clause-answer c = let s = c.args.seat.now.me.0.seen in let 
 pub loop-preserved : goal.loop-preserved
 loop-preserved c = let s = c.args.seat.now.me.0.seen in let t = c.loop.seat.me.0.seen in let u = c.try_once.new.seat.me.0.seen in let i = c.loop.invariant in let e = c.try_once.ensures.seat in
     let f = subst (λ (a : Attempt). Tried c.loop.seat.table_id.slots c.args.shard c.args.op.now t u a) c.in-Blocked.is c.in_ok-reply.ensures.tried in record {
+      failed = ap (λ k. k + 1) i.failed;
       seat = (e.0.0 ∙ i.seat.0, e.0.1 ∙ i.seat.1);
       idle = e.1;
       later = later_then s t u i.later f.0;
@@ -26,4 +27,6 @@ loop-preserved c = let s = c.args.seat.now.me.0.seen in let t = c.loop.seat.me.0
 
 pub returns-clause-answer : goal.returns-clause-answer
 returns-clause-answer c = let i = c.loop.invariant in let end = c.loop.auto.counter-end in let done = c.loop-test.false in let some = c.requires.tries in
-    let m = i.missed (omega (arith, end, done, some)) in (i.later, m.0, at_home _ c.args.shard c.args.op.now c.requires.home, m.1)
+    let m = i.missed (omega (arith, end, done, some)) in
+    subst (IsRefusedAt c.args.seat.now.table_id.slots c.args.op.now c.args.seat.now.me.0.seen c.loop.seat.me.0.seen) (sym c.given_up.ensures)
+    (i.later, m.0, at_home _ c.args.shard c.args.op.now c.requires.home, m.1)

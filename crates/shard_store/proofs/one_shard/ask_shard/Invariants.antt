@@ -1,10 +1,11 @@
-use Rattle.std.proofs.Common.{◌<◌}
+use Rattle.std.proofs.Common.{◌≡◌, ◌<◌}
 use Rattle.shard_store.specs.Promise.{IsLater}
 use Rattle.shard_store.specs.Seat.{Missed, IsIdle, IsSameSeat}
 use Rattle.shard_store.proofs.one_shard.ask_shard.Given as goal
 
 abbrev pub invariant-loop : goal.invariant-loop
 invariant-loop l = record {
+  failed : l.failed ≡ l.counter;
   seat : IsSameSeat l.fn.seat l.seat;
   idle : IsIdle l.seat.me;
   later : IsLater l.seat.me.0.seen l.fn.seat.me.0.seen;
