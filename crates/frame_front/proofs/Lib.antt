@@ -11,3 +11,4 @@ pub mod DumpPlaces
 pub mod DumpTexts
 pub mod PlaceLemmas
 pub mod MigrationLemmas
+pub mod AskingLemmas

@@ -11,3 +11,5 @@ pub mod Session
 pub mod Transcript
 pub mod PlainSession
 pub mod Dump
+pub mod ClientError
+pub mod Asking

@@ -6,6 +6,8 @@
 //! reply to a fetch-all into requests that store it again.
 #![tactic(auto)]
 
+mod asking;
+mod client_error;
 mod counted;
 mod decoder;
 mod dump;
@@ -19,6 +21,8 @@ mod reply;
 mod request;
 mod session;
 
+pub use asking::{is_written, write_request};
+pub use client_error::ClientError;
 pub use counted::Counted;
 pub use decoder::Decoder;
 pub use dump::{DumpError, migrate};

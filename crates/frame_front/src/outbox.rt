@@ -121,8 +121,23 @@ fn write_reply<W: Write>(writer: &mut Counted<W>, reply: &ReplyText) -> Result<(
     ensures front { WritesFront (W.contents writer.old.end) (W.contents writer.new.end) reply.now }
 {
     let (head, body) = reply.parts();
-    write_whole(writer, head)?;
-    write_whole(writer, body)
+    write_both(writer, head, body)
+}
+
+/// Writes all of the first bytes, and then all of the others.
+pub(crate) fn write_both<W: Write>(
+    writer: &mut Counted<W>,
+    first: &[u8],
+    others: &[u8],
+) -> Result<(), FrontError>
+    requires { writer.old.faults < 2 ^ 64 - 1 }
+    ensures ok { OnOk result (Appends (W.contents writer.old.end) (W.contents writer.new.end) (first.now ++ others.now)) }
+    ensures quiet { OnOk result (writer.new.faults ≡ writer.old.faults) }
+    ensures fault { IfErr result (λ fault. (fault ≡ FrontError.WriteFault) × (writer.old.faults < writer.new.faults)) }
+    ensures front { WritesFront (W.contents writer.old.end) (W.contents writer.new.end) (first.now ++ others.now) }
+{
+    write_whole(writer, first)?;
+    write_whole(writer, others)
 }
 
 /// Writes all of the bytes.

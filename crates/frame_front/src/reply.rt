@@ -271,7 +271,7 @@ fn sequence_bytes(sequence: Option<u64>) -> ArrayVec<u8, HEAD_BYTES>
     bytes
 }
 
-fn expect_bytes(expect: Expect) -> ArrayVec<u8, HEAD_BYTES>
+pub(crate) fn expect_bytes(expect: Expect) -> ArrayVec<u8, HEAD_BYTES>
     ensures value { result.items ≡ bytes_of_expect expect }
     ensures few { array_vec_len result ≤ 9 }
 {

@@ -1,0 +1,48 @@
+-- The bytes of a request.
+use Rattle.std.specs.Prelude.{ℕ, List, [], ◌∷◌, ◌++◌, length, Bool, true, false}
+use Rattle.spiffe_doc.specs.Writing.{entry_text}
+use Rattle.spiffe_doc.specs.Text.{text_of}
+use Rattle.map_core.specs.declared.op.Op.{Op}
+use Rattle.map_core.specs.declared.op.Op.TheVariants.{Set, SetIf, Append, Remove, Get, FetchAll}
+use Rattle.frame_front.specs.Frame.{frame}
+use Rattle.frame_front.specs.Reply.{expect_bytes}
+
+-- the document at the end of a request
+abbrev pub document_part : Op → List ℕ
+document_part (Set d b) = text_of b
+document_part (SetIf d expect b) = text_of b
+document_part (Append d a) = entry_text a
+document_part (Remove d) = []
+document_part (Get d) = []
+document_part FetchAll = []
+
+-- the letter, the length of the name and the name, the expectation, and the document
+abbrev pub request_payload : Op → List ℕ
+request_payload (Set d b) = 83 ∷ length d ∷ d ++ text_of b
+request_payload (SetIf d expect b) = 67 ∷ length d ∷ d ++ (expect_bytes expect ++ text_of b)
+request_payload (Append d a) = 65 ∷ length d ∷ d ++ entry_text a
+request_payload (Remove d) = 82 ∷ length d ∷ d
+request_payload (Get d) = 71 ∷ length d ∷ d
+request_payload FetchAll = 70 ∷ []
+
+-- C is of version 2, so the request that sets this version comes before it
+abbrev pub request_preface : Op → List ℕ
+request_preface (Set d b) = []
+request_preface (SetIf d expect b) = frame (86 ∷ 2 ∷ [])
+request_preface (Append d a) = []
+request_preface (Remove d) = []
+request_preface (Get d) = []
+request_preface FetchAll = []
+
+-- what is written of an operation
+abbrev pub request_bytes : Op → List ℕ
+request_bytes op = request_preface op ++ frame (request_payload op)
+
+-- whether requests of this kind are written: all but an append
+abbrev pub is_written : Op → Bool
+is_written (Set d b) = true
+is_written (SetIf d expect b) = true
+is_written (Append d a) = false
+is_written (Remove d) = true
+is_written (Get d) = true
+is_written FetchAll = true
