@@ -12,3 +12,4 @@ pub mod DumpTexts
 pub mod PlaceLemmas
 pub mod MigrationLemmas
 pub mod AskingLemmas
+pub mod ReadingLemmas

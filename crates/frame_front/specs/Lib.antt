@@ -13,3 +13,4 @@ pub mod PlainSession
 pub mod Dump
 pub mod ClientError
 pub mod Asking
+pub mod Reading

@@ -67,7 +67,13 @@ fn request_head(op: &Op) -> ArrayVec<u8, HEAD_BYTES>
         Op::SetIf(domain, expect, bundle) => {
             let expected = expect_bytes(*expect);
             put(&mut head, &[0, 0, 0, 2, b'V', 2]);
-            put_front(&mut head, b'C', domain, expected.as_slice(), canonical_text(bundle));
+            put_front(
+                &mut head,
+                b'C',
+                domain,
+                expected.as_slice(),
+                canonical_text(bundle),
+            );
         }
         Op::Remove(domain) => put_front(&mut head, b'R', domain, &[], &[]),
         Op::Get(domain) => put_front(&mut head, b'G', domain, &[], &[]),

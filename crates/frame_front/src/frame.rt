@@ -1,5 +1,6 @@
 //! Frames: a length of 4 bytes, the greatest first, and a payload of that many bytes.
-ghost use Rattle.std.specs.Prelude.{◌≡◌, ◌≤◌, ◌<◌, ◌^◌, ◌++◌, ◌+◌, length, drop, IfOk, IfErr, IfSome, IfNone, OnOk};
+ghost use Rattle.std.specs.Prelude.{◌≡◌, ◌≤◌, ◌<◌, ◌^◌, ◌++◌, ◌+◌, length, take, drop, IfOk, IfErr, IfSome, IfNone, OnOk};
+ghost use Rattle.std.specs.Int.{w32, to_be_bytes};
 ghost use Rattle.frame_front.specs.Frame.{IsPayload, IsUnfinished, IsBadLength, frame, spelled_length as length_spelled};
 
 use crate::FrontError;
@@ -13,9 +14,10 @@ pub(crate) const LENGTH_BYTES: usize = 4;
 
 /// The length that stands first.
 #[tactic(auto, unfolding(crate::specs::Frame::spelled_length))]
-fn spelled_length(bytes: &[u8]) -> usize
+pub(crate) fn spelled_length(bytes: &[u8]) -> usize
     requires { 4 ≤ length bytes.now }
-    ensures { result ≡ length_spelled bytes.now }
+    ensures value { result ≡ length_spelled bytes.now }
+    ensures bytes { to_be_bytes w32 result ≡ take 4 bytes.now }
 {
     u32::from_be_bytes([bytes[0], bytes[1], bytes[2], bytes[3]]) as usize
 }

@@ -16,6 +16,7 @@ mod faulty;
 mod frame;
 pub mod laws;
 mod outbox;
+mod reading;
 mod refusal;
 mod reply;
 mod request;
