@@ -14,3 +14,4 @@ pub mod Dump
 pub mod ClientError
 pub mod Asking
 pub mod Reading
+pub mod Answer

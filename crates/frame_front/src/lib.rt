@@ -6,6 +6,7 @@
 //! reply to a fetch-all into requests that store it again.
 #![tactic(auto)]
 
+mod answer;
 mod asking;
 mod client_error;
 mod counted;

@@ -126,7 +126,7 @@ fn put(bytes: &mut ArrayVec<u8, HEAD_BYTES>, more: &[u8])
 }
 
 /// Whether a code is the number of an error of whoever was asked.
-fn is_error_code(code: u8) -> bool
+pub(crate) fn is_error_code(code: u8) -> bool
     ensures { result ≡ error_code code }
 {
     matches!(code, 22 | 40 | 41 | 42 | 56)
