@@ -13,3 +13,5 @@ pub mod PlaceLemmas
 pub mod MigrationLemmas
 pub mod AskingLemmas
 pub mod ReadingLemmas
+pub mod AnswerLemmas
+pub mod ClientLemmas

@@ -15,3 +15,4 @@ pub mod ClientError
 pub mod Asking
 pub mod Reading
 pub mod Answer
+pub mod Client

@@ -8,6 +8,7 @@
 
 mod answer;
 mod asking;
+mod client;
 mod client_error;
 mod counted;
 mod decoder;

@@ -1,0 +1,147 @@
+//! A client: asks whoever serves the other end of a stream.
+ghost use Rattle.std.specs.Prelude.{◌≡◌, ◌⊎◌, ◌<◌, ◌≤◌, ◌-◌, ◌^◌, ◌++◌, ◌∷◌, [], ◌≢◌, ℕ, List, true, false, length, Err, OnOk, IfOk, IfErr};
+ghost use Rattle.std.specs.Io.KnownBytes.{Consumes};
+ghost use Rattle.frame_front.specs.Frame.{IsPayload, frame};
+ghost use Rattle.frame_front.specs.Reading.{CountsFault};
+ghost use Rattle.frame_front.specs.Reply.{coded};
+ghost use Rattle.frame_front.specs.Answer.{MayAnswer};
+ghost use Rattle.frame_front.specs.Client.{Breaks, BeginsNoReply, is_asked as can_be_asked, reply_preface, reply_bytes, Exchange, ends};
+
+use crate::answer::{is_code_for, read_answer};
+use crate::asking::write_request;
+use crate::reading::read_frame;
+use crate::{ClientError, Counted};
+use map_core::{AskError, Op, Reply};
+use std::alloc::Global;
+use std::io::{Read, Write};
+
+/// Whether a client asks such operations: all but an append and a fetch-all.
+fn is_asked(op: &Op) -> bool
+    ensures { result ≡ can_be_asked op.now }
+{
+    !matches!(op, Op::Append(_, _) | Op::FetchAll)
+}
+
+/// The answer that the payload of a reply tells.
+fn told(alloc: Global, op: &Op, payload: &[u8]) -> Result<Result<Reply, AskError>, ClientError>
+    requires asked { can_be_asked op.now ≡ true }
+    requires payload { IsPayload payload.now }
+    ensures ok { IfOk result (λ answer. MayAnswer op.now answer × (frame payload.now ≡ coded answer)) }
+    ensures bad { result ≡ Err ClientError.BadReply → BeginsNoReply op.now coded (frame payload.now) }
+    ensures why { IfErr result (λ why. (why ≡ ClientError.BadReply) ⊎ (why ≡ ClientError.Memory)) }
+{
+    if !is_code_for(op, payload[0]) {
+        return Err(ClientError::BadReply);
+    }
+    match read_answer(alloc, payload) {
+        Ok(Some(answer)) => Ok(answer),
+        Ok(None) => Err(ClientError::BadReply),
+        Err(_) => Err(ClientError::Memory),
+    }
+}
+
+/// Whether the payload is the reply that version 2 is set.
+fn is_version_two(payload: &[u8]) -> bool
+    ensures yes { result ≡ true → payload.now ≡ 118 ∷ 2 ∷ [] }
+    ensures no { result ≡ false → payload.now ≢ 118 ∷ 2 ∷ [] }
+{
+    matches!(payload, [b'v', 2])
+}
+
+/// Reads the reply to the request that sets version 2, where that request comes before the operation's.
+fn read_preface<R: Read>(
+    reader: &mut Counted<R>,
+    buffer: &mut [u8],
+    op: &Op,
+) -> Result<(), ClientError>
+    requires room { length buffer.old ≡ 1049000 }
+    requires count { reader.old.faults < 2 ^ 64 - 1 }
+    ensures len { length buffer.new ≡ length buffer.old }
+    ensures ok { OnOk result (Consumes (R.remaining reader.old.end) (R.remaining reader.new.end) (reply_preface op.now)) }
+    ensures quiet { OnOk result (reader.new.faults ≡ reader.old.faults) }
+    ensures err { IfErr result (λ why. (read : List ℕ)
+        × Consumes (R.remaining reader.old.end) (R.remaining reader.new.end) read
+        × Breaks op.now (reply_bytes op.now) why read (R.remaining reader.new.end)) }
+    ensures counted { IfErr result (λ why. CountsFault why reader.old.faults reader.new.faults) }
+{
+    let Op::SetIf(_, _, _) = op else {
+        return Ok(());
+    };
+    let size = read_frame(reader, buffer)?;
+    if is_version_two(&buffer[..size]) {
+        Ok(())
+    } else {
+        Err(ClientError::BadReply)
+    }
+}
+
+/// Reads the reply to the operation's own request.
+fn read_told<R: Read>(
+    alloc: Global,
+    reader: &mut Counted<R>,
+    buffer: &mut [u8],
+    op: &Op,
+) -> Result<Result<Reply, AskError>, ClientError>
+    requires asked { can_be_asked op.now ≡ true }
+    requires room { length buffer.old ≡ 1049000 }
+    requires count { reader.old.faults < 2 ^ 64 - 1 }
+    ensures len { length buffer.new ≡ length buffer.old }
+    ensures ok { IfOk result (λ answer. MayAnswer op.now answer
+        × Consumes (R.remaining reader.old.end) (R.remaining reader.new.end) (coded answer)) }
+    ensures quiet { OnOk result (reader.new.faults ≡ reader.old.faults) }
+    ensures err { IfErr result (λ why. (read : List ℕ)
+        × Consumes (R.remaining reader.old.end) (R.remaining reader.new.end) read
+        × Breaks op.now coded why read (R.remaining reader.new.end)) }
+    ensures counted { IfErr result (λ why. CountsFault why reader.old.faults reader.new.faults) }
+{
+    let size = read_frame(reader, buffer)?;
+    told(alloc, op, &buffer[..size])
+}
+
+/// Reads the reply to an operation.
+fn read_reply<R: Read>(
+    alloc: Global,
+    reader: &mut Counted<R>,
+    buffer: &mut [u8],
+    op: &Op,
+) -> Result<Result<Reply, AskError>, ClientError>
+    requires asked { can_be_asked op.now ≡ true }
+    requires room { length buffer.old ≡ 1049000 }
+    requires count { reader.old.faults < 2 ^ 64 - 1 }
+    ensures len { length buffer.new ≡ length buffer.old }
+    ensures ok { IfOk result (λ answer. MayAnswer op.now answer
+        × Consumes (R.remaining reader.old.end) (R.remaining reader.new.end) (reply_bytes op.now answer)) }
+    ensures quiet { OnOk result (reader.new.faults ≡ reader.old.faults) }
+    ensures err { IfErr result (λ why. (read : List ℕ)
+        × Consumes (R.remaining reader.old.end) (R.remaining reader.new.end) read
+        × Breaks op.now (reply_bytes op.now) why read (R.remaining reader.new.end)) }
+    ensures counted { IfErr result (λ why. CountsFault why reader.old.faults reader.new.faults) }
+{
+    read_preface(reader, buffer, op)?;
+    read_told(alloc, reader, buffer, op)
+}
+
+/// Writes the request for an operation, and reads the reply.
+fn exchange<R: Read, W: Write>(
+    alloc: Global,
+    reader: &mut Counted<R>,
+    writer: &mut Counted<W>,
+    buffer: &mut [u8],
+    op: &Op,
+) -> Result<Result<Reply, AskError>, ClientError>
+    requires asked { can_be_asked op.now ≡ true }
+    requires room { length buffer.old ≡ 1049000 }
+    requires reader_count { reader.old.faults < 2 ^ 64 - 1 }
+    requires writer_count { writer.old.faults < 2 ^ 64 - 1 }
+    ensures len { length buffer.new ≡ length buffer.old }
+    ensures exchanged { Exchange op.now result
+        (ends (R.remaining reader.old.end) (W.contents writer.old.end) reader.old.faults writer.old.faults)
+        (ends (R.remaining reader.new.end) (W.contents writer.new.end) reader.new.faults writer.new.faults) }
+    ensures reader_count { OnOk result (reader.new.faults ≡ reader.old.faults) }
+    ensures writer_count { OnOk result (writer.new.faults ≡ writer.old.faults) }
+{
+    match write_request(writer, op) {
+        Ok(()) => read_reply(alloc, reader, buffer, op),
+        Err(_) => Err(ClientError::WriteFault),
+    }
+}
