@@ -16,3 +16,4 @@ pub mod Asking
 pub mod Reading
 pub mod Answer
 pub mod Client
+pub mod ClientLaws

@@ -1,5 +1,5 @@
 //! A client: asks whoever serves the other end of a stream.
-ghost use Rattle.std.specs.Prelude.{◌≡◌, ◌⊎◌, ◌<◌, ◌≤◌, ◌-◌, ◌^◌, ◌++◌, ◌∷◌, [], ◌≢◌, ℕ, List, true, false, length, Err, OnOk, IfOk, IfErr};
+ghost use Rattle.std.specs.Prelude.{◌≡◌, ◌⊎◌, ◌<◌, ◌≤◌, ◌-◌, ◌^◌, ◌++◌, ◌∷◌, [], ◌≢◌, ℕ, List, true, false, None, length, Err, OnOk, IfOk, IfErr};
 ghost use Rattle.std.specs.Io.KnownBytes.{Consumes};
 ghost use Rattle.frame_front.specs.Frame.{IsPayload, frame};
 ghost use Rattle.frame_front.specs.Reading.{CountsFault};
@@ -11,9 +11,106 @@ use crate::answer::{is_code_for, read_answer};
 use crate::asking::write_request;
 use crate::reading::read_frame;
 use crate::{ClientError, Counted};
-use map_core::{AskError, Op, Reply};
-use std::alloc::Global;
+use crate::frame::MAX_PAYLOAD;
+use map_core::{Ask, AskError, Op, Reply};
+use std::alloc::{AllocError, Global};
 use std::io::{Read, Write};
+use std::marker::Model;
+
+/// Asks a map whose session is served at the other end of a stream: each operation is one request, and
+/// its reply is read before the next. Documents are sent and taken as canonical texts only.
+///
+/// Once an exchange fails, the client has ended: it asks nothing more, and answers that the gate is shut.
+/// Whether the request that failed took effect is not known.
+#[derive(Drop)]
+pub struct Client<R: Read, W: Write> {
+    alloc: Global,
+    reader: Counted<R>,
+    writer: Counted<W>,
+    /// Room for the payload of a reply, from the first request on.
+    buffer: Vec<u8>,
+    ended: Option<ClientError>,
+}
+
+impl<R: Read, W: Write> Model for Client<R, W> {
+    ghost use Rattle.std.specs.Prelude.{◌≡◌, ◌<◌, ◌-◌, ◌^◌, None};
+    ghost use Rattle.frame_front.specs.Client.{ClientState, ends};
+
+    ghost Value = { ClientState };
+
+    ghost view = { λ c. record { ends = ends (R.remaining c.reader.end) (W.contents c.writer.end) c.reader.faults c.writer.faults; ended = c.ended } };
+
+    ghost invariant = { λ c. c.ended ≡ None → (c.reader.faults < 2 ^ 64 - 1) × (c.writer.faults < 2 ^ 64 - 1) };
+}
+
+impl<R: Read, W: Write> Client<R, W> {
+    /// Has asked nothing yet.
+    pub fn new(alloc: Global, reader: Counted<R>, writer: Counted<W>) -> Client<R, W>
+        requires reader_count { reader.faults < 2 ^ 64 - 1 }
+        requires writer_count { writer.faults < 2 ^ 64 - 1 }
+        ensures ends { result.ends ≡ ends (R.remaining reader.end) (W.contents writer.end) reader.faults writer.faults }
+        ensures open { result.ended ≡ None }
+    {
+        Client {
+            alloc,
+            reader,
+            writer,
+            buffer: Vec::new(alloc),
+            ended: None,
+        }
+    }
+
+    /// Why the client has ended, if it has.
+    pub fn ended(&self) -> Option<ClientError>
+        ensures { result ≡ self.now.ended }
+    {
+        self.ended
+    }
+
+    /// Gives the ends back.
+    pub fn into_ends(self) -> (Counted<R>, Counted<W>)
+        ensures { self.ends ≡ ends (R.remaining result.0.end) (W.contents result.1.end) result.0.faults result.1.faults }
+    {
+        let Client { reader, writer, .. } = self;
+        (reader, writer)
+    }
+}
+
+impl<R: Read, W: Write> Ask for Client<R, W> {
+    ghost use Rattle.std.specs.Prelude.{None};
+    ghost use Rattle.frame_front.specs.Client.{Asks};
+    ghost use Rattle.frame_front.specs.ClientLaws.{client_shows_nothing};
+
+    ghost answers = { Asks };
+
+    ghost shows = { λ _. None };
+
+    ghost answers_plainly = { client_shows_nothing };
+
+    fn ask(&mut self, op: Op) -> Result<Reply, AskError> {
+        if self.ended.is_some() || !is_asked(&op) {
+            return Err(AskError::GateShut);
+        }
+        if self.buffer.len() != MAX_PAYLOAD {
+            self.buffer = room(self.alloc, MAX_PAYLOAD)?;
+        }
+        let (reader, writer) = (&mut self.reader, &mut self.writer);
+        match exchange(self.alloc, reader, writer, &mut self.buffer, &op) {
+            Ok(answer) => answer,
+            Err(why) => {
+                self.ended = Some(why);
+                Err(AskError::GateShut)
+            }
+        }
+    }
+}
+
+/// Room for so many bytes.
+fn room(alloc: Global, size: usize) -> Result<Vec<u8>, AllocError>
+    ensures { IfOk result (λ room. length room.items ≡ size) }
+{
+    vec![in alloc; 0; size]
+}
 
 /// Whether a client asks such operations: all but an append and a fetch-all.
 fn is_asked(op: &Op) -> bool

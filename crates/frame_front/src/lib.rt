@@ -25,6 +25,7 @@ mod request;
 mod session;
 
 pub use asking::{is_written, write_request};
+pub use client::Client;
 pub use client_error::ClientError;
 pub use counted::Counted;
 pub use decoder::Decoder;
