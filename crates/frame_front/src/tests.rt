@@ -1,5 +1,6 @@
 //! Worked examples of sessions: a row is what comes in and, beside it, what goes out.
 mod bundles;
+mod clients;
 mod decoders;
 mod dumps;
 mod ends;
@@ -14,7 +15,7 @@ use crate::{Counted, FrontError, serve};
 use map_core::Contents;
 use std::alloc::{AllocError, Global};
 use std::io;
-use std::io::Read;
+use std::io::{Read, Write};
 use std::process::Abort;
 
 /// Set `a` to the empty document.
@@ -47,6 +48,25 @@ impl<'a> Read for Pieces<'a> {
         self.bytes = rest;
         self.first = self.size;
         Ok(size)
+    }
+}
+
+/// A writer that counts its calls.
+#[derive(Drop)]
+struct Calls {
+    writes: u64,
+    flushes: u64,
+}
+
+impl Write for Calls {
+    fn write(&mut self, buf: &[u8]) -> io::Result<usize> {
+        self.writes = self.writes.saturating_add(1);
+        Ok(buf.len())
+    }
+
+    fn flush(&mut self) -> io::Result<()> {
+        self.flushes = self.flushes.saturating_add(1);
+        Ok(())
     }
 }
 

@@ -1,10 +1,8 @@
 //! Readers and writers that fail.
-use super::{ALL_OF_NONE, ALL_OF_ONE, FETCH_ALL, Pieces, SET};
+use super::{ALL_OF_NONE, ALL_OF_ONE, Calls, FETCH_ALL, Pieces, SET};
 use crate::{Counted, FaultyReader, FaultyWriter, FrontError, serve};
 use map_core::Contents;
 use std::alloc::AllocError;
-use std::io;
-use std::io::Write;
 
 const INPUT: &[u8] = b"\x00\x00\x00\x0eS\x01a{\"keys\":[]}\x00\x00\x00\x03G\x01a";
 
@@ -89,25 +87,6 @@ fn a_refused_growth_is_answered(rt: HostRuntime) -> Result<(), AllocError> {
     };
     assert!(rt; allowed, "{ended:?} {written:?}");
     Ok(())
-}
-
-/// A writer that counts its calls.
-#[derive(Drop)]
-struct Calls {
-    writes: u64,
-    flushes: u64,
-}
-
-impl Write for Calls {
-    fn write(&mut self, buf: &[u8]) -> io::Result<usize> {
-        self.writes = self.writes.saturating_add(1);
-        Ok(buf.len())
-    }
-
-    fn flush(&mut self) -> io::Result<()> {
-        self.flushes = self.flushes.saturating_add(1);
-        Ok(())
-    }
 }
 
 /// Two requests come by one read and a third by the next: each round is one write, which is flushed.

@@ -1,6 +1,6 @@
 //! The numbers and the messages of errors.
 use crate::refusal::Refusal;
-use crate::{DumpError, FrontError};
+use crate::{ClientError, DumpError, FrontError};
 use spiffe_doc::{DocError, NameError};
 use std::test::Fail;
 
@@ -21,6 +21,35 @@ fn errors_that_end_a_session(rt: HostRuntime) -> Result<(), Fail> {
             55,
             "the reads that a session may make are used up",
         ),
+    ];
+    for (error, number, message) in rows {
+        assert_eq!(rt; error.number(), number, "{message}");
+        assert_eq!(rt; format!(in rt.alloc(); "{error}")?.as_str(), message);
+    }
+    Ok(())
+}
+
+#[test]
+fn errors_that_end_a_client(rt: HostRuntime) -> Result<(), Fail> {
+    let rows = [
+        (ClientError::Memory, 22, "out of memory"),
+        (
+            ClientError::BadLength,
+            50,
+            "a reply has a length of 0 or of more than 1049000",
+        ),
+        (
+            ClientError::BadReply,
+            57,
+            "what came is no reply to the request",
+        ),
+        (
+            ClientError::Truncated,
+            52,
+            "the stream ended inside a reply or before it",
+        ),
+        (ClientError::ReadFault, 53, "the reader failed"),
+        (ClientError::WriteFault, 54, "the writer failed"),
     ];
     for (error, number, message) in rows {
         assert_eq!(rt; error.number(), number, "{message}");
