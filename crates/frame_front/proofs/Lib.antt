@@ -15,3 +15,5 @@ pub mod AskingLemmas
 pub mod ReadingLemmas
 pub mod AnswerLemmas
 pub mod ClientLemmas
+pub mod AskingLaws
+pub mod MapAnswers

@@ -111,15 +111,15 @@ chosen_parts : (b : Bool) (name rest : List ℕ) → b ≡ nat_le (length name) 
 chosen_parts true name rest test = ap (λ (t : List ℕ). Ok (t, drop (length name) (name ++ rest))) (take_at name rest (length name) refl) ∙ ap (λ (d : List ℕ). Ok (name, d)) (drop-append_seam name rest)
 chosen_parts false name rest test = absurd (grind (arith, nat_tests, test, length-append name rest))
 
-split_name-name : (name rest : List ℕ) → split_name (length name ∷ name ++ rest) ≡ Ok (name, rest)
+pub split_name-name : (name rest : List ℕ) → split_name (length name ∷ name ++ rest) ≡ Ok (name, rest)
 unfolding split_name
 split_name-name name rest = chosen_parts (nat_le (length name) (length (name ++ rest))) name rest refl
 
-name_of-name : (name : Name) → IsName name → name_of name ≡ Ok name
+pub name_of-name : (name : Name) → IsName name → name_of name ≡ Ok name
 unfolding name_of
 name_of-name name is = ap named (IsName-trust_domain name name refl is)
 
-bundle_of-text : (b : BundleValue) → IsBundle b → bundle_of (text_of b) ≡ Ok b
+pub bundle_of-text : (b : BundleValue) → IsBundle b → bundle_of (text_of b) ≡ Ok b
 unfolding bundle_of
 bundle_of-text b is = ap requests.published (document-text_of b is)
 

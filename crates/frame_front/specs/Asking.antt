@@ -1,7 +1,12 @@
 -- The bytes of a request.
-use Rattle.std.specs.Prelude.{ℕ, List, [], ◌∷◌, ◌++◌, length, Bool, true, false}
+use Rattle.std.specs.Prelude.{ℕ, ◌<◌, ◌^◌, List, [], ◌∷◌, ◌++◌, length, Bool, true, false}
 use Rattle.spiffe_doc.specs.Writing.{entry_text}
 use Rattle.spiffe_doc.specs.Text.{text_of}
+use Rattle.spiffe_doc.specs.Name.{IsName}
+use Rattle.spiffe_doc.specs.Authority.{IsAuthority}
+use Rattle.spiffe_doc.specs.Bundle.{IsBundle}
+use Rattle.map_core.specs.declared.op.Expect.{Expect}
+use Rattle.map_core.specs.declared.op.Expect.TheVariants.{Absent, Sequence, Unnumbered}
 use Rattle.map_core.specs.declared.op.Op.{Op}
 use Rattle.map_core.specs.declared.op.Op.TheVariants.{Set, SetIf, Append, Remove, Get, FetchAll}
 use Rattle.frame_front.specs.Frame.{frame}
@@ -46,3 +51,18 @@ is_written (Append d a) = false
 is_written (Remove d) = true
 is_written (Get d) = true
 is_written FetchAll = true
+
+-- a sequence of 8 bytes
+abbrev pub IsExpect : Expect → Type 0
+IsExpect Absent = Unit {0}
+IsExpect (Sequence sequence) = sequence < 2 ^ 64
+IsExpect Unnumbered = Unit {0}
+
+-- an operation on a trust domain name, whose numbers and whose bundle are lawful
+abbrev pub IsLawfulOp : Op → Type 0
+IsLawfulOp (Set d b) = IsName d × IsBundle b
+IsLawfulOp (SetIf d expect b) = IsName d × IsExpect expect × IsBundle b
+IsLawfulOp (Append d a) = IsName d × IsAuthority a
+IsLawfulOp (Remove d) = IsName d
+IsLawfulOp (Get d) = IsName d
+IsLawfulOp FetchAll = Unit {0}

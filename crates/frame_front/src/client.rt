@@ -9,9 +9,9 @@ ghost use Rattle.frame_front.specs.Client.{Breaks, BeginsNoReply, is_asked as ca
 
 use crate::answer::{is_code_for, read_answer};
 use crate::asking::write_request;
+use crate::frame::MAX_PAYLOAD;
 use crate::reading::read_frame;
 use crate::{ClientError, Counted};
-use crate::frame::MAX_PAYLOAD;
 use map_core::{Ask, AskError, Op, Reply};
 use std::alloc::{AllocError, Global};
 use std::io::{Read, Write};

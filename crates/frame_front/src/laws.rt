@@ -1,7 +1,7 @@
 //! What holds of the definitions alone.
-ghost use Rattle.std.specs.Prelude.{◌≡◌, ◌↔◌, ℕ, List, [], ◌∷◌, ◌++◌, ◌<◌, map, slice_index, Err, Some, true};
+ghost use Rattle.std.specs.Prelude.{◌≡◌, ◌↔◌, ℕ, List, [], ◌∷◌, ◌++◌, ◌<◌, map, slice_index, Ok, Err, Some, true};
 ghost use Rattle.map_core.specs.Ask.{ContentsAnswer};
-ghost use Rattle.map_core.specs.PlainMap.{PlainMap, bundles};
+ghost use Rattle.map_core.specs.PlainMap.{PlainMap, bundles, ask};
 ghost use Rattle.frame_front.specs.Frame.{HasFrames, frames, stream_of};
 ghost use Rattle.frame_front.specs.declared.request.Version.{Version};
 ghost use Rattle.std.specs.FinMap as finite;
@@ -10,6 +10,10 @@ ghost use Rattle.frame_front.specs.declared.request.Version.TheVariants.{One, Tw
 ghost use Rattle.frame_front.specs.declared.refusal.Refusal.{Refusal};
 ghost use Rattle.frame_front.specs.Refusal.{refusal_place};
 ghost use Rattle.frame_front.specs.Request.{request_of};
+ghost use Rattle.frame_front.specs.declared.request.Request.TheVariants.{Ask, Speak};
+ghost use Rattle.map_core.specs.declared.op.Op.{Op};
+ghost use Rattle.frame_front.specs.Asking.{is_written, IsLawfulOp, request_payload, request_preface};
+ghost use Rattle.frame_front.specs.Answer.{MayAnswer};
 ghost use Rattle.std.specs.Int.{w32, to_be_bytes};
 ghost use Rattle.frame_front.specs.Reply.{coded_reply, place_bytes, version_frame, memory_frame, is_error_reply};
 ghost use Rattle.frame_front.specs.PlainSession.{TellsError, answers_to, state_after};
@@ -73,4 +77,17 @@ pub fn migrated_dumps_are_stored()
 /// So a dump, or a hash of it that has no collisions, tells what a federation publishes.
 pub fn equal_dumps_are_of_equal_bundles()
     ensures { (m n : PlainMap) → AreValid (bundles m) → AreValid (bundles n) → (dump_of m ≡ dump_of n) ↔ (bundles m ≡ bundles n) }
+{}
+
+/// A request that is written is read as its operation: in version 2, and in version 1 unless the request
+/// for version 2 comes before it.
+pub fn requests_are_read_as_asked()
+    ensures second { (op : Op) → is_written op ≡ true → IsLawfulOp op → request_of Two (request_payload op) ≡ Ok (Ask op) }
+    ensures first { (op : Op) → is_written op ≡ true → IsLawfulOp op → request_preface op ≡ [] → request_of One (request_payload op) ≡ Ok (Ask op) }
+    ensures version { (version : Version) → request_of version (86 ∷ 2 ∷ []) ≡ Ok (Speak Two) }
+{}
+
+/// What a map answers to an operation, a client takes for an answer to it.
+pub fn maps_answer_as_clients_take()
+    ensures { (m : PlainMap) (op : Op) → MayAnswer op (Ok (ask m op).reply) }
 {}

@@ -18,14 +18,12 @@ enum Asked {
 
 const EMPTY: &[u8] = b"{\"keys\":[]}";
 
-const SET_IF_ABSENT: &[u8] =
-    b"\x00\x00\x00\x02V\x02\x00\x00\x00\x0fC\x01a\x00{\"keys\":[]}";
+const SET_IF_ABSENT: &[u8] = b"\x00\x00\x00\x02V\x02\x00\x00\x00\x0fC\x01a\x00{\"keys\":[]}";
 
 const SET_IF_SEQUENCE: &[u8] =
     b"\x00\x00\x00\x02V\x02\x00\x00\x00\x17C\x01a\x01\x00\x00\x00\x00\x00\x00\x01\x07{\"keys\":[]}";
 
-const SET_IF_UNNUMBERED: &[u8] =
-    b"\x00\x00\x00\x02V\x02\x00\x00\x00\x0fC\x01a\x02{\"keys\":[]}";
+const SET_IF_UNNUMBERED: &[u8] = b"\x00\x00\x00\x02V\x02\x00\x00\x00\x0fC\x01a\x02{\"keys\":[]}";
 
 const REMOVE: &[u8] = b"\x00\x00\x00\x03R\x01a";
 
@@ -66,15 +64,30 @@ struct Exchange<'a> {
 }
 
 const EXCHANGES: [Exchange<'static>; 17] = [
-    Exchange { ask: Asked::Set, request: SET, reply: b"\x00\x00\x00\x01s", answer: "stored" },
-    Exchange { ask: Asked::Set, request: SET, reply: b"\x00\x00\x00\x01u", answer: "unchanged" },
+    Exchange {
+        ask: Asked::Set,
+        request: SET,
+        reply: b"\x00\x00\x00\x01s",
+        answer: "stored",
+    },
+    Exchange {
+        ask: Asked::Set,
+        request: SET,
+        reply: b"\x00\x00\x00\x01u",
+        answer: "unchanged",
+    },
     Exchange {
         ask: Asked::Set,
         request: SET,
         reply: b"\x00\x00\x00\x09\x1f\x00\x00\x00\x00\x00\x00\x01\x02",
         answer: "refused 31: the sequence is lower than 258, which the name had",
     },
-    Exchange { ask: Asked::Remove, request: REMOVE, reply: b"\x00\x00\x00\x01d", answer: "removed" },
+    Exchange {
+        ask: Asked::Remove,
+        request: REMOVE,
+        reply: b"\x00\x00\x00\x01d",
+        answer: "removed",
+    },
     Exchange {
         ask: Asked::Remove,
         request: REMOVE,
@@ -181,7 +194,11 @@ fn asks_and_is_answered(rt: HostRuntime) -> Result<(), Fail> {
             assert!(rt; client.ended().is_none(), "{}", exchange.answer);
             let (reader, writer) = client.into_ends();
             assert!(rt; reader.end.bytes == b"x".as_slice(), "{}", exchange.answer);
-            assert!(rt; writer.end.as_slice() == exchange.request, "{}", exchange.answer);
+            assert!(rt;
+                writer.end.as_slice() == exchange.request,
+                "{}",
+                exchange.answer
+            );
         }
     }
     Ok(())
@@ -199,7 +216,11 @@ fn ends_so(
     let mut client = Client::new(alloc, Counted::new(input), Counted::new(Vec::new(alloc)));
     let answer = client.ask(op(alloc, exchange.ask)?);
     assert!(rt; matches!(answer, Err(AskError::GateShut)), "{input:?}");
-    assert!(rt; client.ended() == Some(why), "{input:?} {:?}", client.ended());
+    assert!(rt;
+        client.ended() == Some(why),
+        "{input:?} {:?}",
+        client.ended()
+    );
     let again = client.ask(op(alloc, exchange.ask)?);
     assert!(rt; matches!(again, Err(AskError::GateShut)), "{input:?}");
     assert!(rt; client.ended() == Some(why), "{input:?}");
@@ -229,7 +250,10 @@ fn a_reader_that_fails(rt: HostRuntime) -> Result<(), Fail> {
             let mut client = Client::new(alloc, Counted::new(reader), writer);
             let answer = client.ask(op(alloc, exchange.ask)?);
             assert!(rt; matches!(answer, Err(AskError::GateShut)), "after {after}");
-            assert!(rt; client.ended() == Some(ClientError::ReadFault), "after {after}");
+            assert!(rt;
+                client.ended() == Some(ClientError::ReadFault),
+                "after {after}"
+            );
             let (reader, writer) = client.into_ends();
             assert!(rt; reader.faults() == 1, "after {after}");
             assert!(rt; writer.faults() == 0, "after {after}");
@@ -250,7 +274,10 @@ fn a_writer_that_fails(rt: HostRuntime) -> Result<(), Fail> {
             let mut client = Client::new(alloc, Counted::new(exchange.reply), writer);
             let answer = client.ask(op(alloc, exchange.ask)?);
             assert!(rt; matches!(answer, Err(AskError::GateShut)), "room {room}");
-            assert!(rt; client.ended() == Some(ClientError::WriteFault), "room {room}");
+            assert!(rt;
+                client.ended() == Some(ClientError::WriteFault),
+                "room {room}"
+            );
             let (reader, writer) = client.into_ends();
             assert!(rt; reader.end == exchange.reply, "room {room}");
             assert!(rt; writer.faults() == 1, "room {room}");
@@ -303,7 +330,11 @@ fn what_is_no_reply(rt: HostRuntime) -> Result<(), Fail> {
 #[test]
 fn bad_lengths_of_replies(rt: HostRuntime) -> Result<(), Fail> {
     for exchange in EXCHANGES {
-        for length in [b"\x00\x00\x00\x00", b"\x00\x10\x01\xa9", b"\xff\xff\xff\xff"] {
+        for length in [
+            b"\x00\x00\x00\x00",
+            b"\x00\x10\x01\xa9",
+            b"\xff\xff\xff\xff",
+        ] {
             ends_so(&rt, rt.alloc(), &exchange, length, ClientError::BadLength)?;
         }
     }
@@ -315,10 +346,18 @@ fn bad_lengths_of_replies(rt: HostRuntime) -> Result<(), Fail> {
 fn asks_what_a_session_answers(rt: HostRuntime) -> Result<(), Fail> {
     let alloc = rt.alloc();
     let steps: [(Asked, &[u8], &str); 9] = [
-        (Asked::Get, b"\x00\x00\x00\x01\x1e", "refused 30: no bundle stands under the name"),
+        (
+            Asked::Get,
+            b"\x00\x00\x00\x01\x1e",
+            "refused 30: no bundle stands under the name",
+        ),
         (Asked::Set, b"\x00\x00\x00\x01s", "stored"),
         (Asked::Set, b"\x00\x00\x00\x01u", "unchanged"),
-        (Asked::Get, b"\x00\x00\x00\x0cf{\"keys\":[]}", "found None 11 bytes"),
+        (
+            Asked::Get,
+            b"\x00\x00\x00\x0cf{\"keys\":[]}",
+            "found None 11 bytes",
+        ),
         (
             Asked::SetIf(Expect::Absent),
             b"\x00\x00\x00\x02v\x02\x00\x00\x00\x02\x24\x02",
@@ -330,8 +369,16 @@ fn asks_what_a_session_answers(rt: HostRuntime) -> Result<(), Fail> {
             "unchanged",
         ),
         (Asked::Remove, b"\x00\x00\x00\x01d", "removed"),
-        (Asked::Remove, b"\x00\x00\x00\x01\x1e", "refused 30: no bundle stands under the name"),
-        (Asked::SetIf(Expect::Absent), b"\x00\x00\x00\x02v\x02\x00\x00\x00\x01s", "stored"),
+        (
+            Asked::Remove,
+            b"\x00\x00\x00\x01\x1e",
+            "refused 30: no bundle stands under the name",
+        ),
+        (
+            Asked::SetIf(Expect::Absent),
+            b"\x00\x00\x00\x02v\x02\x00\x00\x00\x01s",
+            "stored",
+        ),
     ];
     let mut replies = Vec::new(alloc);
     for (_, reply, _) in steps {
@@ -340,7 +387,10 @@ fn asks_what_a_session_answers(rt: HostRuntime) -> Result<(), Fail> {
     let reader = Counted::new(replies.as_slice());
     let mut client = Client::new(alloc, reader, Counted::new(Vec::new(alloc)));
     for (ask, _, answer) in steps {
-        assert_eq!(rt; words(alloc, &client.ask(op(alloc, ask)?))?.as_str(), answer);
+        assert_eq!(rt;
+            words(alloc, &client.ask(op(alloc, ask)?))?.as_str(),
+            answer
+        );
     }
     let (reader, writer) = client.into_ends();
     assert!(rt; reader.end.is_empty());
@@ -349,7 +399,11 @@ fn asks_what_a_session_answers(rt: HostRuntime) -> Result<(), Fail> {
     let mut contents = Contents::new(alloc);
     let ended = serve(alloc, &mut requests, &mut written, &mut contents, 1000);
     assert!(rt; ended == Ok(12), "{ended:?}");
-    assert!(rt; written.end.as_slice() == replies.as_slice(), "{:?}", written.end.as_slice());
+    assert!(rt;
+        written.end.as_slice() == replies.as_slice(),
+        "{:?}",
+        written.end.as_slice()
+    );
     Ok(())
 }
 
