@@ -1,6 +1,7 @@
 -- A request that is written is read as its operation.
 use Rattle.std.proofs.Common.{◌≡◌, ℕ, ◌+◌, ◌<◌, ◌^◌, List, [], ◌∷◌, ◌++◌, length, take, drop, append-nil, length-append, arith, refl, sym, ap, ◌∙◌, Result, Ok, Err, Bool, true, false}
 use Rattle.std.specs.Prelude.{nat_le, if◌then◌else◌}
+use Rattle.std.specs.List.{concat}
 use Rattle.std.specs.Int.{w64, to_be_bytes, from_be_bytes}
 use Rattle.std.proofs.lemmas.Bool.Decides.{nat_tests}
 use Rattle.std.proofs.lemmas.Nat.{from_be_bytes-to_be_bytes_8}
@@ -19,10 +20,13 @@ use Rattle.frame_front.specs.declared.request.Request.{Request}
 use Rattle.frame_front.specs.declared.request.Request.TheVariants.{Ask, Speak}
 use Rattle.frame_front.specs.declared.refusal.Refusal.{Refusal}
 use Rattle.frame_front.specs.declared.refusal.Refusal.TheVariants.{BadRequest}
-use Rattle.frame_front.specs.Frame.{frame}
+use Rattle.map_core.specs.PlainMap.{PlainMap, ask}
+use Rattle.frame_front.specs.Frame.{frame, stream_of}
+use Rattle.frame_front.specs.PlainSession.{text_for, state_for, answers_to, state_after}
+use Rattle.frame_front.specs.Client.{reply_bytes}
 use Rattle.frame_front.specs.Request.{◌>>=◌, split_name, split_expect, at_end, name_of, bundle_of, named_bundle, only_name, set_of, set_if_of, remove_of, get_of, fetch_all_of, version_of, request_of}
-use Rattle.frame_front.specs.Reply.{expect_bytes}
-use Rattle.frame_front.specs.Asking.{is_written, IsExpect, IsLawfulOp, request_payload, request_preface}
+use Rattle.frame_front.specs.Reply.{expect_bytes, coded_reply, version_frame}
+use Rattle.frame_front.specs.Asking.{is_written, IsExpect, IsLawfulOp, request_payload, request_payloads, request_preface, request_bytes}
 use Rattle.frame_front.proofs.FrameLemmas.{length-frame}
 use Rattle.frame_front.proofs.MigrationLemmas.{split_name-name, name_of-name, bundle_of-text}
 
@@ -104,3 +108,55 @@ pub read_version : (version : Version) → request_of version (86 ∷ 2 ∷ []) 
 unfolding request_of version_of
 read_version One = refl
 read_version Two = refl
+
+-- ---- what a session answers
+
+one_text : (t : List ℕ) → concat (t ∷ []) ≡ t
+one_text t = append-nil t
+
+one_frame : (p : List ℕ) → frame p ≡ stream_of (p ∷ []) []
+one_frame p = sym (append-nil (frame p ++ []) ∙ append-nil (frame p))
+
+-- a request alone, which is read as its operation
+module _ (version : Version) (m : PlainMap) (op : Op) (p : List ℕ) (read : request_of version p ≡ Ok (Ask op)) where
+  alone : (concat (answers_to (version, m) (p ∷ [])) ≡ coded_reply (ask m op).reply) × ((state_after (version, m) (p ∷ [])).1 ≡ (ask m op).map)
+  alone = (one_text (text_for (version, m) (request_of version p)) ∙ ap (text_for (version, m)) read, ap (λ r. (state_for (version, m) r).1) read)
+
+read_any : (version : Version) (op : Op) → is_written op ≡ true → IsLawfulOp op → request_preface op ≡ [] → request_of version (request_payload op) ≡ Ok (Ask op)
+read_any One op written lawful none = read_first op written lawful none
+read_any Two op written lawful none = read_second op written lawful
+
+-- behind the request for version 2
+module _ (version : Version) (m : PlainMap) (op : Op) (p : List ℕ) (read : request_of Two p ≡ Ok (Ask op)) where
+  behind : (concat (answers_to (version, m) ((86 ∷ 2 ∷ []) ∷ p ∷ [])) ≡ version_frame Two ++ coded_reply (ask m op).reply)
+      × ((state_after (version, m) ((86 ∷ 2 ∷ []) ∷ p ∷ [])).1 ≡ (ask m op).map)
+  behind =
+      let rest = alone Two m op p read in
+      let set = read_version version in (
+        ap (λ r. text_for (version, m) r ++ concat (answers_to (state_for (version, m) r) (p ∷ []))) set ∙ ap (λ t. version_frame Two ++ t) rest.0,
+        ap (λ r. (state_after (state_for (version, m) r) (p ∷ [])).1) set ∙ rest.1,
+      )
+
+two_frames : (p q : List ℕ) → frame p ++ frame q ≡ stream_of (p ∷ q ∷ []) []
+two_frames p q = ap (λ f. frame p ++ f) (sym (append-nil (frame q))) ∙ sym (append-nil (frame p ++ (frame q ++ [])))
+
+pub session_answers : (version : Version) (m : PlainMap) (op : Op) → is_written op ≡ true → IsLawfulOp op
+    → (request_bytes op ≡ stream_of (request_payloads op) [])
+    × (concat (answers_to (version, m) (request_payloads op)) ≡ reply_bytes op (Ok (ask m op).reply))
+    × ((state_after (version, m) (request_payloads op)).1 ≡ (ask m op).map)
+session_answers version m (Set d b) written lawful =
+    let told = alone version m (Set d b) (request_payload (Set d b)) (read_any version (Set d b) written lawful refl) in
+    (one_frame (request_payload (Set d b)), told.0, told.1)
+session_answers version m (SetIf d expect b) written lawful =
+    let told = behind version m (SetIf d expect b) (request_payload (SetIf d expect b)) (read_second (SetIf d expect b) written lawful) in
+    (two_frames (86 ∷ 2 ∷ []) (request_payload (SetIf d expect b)), told.0, told.1)
+session_answers version m (Append d a) written lawful = not_written written
+session_answers version m (Remove d) written lawful =
+    let told = alone version m (Remove d) (request_payload (Remove d)) (read_any version (Remove d) written lawful refl) in
+    (one_frame (request_payload (Remove d)), told.0, told.1)
+session_answers version m (Get d) written lawful =
+    let told = alone version m (Get d) (request_payload (Get d)) (read_any version (Get d) written lawful refl) in
+    (one_frame (request_payload (Get d)), told.0, told.1)
+session_answers version m FetchAll written lawful =
+    let told = alone version m FetchAll (request_payload FetchAll) (read_any version FetchAll written lawful refl) in
+    (one_frame (request_payload FetchAll), told.0, told.1)

@@ -43,6 +43,15 @@ request_preface FetchAll = []
 abbrev pub request_bytes : Op → List ℕ
 request_bytes op = request_preface op ++ frame (request_payload op)
 
+-- the payloads of an operation's requests, one after the other
+abbrev pub request_payloads : Op → List (List ℕ)
+request_payloads (Set d b) = request_payload (Set d b) ∷ []
+request_payloads (SetIf d expect b) = (86 ∷ 2 ∷ []) ∷ request_payload (SetIf d expect b) ∷ []
+request_payloads (Append d a) = request_payload (Append d a) ∷ []
+request_payloads (Remove d) = request_payload (Remove d) ∷ []
+request_payloads (Get d) = request_payload (Get d) ∷ []
+request_payloads FetchAll = request_payload FetchAll ∷ []
+
 -- whether requests of this kind are written: all but an append
 abbrev pub is_written : Op → Bool
 is_written (Set d b) = true
