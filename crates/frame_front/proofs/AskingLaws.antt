@@ -1,5 +1,5 @@
 -- A request that is written is read as its operation.
-use Rattle.std.proofs.Common.{◌≡◌, ℕ, ◌+◌, ◌<◌, ◌^◌, List, [], ◌∷◌, ◌++◌, length, take, drop, append-nil, length-append, arith, refl, sym, ap, ◌∙◌, Result, Ok, Err, Bool, true, false}
+use Rattle.std.proofs.Common.{◌≡◌, ℕ, List, [], ◌∷◌, ◌++◌, length, take, drop, append-nil, length-append, arith, refl, sym, ap, ◌∙◌, Result, Ok, Err, Bool, true, false}
 use Rattle.std.specs.Prelude.{nat_le, if◌then◌else◌}
 use Rattle.std.specs.List.{concat}
 use Rattle.std.specs.Int.{w64, to_be_bytes, from_be_bytes}
@@ -16,7 +16,6 @@ use Rattle.map_core.specs.declared.op.Expect.{Expect}
 use Rattle.map_core.specs.declared.op.Expect.TheVariants.{Absent, Sequence, Unnumbered}
 use Rattle.frame_front.specs.declared.request.Version.{Version}
 use Rattle.frame_front.specs.declared.request.Version.TheVariants.{One, Two}
-use Rattle.frame_front.specs.declared.request.Request.{Request}
 use Rattle.frame_front.specs.declared.request.Request.TheVariants.{Ask, Speak}
 use Rattle.frame_front.specs.declared.refusal.Refusal.{Refusal}
 use Rattle.frame_front.specs.declared.refusal.Refusal.TheVariants.{BadRequest}
@@ -24,7 +23,7 @@ use Rattle.map_core.specs.PlainMap.{PlainMap, ask}
 use Rattle.frame_front.specs.Frame.{frame, stream_of}
 use Rattle.frame_front.specs.PlainSession.{text_for, state_for, answers_to, state_after}
 use Rattle.frame_front.specs.Client.{reply_bytes}
-use Rattle.frame_front.specs.Request.{◌>>=◌, split_name, split_expect, at_end, name_of, bundle_of, named_bundle, only_name, set_of, set_if_of, remove_of, get_of, fetch_all_of, version_of, request_of}
+use Rattle.frame_front.specs.Request.{◌>>=◌, split_expect, at_end, name_of, bundle_of, named_bundle, only_name, set_of, set_if_of, remove_of, get_of, fetch_all_of, version_of, request_of}
 use Rattle.frame_front.specs.Reply.{expect_bytes, coded_reply, version_frame}
 use Rattle.frame_front.specs.Asking.{is_written, IsExpect, IsLawfulOp, request_payload, request_payloads, request_preface, request_bytes}
 use Rattle.frame_front.proofs.FrameLemmas.{length-frame}

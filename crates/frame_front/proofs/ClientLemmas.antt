@@ -1,5 +1,5 @@
 -- Lemmas on what a client reads.
-use Rattle.std.proofs.Common.{◌≡◌, ◌≢◌, ℕ, ◌≤◌, ◌<◌, List, [], ◌∷◌, ◌++◌, length, refl, sym, ap, ◌∙◌, inl, inr, arith, append_assoc, Result, Ok, Err}
+use Rattle.std.proofs.Common.{◌≡◌, ◌≢◌, ℕ, List, [], ◌∷◌, ◌++◌, refl, sym, ap, ◌∙◌, inl, inr, arith, append_assoc, Result, Ok, Err}
 use Rattle.std.specs.Prelude.{Option, IfOk, IfErr, OnOk}
 use Rattle.std.specs.Io.KnownBytes.{Appends, Consumes}
 use Rattle.std.specs.List.{flat_map}
@@ -14,7 +14,7 @@ use Rattle.frame_front.specs.Reply.{coded}
 use Rattle.frame_front.specs.Asking.{request_bytes}
 use Rattle.frame_front.specs.Reading.{NoFrame, CountsFault}
 use Rattle.frame_front.specs.Answer.{Answer, MayAnswer}
-use Rattle.frame_front.specs.Client.{Breaks, BeginsNoReply, NoReply, reply_preface, reply_bytes, ends, Exchange}
+use Rattle.frame_front.specs.Client.{Breaks, BeginsNoReply, reply_preface, reply_bytes, ends, Exchange}
 use Rattle.frame_front.specs.declared.client_error.ClientError.{ClientError}
 use Rattle.frame_front.specs.declared.client_error.ClientError.TheVariants.{Memory, BadLength, BadReply, Truncated, ReadFault, WriteFault}
 use Rattle.frame_front.proofs.FrameLemmas.{frame_first, none_at_end}

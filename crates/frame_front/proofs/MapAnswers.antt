@@ -1,5 +1,5 @@
 -- What a map answers is of a kind that the operation may have.
-use Rattle.std.proofs.Common.{◌≡◌, ℕ, List, [], ◌∷◌, ◌++◌, refl, ap, ◌∙◌, Result, Ok, Err, Some, None, Bool, true, false}
+use Rattle.std.proofs.Common.{◌≡◌, ℕ, List, ◌∷◌, ◌++◌, refl, ap, ◌∙◌, Result, Ok, Err, Some, None, Bool, true, false}
 use Rattle.std.specs.Prelude.{Option, if◌then◌else◌}
 use Rattle.std.specs.FinMap as finite
 use Rattle.spiffe_doc.specs.Authority.{BundleValue}
@@ -10,18 +10,16 @@ use Rattle.spiffe_doc.specs.declared.error.AppendError.{AppendError}
 use Rattle.spiffe_doc.specs.declared.error.AppendError.TheVariants as cannot
 use Rattle.map_core.specs.declared.op.Op.{Op}
 use Rattle.map_core.specs.declared.op.Op.TheVariants.{Set, SetIf, Append, Remove, Get, FetchAll}
-use Rattle.map_core.specs.declared.op.Expect.{Expect}
 use Rattle.map_core.specs.declared.held.Held.{Held}
 use Rattle.map_core.specs.declared.held.Held.TheVariants.{Published, Mark}
-use Rattle.map_core.specs.declared.reply.Reply.{Reply}
-use Rattle.map_core.specs.declared.reply.Reply.TheVariants.{Stored, Unchanged, Appended, Removed, Found, All, Refused}
-use Rattle.map_core.specs.declared.reply.MapRefusal.TheVariants.{NoDomain, Stale, KidTaken, TooMany, TooLong, SequenceFull, NotExpected}
+use Rattle.map_core.specs.declared.reply.Reply.TheVariants.{Unchanged, Refused}
+use Rattle.map_core.specs.declared.reply.MapRefusal.TheVariants.{Stale, NotExpected}
 use Rattle.map_core.specs.Name.{Name}
 use Rattle.map_core.specs.Op.{expect_eq}
-use Rattle.map_core.specs.Table.{meaning, kept, stored, stored_after, is_lower, set, set_if, expectation, append, append_to, not_appended, remove, get}
+use Rattle.map_core.specs.Table.{meaning, kept, stored, stored_after, is_lower, set, expectation, append, append_to, not_appended, remove, get}
 use Rattle.map_core.specs.PlainMap.{PlainMap, ask}
 use Rattle.frame_front.specs.Frame.{frame}
-use Rattle.frame_front.specs.Reply.{coded_reply, code_of}
+use Rattle.frame_front.specs.Reply.{code_of}
 use Rattle.frame_front.specs.Answer.{MayAnswer, is_code_for}
 
 one_code : (code : ℕ) (rest : List ℕ) → code_of (frame (code ∷ rest)) ≡ code

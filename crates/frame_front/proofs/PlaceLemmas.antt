@@ -1,5 +1,5 @@
 -- A place that a refusal names fits in 4 bytes.
-use Rattle.std.proofs.Common.{◌≡◌, ℕ, ◌<◌, ◌≤◌, List, [], ◌∷◌, length, take, drop, arith, refl, sym, ap, subst, Result, Ok, Err, Some, None, Bool, true, false, cond}
+use Rattle.std.proofs.Common.{◌≡◌, ℕ, ◌<◌, ◌≤◌, List, [], ◌∷◌, length, arith, refl, ap, subst, Result, Ok, Err, Some, None, Bool, true, false, cond}
 use Rattle.std.specs.Prelude.{Option, option_map, nat_le, nat_lt, ◌==◌, ◌&&◌, ◌-◌, ◌^◌, min, position, not, IfSome}
 use Rattle.std.specs.Int.{w32, to_be_bytes}
 use Rattle.std.proofs.lemmas.Bool.Decides.{nat_tests}
@@ -11,17 +11,16 @@ use Rattle.spiffe_doc.specs.declared.name.NameError.{NameError}
 use Rattle.spiffe_doc.specs.declared.name.NameError.TheVariants as name
 use Rattle.spiffe_doc.specs.declared.error.DocError.{DocError}
 use Rattle.spiffe_doc.specs.declared.error.DocError.TheVariants as doc
-use Rattle.spiffe_doc.specs.Name.{is_name_byte, name_fault, trust_domain}
-use Rattle.spiffe_doc.specs.Document.{document, entry, place_of}
+use Rattle.spiffe_doc.specs.Name.{is_name_byte, trust_domain}
+use Rattle.spiffe_doc.specs.Document.{document, entry}
 use Rattle.spiffe_doc.proofs.DocumentLaws.{document-place, entry-place}
 use Rattle.map_core.specs.Name.{Name}
 use Rattle.frame_front.specs.declared.request.Version.{Version}
 use Rattle.frame_front.specs.declared.request.Version.TheVariants.{One, Two}
-use Rattle.frame_front.specs.declared.request.Request.{Request}
 use Rattle.frame_front.specs.declared.refusal.Refusal.{Refusal}
 use Rattle.frame_front.specs.Refusal.{refusal_place}
 use Rattle.frame_front.specs.Reply.{place_bytes}
-use Rattle.frame_front.specs.Request.{◌>>=◌, split_name, split_expect, at_end, named, name_of, published, bundle_of, given, authority_of, only_name, named_bundle, set_of, set_if_of, append_of, remove_of, get_of, fetch_all_of, version_of, later_letter, lettered, request_of}
+use Rattle.frame_front.specs.Request.{◌>>=◌, split_name, split_expect, at_end, named, name_of, published, bundle_of, given, authority_of, only_name, named_bundle, set_of, set_if_of, append_of, remove_of, get_of, fetch_all_of, version_of, later_letter, request_of}
 
 -- if it is a refusal that names a place, the place is small
 abbrev HasSmallPlace : {A : Type 0} → Result A Refusal → Type 0

@@ -1,5 +1,5 @@
 -- The law of `Ask`, for a client: it shows no map.
-use Rattle.std.specs.Prelude.{◌≡◌, Option, Some, None}
+use Rattle.std.specs.Prelude.{◌≡◌, Some, None}
 use Rattle.std.proofs.lemmas.Option.{none-some}
 use Rattle.map_core.specs.declared.op.Op.{Op}
 use Rattle.map_core.specs.PlainMap.{PlainMap}
