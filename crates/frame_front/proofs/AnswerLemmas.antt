@@ -21,7 +21,7 @@ use Rattle.map_core.specs.Reply.{refusal_number, error_number}
 use Rattle.frame_front.specs.Frame.{IsPayload, IsUnfinished, frame}
 use Rattle.frame_front.specs.Reply.{coded, code_of, place_bytes, sequence_bytes, map_detail, error_detail, item_frame}
 use Rattle.frame_front.specs.Answer.{Answer, MayAnswer, IsLawfulAnswer, is_code_for, answer_of, reply_of, refusal_of, error_of, number_of, sequence_of, expect_of, worn_of, held_of, moved_of, found_of, if_canonical}
-use Rattle.frame_front.specs.Client.{is_asked, BeginsNoReply, NoReply}
+use Rattle.frame_front.specs.Client.{is_of_one, BeginsNoReply, NoReply}
 use Rattle.frame_front.proofs.FrameLemmas.{frame_first, none_at_end}
 use Rattle.frame_front.proofs.ReplyLemmas.{not_both}
 
@@ -68,7 +68,7 @@ refusal_payload (NotExpected Absent) = (omega arith, omega arith)
 refusal_payload (NotExpected (Sequence sequence)) = (omega arith, omega arith)
 refusal_payload (NotExpected Unnumbered) = (omega arith, omega arith)
 
-error_payload : (e : AskError) → IsPayload (error_number e ∷ error_detail e)
+pub error_payload : (e : AskError) → IsPayload (error_number e ∷ error_detail e)
 unfolding place_bytes
 error_payload error.Memory = (omega arith, omega arith)
 error_payload (error.Worn shard) = (omega arith, omega arith)
@@ -90,7 +90,7 @@ first_is_payload (Err e) lawful = error_payload e
 
 -- ---- what is read of it
 
-some_none : {A : Type 0} (x : A) → Some x ≡ None → ⊥
+pub some_none : {A : Type 0} (x : A) → Some x ≡ None → ⊥
 some_none x same = cc
 
 found_text : (bundle : BundleValue) → IsBundle bundle → found_of (text_of bundle) ≡ Some bundle
@@ -111,7 +111,7 @@ refusal_read (NotExpected Absent) same = some_none _ same
 refusal_read (NotExpected (Sequence sequence)) same = some_none _ same
 refusal_read (NotExpected Unnumbered) same = some_none _ same
 
-error_read : (e : AskError) → error_of (error_number e) (error_detail e) ≡ None → ⊥
+pub error_read : (e : AskError) → error_of (error_number e) (error_detail e) ≡ None → ⊥
 unfolding error_of worn_of held_of moved_of place_bytes
 error_read error.Memory same = some_none _ same
 error_read (error.Worn shard) same = some_none _ same
@@ -120,7 +120,7 @@ error_read (error.Held shard revision) same = some_none _ same
 error_read error.GateShut same = some_none _ same
 
 -- a map from no value has none
-map_none : {A B : Type 0} (f : A → B) (x : Option A) → option_map f x ≡ None → x ≡ None
+pub map_none : {A B : Type 0} (f : A → B) (x : Option A) → option_map f x ≡ None → x ≡ None
 map_none f None same = refl
 map_none f (Some x) same = absurd (some_none (f x) same)
 
@@ -166,21 +166,21 @@ not_true : false ≡ true → ⊥
 not_true same = cc
 
 -- all bundles are the answer to a fetch-all only
-not_all_code : (op : Op) → is_asked op ≡ true → is_code_for op 97 ≡ true → ⊥
-not_all_code (Set d b) asked may = not_true may
-not_all_code (SetIf d expect b) asked may = not_true may
-not_all_code (Append d a) asked may = not_true asked
-not_all_code (Remove d) asked may = not_true may
-not_all_code (Get d) asked may = not_true may
-not_all_code FetchAll asked may = not_true asked
+not_all_code : (op : Op) → is_of_one op ≡ true → is_code_for op 97 ≡ true → ⊥
+not_all_code (Set d b) of_one may = not_true may
+not_all_code (SetIf d expect b) of_one may = not_true may
+not_all_code (Append d a) of_one may = not_true may
+not_all_code (Remove d) of_one may = not_true may
+not_all_code (Get d) of_one may = not_true may
+not_all_code FetchAll of_one may = not_true of_one
 
-not_all : (op : Op) (items : List (Name × BundleValue)) → is_asked op ≡ true → MayAnswer op (Ok (All items)) → ⊥
-not_all op items asked may =
-    not_all_code op asked (ap (is_code_for op) (sym (code_first (first_payload (Ok (All items))) (frames_behind (Ok (All items))) (first_is_payload (Ok (All items)) tt))) ∙ may)
+not_all : (op : Op) (items : List (Name × BundleValue)) → is_of_one op ≡ true → MayAnswer op (Ok (All items)) → ⊥
+not_all op items of_one may =
+    not_all_code op of_one (ap (is_code_for op) (sym (code_first (first_payload (Ok (All items))) (frames_behind (Ok (All items))) (omega arith, omega arith))) ∙ may)
 
 -- ---- what is no reply
 
-module _ (op : Op) (asked : is_asked op ≡ true) where
+module _ (op : Op) (of_one : is_of_one op ≡ true) where
   answer_read : (a : Answer) → IsLawfulAnswer a → MayAnswer op a → answer_of (first_payload a) ≡ None → ⊥
   unfolding answer_of reply_of sequence_of number_of
   answer_read (Ok Stored) lawful may same = some_none _ same
@@ -190,7 +190,7 @@ module _ (op : Op) (asked : is_asked op ≡ true) where
   answer_read (Ok Removed) lawful may same = some_none _ same
   answer_read (Ok (Found bundle)) lawful may same =
       some_none bundle (sym (found_text bundle lawful) ∙ map_none Found _ (map_none Ok _ same))
-  answer_read (Ok (All items)) lawful may same = not_all op items asked may
+  answer_read (Ok (All items)) lawful may same = not_all op items of_one may
   answer_read (Ok (Refused why)) lawful may same = refused_read why same
   answer_read (Err e) lawful may same = failed_read e same
 

@@ -43,7 +43,7 @@ split_expect-expect (Sequence n) rest fits =
     ∙ ap (λ (m : ℕ). Ok (Sequence m, rest)) (from_be_bytes-to_be_bytes_8 n fits)
 split_expect-expect Unnumbered rest fits = refl
 
-named_bundle-item : (d : Name) (b : BundleValue) → IsName d → IsBundle b → named_bundle (length d ∷ d ++ text_of b) ≡ Ok (d, b)
+pub named_bundle-item : (d : Name) (b : BundleValue) → IsName d → IsBundle b → named_bundle (length d ∷ d ++ text_of b) ≡ Ok (d, b)
 unfolding named_bundle
 named_bundle-item d b name lawful =
     ap (λ (r : Result (List ℕ × List ℕ) Refusal). r >>= (λ parts. name_of parts.0 >>= (λ name. bundle_of parts.1 >>= (λ bundle. Ok (name, bundle))))) (split_name-name d (text_of b))

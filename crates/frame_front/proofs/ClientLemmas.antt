@@ -13,7 +13,7 @@ use Rattle.frame_front.specs.Frame.{IsPayload, HasFrames, frame}
 use Rattle.frame_front.specs.Reply.{coded}
 use Rattle.frame_front.specs.Asking.{request_bytes}
 use Rattle.frame_front.specs.Reading.{NoFrame, CountsFault}
-use Rattle.frame_front.specs.Answer.{Answer, MayAnswer}
+use Rattle.frame_front.specs.Answer.{Answer, MayAnswer, IsLawfulAnswer}
 use Rattle.frame_front.specs.Client.{Breaks, BeginsNoReply, reply_preface, reply_bytes, ends, Exchange}
 use Rattle.frame_front.specs.declared.client_error.ClientError.{ClientError}
 use Rattle.frame_front.specs.declared.client_error.ClientError.TheVariants.{Memory, BadLength, BadReply, Truncated, ReadFault, WriteFault}
@@ -87,12 +87,12 @@ module _ (d : Name) (expect : Expect) (b : BundleValue) where
 -- a request that was written, and what came of reading the reply
 pub exchanged : (op : Op) (r : Result Answer ClientError) (left_old left_new held_old held_new : Option (List ℕ)) (reads_old reads_new writes_old writes_new : ℕ)
     → Appends held_old held_new (request_bytes op) → writes_new ≡ writes_old
-    → IfOk r (λ answer. MayAnswer op answer × Consumes left_old left_new (reply_bytes op answer)) → OnOk r (reads_new ≡ reads_old)
+    → IfOk r (λ answer. MayAnswer op answer × IsLawfulAnswer answer × Consumes left_old left_new (reply_bytes op answer)) → OnOk r (reads_new ≡ reads_old)
     → IfErr r (λ why. (read : List ℕ) × Consumes left_old left_new read × Breaks op (reply_bytes op) why read left_new)
     → IfErr r (λ why. CountsFault why reads_old reads_new)
     → Exchange op r (ends left_old held_old reads_old writes_old) (ends left_new held_new reads_new writes_new)
 exchanged op (Ok answer) l0 l1 h0 h1 r0 r1 w0 w1 written quiet ok quiet_reader err counted =
-    record { written = written; read = ok.1; may = ok.0; quiet_reader = quiet_reader; quiet_writer = quiet }
+    record { written = written; read = ok.2; may = ok.0; lawful = ok.1; quiet_reader = quiet_reader; quiet_writer = quiet }
 exchanged op (Err WriteFault) l0 l1 h0 h1 r0 r1 w0 w1 written quiet ok quiet_reader err counted = absurd err.2
 exchanged op (Err Truncated) l0 l1 h0 h1 r0 r1 w0 w1 written quiet ok quiet_reader err counted =
     record { read = err.0; written = written; consumes = err.1; breaks = err.2; counted = counted; quiet_writer = quiet }

@@ -18,16 +18,16 @@ use Rattle.frame_front.proofs.FrameLemmas.{frame_first, length-frame}
 use Rattle.frame_front.proofs.DomainLists.{cons_head, cons_tail}
 
 -- the payload of a domain's frame
-abbrev item_payload : Name × BundleValue → List ℕ
+abbrev pub item_payload : Name × BundleValue → List ℕ
 item_payload item = 105 ∷ length item.0 ∷ item.0 ++ text_of item.1
 
-IsPayload-item : (item : Name × BundleValue) → IsName item.0 → IsBundle item.1 → IsPayload (item_payload item)
+pub IsPayload-item : (item : Name × BundleValue) → IsName item.0 → IsBundle item.1 → IsPayload (item_payload item)
 IsPayload-item item name lawful =
     let size : length (item_payload item) ≡ 2 + length item.0 + length (text_of item.1) = omega (arith, length-append item.0 (text_of item.1)) in
     (omega (arith, size), omega (arith, size, name.short, lawful.short))
 
 -- a domain's payload tells its name and its bundle
-same_item : (a b : Name × BundleValue) → IsBundle a.1 → IsBundle b.1 → item_payload a ≡ item_payload b → a ≡ b
+pub same_item : (a b : Name × BundleValue) → IsBundle a.1 → IsBundle b.1 → item_payload a ≡ item_payload b → a ≡ b
 same_item a b lawful_a lawful_b same =
     let rest = cons_tail 105 105 (length a.0 ∷ a.0 ++ text_of a.1) (length b.0 ∷ b.0 ++ text_of b.1) same in
     let sizes : length a.0 ≡ length b.0 = cons_head (length a.0) (length b.0) (a.0 ++ text_of a.1) (b.0 ++ text_of b.1) rest in

@@ -17,3 +17,4 @@ pub mod AnswerLemmas
 pub mod ClientLemmas
 pub mod AskingLaws
 pub mod MapAnswers
+pub mod ListingLemmas

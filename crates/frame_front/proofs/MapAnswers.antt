@@ -22,11 +22,11 @@ use Rattle.frame_front.specs.Frame.{frame}
 use Rattle.frame_front.specs.Reply.{code_of}
 use Rattle.frame_front.specs.Answer.{MayAnswer, is_code_for}
 
-one_code : (code : ℕ) (rest : List ℕ) → code_of (frame (code ∷ rest)) ≡ code
+pub one_code : (code : ℕ) (rest : List ℕ) → code_of (frame (code ∷ rest)) ≡ code
 unfolding frame
 one_code code rest = refl
 
-first_code : (code : ℕ) (rest more : List ℕ) → code_of (frame (code ∷ rest) ++ more) ≡ code
+pub first_code : (code : ℕ) (rest more : List ℕ) → code_of (frame (code ∷ rest) ++ more) ≡ code
 unfolding frame
 first_code code rest more = refl
 

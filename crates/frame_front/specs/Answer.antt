@@ -1,5 +1,5 @@
 -- What a payload of one frame tells, if it is the code of an answer.
-use Rattle.std.specs.Prelude.{◌≡◌, ℕ, List, [], ◌∷◌, length, take, drop, bytes_eq, Bool, true, ◌==◌, ◌||◌, if◌then◌else◌, Option, Some, None, option_map, Result, Ok, Err}
+use Rattle.std.specs.Prelude.{◌≡◌, ◌<◌, ◌^◌, ℕ, List, [], ◌∷◌, length, take, drop, bytes_eq, Bool, true, ◌==◌, ◌||◌, if◌then◌else◌, Option, Some, None, option_map, Result, Ok, Err}
 use Rattle.std.specs.Int.{w32, w64, from_be_bytes}
 use Rattle.spiffe_doc.specs.Authority.{BundleValue}
 use Rattle.spiffe_doc.specs.Bundle.{IsBundle}
@@ -17,6 +17,7 @@ use Rattle.map_core.specs.declared.reply.MapRefusal.TheVariants.{NoDomain, Stale
 use Rattle.map_core.specs.declared.reply.AskError.{AskError}
 use Rattle.map_core.specs.declared.reply.AskError.TheVariants.{Memory, Worn, Moved, Held, GateShut}
 use Rattle.frame_front.specs.Reply.{coded, code_of, is_error_code}
+use Rattle.frame_front.specs.Dump.{AreValid, Ascends}
 
 -- whoever is asked gave an answer, or an error
 abbrev pub Answer : Type 0
@@ -42,14 +43,14 @@ is_code_for op code = is_error_code code || is_reply_code_for op code
 abbrev pub MayAnswer : Op → Answer → Type 0
 MayAnswer op answer = is_code_for op (code_of (coded answer)) ≡ true
 
--- what is found is lawful
+-- The bundle that is found is lawful. Of all, each name is one and each bundle lawful, and they are in order of their names.
 abbrev pub IsLawfulAnswer : Answer → Type 0
 IsLawfulAnswer (Ok Stored) = Unit {0}
 IsLawfulAnswer (Ok Unchanged) = Unit {0}
 IsLawfulAnswer (Ok (Appended sequence)) = Unit {0}
 IsLawfulAnswer (Ok Removed) = Unit {0}
 IsLawfulAnswer (Ok (Found bundle)) = IsBundle bundle
-IsLawfulAnswer (Ok (All items)) = Unit {0}
+IsLawfulAnswer (Ok (All items)) = AreValid items × Ascends None items × (length items < 2 ^ 64)
 IsLawfulAnswer (Ok (Refused why)) = Unit {0}
 IsLawfulAnswer (Err error) = Unit {0}
 

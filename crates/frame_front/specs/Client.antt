@@ -10,18 +10,18 @@ use Rattle.frame_front.specs.declared.client_error.ClientError.TheVariants.{Memo
 use Rattle.frame_front.specs.Frame.{HasFrames, IsBadLength}
 use Rattle.frame_front.specs.Reply.{coded, version_frame}
 use Rattle.frame_front.specs.Outbox.{WritesFront}
-use Rattle.frame_front.specs.Asking.{request_bytes}
+use Rattle.frame_front.specs.Asking.{request_bytes, is_written}
 use Rattle.frame_front.specs.Reading.{CountsFault}
 use Rattle.frame_front.specs.Answer.{Answer, MayAnswer, IsLawfulAnswer}
 
--- whether a client asks such operations: all but an append and a fetch-all
-abbrev pub is_asked : Op → Bool
-is_asked (Set d b) = true
-is_asked (SetIf d expect b) = true
-is_asked (Append d a) = false
-is_asked (Remove d) = true
-is_asked (Get d) = true
-is_asked FetchAll = false
+-- whether the reply to the operation is one frame: to all but a fetch-all
+abbrev pub is_of_one : Op → Bool
+is_of_one (Set d b) = true
+is_of_one (SetIf d expect b) = true
+is_of_one (Append d a) = true
+is_of_one (Remove d) = true
+is_of_one (Get d) = true
+is_of_one FetchAll = false
 
 -- the reply to the request that sets version 2
 abbrev pub reply_preface : Op → List ℕ
@@ -73,6 +73,7 @@ pub record IsAnswered (op : Op) (answer : Answer) (old new : Ends) : Type 0 wher
   pub written : Appends old.held new.held (request_bytes op)
   pub read : Consumes old.left new.left (reply_bytes op answer)
   pub may : MayAnswer op answer
+  pub lawful : IsLawfulAnswer answer
   pub quiet_reader : new.read_faults ≡ old.read_faults
   pub quiet_writer : new.write_faults ≡ old.write_faults
 
@@ -109,10 +110,10 @@ pub record ClientState : Type 0 where
   pub ends : Ends
   pub ended : Option ClientError
 
--- Nothing is written or read: the client had ended, or it doesn't ask such operations, or it had no memory to begin.
+-- Nothing is written or read: the client had ended, or it doesn't write such requests, or it had no memory to begin.
 abbrev pub IsIdle : ClientState → Op → Answer → ClientState → Type 0
 IsIdle old op answer new = (new ≡ old)
-    × (((answer ≡ Err error.GateShut) × ((old.ended ≢ None) ⊎ (is_asked op ≡ false))) ⊎ ((answer ≡ Err error.Memory) × (old.ended ≡ None)))
+    × (((answer ≡ Err error.GateShut) × ((old.ended ≢ None) ⊎ (is_written op ≡ false))) ⊎ ((answer ≡ Err error.Memory) × (old.ended ≡ None) × (is_written op ≡ true)))
 
 -- the reply is the answer
 abbrev pub IsAsked : Option ClientError → Op → Answer → Ends → Ends → Type 0
@@ -123,4 +124,4 @@ IsAsked (Some why) op answer old new = (answer ≡ Err error.GateShut) × Exchan
 -- ended now, for this reason. If it had, it does nothing.
 abbrev pub Asks : ClientState → Op → Answer → ClientState → Type 0
 Asks old op answer new =
-    IsIdle old op answer new ⊎ ((old.ended ≡ None) × (is_asked op ≡ true) × IsAsked new.ended op answer old.ends new.ends)
+    IsIdle old op answer new ⊎ ((old.ended ≡ None) × (is_written op ≡ true) × IsAsked new.ended op answer old.ends new.ends)

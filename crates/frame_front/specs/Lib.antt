@@ -17,3 +17,4 @@ pub mod Reading
 pub mod Answer
 pub mod Client
 pub mod ClientLaws
+pub mod Listing

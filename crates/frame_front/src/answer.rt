@@ -2,10 +2,11 @@
 ghost use Rattle.std.specs.Prelude.{◌≡◌, ◌∷◌, ◌++◌, IfOk, IfSome, IfNone, None, Ok, Err, Some, length};
 ghost use Rattle.std.specs.Int.{w32, w64, to_be_bytes, from_be_bytes};
 ghost use Rattle.map_core.specs.Reply.{refusal_number, error_number};
+ghost use Rattle.spiffe_doc.specs.Bundle.{IsBundle};
 ghost use Rattle.spiffe_doc.specs.Text.{text_of};
 ghost use Rattle.frame_front.specs.Frame.{frame};
 ghost use Rattle.frame_front.specs.Reply.{coded, coded_reply, place_bytes, sequence_bytes, expect_bytes, map_detail, error_detail};
-ghost use Rattle.frame_front.specs.Answer.{number_of, sequence_of, expect_of, refusal_of, worn_of, held_of, moved_of, error_of, found_of, reply_of, answer_of, is_code_for as code_for};
+ghost use Rattle.frame_front.specs.Answer.{number_of, sequence_of, expect_of, refusal_of, worn_of, held_of, moved_of, error_of, found_of, reply_of, answer_of, is_code_for as code_for, IsLawfulAnswer};
 
 use crate::reply::is_error_code;
 use map_core::{AskError, Expect, MapRefusal, Op, Reply};
@@ -40,7 +41,7 @@ fn spelled_number(bytes: &[u8]) -> u64
 
 /// A number of 8 bytes, and nothing more.
 #[tactic(auto, unfolding(crate::specs::Answer::number_of))]
-fn read_number(bytes: &[u8]) -> Option<u64>
+pub(crate) fn read_number(bytes: &[u8]) -> Option<u64>
     ensures value { result ≡ number_of bytes.now }
     ensures found { IfSome result (λ number. bytes.now ≡ to_be_bytes w64 number) }
 {
@@ -156,7 +157,7 @@ fn read_held(bytes: &[u8]) -> Option<AskError>
 }
 
 #[tactic(auto, unfolding(crate::specs::Answer::error_of))]
-fn read_error(code: u8, bytes: &[u8]) -> Option<AskError>
+pub(crate) fn read_error(code: u8, bytes: &[u8]) -> Option<AskError>
     ensures value { result ≡ error_of code bytes.now }
     ensures found { IfSome result (λ error. code ∷ bytes.now ≡ error_number error ∷ error_detail error) }
 {
@@ -174,10 +175,11 @@ fn read_error(code: u8, bytes: &[u8]) -> Option<AskError>
 #[tactic(auto, unfolding(crate::specs::Answer::found_of))]
 fn read_found(alloc: Global, bytes: &[u8]) -> Result<Option<Bundle>, AllocError>
     ensures value { IfOk result (λ found. found_of bytes.now ≡ found) }
-    ensures found { IfOk result (λ found. IfSome found (λ bundle. bytes.now ≡ text_of bundle)) }
+    ensures found { IfOk result (λ found. IfSome found (λ bundle. (bytes.now ≡ text_of bundle) × IsBundle bundle)) }
 {
     match read_document(alloc, bytes) {
         Ok(bundle) => {
+            let _authorities = bundle.authorities();
             if bundle.text() == bytes {
                 Ok(Some(bundle))
             } else {
@@ -193,7 +195,7 @@ fn read_found(alloc: Global, bytes: &[u8]) -> Result<Option<Bundle>, AllocError>
 #[tactic(auto, unfolding(crate::specs::Answer::reply_of))]
 fn read_reply(alloc: Global, code: u8, bytes: &[u8]) -> Result<Option<Reply>, AllocError>
     ensures value { IfOk result (λ told. reply_of code bytes.now ≡ told) }
-    ensures found { IfOk result (λ told. IfSome told (λ reply. frame (code ∷ bytes.now) ≡ coded_reply reply)) }
+    ensures found { IfOk result (λ told. IfSome told (λ reply. (frame (code ∷ bytes.now) ≡ coded_reply reply) × IsLawfulAnswer (Ok reply))) }
 {
     match (code, bytes) {
         (b's', []) => Ok(Some(Reply::Stored)),
@@ -213,7 +215,7 @@ pub(crate) fn read_answer(
     payload: &[u8],
 ) -> Result<Option<Result<Reply, AskError>>, AllocError>
     ensures value { IfOk result (λ told. answer_of payload.now ≡ told) }
-    ensures found { IfOk result (λ told. IfSome told (λ answer. frame payload.now ≡ coded answer)) }
+    ensures found { IfOk result (λ told. IfSome told (λ answer. (frame payload.now ≡ coded answer) × IsLawfulAnswer answer)) }
 {
     let Some((code, bytes)) = payload.split_first() else {
         return Ok(None);

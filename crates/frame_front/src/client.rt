@@ -4,12 +4,14 @@ ghost use Rattle.std.specs.Io.KnownBytes.{Consumes};
 ghost use Rattle.frame_front.specs.Frame.{IsPayload, frame};
 ghost use Rattle.frame_front.specs.Reading.{CountsFault};
 ghost use Rattle.frame_front.specs.Reply.{coded};
-ghost use Rattle.frame_front.specs.Answer.{MayAnswer};
-ghost use Rattle.frame_front.specs.Client.{Breaks, BeginsNoReply, is_asked as can_be_asked, reply_preface, reply_bytes, Exchange, ends};
+ghost use Rattle.frame_front.specs.Answer.{MayAnswer, IsLawfulAnswer};
+ghost use Rattle.frame_front.specs.Asking.{is_written as can_be_written};
+ghost use Rattle.frame_front.specs.Client.{Breaks, BeginsNoReply, is_of_one as has_one_frame, reply_preface, reply_bytes, Exchange, ends};
 
 use crate::answer::{is_code_for, read_answer};
-use crate::asking::write_request;
+use crate::asking::{is_written, write_request};
 use crate::frame::MAX_PAYLOAD;
+use crate::listing::read_all;
 use crate::reading::read_frame;
 use crate::{ClientError, Counted};
 use map_core::{Ask, AskError, Op, Reply};
@@ -88,7 +90,7 @@ impl<R: Read, W: Write> Ask for Client<R, W> {
     ghost answers_plainly = { client_shows_nothing };
 
     fn ask(&mut self, op: Op) -> Result<Reply, AskError> {
-        if self.ended.is_some() || !is_asked(&op) {
+        if self.ended.is_some() || !is_written(&op) {
             return Err(AskError::GateShut);
         }
         if self.buffer.len() != MAX_PAYLOAD {
@@ -112,18 +114,18 @@ fn room(alloc: Global, size: usize) -> Result<Vec<u8>, AllocError>
     vec![in alloc; 0; size]
 }
 
-/// Whether a client asks such operations: all but an append and a fetch-all.
-fn is_asked(op: &Op) -> bool
-    ensures { result ≡ can_be_asked op.now }
+/// Whether the reply to the operation is one frame.
+fn is_of_one(op: &Op) -> bool
+    ensures { result ≡ has_one_frame op.now }
 {
-    !matches!(op, Op::Append(_, _) | Op::FetchAll)
+    !matches!(op, Op::FetchAll)
 }
 
 /// The answer that the payload of a reply tells.
 fn told(alloc: Global, op: &Op, payload: &[u8]) -> Result<Result<Reply, AskError>, ClientError>
-    requires asked { can_be_asked op.now ≡ true }
+    requires of_one { has_one_frame op.now ≡ true }
     requires payload { IsPayload payload.now }
-    ensures ok { IfOk result (λ answer. MayAnswer op.now answer × (frame payload.now ≡ coded answer)) }
+    ensures ok { IfOk result (λ answer. MayAnswer op.now answer × IsLawfulAnswer answer × (frame payload.now ≡ coded answer)) }
     ensures bad { result ≡ Err ClientError.BadReply → BeginsNoReply op.now coded (frame payload.now) }
     ensures why { IfErr result (λ why. (why ≡ ClientError.BadReply) ⊎ (why ≡ ClientError.Memory)) }
 {
@@ -172,18 +174,18 @@ fn read_preface<R: Read>(
     }
 }
 
-/// Reads the reply to the operation's own request.
-fn read_told<R: Read>(
+/// Reads the reply to the operation's own request, where it is one frame.
+fn read_one<R: Read>(
     alloc: Global,
     reader: &mut Counted<R>,
     buffer: &mut [u8],
     op: &Op,
 ) -> Result<Result<Reply, AskError>, ClientError>
-    requires asked { can_be_asked op.now ≡ true }
+    requires of_one { has_one_frame op.now ≡ true }
     requires room { length buffer.old ≡ 1049000 }
     requires count { reader.old.faults < 2 ^ 64 - 1 }
     ensures len { length buffer.new ≡ length buffer.old }
-    ensures ok { IfOk result (λ answer. MayAnswer op.now answer
+    ensures ok { IfOk result (λ answer. MayAnswer op.now answer × IsLawfulAnswer answer
         × Consumes (R.remaining reader.old.end) (R.remaining reader.new.end) (coded answer)) }
     ensures quiet { OnOk result (reader.new.faults ≡ reader.old.faults) }
     ensures err { IfErr result (λ why. (read : List ℕ)
@@ -195,6 +197,31 @@ fn read_told<R: Read>(
     told(alloc, op, &buffer[..size])
 }
 
+/// Reads the reply to the operation's own request.
+fn read_told<R: Read>(
+    alloc: Global,
+    reader: &mut Counted<R>,
+    buffer: &mut [u8],
+    op: &Op,
+) -> Result<Result<Reply, AskError>, ClientError>
+    requires room { length buffer.old ≡ 1049000 }
+    requires count { reader.old.faults < 2 ^ 64 - 1 }
+    ensures len { length buffer.new ≡ length buffer.old }
+    ensures ok { IfOk result (λ answer. MayAnswer op.now answer × IsLawfulAnswer answer
+        × Consumes (R.remaining reader.old.end) (R.remaining reader.new.end) (coded answer)) }
+    ensures quiet { OnOk result (reader.new.faults ≡ reader.old.faults) }
+    ensures err { IfErr result (λ why. (read : List ℕ)
+        × Consumes (R.remaining reader.old.end) (R.remaining reader.new.end) read
+        × Breaks op.now coded why read (R.remaining reader.new.end)) }
+    ensures counted { IfErr result (λ why. CountsFault why reader.old.faults reader.new.faults) }
+{
+    if is_of_one(op) {
+        read_one(alloc, reader, buffer, op)
+    } else {
+        read_all(alloc, reader, buffer)
+    }
+}
+
 /// Reads the reply to an operation.
 fn read_reply<R: Read>(
     alloc: Global,
@@ -202,11 +229,10 @@ fn read_reply<R: Read>(
     buffer: &mut [u8],
     op: &Op,
 ) -> Result<Result<Reply, AskError>, ClientError>
-    requires asked { can_be_asked op.now ≡ true }
     requires room { length buffer.old ≡ 1049000 }
     requires count { reader.old.faults < 2 ^ 64 - 1 }
     ensures len { length buffer.new ≡ length buffer.old }
-    ensures ok { IfOk result (λ answer. MayAnswer op.now answer
+    ensures ok { IfOk result (λ answer. MayAnswer op.now answer × IsLawfulAnswer answer
         × Consumes (R.remaining reader.old.end) (R.remaining reader.new.end) (reply_bytes op.now answer)) }
     ensures quiet { OnOk result (reader.new.faults ≡ reader.old.faults) }
     ensures err { IfErr result (λ why. (read : List ℕ)
@@ -226,7 +252,7 @@ fn exchange<R: Read, W: Write>(
     buffer: &mut [u8],
     op: &Op,
 ) -> Result<Result<Reply, AskError>, ClientError>
-    requires asked { can_be_asked op.now ≡ true }
+    requires written { can_be_written op.now ≡ true }
     requires room { length buffer.old ≡ 1049000 }
     requires reader_count { reader.old.faults < 2 ^ 64 - 1 }
     requires writer_count { writer.old.faults < 2 ^ 64 - 1 }

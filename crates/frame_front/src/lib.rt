@@ -17,6 +17,7 @@ mod error;
 mod faulty;
 mod frame;
 pub mod laws;
+mod listing;
 mod outbox;
 mod reading;
 mod refusal;

@@ -18,7 +18,7 @@ use std::marker::Model;
 const HEAD_BYTES: usize = 25;
 
 /// A code, a length and the longest name.
-const ITEM_HEAD_BYTES: usize = 257;
+pub(crate) const ITEM_HEAD_BYTES: usize = 257;
 
 /// The code of a reply stands after its length.
 const CODE_PLACE: usize = 4;

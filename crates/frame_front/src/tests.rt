@@ -4,6 +4,7 @@ mod clients;
 mod decoders;
 mod dumps;
 mod ends;
+mod exchanges;
 mod numbers;
 mod refusals;
 mod replies;

@@ -1,172 +1,12 @@
 //! Clients: what they write, and what they make of what they read.
-use super::{Calls, FETCH_ALL, GET, Pieces, SET};
+use super::exchanges::{Asked, EXCHANGES, Exchange, op, words};
+use super::{ALL_OF_ONE, Calls, FETCH_ALL, Pieces, SET};
 use crate::{Client, ClientError, Counted, FaultyReader, FaultyWriter, serve, write_request};
 use map_core::{Ask, AskError, Contents, Expect, Op, Reply};
-use spiffe_doc::{TrustDomain, read_document, read_entry};
+use spiffe_doc::{TrustDomain, read_entry};
 use std::alloc::{AllocError, Global};
 use std::process::Abort;
 use std::test::Fail;
-
-/// What is asked of `a`, with the empty document unless another sequence is given.
-#[derive(Clone, Copy)]
-enum Asked {
-    Set,
-    SetIf(Expect),
-    Remove,
-    Get,
-}
-
-const EMPTY: &[u8] = b"{\"keys\":[]}";
-
-const SET_IF_ABSENT: &[u8] = b"\x00\x00\x00\x02V\x02\x00\x00\x00\x0fC\x01a\x00{\"keys\":[]}";
-
-const SET_IF_SEQUENCE: &[u8] =
-    b"\x00\x00\x00\x02V\x02\x00\x00\x00\x17C\x01a\x01\x00\x00\x00\x00\x00\x00\x01\x07{\"keys\":[]}";
-
-const SET_IF_UNNUMBERED: &[u8] = b"\x00\x00\x00\x02V\x02\x00\x00\x00\x0fC\x01a\x02{\"keys\":[]}";
-
-const REMOVE: &[u8] = b"\x00\x00\x00\x03R\x01a";
-
-fn op(alloc: Global, ask: Asked) -> Result<Op, Fail> {
-    let domain = TrustDomain::parse(alloc, "a")?;
-    let bundle = read_document(alloc, EMPTY)?;
-    Ok(match ask {
-        Asked::Set => Op::Set(domain, bundle),
-        Asked::SetIf(expect) => Op::SetIf(domain, expect, bundle),
-        Asked::Remove => Op::Remove(domain),
-        Asked::Get => Op::Get(domain),
-    })
-}
-
-/// An answer in words.
-fn words(alloc: Global, answer: &Result<Reply, AskError>) -> Result<String, AllocError> {
-    match answer {
-        Ok(Reply::Stored) => String::from_str(alloc, "stored"),
-        Ok(Reply::Unchanged) => String::from_str(alloc, "unchanged"),
-        Ok(Reply::Appended(sequence)) => format!(in alloc; "appended {sequence:?}"),
-        Ok(Reply::Removed) => String::from_str(alloc, "removed"),
-        Ok(Reply::Found(bundle)) => {
-            format!(in alloc; "found {:?} {} bytes", bundle.sequence(), bundle.text_len())
-        }
-        Ok(Reply::All(snapshot)) => format!(in alloc; "all {}", snapshot.len()),
-        Ok(Reply::Refused(why)) => format!(in alloc; "refused {}: {why}", why.number()),
-        Err(error) => format!(in alloc; "error {}: {error}", error.number()),
-    }
-}
-
-/// An exchange: what is asked, what is written, what is read, and what it is answered.
-#[derive(Clone, Copy)]
-struct Exchange<'a> {
-    ask: Asked,
-    request: &'a [u8],
-    reply: &'a [u8],
-    answer: &'a str,
-}
-
-const EXCHANGES: [Exchange<'static>; 17] = [
-    Exchange {
-        ask: Asked::Set,
-        request: SET,
-        reply: b"\x00\x00\x00\x01s",
-        answer: "stored",
-    },
-    Exchange {
-        ask: Asked::Set,
-        request: SET,
-        reply: b"\x00\x00\x00\x01u",
-        answer: "unchanged",
-    },
-    Exchange {
-        ask: Asked::Set,
-        request: SET,
-        reply: b"\x00\x00\x00\x09\x1f\x00\x00\x00\x00\x00\x00\x01\x02",
-        answer: "refused 31: the sequence is lower than 258, which the name had",
-    },
-    Exchange {
-        ask: Asked::Remove,
-        request: REMOVE,
-        reply: b"\x00\x00\x00\x01d",
-        answer: "removed",
-    },
-    Exchange {
-        ask: Asked::Remove,
-        request: REMOVE,
-        reply: b"\x00\x00\x00\x01\x1e",
-        answer: "refused 30: no bundle stands under the name",
-    },
-    Exchange {
-        ask: Asked::Get,
-        request: GET,
-        reply: b"\x00\x00\x00\x0cf{\"keys\":[]}",
-        answer: "found None 11 bytes",
-    },
-    Exchange {
-        ask: Asked::Get,
-        request: GET,
-        reply: b"\x00\x00\x00\x20f{\"keys\":[],\"spiffe_sequence\":7}",
-        answer: "found Some(7) 31 bytes",
-    },
-    Exchange {
-        ask: Asked::SetIf(Expect::Absent),
-        request: SET_IF_ABSENT,
-        reply: b"\x00\x00\x00\x02v\x02\x00\x00\x00\x01s",
-        answer: "stored",
-    },
-    Exchange {
-        ask: Asked::SetIf(Expect::Sequence(263)),
-        request: SET_IF_SEQUENCE,
-        reply: b"\x00\x00\x00\x02v\x02\x00\x00\x00\x02\x24\x00",
-        answer: "refused 36: what stands there is not what was expected: it is no bundle",
-    },
-    Exchange {
-        ask: Asked::SetIf(Expect::Absent),
-        request: SET_IF_ABSENT,
-        reply: b"\x00\x00\x00\x02v\x02\x00\x00\x00\x0a\x24\x01\x00\x00\x00\x00\x00\x00\x01\x07",
-        answer: "refused 36: what stands there is not what was expected: it is a bundle of sequence 263",
-    },
-    Exchange {
-        ask: Asked::SetIf(Expect::Absent),
-        request: SET_IF_ABSENT,
-        reply: b"\x00\x00\x00\x02v\x02\x00\x00\x00\x02\x24\x02",
-        answer: "refused 36: what stands there is not what was expected: it is a bundle without a sequence",
-    },
-    Exchange {
-        ask: Asked::SetIf(Expect::Unnumbered),
-        request: SET_IF_UNNUMBERED,
-        reply: b"\x00\x00\x00\x02v\x02\x00\x00\x00\x01\x16",
-        answer: "error 22: out of memory",
-    },
-    Exchange {
-        ask: Asked::Set,
-        request: SET,
-        reply: b"\x00\x00\x00\x01\x16",
-        answer: "error 22: out of memory",
-    },
-    Exchange {
-        ask: Asked::Set,
-        request: SET,
-        reply: b"\x00\x00\x00\x05\x28\x00\x00\x00\xff",
-        answer: "error 40: shard 255 has used up its revisions",
-    },
-    Exchange {
-        ask: Asked::Get,
-        request: GET,
-        reply: b"\x00\x00\x00\x15\x29\x00\x00\x00\x03\x00\x00\x00\x00\x00\x00\x01\x00\x00\x00\x00\x00\x00\x00\x01\x02",
-        answer: "error 41: shard 3 moved from revision 256 to 258 before all shards were read",
-    },
-    Exchange {
-        ask: Asked::Get,
-        request: GET,
-        reply: b"\x00\x00\x00\x0d\x2a\x00\x00\x00\x01\x00\x00\x00\x00\x00\x00\x00\x03",
-        answer: "error 42: shard 1 is held at revision 3",
-    },
-    Exchange {
-        ask: Asked::Remove,
-        request: REMOVE,
-        reply: b"\x00\x00\x00\x01\x38",
-        answer: "error 56: the gate is shut",
-    },
-];
 
 /// The bytes, and then one more.
 fn and_one(alloc: Global, bytes: &[u8]) -> Result<Vec<u8>, AllocError> {
@@ -327,6 +167,33 @@ fn what_is_no_reply(rt: HostRuntime) -> Result<(), Fail> {
     Ok(())
 }
 
+// Fetch-alls: no number, another reply, names that do not rise, a frame of no domain, another text.
+#[test]
+fn what_is_no_listing(rt: HostRuntime) -> Result<(), Fail> {
+    let bad: [&[u8]; 10] = [
+        b"\x00\x00\x00\x01s",
+        b"\x00\x00\x00\x01\x1e",
+        b"\x00\x00\x00\x08a\x00\x00\x00\x00\x00\x00\x00",
+        b"\x00\x00\x00\x0aa\x00\x00\x00\x00\x00\x00\x00\x00\x00",
+        b"\x00\x00\x00\x09a\x00\x00\x00\x00\x00\x00\x00\x02\x00\x00\x00\x0ei\x01b{\"keys\":[]}\x00\x00\x00\x0ei\x01a{\"keys\":[]}",
+        b"\x00\x00\x00\x09a\x00\x00\x00\x00\x00\x00\x00\x02\x00\x00\x00\x0ei\x01a{\"keys\":[]}\x00\x00\x00\x0ei\x01a{\"keys\":[]}",
+        b"\x00\x00\x00\x09a\x00\x00\x00\x00\x00\x00\x00\x01\x00\x00\x00\x0ej\x01a{\"keys\":[]}",
+        b"\x00\x00\x00\x09a\x00\x00\x00\x00\x00\x00\x00\x01\x00\x00\x00\x0ei\x01A{\"keys\":[]}",
+        b"\x00\x00\x00\x09a\x00\x00\x00\x00\x00\x00\x00\x01\x00\x00\x00\x0fi\x01a{\"keys\": []}",
+        b"\x00\x00\x00\x09a\x00\x00\x00\x00\x00\x00\x00\x01\x00\x00\x00\x02i\x01",
+    ];
+    for input in bad {
+        let exchange = Exchange {
+            ask: Asked::FetchAll,
+            request: FETCH_ALL,
+            reply: b"",
+            answer: "",
+        };
+        ends_so(&rt, rt.alloc(), &exchange, input, ClientError::BadReply)?;
+    }
+    Ok(())
+}
+
 #[test]
 fn bad_lengths_of_replies(rt: HostRuntime) -> Result<(), Fail> {
     for exchange in EXCHANGES {
@@ -345,7 +212,7 @@ fn bad_lengths_of_replies(rt: HostRuntime) -> Result<(), Fail> {
 #[test]
 fn asks_what_a_session_answers(rt: HostRuntime) -> Result<(), Fail> {
     let alloc = rt.alloc();
-    let steps: [(Asked, &[u8], &str); 9] = [
+    let steps: [(Asked, &[u8], &str); 10] = [
         (
             Asked::Get,
             b"\x00\x00\x00\x01\x1e",
@@ -379,6 +246,7 @@ fn asks_what_a_session_answers(rt: HostRuntime) -> Result<(), Fail> {
             b"\x00\x00\x00\x02v\x02\x00\x00\x00\x01s",
             "stored",
         ),
+        (Asked::FetchAll, ALL_OF_ONE, "all a of 11 bytes"),
     ];
     let mut replies = Vec::new(alloc);
     for (_, reply, _) in steps {
@@ -398,7 +266,7 @@ fn asks_what_a_session_answers(rt: HostRuntime) -> Result<(), Fail> {
     let mut written = Counted::new(Vec::new(alloc));
     let mut contents = Contents::new(alloc);
     let ended = serve(alloc, &mut requests, &mut written, &mut contents, 1000);
-    assert!(rt; ended == Ok(12), "{ended:?}");
+    assert!(rt; ended == Ok(13), "{ended:?}");
     assert!(rt;
         written.end.as_slice() == replies.as_slice(),
         "{:?}",
@@ -426,7 +294,7 @@ fn a_request_is_flushed(rt: HostRuntime) -> Result<(), Fail> {
     Ok(())
 }
 
-// An append and a fetch-all are not asked, and the client goes on.
+// An append is not asked, and the client goes on.
 #[test]
 fn what_is_not_asked(rt: HostRuntime) -> Result<(), Fail> {
     let alloc = rt.alloc();
@@ -438,7 +306,6 @@ fn what_is_not_asked(rt: HostRuntime) -> Result<(), Fail> {
     };
     let append = Op::Append(TrustDomain::parse(alloc, "a")?, authority);
     assert!(rt; matches!(client.ask(append), Err(AskError::GateShut)));
-    assert!(rt; matches!(client.ask(Op::FetchAll), Err(AskError::GateShut)));
     assert!(rt; client.ended().is_none());
     assert!(rt; matches!(client.ask(op(alloc, Asked::Set)?), Ok(Reply::Stored)));
     let (_, writer) = client.into_ends();
@@ -455,19 +322,14 @@ fn requests_one_after_the_other(rt: HostRuntime) -> Result<(), Fail> {
         assert!(rt; write_request(&mut writer, &op(alloc, exchange.ask)?).is_ok());
         want.extend_from_slice(exchange.request)?;
     }
-    assert!(rt; write_request(&mut writer, &Op::FetchAll).is_ok());
-    want.extend_from_slice(FETCH_ALL)?;
     assert!(rt; writer.end.as_slice() == want.as_slice());
     Ok(())
 }
 
 /// To be run with each allocation refused in turn: where memory runs out before the request, the client
 /// says so and goes on; where it runs out at the reply, it has ended.
-#[test]
-fn a_client_without_memory(rt: HostRuntime) -> Result<(), Fail> {
-    let alloc = rt.alloc();
-    let request = op(alloc, Asked::Get)?;
-    let reply: &[u8] = b"\x00\x00\x00\x0cf{\"keys\":[]}";
+fn without_memory(rt: &impl Abort, alloc: Global, ask: Asked, reply: &[u8]) -> Result<(), Fail> {
+    let request = op(alloc, ask)?;
     // Room for the request, so that the writer has no growth of its own.
     let writer = Counted::new(Vec::with_capacity(alloc, 64)?);
     let mut client = Client::new(alloc, Counted::new(reply), writer);
@@ -475,11 +337,22 @@ fn a_client_without_memory(rt: HostRuntime) -> Result<(), Fail> {
     let ended = client.ended();
     let (reader, writer) = client.into_ends();
     let allowed = match answer {
-        Ok(Reply::Found(_)) => ended.is_none() && reader.end.is_empty(),
+        Ok(_) => ended.is_none() && reader.end.is_empty(),
         Err(AskError::Memory) => ended.is_none() && writer.end.is_empty() && reader.end == reply,
         Err(AskError::GateShut) => ended == Some(ClientError::Memory) && reader.end.is_empty(),
         _ => false,
     };
     assert!(rt; allowed, "{ended:?}");
     Ok(())
+}
+
+#[test]
+fn a_get_without_memory(rt: HostRuntime) -> Result<(), Fail> {
+    let reply: &[u8] = b"\x00\x00\x00\x0cf{\"keys\":[]}";
+    without_memory(&rt, rt.alloc(), Asked::Get, reply)
+}
+
+#[test]
+fn a_fetch_all_without_memory(rt: HostRuntime) -> Result<(), Fail> {
+    without_memory(&rt, rt.alloc(), Asked::FetchAll, ALL_OF_ONE)
 }

@@ -1,7 +1,7 @@
 use Rattle.std.proofs.Common.{◌≡◌, Err, ap, ◌∙◌}
 use Rattle.std.proofs.lemmas.Result.{err_from_is_err_and}
 use Rattle.frame_front.proofs.ClientLemmas.{frame_breaks}
-use Rattle.frame_front.proofs.client.read_told.Goals as goal
+use Rattle.frame_front.proofs.client.read_one.Goals as goal
 
 pub returns-in_err-size-clause-err : goal.returns-in_err-size-clause-err
 returns-in_err-size-clause-err g c =
