@@ -1,5 +1,5 @@
 -- Lemmas on the frames of all bundles.
-use Rattle.std.proofs.Common.{◌≡◌, ◌≢◌, ℕ, ◌+◌, ◌<◌, ◌^◌, List, [], ◌∷◌, ◌++◌, length, map, take, drop, append-nil, append_assoc, length-append, arith, refl, sym, ap, ◌∙◌, subst, inl, inr, Result, Ok, Err, Some, None, Bool, true, false}
+use Rattle.std.proofs.Common.{◌≡◌, ◌≢◌, ℕ, ◌+◌, ◌<◌, ◌^◌, List, [], ◌∷◌, ◌++◌, length, map, take, drop, append-nil, append_assoc, length-append, arith, refl, sym, ap, ◌∙◌, subst, inl, inr, Ok, Err, Some, None, true, false}
 use Rattle.std.specs.Prelude.{Option}
 use Rattle.std.specs.List.{flat_map, AllByRecursion}
 use Rattle.std.specs.Io.KnownBytes.{Consumes}
@@ -19,11 +19,11 @@ use Rattle.map_core.specs.declared.reply.MapRefusal.TheVariants.{NoDomain, Stale
 use Rattle.map_core.specs.declared.reply.AskError.{AskError}
 use Rattle.map_core.specs.declared.reply.AskError.TheVariants as error
 use Rattle.map_core.specs.Reply.{error_number}
-use Rattle.frame_front.specs.Frame.{IsPayload, IsUnfinished, IsBadLength, HasFrames, frame}
-use Rattle.frame_front.specs.Reply.{coded, coded_reply, code_of, item_frame, map_detail, error_detail}
+use Rattle.frame_front.specs.Frame.{IsPayload, IsUnfinished, frame}
+use Rattle.frame_front.specs.Reply.{coded, code_of, item_frame, map_detail, error_detail}
 use Rattle.frame_front.specs.Dump.{Domains, AreValid, IsAfter, Ascends, item_of, unless_refused}
 use Rattle.frame_front.specs.Reading.{NoFrame}
-use Rattle.frame_front.specs.Answer.{Answer, MayAnswer, IsLawfulAnswer, is_code_for, number_of, error_of}
+use Rattle.frame_front.specs.Answer.{Answer, MayAnswer, IsLawfulAnswer, is_code_for, number_of}
 use Rattle.frame_front.specs.Client.{Breaks, BeginsNoReply}
 use Rattle.frame_front.specs.Listing.{NoListing, BreaksListing, head_of}
 use Rattle.frame_front.specs.declared.client_error.ClientError.{ClientError}
