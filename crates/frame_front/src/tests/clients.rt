@@ -1,7 +1,9 @@
 //! Clients: what they write, and what they make of what they read.
 use super::exchanges::{Asked, EXCHANGES, Exchange, op, words};
 use super::{ALL_OF_ONE, Calls, FETCH_ALL, Pieces, SET};
-use crate::{Client, ClientError, Counted, FaultyReader, FaultyWriter, serve, write_request};
+use crate::{
+    Client, ClientError, Counted, FaultyReader, FaultyWriter, is_written, serve, write_request,
+};
 use map_core::{Ask, AskError, Contents, Expect, Op, Reply};
 use spiffe_doc::{TrustDomain, read_entry};
 use std::alloc::{AllocError, Global};
@@ -319,7 +321,14 @@ fn requests_one_after_the_other(rt: HostRuntime) -> Result<(), Fail> {
     let mut writer = Counted::new(Vec::new(alloc));
     let mut want = Vec::new(alloc);
     for exchange in EXCHANGES {
-        assert!(rt; write_request(&mut writer, &op(alloc, exchange.ask)?).is_ok());
+        let request = op(alloc, exchange.ask)?;
+        assert!(rt; is_written(&request), "{}", exchange.answer);
+        assert!(rt; writer.faults() == 0, "{}", exchange.answer);
+        assert!(rt;
+            write_request(&mut writer, &request).is_ok(),
+            "{}",
+            exchange.answer
+        );
         want.extend_from_slice(exchange.request)?;
     }
     assert!(rt; writer.end.as_slice() == want.as_slice());
