@@ -9,4 +9,4 @@ client_number BadLength = 50
 client_number Truncated = 52
 client_number ReadFault = 53
 client_number WriteFault = 54
-client_number BadReply = 57
+client_number BadReply = 58

@@ -34,7 +34,7 @@ impl ClientError {
             ClientError::Truncated => 52,
             ClientError::ReadFault => 53,
             ClientError::WriteFault => 54,
-            ClientError::BadReply => 57,
+            ClientError::BadReply => 58,
         }
     }
 }

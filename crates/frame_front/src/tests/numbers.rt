@@ -40,7 +40,7 @@ fn errors_that_end_a_client(rt: HostRuntime) -> Result<(), Fail> {
         ),
         (
             ClientError::BadReply,
-            57,
+            58,
             "what came is no reply to the request",
         ),
         (
