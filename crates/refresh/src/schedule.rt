@@ -1,5 +1,5 @@
 //! When each of many relationships is due.
-ghost use Rattle.std.specs.Prelude.{◌≡◌, ◌<◌, length, slice_get, slice_index, slice_set, replicate, MatchOption, MatchResult, IfOk, Some};
+ghost use Rattle.std.specs.Prelude.{◌≡◌, ◌<◌, length, slice_get, slice_index, slice_set, replicate, MatchOption, MatchResult, IfOk, IfSome, Some};
 ghost use Rattle.refresh.specs.Relationship.{RelationshipValue};
 ghost use Rattle.refresh.specs.Refresh.{Refreshes};
 ghost use Rattle.refresh.specs.Schedule.{IsNext};
@@ -47,7 +47,8 @@ impl Schedule {
     /// The place of the relationship that is due first, from 0, and when it is due; of several that are due then, the
     /// first place. None if there is no relationship. It looks at all of them.
     pub fn next(&self) -> Option<(usize, u64)>
-        ensures { MatchOption result (length self.now.due_times ≡ 0) (λ next. IsNext self.now.due_times next.0 next.1) }
+        ensures least { MatchOption result (length self.now.due_times ≡ 0) (λ next. IsNext self.now.due_times next.0 next.1) }
+        ensures inside { IfSome result (λ next. next.0 < length self.now.relationships) }
     {
         let mut least = (0, *self.due_times.first()?);
         for place in 1..self.due_times.len() {
