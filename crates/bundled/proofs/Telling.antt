@@ -1,10 +1,13 @@
 -- What is told where no call failed, and whose fault is told.
-use Rattle.std.proofs.Common.{◌≡◌, ℕ, ◌<◌, ◌-◌, ◌^◌, Result, Ok, Err, OnOk, OnErr, refl, arith}
+use Rattle.std.proofs.Common.{◌≡◌, ℕ, ◌<◌, ◌-◌, ◌^◌, List, [], ◌++◌, Result, Ok, Err, OnOk, OnErr, refl, sym, ap, subst, ◌∙◌, inl, inr, arith}
+use Rattle.std.proofs.KnownBytes.{Appends-nil, Appends-trans}
+use Rattle.frame_front.proofs.SessionLemmas.{WritesFront-none, WritesFront-longer, WritesFront-then}
 use Rattle.frame_front.specs.Counted.{next_count}
 use Rattle.frame_front.specs.declared.error.FrontError.{FrontError}
 use Rattle.frame_front.specs.declared.error.FrontError.TheVariants.{BadLength, Truncated, ReadFault, WriteFault, TurnsUsed, Memory}
 use Rattle.bundled.specs.declared.fault.Fault.TheVariants.{Front}
-use Rattle.bundled.specs.Streams.{Streams, Blames}
+use Rattle.bundled.specs.Streams.{Streams, End, Blames, Tells}
+use Rattle.bundled.specs.Refresh.{Follows}
 
 -- a call that fails is counted, so what holds if it did not fail holds if no more calls are counted
 pub holds_if_none_failed : {T F A : Type 0} (written : Result T F) (old new : ℕ) → old < 2 ^ 64 - 1 → OnOk written A
@@ -21,3 +24,19 @@ blames_a_session BadLength old new reads writes = tt
 blames_a_session Truncated old new reads writes = tt
 blames_a_session TurnsUsed old new reads writes = tt
 blames_a_session Memory old new reads writes = tt
+
+-- nothing is told, and nothing has changed
+pub tells_nothing : (e : End) → Tells e e []
+tells_nothing e = record { front = WritesFront-none e.bytes []; whole = λ same. Appends-nil e.bytes }
+
+-- what was told, and the text that follows it
+pub tells_more : (start old new : End) (lines text : List ℕ) → Tells start old lines → Follows start.faults old new text → Tells start new (lines ++ text)
+tells_more start old new lines text told (inl follows) = record {
+  front = WritesFront-then start.bytes old.bytes new.bytes lines text (told.whole follows.0) follows.1.front;
+  whole = λ same. Appends-trans start.bytes old.bytes new.bytes lines text (told.whole follows.0) (follows.1.whole (same ∙ sym follows.0));
+}
+tells_more start old new lines text told (inr failed) =
+    subst (λ (e : End). Tells start e (lines ++ text)) (sym failed.1) record {
+      front = WritesFront-longer start.bytes old.bytes lines text told.front;
+      whole = λ same. absurd (failed.0 same);
+    }

@@ -2,15 +2,32 @@
 use Rattle.std.specs.Prelude.{ℕ, List, [], ◌∷◌, ◌++◌, Option, Some, None, codes, decimal}
 use Rattle.frame_front.specs.Error.{front_number}
 use Rattle.frame_front.specs.Dump.{dump_number}
+use Rattle.frame_front.specs.ClientError.{client_number}
+use Rattle.refresh.specs.Number.{relation_number}
 use Rattle.frame_front.specs.declared.dump.DumpError.TheVariants as dumps
+use Rattle.bundled.specs.declared.fault.RefreshFault.{RefreshFault}
+use Rattle.bundled.specs.declared.fault.RefreshFault.TheVariants.{BadRelationship, Client, NoConnection, NoClock}
 use Rattle.bundled.specs.declared.fault.Fault.{Fault}
-use Rattle.bundled.specs.declared.fault.Fault.TheVariants.{Front, Dump, BadLine, InputTooLong}
+use Rattle.bundled.specs.declared.fault.Fault.TheVariants.{Front, Dump, BadLine, InputTooLong, Refresh}
+
+abbrev pub refresh_number : RefreshFault → ℕ
+refresh_number (BadRelationship error line) = relation_number error
+refresh_number (Client error) = client_number error
+refresh_number NoConnection = 57
+refresh_number NoClock = 72
+
+abbrev pub refresh_place : RefreshFault → Option ℕ
+refresh_place (BadRelationship error line) = Some line
+refresh_place (Client error) = None
+refresh_place NoConnection = None
+refresh_place NoClock = None
 
 abbrev pub fault_number : Fault → ℕ
 fault_number (Front error) = front_number error
 fault_number (Dump error) = dump_number error
 fault_number (BadLine line) = 70
 fault_number InputTooLong = 71
+fault_number (Refresh fault) = refresh_number fault
 
 -- the number that says where, if there is one: a frame of a dump, or a line
 abbrev pub fault_place : Fault → Option ℕ
@@ -19,6 +36,7 @@ fault_place (Dump (dumps.BadDump frame)) = Some frame
 fault_place (Dump dumps.Memory) = None
 fault_place (BadLine line) = Some line
 fault_place InputTooLong = None
+fault_place (Refresh fault) = refresh_place fault
 
 -- a space and the number
 abbrev pub place_text : Option ℕ → List ℕ

@@ -5,4 +5,6 @@ pub mod Input
 pub mod Run
 pub mod Migrate
 pub mod Trace
+pub mod Target
+pub mod Refresh
 pub mod Command

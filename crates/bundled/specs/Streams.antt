@@ -5,7 +5,7 @@ use Rattle.frame_front.specs.declared.counted.Counted.{Counted}
 use Rattle.frame_front.specs.declared.error.FrontError.TheVariants.{BadLength, Truncated, ReadFault, WriteFault, TurnsUsed, Memory}
 use Rattle.frame_front.specs.Outbox.{WritesFront}
 use Rattle.bundled.specs.declared.fault.Fault.{Fault}
-use Rattle.bundled.specs.declared.fault.Fault.TheVariants.{Front, Dump, BadLine, InputTooLong}
+use Rattle.bundled.specs.declared.fault.Fault.TheVariants.{Front, Dump, BadLine, InputTooLong, Refresh}
 use Rattle.bundled.specs.Fault.{fault_line}
 
 -- the bytes that a reader has left or a writer holds, if they are known, and how many of its calls have failed
@@ -42,6 +42,7 @@ Blames (Front Memory) old new = Unit {0}
 Blames (Dump error) old new = Unit {0}
 Blames (BadLine line) old new = Unit {0}
 Blames InputTooLong old new = Unit {0}
+Blames (Refresh fault) old new = Unit {0}
 
 -- A command ends so, with this exit status: 0 if all went well, and nothing is written to standard error; 1 after a
 -- fault, whose line is written there.

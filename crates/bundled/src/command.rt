@@ -7,22 +7,27 @@ use crate::command_line::{Wanted, wanted_by};
 use crate::fault::Fault;
 use crate::migrate::migrate_over;
 use crate::output::{tell, write_flushed};
+use crate::refreshing::refresh_over;
 use crate::run::run_over;
 use crate::trace::trace_over;
 use clap::error::ErrorKind;
 use frame_front::{Counted, FrontError};
 use std::alloc::{AllocError, Global};
 use std::env::Env;
+use std::fs::Files;
 use std::io::{Read, Write};
+use std::net::Net;
+use std::time::Clock;
 use std::{env, io};
 
 const NOT_TEXT: &[u8] = b"error: an argument is not UTF-8\n\nFor more information, try '--help'.\n";
 
 /// Does what the arguments want, and answers the exit status: 0 if all went well, 1 after a fault, 2 if the arguments
 /// are refused.
-pub fn command_over<V: Env, R: Read, W: Write, E: Write>(
+pub fn command_over<V: Env, H: Files + Clock + Net, R: Read, W: Write, E: Write>(
     alloc: Global,
     args: &V,
+    host: &H,
     reader: &mut Counted<R>,
     out: &mut Counted<W>,
     err: &mut Counted<E>,
@@ -30,10 +35,9 @@ pub fn command_over<V: Env, R: Read, W: Write, E: Write>(
     requires reader_count { reader.old.faults < 2 ^ 64 - 1 }
     requires out_count { out.old.faults < 2 ^ 64 - 1 }
     requires err_count { err.old.faults < 2 ^ 64 - 1 }
-    ensures commands { Commands result
+    ensures { Commands result
         (streams R.remaining W.contents E.contents reader.old out.old err.old)
         (streams R.remaining W.contents E.contents reader.new out.new err.new) }
-    ensures silent { result ≡ 0 → err.new ≡ err.old }
 {
     let words = match env::args(&(args, alloc)) {
         Ok(words) => words,
@@ -49,6 +53,7 @@ pub fn command_over<V: Env, R: Read, W: Write, E: Write>(
             trace_over(alloc, reader, out, err, shards, rounds)
         }
         Ok(Wanted::Migrate) => migrate_over(alloc, reader, out, err),
+        Ok(Wanted::Refresh(wanted)) => refresh_over(alloc, host, out, err, &wanted),
         Err(error) => show(alloc, &error, out, err),
     }
 }

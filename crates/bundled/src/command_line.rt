@@ -2,6 +2,7 @@
 ghost use Rattle.std.specs.Prelude.{◌<◌, ◌≤◌, IfOk};
 ghost use Rattle.bundled.specs.Settings.{AreSettings};
 
+use crate::refreshing::Refreshing;
 use clap::{Arg, ArgMatches, Command, Error, value_parser};
 use std::alloc::{AllocError, Global};
 
@@ -36,6 +37,32 @@ The first example: a domain is set while a fetch-all has read its shard, and the
   record 1 caller 2 first 2 last 4 reply stored
   order 1 0";
 
+/// In how many seconds, at the least, a relationship is due again where the command line doesn't say.
+const AT_LEAST: u64 = 60;
+
+const RELATIONSHIPS: &str = "\
+Each line of the list is a relationship: a trust domain, the URL of its bundle endpoint, the profile of the
+endpoint, and for https_spiffe the SPIFFE ID of the endpoint. `#` begins a comment.
+
+  # domain    URL of the bundle endpoint         profile       SPIFFE ID of the endpoint
+  a.example   https://bundles.example/a          https_web
+  b.example   https://b.example:8443             https_spiffe  spiffe://b.example/spire/server
+
+The documents are fetched by whatever you trust with that, as curl or spire-server:
+
+  curl -fsS https://bundles.example/a -o new && mv new documents/a.example.json
+  bundled refresh --relationships list --documents documents | bundled run
+
+A line is printed for each relationship, on standard error, or with --port on standard output:
+
+  1000 a.example sent due 1300
+
+In place of `sent` comes, with --port, `stored`, `unchanged`, or `refused` with the number of the refusal; and
+`bad document` with its number, `no answer` if there is no file, or `given up`. `stored empty` says that the bundle
+has no authorities any more.
+
+The status is 0 if each bundle was stored, unchanged or sent, and 3 if not.";
+
 const FRAMES: &str = "\
 A frame is a length of 4 bytes, the greatest first, and a payload of that many bytes. Each request is
 one frame, and so is each reply; the reply to a fetch-all is one frame and then one for each domain.
@@ -62,17 +89,19 @@ byte is below 64 is a refusal with that number.";
 
 /// What the command line asks for.
 #[derive(Clone, Copy, Debug)]
-pub enum Wanted {
+pub enum Wanted<'a> {
     /// A session over an empty store of so many shards, of at most so many reads.
     Run { shards: usize, turns: u64 },
     /// A run of events over so many shards, a fetch-all in so many rounds.
     Trace { shards: usize, rounds: usize },
     /// The requests that store a dump again.
     Migrate,
+    /// A refresh of each relationship of a list.
+    Refresh(Refreshing<'a>),
 }
 
 /// Reads the command line.
-pub fn wanted_by<'a>(alloc: Global, words: &'a [String]) -> Result<Wanted, Error>
+pub fn wanted_by<'a>(alloc: Global, words: &'a [String]) -> Result<Wanted<'a>, Error>
     ensures { IfOk result AreSettings }
 {
     let command = Command::new(alloc, "bundled")
@@ -82,10 +111,12 @@ pub fn wanted_by<'a>(alloc: Global, words: &'a [String]) -> Result<Wanted, Error
         .subcommand_required(true)
         .subcommand(run_command(alloc)?)?
         .subcommand(trace_command(alloc)?)?
-        .subcommand(migrate_command(alloc))?;
+        .subcommand(migrate_command(alloc))?
+        .subcommand(refresh_command(alloc)?)?;
     let matches = command.try_get_matches_from(words)?;
     match matches.subcommand() {
         Some(("migrate", _)) => Ok(Wanted::Migrate),
+        Some(("refresh", refresh)) => Ok(Wanted::Refresh(refreshing_of(refresh))),
         Some(("trace", trace)) => Ok(Wanted::Trace {
             shards: shards_of(trace),
             rounds: rounds_of(trace),
@@ -123,6 +154,16 @@ fn turns_of(run: &ArgMatches<'_>) -> u64
 {
     let asked = run.get_one::<u64>("turns");
     asked.unwrap_or(TURNS).clamp(1, MAX_TURNS)
+}
+
+fn refreshing_of<'a>(refresh: &ArgMatches<'a>) -> Refreshing<'a> {
+    Refreshing {
+        list: refresh.get_str("relationships").unwrap_or_default(),
+        folder: refresh.get_str("documents").unwrap_or_default(),
+        now: refresh.get_one::<u64>("now"),
+        at_least: refresh.get_one::<u64>("at-least").unwrap_or(AT_LEAST),
+        port: refresh.get_one::<u16>("port"),
+    }
 }
 
 fn run_command<'a>(alloc: Global) -> Result<Command<'a>, AllocError> {
@@ -170,4 +211,43 @@ fn migrate_command<'a>(alloc: Global) -> Command<'a> {
         .after_help(
             "The requests are V 2 and then one C for each domain: bundled migrate < dump | bundled run",
         )
+}
+
+fn refresh_command<'a>(alloc: Global) -> Result<Command<'a>, AllocError> {
+    let relationships = Arg::new(alloc, "relationships")
+        .long("relationships")
+        .value_name("FILE")
+        .required(true)
+        .help("The list of relationships");
+    let documents = Arg::new(alloc, "documents")
+        .long("documents")
+        .value_name("FOLDER")
+        .required(true)
+        .help("The folder in which the document of DOMAIN is the file DOMAIN.json");
+    let now = Arg::new(alloc, "now")
+        .long("now")
+        .value_name("SECONDS")
+        .value_parser(value_parser!(u64))
+        .help("The time, in seconds; by default that of the clock, since 1970");
+    let at_least = Arg::new(alloc, "at-least")
+        .long("at-least")
+        .value_name("SECONDS")
+        .value_parser(value_parser!(u64))
+        .default_value("60")
+        .help("In how many seconds, at the least, a relationship is due again");
+    let port = Arg::new(alloc, "port")
+        .long("port")
+        .value_name("PORT")
+        .value_parser(value_parser!(u16).range(1..=65535))
+        .help(
+            "The port of 127.0.0.1 where the server listens; by default requests go to standard output",
+        );
+    Command::new(alloc, "refresh")
+        .about("Sets the bundles of a list of trust domains, out of a folder of documents")
+        .after_help(RELATIONSHIPS)
+        .arg(relationships)?
+        .arg(documents)?
+        .arg(now)?
+        .arg(at_least)?
+        .arg(port)
 }

@@ -1,12 +1,13 @@
 //! Faults of commands.
 ghost use Rattle.std.specs.Prelude.{◌≡◌, ◌<◌, ◌-◌, ◌^◌, ◌++◌};
-ghost use Rattle.bundled.specs.Fault.{fault_number, fault_place, fault_line};
+ghost use Rattle.bundled.specs.Fault.{fault_number, fault_place, fault_line, refresh_number, refresh_place};
 ghost use Rattle.bundled.specs.Streams.{Tells, end_of};
 
 use crate::output::tell;
 use arrayvec::ArrayVec;
-use frame_front::{Counted, DumpError, FrontError};
+use frame_front::{ClientError, Counted, DumpError, FrontError};
 use itoa::Buffer;
+use refresh::RelationError;
 use std::io::Write;
 
 /// The most bytes of a fault's line: `fault`, a number of 3 digits and a place of 20, two spaces and a line feed.
@@ -20,10 +21,47 @@ pub enum Fault {
     Front(FrontError),
     /// The input is not a dump.
     Dump(DumpError),
-    /// This line of the input, from 1, is not an event.
+    /// This line of the input, from 1, is not an event, or not the words of a relationship whose domain is new.
     BadLine(u64),
     /// The input has over 16,777,216 bytes.
     InputTooLong,
+    /// Relationships cannot be refreshed.
+    Refresh(RefreshFault),
+}
+
+/// Why relationships cannot be refreshed.
+#[derive(Clone, Copy, Debug, PartialEq, Eq)]
+pub enum RefreshFault {
+    /// The words of this line, from 1, are not a relationship.
+    BadRelationship(RelationError, u64),
+    /// The stream to the server failed, or what came over it is not a reply.
+    Client(ClientError),
+    /// No server listens at the port.
+    NoConnection,
+    /// The clock cannot be read.
+    NoClock,
+}
+
+impl RefreshFault {
+    fn number(&self) -> u8
+        ensures { result ≡ refresh_number self.now }
+    {
+        match self {
+            RefreshFault::BadRelationship(error, _) => error.number(),
+            RefreshFault::Client(error) => error.number(),
+            RefreshFault::NoConnection => 57,
+            RefreshFault::NoClock => 72,
+        }
+    }
+
+    fn place(&self) -> Option<u64>
+        ensures { result ≡ refresh_place self.now }
+    {
+        match self {
+            RefreshFault::BadRelationship(_, line) => Some(*line),
+            _ => None,
+        }
+    }
 }
 
 impl Fault {
@@ -35,6 +73,7 @@ impl Fault {
             Fault::Dump(error) => error.number(),
             Fault::BadLine(_) => 70,
             Fault::InputTooLong => 71,
+            Fault::Refresh(fault) => fault.number(),
         }
     }
 
@@ -45,6 +84,7 @@ impl Fault {
         match self {
             Fault::Dump(DumpError::BadDump(frame)) => Some(*frame),
             Fault::BadLine(line) => Some(*line),
+            Fault::Refresh(fault) => fault.place(),
             _ => None,
         }
     }

@@ -5,8 +5,11 @@ mod command;
 mod command_line;
 mod fault;
 mod input;
+mod lines;
 mod migrate;
 mod output;
+mod refreshing;
+mod refusal_words;
 mod run;
 #[cfg(test)]
 mod tests;
@@ -20,5 +23,5 @@ fn main(rt: HostRuntime) -> ExitCode {
     let mut reader = Counted::new(rt.stdin());
     let mut out = Counted::new(rt.stdout());
     let mut err = Counted::new(rt.stderr());
-    ExitCode::from(command_over(rt.alloc(), &rt, &mut reader, &mut out, &mut err))
+    ExitCode::from(command_over(rt.alloc(), &rt, &rt, &mut reader, &mut out, &mut err))
 }

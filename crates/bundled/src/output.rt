@@ -57,3 +57,11 @@ pub fn tell<E: Write>(err: &mut Counted<E>, text: &[u8])
 {
     let _ = write_whole(err, text);
 }
+
+/// Writes a text, and sees that the writer keeps nothing back. What the writer does not take of it is dropped.
+pub fn tell_flushed<E: Write>(end: &mut Counted<E>, text: &[u8])
+    requires { end.old.faults < 2 ^ 64 - 1 }
+    ensures { Tells (end_of E.contents end.old) (end_of E.contents end.new) text.now }
+{
+    let _ = write_flushed(end, text);
+}

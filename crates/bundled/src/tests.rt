@@ -4,6 +4,7 @@ ghost use Rattle.std.specs.Prelude.{◌<◌, ◌≤◌};
 mod commands;
 mod dumps;
 mod ends;
+mod refreshers;
 mod sessions;
 
 use crate::command::command_over;
@@ -12,8 +13,11 @@ use crate::run::run_over;
 use frame_front::Counted;
 use std::alloc::Global;
 use std::env::{Env, FillError};
+use std::fs::Files;
 use std::io::{Read, Write};
+use std::net::Net;
 use std::process::Abort;
+use std::time::Clock;
 
 const FIRST_RUN: &[u8] = b"\x00\x00\x00\x0eS\x01a{\"keys\":[]}\x00\x00\x00\x03G\x01a";
 
@@ -89,7 +93,8 @@ impl Env for Words {
 }
 
 /// The whole program over these arguments and ends: its status, and what its writers are then.
-fn program<R: Read + Drop, W: Write, E: Write>(
+fn program<H: Files + Clock + Net, R: Read + Drop, W: Write, E: Write>(
+    host: &H,
     alloc: Global,
     line: &'static [u8],
     reader: R,
@@ -99,12 +104,31 @@ fn program<R: Read + Drop, W: Write, E: Write>(
     let mut reader = Counted::new(reader);
     let mut out = Counted::new(out);
     let mut err = Counted::new(err);
-    let status = command_over(alloc, &Words { line }, &mut reader, &mut out, &mut err);
+    let status = command_over(
+        alloc,
+        &Words { line },
+        host,
+        &mut reader,
+        &mut out,
+        &mut err,
+    );
     (status, out.end, err.end)
 }
 
-fn command<R: Read + Drop>(alloc: Global, line: &'static [u8], reader: R) -> Left {
-    let (status, output, faults) = program(alloc, line, reader, Vec::new(alloc), Vec::new(alloc));
+fn command<H: Files + Clock + Net, R: Read + Drop>(
+    host: &H,
+    alloc: Global,
+    line: &'static [u8],
+    reader: R,
+) -> Left {
+    let (status, output, faults) = program(
+        host,
+        alloc,
+        line,
+        reader,
+        Vec::new(alloc),
+        Vec::new(alloc),
+    );
     Left {
         output,
         faults,

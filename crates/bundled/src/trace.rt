@@ -7,16 +7,15 @@ ghost use Rattle.bundled.specs.Trace.{Traces, Tracing};
 ghost use Rattle.bundled.specs.declared.fault.Fault.TheVariants.{Front};
 
 mod event_lines;
-mod lines;
 mod record_lines;
 #[cfg(test)]
 mod tests;
 
 use crate::fault::Fault;
 use crate::input::read_input;
+use crate::lines::Lines;
 use event_lines::{LinesError, read_events};
 use frame_front::{Counted, FrontError};
-use lines::Lines;
 use record_lines::write_trace;
 use std::alloc::Global;
 use std::io::{Read, Write};

@@ -67,25 +67,25 @@ fn runs_what_the_line_wants(rt: HostRuntime) {
         (b"bundled trace --shards 1 --rounds 2", FETCH_ALL, FETCHED),
     ];
     for (line, input, output) in rows {
-        left_is(&rt, &command(rt.alloc(), line, input), output, "", 0);
+        left_is(&rt, &command(&rt, rt.alloc(), line, input), output, "", 0);
     }
     left_is(
         &rt,
-        &command(rt.alloc(), b"bundled run --turns 1", FIRST_RUN),
+        &command(&rt, rt.alloc(), b"bundled run --turns 1", FIRST_RUN),
         FIRST_REPLIES,
         "fault 55\n",
         1,
     );
     left_is(
         &rt,
-        &command(rt.alloc(), b"bundled trace", FIRST_RUN),
+        &command(&rt, rt.alloc(), b"bundled trace", FIRST_RUN),
         b"",
         "fault 70 1\n",
         1,
     );
     left_is(
         &rt,
-        &command(rt.alloc(), b"bundled migrate", FIRST_RUN),
+        &command(&rt, rt.alloc(), b"bundled migrate", FIRST_RUN),
         b"",
         "fault 63 0\n",
         1,
@@ -95,7 +95,7 @@ fn runs_what_the_line_wants(rt: HostRuntime) {
 // What is asked for goes to standard output.
 #[test]
 fn shows_what_is_asked_for(rt: HostRuntime) {
-    let rows: [(&[u8], &str); 7] = [
+    let rows: [(&[u8], &str); 9] = [
         (b"bundled --version", "bundled 1.0.0\n"),
         (b"bundled --help", "A frame is a length of 4 bytes"),
         (b"bundled -h", "Usage: bundled <COMMAND>"),
@@ -103,9 +103,11 @@ fn shows_what_is_asked_for(rt: HostRuntime) {
         (b"bundled run --help", "Usage: bundled run [OPTIONS]"),
         (b"bundled trace --help", "--rounds <COUNT>"),
         (b"bundled migrate --help", "bundled migrate < dump"),
+        (b"bundled refresh --help", "--relationships <FILE>"),
+        (b"bundled refresh --help", "1000 a.example sent due 1300"),
     ];
     for (line, part) in rows {
-        let left = command(rt.alloc(), line, FIRST_RUN);
+        let left = command(&rt, rt.alloc(), line, FIRST_RUN);
         let output = str::from_utf8(&left.output).unwrap_or("");
         assert!(rt; output.contains(part), "{output}");
         assert!(rt; left.faults.is_empty(), "{part}");
@@ -116,7 +118,7 @@ fn shows_what_is_asked_for(rt: HostRuntime) {
 // A line that is refused is told on standard error, with status 2.
 #[test]
 fn refuses_other_lines(rt: HostRuntime) {
-    let rows: [(&[u8], &str); 21] = [
+    let rows: [(&[u8], &str); 27] = [
         (b"bundled", "requires a subcommand"),
         (b"bundled frames", "unrecognized subcommand 'frames'"),
         (b"bundled run run", "unexpected"),
@@ -150,6 +152,27 @@ fn refuses_other_lines(rt: HostRuntime) {
             b"bundled migrate --shards 1",
             "unexpected argument '--shards'",
         ),
+        (b"bundled refresh", "--relationships <FILE>"),
+        (
+            b"bundled refresh --relationships list",
+            "--documents <FOLDER>",
+        ),
+        (
+            b"bundled refresh --relationships list --documents folder --port 0",
+            "0 is not in 1..=65535",
+        ),
+        (
+            b"bundled refresh --relationships list --documents folder --port 65536",
+            "--port <PORT>",
+        ),
+        (
+            b"bundled refresh --relationships list --documents folder --now -1",
+            "unexpected argument '-1'",
+        ),
+        (
+            b"bundled refresh --relationships list --documents folder --at-least 18446744073709551616",
+            "--at-least <SECONDS>",
+        ),
         (b"bundled run --version", "unexpected argument '--version'"),
         (
             b"bundled run --shards \xff",
@@ -158,7 +181,7 @@ fn refuses_other_lines(rt: HostRuntime) {
         (b"bundled \xff", "try '--help'"),
     ];
     for (line, part) in rows {
-        let left = command(rt.alloc(), line, FIRST_RUN);
+        let left = command(&rt, rt.alloc(), line, FIRST_RUN);
         let told = str::from_utf8(&left.faults).unwrap_or("");
         assert!(rt; told.contains(part), "{told}");
         assert!(rt; told.starts_with("error: "), "{told}");
@@ -177,6 +200,11 @@ fn wanted(alloc: Global, words: &[&str]) -> Result<String, AllocError> {
         Ok(Wanted::Run { shards, turns }) => format!(in alloc; "run {shards} {turns}"),
         Ok(Wanted::Trace { shards, rounds }) => format!(in alloc; "trace {shards} {rounds}"),
         Ok(Wanted::Migrate) => format!(in alloc; "migrate"),
+        Ok(Wanted::Refresh(wanted)) => {
+            let (list, folder, at_least) = (wanted.list, wanted.folder, wanted.at_least);
+            let (now, port) = (wanted.now, wanted.port);
+            format!(in alloc; "refresh {list} {folder} {now:?} {at_least} {port:?}")
+        }
         Err(error) => format!(in alloc; "{error}"),
     }
 }
@@ -185,7 +213,7 @@ fn wanted(alloc: Global, words: &[&str]) -> Result<String, AllocError> {
 #[test]
 fn reads_the_command_line(rt: HostRuntime) -> Result<(), AllocError> {
     let alloc = rt.alloc();
-    let rows: [(&[&str], &str); 9] = [
+    let rows: [(&[&str], &str); 11] = [
         (&["bundled", "run"], "run 4 1000000"),
         (&["bundled", "run", "--turns", "7"], "run 4 7"),
         (
@@ -193,6 +221,29 @@ fn reads_the_command_line(rt: HostRuntime) -> Result<(), AllocError> {
             "run 4 1000000000",
         ),
         (&["bundled", "run", "--shards", "256"], "run 256 1000000"),
+        (
+            &[
+                "bundled",
+                "refresh",
+                "--relationships",
+                "l",
+                "--documents",
+                "f",
+            ],
+            "refresh l f None 60 None",
+        ),
+        (
+            &[
+                "bundled",
+                "refresh",
+                "--documents=f/g",
+                "--relationships=-l",
+                "--now=18446744073709551615",
+                "--at-least=0",
+                "--port=65535",
+            ],
+            "refresh -l f/g Some(18446744073709551615) 0 Some(65535)",
+        ),
         (&["bundled", "trace"], "trace 4 3"),
         (
             &["bundled", "trace", "--shards=1", "--rounds=16"],

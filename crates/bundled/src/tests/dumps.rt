@@ -69,14 +69,14 @@ fn limits_its_input(rt: HostRuntime) {
     );
     left_is(
         &rt,
-        &command(rt.alloc(), b"bundled trace", Endless { size: 4096 }),
+        &command(&rt, rt.alloc(), b"bundled trace", Endless { size: 4096 }),
         b"",
         "fault 71\n",
         1,
     );
     left_is(
         &rt,
-        &command(rt.alloc(), b"bundled trace", Endless { size: 1 }),
+        &command(&rt, rt.alloc(), b"bundled trace", Endless { size: 1 }),
         b"",
         "fault 55\n",
         1,

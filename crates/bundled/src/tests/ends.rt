@@ -32,7 +32,7 @@ fn readers_that_fail(rt: HostRuntime) -> Result<(), AllocError> {
     let reader = FaultyReader::new(Vec::from_slice(alloc, b"step 1\n")?, 3);
     left_is(
         &rt,
-        &command(alloc, b"bundled trace", reader),
+        &command(&rt, alloc, b"bundled trace", reader),
         b"",
         "fault 53\n",
         1,
@@ -48,7 +48,7 @@ fn writers_that_fail(rt: HostRuntime) -> Result<(), AllocError> {
         for room in 0..output.len() {
             let (front, _) = output.split_at(room);
             let out = FaultyWriter::new(alloc, room);
-            let (status, out, faults) = program(alloc, line, input, out, Vec::new(alloc));
+            let (status, out, faults) = program(&rt, alloc, line, input, out, Vec::new(alloc));
             let left = Left {
                 output: out.taken,
                 faults,
@@ -56,7 +56,7 @@ fn writers_that_fail(rt: HostRuntime) -> Result<(), AllocError> {
             };
             left_is(&rt, &left, front, "fault 54\n", 1);
         }
-        left_is(&rt, &command(alloc, line, input), output, "", 0);
+        left_is(&rt, &command(&rt, alloc, line, input), output, "", 0);
     }
     Ok(())
 }
@@ -75,7 +75,7 @@ fn standard_error_that_fails(rt: HostRuntime) -> Result<(), AllocError> {
     for (line, told, wanted) in rows {
         let input: &[u8] = b"\x00\x00\x00\x00";
         let err = FaultyWriter::new(alloc, 3);
-        let (status, out, err) = program(alloc, line, input, Vec::new(alloc), err);
+        let (status, out, err) = program(&rt, alloc, line, input, Vec::new(alloc), err);
         let left = Left {
             output: out,
             faults: err.taken,
@@ -136,7 +136,7 @@ fn interrupted_calls_have_failed(rt: HostRuntime) -> Result<(), AllocError> {
     let alloc = rt.alloc();
     for (line, input, _) in COMMANDS {
         let out = Interrupted::new(Vec::new(alloc));
-        let (status, out, faults) = program(alloc, line, input, out, Vec::new(alloc));
+        let (status, out, faults) = program(&rt, alloc, line, input, out, Vec::new(alloc));
         let left = Left {
             output: out.end,
             faults,
@@ -144,7 +144,7 @@ fn interrupted_calls_have_failed(rt: HostRuntime) -> Result<(), AllocError> {
         };
         left_is(&rt, &left, b"", "fault 54\n", 1);
         if !input.is_empty() {
-            let left = command(alloc, line, Interrupted::new(input));
+            let left = command(&rt, alloc, line, Interrupted::new(input));
             left_is(&rt, &left, b"", "fault 53\n", 1);
         }
     }

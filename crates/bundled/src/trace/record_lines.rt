@@ -1,5 +1,6 @@
 //! Records and their order as lines: what the command `trace` prints.
-use map_core::{AskError, Expect, MapRefusal, Reply, Snapshot};
+use crate::refusal_words::{write_error, write_refusal};
+use map_core::{Reply, Snapshot};
 use std::io;
 use std::io::Write;
 use step_core::{OpRecord, Trace};
@@ -58,31 +59,4 @@ fn write_snapshot<W: Write>(out: &mut W, snapshot: &Snapshot) -> io::Result<()> 
         out.write_all(bundle.text())?;
     }
     Ok(())
-}
-
-fn write_refusal<W: Write>(out: &mut W, refusal: &MapRefusal) -> io::Result<()> {
-    let number = refusal.number();
-    write!(out, "refused {number}")?;
-    match refusal {
-        MapRefusal::Stale(sequence) => write!(out, " {sequence}"),
-        MapRefusal::NotExpected(Expect::Absent) => write!(out, " absent"),
-        MapRefusal::NotExpected(Expect::Unnumbered) => write!(out, " none"),
-        MapRefusal::NotExpected(Expect::Sequence(sequence)) => write!(out, " {sequence}"),
-        _ => Ok(()),
-    }
-}
-
-fn write_error<W: Write>(out: &mut W, error: &AskError) -> io::Result<()> {
-    match error {
-        AskError::Memory => write!(out, "memory"),
-        AskError::Worn { shard } => write!(out, "worn {shard}"),
-        AskError::Moved {
-            shard,
-            first,
-            second,
-        } => write!(out, "moved {shard} {first} {second}"),
-        AskError::Held { shard, revision } => write!(out, "held {shard} {revision}"),
-        // No run of the machine has a gate.
-        AskError::GateShut => write!(out, "refused 56"),
-    }
 }

@@ -1,0 +1,140 @@
+//! Where the bundles that were read go: to a server, or as frames to standard output.
+use crate::fault::{Fault, RefreshFault};
+use frame_front::{Client, Counted, FrontError, write_request};
+use map_core::{Ask, AskError, Op, Reply};
+use std::io::{Read, Write};
+
+/// Whoever is asked to set a bundle.
+pub trait Target: Ask {
+    /// Why nothing more can be asked, if that is so.
+    fn fault(&self) -> Option<Fault>;
+
+    /// Whether the last Set took all its authorities from a domain that had some.
+    fn has_emptied(&self) -> bool;
+
+    /// What is said of a bundle that was set.
+    fn stored(&self) -> &'static str;
+}
+
+/// Writes requests as frames, and gets no answer: `Stored` says only that the frame is written.
+#[derive(Drop)]
+pub struct Sender<'a, W> {
+    out: &'a mut Counted<W>,
+    has_failed: bool,
+    is_empty: bool,
+}
+
+impl<'a, W: Write> Sender<'a, W> {
+    pub fn new(out: &'a mut Counted<W>) -> Sender<'a, W> {
+        Sender {
+            out,
+            has_failed: false,
+            is_empty: false,
+        }
+    }
+}
+
+impl<W: Write> Ask for Sender<'_, W> {
+    ghost use Rattle.std.specs.Prelude.{None};
+    ghost use Rattle.bundled.specs.Target.{shows_none};
+
+    ghost answers = { λ before op answer after. Unit {0} };
+
+    ghost shows = { λ m. None };
+
+    ghost answers_plainly = { λ old op result new m shown answer. absurd (shows_none m shown) };
+
+    fn ask(&mut self, op: Op) -> Result<Reply, AskError> {
+        let Op::Set(_, bundle) = &op else {
+            return Err(AskError::GateShut);
+        };
+        self.is_empty = bundle.authorities().is_empty();
+        if self.has_failed || self.out.faults() == u64::MAX {
+            return Err(AskError::GateShut);
+        }
+        match write_request(self.out, &op) {
+            Ok(()) => Ok(Reply::Stored),
+            Err(_) => {
+                self.has_failed = true;
+                Err(AskError::GateShut)
+            }
+        }
+    }
+}
+
+impl<W: Write> Target for Sender<'_, W> {
+    fn fault(&self) -> Option<Fault> {
+        self.has_failed
+            .then_some(Fault::Front(FrontError::WriteFault))
+    }
+
+    fn has_emptied(&self) -> bool {
+        self.is_empty
+    }
+
+    fn stored(&self) -> &'static str {
+        "sent"
+    }
+}
+
+/// A server at the other end of a stream. Before a bundle with no authorities is set, it is asked for the bundle that
+/// stands there.
+#[derive(Drop)]
+pub struct Server<R: Read, W: Write> {
+    client: Client<R, W>,
+    has_emptied: bool,
+}
+
+impl<R: Read, W: Write> Server<R, W> {
+    pub fn new(client: Client<R, W>) -> Server<R, W> {
+        Server {
+            client,
+            has_emptied: false,
+        }
+    }
+
+    /// Whether the Set would take all its authorities from a domain that has some.
+    fn empties(&mut self, op: &Op) -> Result<bool, AskError> {
+        let Op::Set(domain, bundle) = op else {
+            return Ok(false);
+        };
+        if !bundle.authorities().is_empty() {
+            return Ok(false);
+        }
+        let domain = domain.copy()?;
+        match self.client.ask(Op::Get(domain))? {
+            Reply::Found(held) => Ok(!held.authorities().is_empty()),
+            _ => Ok(false),
+        }
+    }
+}
+
+impl<R: Read, W: Write> Ask for Server<R, W> {
+    ghost use Rattle.std.specs.Prelude.{None};
+    ghost use Rattle.bundled.specs.Target.{shows_none};
+
+    ghost answers = { λ before op answer after. Unit {0} };
+
+    ghost shows = { λ m. None };
+
+    ghost answers_plainly = { λ old op result new m shown answer. absurd (shows_none m shown) };
+
+    fn ask(&mut self, op: Op) -> Result<Reply, AskError> {
+        self.has_emptied = self.empties(&op)?;
+        self.client.ask(op)
+    }
+}
+
+impl<R: Read, W: Write> Target for Server<R, W> {
+    fn fault(&self) -> Option<Fault> {
+        Some(Fault::Refresh(RefreshFault::Client(self.client.ended()?)))
+    }
+
+    fn has_emptied(&self) -> bool {
+        self.has_emptied
+    }
+
+    fn stored(&self) -> &'static str {
+        "stored"
+    }
+}
