@@ -62,8 +62,33 @@ def file(name):
         return it.read()
 
 
+def refresh():
+    """A refresh of two real bundles. What memory is refused to is not fetched, or it ends the command by fault 22; what
+    was sent before is whole."""
+    names = ["p521", "withdrawn"]
+    words = ["refresh", "--relationships", f"{ROOT}/gate/two.relationships", "--documents", f"{ROOT}/gate/bundles"]
+
+    def allows(ended, refused):
+        lines = ended.err.decode().splitlines()
+        is_fault = lines[-1:] == ["fault 22"]
+        said, sent, missed = lines[: len(lines) - is_fault], b"", 0
+        for name, line in zip(names, said):
+            if line == f"0 {name} sent{' empty' if name == 'withdrawn' else ''} due 300":
+                text = file(f"bundles/{name}.canonical").rstrip()
+                sent += frame(b"S" + bytes([len(name)]) + name.encode() + text)
+            elif line == f"0 {name} no answer due 300 (out of memory)":
+                missed += 1
+            else:
+                return False
+        if ended.out != sent or missed + is_fault > refused or len(said) > len(names) - is_fault:
+            return False
+        return ended.status == 1 if is_fault else len(said) == len(names) and ended.status == (3 if missed else 0)
+
+    return Run("bundled refresh", [program("bundled"), *words, "--now", "0"], b"", allows)
+
+
 def program_runs():
-    empty, real, text = b'{"keys":[]}', file("rotation.json"), file("rotation.canonical").rstrip()
+    empty, real, text = b'{"keys":[]}', file("bundles/rotation.json"), file("bundles/rotation.canonical").rstrip()
     entry = b'{"use":"jwt-svid","kty":"RSA","kid":"k","n":"AQAB","e":"AQAB"}'
     one_key = b'{"keys":[{"e":"AQAB","kid":"k","kty":"RSA","n":"AQAB","use":"jwt-svid"}]}'
     of_one = b"a" + (1).to_bytes(8, "big")
@@ -83,7 +108,8 @@ def program_runs():
     yield command(["migrate"], b"".join(map(frame, dump)), lambda it: it == Ended(0, stream, b""))
     race, lines = ["trace", "--shards", "2", "--rounds", "2"], file("race.trace")
     yield command(race, file("race.events"), lambda it: it == Ended(0, lines, b""))
-    for words in (["--help"], ["run", "--help"], ["trace", "--help"], ["migrate", "--help"], ["--version"]):
+    yield refresh()
+    for words in (["--help"], *([it, "--help"] for it in ("run", "trace", "migrate", "refresh")), ["--version"]):
         yield command(words, b"", lambda it: it.status == 0 and it.out and not it.err)
     for words in (["run", "--shards", "0"], ["frames"], []):
         yield command(words, b"", lambda it: it.status == 2 and it.err and not it.out)
