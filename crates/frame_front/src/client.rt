@@ -20,7 +20,11 @@ use std::io::{Read, Write};
 use std::marker::Model;
 
 /// Asks a map whose session is served at the other end of a stream: each operation is one request, and
-/// its reply is read before the next. Documents are sent and taken as canonical texts only.
+/// its reply is read before the next. Documents are sent and taken as canonical texts only. An append is
+/// not asked: the client answers that the gate is shut, and goes on.
+///
+/// Room for replies, 1,049,000 bytes, is taken before the first request is begun. If there is none, the
+/// client says so, has done nothing, and goes on.
 ///
 /// Once an exchange fails, the client has ended: it asks nothing more, and answers that the gate is shut.
 /// Whether the request that failed took effect is not known.

@@ -3,7 +3,8 @@
 //!
 //! `serve` reads frames from any reader and writes replies to any writer, over whatever can be asked:
 //! one map, or shards of it. `Decoder` takes frames out of a stream by itself, and `migrate` turns the
-//! reply to a fetch-all into requests that store it again.
+//! reply to a fetch-all into requests that store it again. `Client` is the other end of a session, and can
+//! be asked as a map itself; `write_request` writes its requests alone.
 #![tactic(auto)]
 
 mod answer;

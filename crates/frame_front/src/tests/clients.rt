@@ -356,12 +356,12 @@ fn without_memory(rt: &impl Abort, alloc: Global, ask: Asked, reply: &[u8]) -> R
 }
 
 #[test]
-fn a_get_without_memory(rt: HostRuntime) -> Result<(), Fail> {
+fn a_refused_growth_of_a_get(rt: HostRuntime) -> Result<(), Fail> {
     let reply: &[u8] = b"\x00\x00\x00\x0cf{\"keys\":[]}";
     without_memory(&rt, rt.alloc(), Asked::Get, reply)
 }
 
 #[test]
-fn a_fetch_all_without_memory(rt: HostRuntime) -> Result<(), Fail> {
+fn a_refused_growth_of_a_fetch_all(rt: HostRuntime) -> Result<(), Fail> {
     without_memory(&rt, rt.alloc(), Asked::FetchAll, ALL_OF_ONE)
 }
