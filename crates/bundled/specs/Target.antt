@@ -1,6 +1,49 @@
--- Whoever is asked over a stream shows no map, since others may change it.
-use Rattle.std.specs.Prelude.{◌≡◌, None, Some}
+-- Whoever is asked to set the bundles that were read. None of them shows a map, since others may change it.
+use Rattle.std.specs.Prelude.{◌≡◌, ◌⊎◌, ℕ, List, Bool, true, false, Option, None, Some, Result, Ok, Err}
+use Rattle.std.specs.Io.KnownBytes.{Appends}
+use Rattle.map_core.specs.Name.{Name}
 use Rattle.map_core.specs.PlainMap.{PlainMap}
+use Rattle.map_core.specs.declared.op.Op.{Op}
+use Rattle.map_core.specs.declared.op.Op.TheVariants.{Set, SetIf, Append, Remove, Get, FetchAll}
+use Rattle.map_core.specs.declared.reply.Reply.{Reply}
+use Rattle.map_core.specs.declared.reply.Reply.TheVariants.{Stored}
+use Rattle.map_core.specs.declared.reply.AskError.{AskError}
+use Rattle.map_core.specs.declared.reply.AskError.TheVariants.{GateShut, Memory}
+use Rattle.frame_front.specs.Asking.{request_bytes}
+use Rattle.frame_front.specs.Client.{ClientState, Asks}
+use Rattle.frame_front.specs.Outbox.{WritesFront}
 
 pub shows_none : (m : PlainMap) → None ≡ Some m → ⊥
 shows_none m e = cc
+
+-- what a sender's writer holds, if that is known, and whether it has failed
+pub record SenderState : Type 0 where
+  pub held : Option (List ℕ)
+  pub has_failed : Bool
+
+-- The request is written, whole if the answer is Stored. If the writer fails, a front of it is written, and from then on nothing.
+abbrev pub Sends : SenderState → Op → Result Reply AskError → SenderState → Type 0
+Sends old op (Ok reply) new =
+    (reply ≡ Stored) × (old.has_failed ≡ false) × (new.has_failed ≡ false) × Appends old.held new.held (request_bytes op)
+Sends old op (Err error) new =
+    (error ≡ GateShut) × ((new ≡ old) ⊎ ((old.has_failed ≡ false) × (new.has_failed ≡ true) × WritesFront old.held new.held (request_bytes op)))
+
+-- before a bundle is set, the one that stands there is asked for
+abbrev pub LooksUp : ClientState → Op → Result Reply AskError → ClientState → Type 0
+LooksUp old (Set d b) found new = Asks old (Get d) found new
+LooksUp old (SetIf d expect b) found new = ⊥
+LooksUp old (Append d a) found new = ⊥
+LooksUp old (Remove d) found new = ⊥
+LooksUp old (Get d) found new = ⊥
+LooksUp old FetchAll found new = ⊥
+
+-- Perhaps the bundle that stands there is asked for; the error is that of this question, or there is no memory for it.
+abbrev pub Looks : ClientState → Op → Result Bool AskError → ClientState → Type 0
+Looks old op (Ok empties) new = (new ≡ old) ⊎ ((found : Reply) × LooksUp old op (Ok found) new)
+Looks old op (Err error) new = ((error ≡ Memory) × (new ≡ old)) ⊎ LooksUp old op (Err error) new
+
+-- A server is asked the operation, after that question, unless the question was answered by an error.
+abbrev pub AsksServer : ClientState → Op → Result Reply AskError → ClientState → Type 0
+AsksServer old op answer new =
+    ((empties : Bool) × (mid : ClientState) × Looks old op (Ok empties) mid × Asks mid op answer new)
+    ⊎ ((error : AskError) × Looks old op (Err error) new × (answer ≡ Err error))

@@ -1,8 +1,11 @@
 //! Where the bundles that were read go: to a server, or as frames to standard output.
+ghost use Rattle.bundled.specs.Target.{Looks};
+
 use crate::fault::{Fault, RefreshFault};
 use frame_front::{Client, Counted, FrontError, write_request};
 use map_core::{Ask, AskError, Op, Reply};
 use std::io::{Read, Write};
+use std::marker::Model;
 
 /// Whoever is asked to set a bundle.
 pub trait Target: Ask {
@@ -18,7 +21,7 @@ pub trait Target: Ask {
 
 /// Writes requests as frames, and gets no answer: `Stored` says only that the frame is written.
 #[derive(Drop)]
-pub struct Sender<'a, W> {
+pub struct Sender<'a, W: Write> {
     out: &'a mut Counted<W>,
     has_failed: bool,
     is_empty: bool,
@@ -34,11 +37,19 @@ impl<'a, W: Write> Sender<'a, W> {
     }
 }
 
+impl<'a, W: Write> Model for Sender<'a, W> {
+    ghost use Rattle.bundled.specs.Target.{SenderState};
+
+    ghost Value = { SenderState };
+
+    ghost view = { λ s. record { held = W.contents s.out.now.end; has_failed = s.has_failed } };
+}
+
 impl<W: Write> Ask for Sender<'_, W> {
     ghost use Rattle.std.specs.Prelude.{None};
-    ghost use Rattle.bundled.specs.Target.{shows_none};
+    ghost use Rattle.bundled.specs.Target.{Sends, shows_none};
 
-    ghost answers = { λ before op answer after. Unit {0} };
+    ghost answers = { Sends };
 
     ghost shows = { λ m. None };
 
@@ -85,6 +96,14 @@ pub struct Server<R: Read, W: Write> {
     has_emptied: bool,
 }
 
+impl<R: Read, W: Write> Model for Server<R, W> {
+    ghost use Rattle.frame_front.specs.Client.{ClientState};
+
+    ghost Value = { ClientState };
+
+    ghost view = { λ s. s.client };
+}
+
 impl<R: Read, W: Write> Server<R, W> {
     pub fn new(client: Client<R, W>) -> Server<R, W> {
         Server {
@@ -94,7 +113,9 @@ impl<R: Read, W: Write> Server<R, W> {
     }
 
     /// Whether the Set would take all its authorities from a domain that has some.
-    fn empties(&mut self, op: &Op) -> Result<bool, AskError> {
+    fn empties(&mut self, op: &Op) -> Result<bool, AskError>
+        ensures { Looks self.old op.now result self.new }
+    {
         let Op::Set(domain, bundle) = op else {
             return Ok(false);
         };
@@ -111,9 +132,9 @@ impl<R: Read, W: Write> Server<R, W> {
 
 impl<R: Read, W: Write> Ask for Server<R, W> {
     ghost use Rattle.std.specs.Prelude.{None};
-    ghost use Rattle.bundled.specs.Target.{shows_none};
+    ghost use Rattle.bundled.specs.Target.{AsksServer, shows_none};
 
-    ghost answers = { λ before op answer after. Unit {0} };
+    ghost answers = { AsksServer };
 
     ghost shows = { λ m. None };
 
