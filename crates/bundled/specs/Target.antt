@@ -21,12 +21,27 @@ pub record SenderState : Type 0 where
   pub held : Option (List ℕ)
   pub has_failed : Bool
 
--- The request is written, whole if the answer is Stored. If the writer fails, a front of it is written, and from then on nothing.
+abbrev pub is_set : Op → Bool
+is_set (Set d b) = true
+is_set (SetIf d expect b) = false
+is_set (Append d a) = false
+is_set (Remove d) = false
+is_set (Get d) = false
+is_set FetchAll = false
+
+-- nothing is written, since the writer has failed before or the operation is not a Set
+abbrev pub SendsNothing : SenderState → Op → SenderState → Type 0
+SendsNothing old op new = (new ≡ old) × ((old.has_failed ≡ true) ⊎ (is_set op ≡ false))
+
+-- the writer fails, and a front of the request is written
+abbrev pub SendsFront : SenderState → Op → SenderState → Type 0
+SendsFront old op new = (old.has_failed ≡ false) × (new.has_failed ≡ true) × WritesFront old.held new.held (request_bytes op)
+
+-- The request of a Set is written, whole if the answer is Stored.
 abbrev pub Sends : SenderState → Op → Result Reply AskError → SenderState → Type 0
 Sends old op (Ok reply) new =
-    (reply ≡ Stored) × (old.has_failed ≡ false) × (new.has_failed ≡ false) × Appends old.held new.held (request_bytes op)
-Sends old op (Err error) new =
-    (error ≡ GateShut) × ((new ≡ old) ⊎ ((old.has_failed ≡ false) × (new.has_failed ≡ true) × WritesFront old.held new.held (request_bytes op)))
+    (reply ≡ Stored) × (is_set op ≡ true) × (old.has_failed ≡ false) × (new.has_failed ≡ false) × Appends old.held new.held (request_bytes op)
+Sends old op (Err error) new = (error ≡ GateShut) × (SendsNothing old op new ⊎ SendsFront old op new)
 
 -- before a bundle is set, the one that stands there is asked for
 abbrev pub LooksUp : ClientState → Op → Result Reply AskError → ClientState → Type 0

@@ -1,5 +1,6 @@
 //! Where the bundles that were read go: to a server, or as frames to standard output.
-ghost use Rattle.bundled.specs.Target.{Looks};
+ghost use Rattle.std.specs.Prelude.{◌≡◌, ◌<◌, ◌-◌, ◌^◌, false};
+ghost use Rattle.bundled.specs.Target.{Looks, SenderState};
 
 use crate::fault::{Fault, RefreshFault};
 use frame_front::{Client, Counted, FrontError, write_request};
@@ -28,7 +29,10 @@ pub struct Sender<'a, W: Write> {
 }
 
 impl<'a, W: Write> Sender<'a, W> {
-    pub fn new(out: &'a mut Counted<W>) -> Sender<'a, W> {
+    pub fn new(out: &'a mut Counted<W>) -> Sender<'a, W>
+        requires { out.old.faults < 2 ^ 64 - 1 }
+        ensures { result ≡ record { held = W.contents out.old.end; has_failed = false } }
+    {
         Sender {
             out,
             has_failed: false,
@@ -38,11 +42,14 @@ impl<'a, W: Write> Sender<'a, W> {
 }
 
 impl<'a, W: Write> Model for Sender<'a, W> {
+    ghost use Rattle.std.specs.Prelude.{◌≡◌, ◌<◌, ◌-◌, ◌^◌, false};
     ghost use Rattle.bundled.specs.Target.{SenderState};
 
     ghost Value = { SenderState };
 
     ghost view = { λ s. record { held = W.contents s.out.now.end; has_failed = s.has_failed } };
+
+    ghost invariant = { λ s. s.has_failed ≡ false → s.out.now.faults < 2 ^ 64 - 1 };
 }
 
 impl<W: Write> Ask for Sender<'_, W> {
@@ -60,7 +67,7 @@ impl<W: Write> Ask for Sender<'_, W> {
             return Err(AskError::GateShut);
         };
         self.is_empty = bundle.authorities().is_empty();
-        if self.has_failed || self.out.faults() == u64::MAX {
+        if self.has_failed {
             return Err(AskError::GateShut);
         }
         match write_request(self.out, &op) {
