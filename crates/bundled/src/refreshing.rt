@@ -1,6 +1,6 @@
 //! The command `refresh`: sets the bundles of a list of relationships, out of a folder of documents.
 ghost use Rattle.std.specs.Prelude.{◌≡◌, ◌<◌, ◌-◌, ◌^◌, List, ℕ};
-ghost use Rattle.bundled.specs.Refresh.{Refreshes, Follows};
+ghost use Rattle.bundled.specs.Refresh.{Refreshes, Follows, due_not_before};
 ghost use Rattle.bundled.specs.Streams.{End, Streams, Tells, end_of};
 ghost use Rattle.bundled.specs.Fault.{fault_line};
 
@@ -29,7 +29,7 @@ use std::net::{Ipv4Addr, Net, OpenStream, SocketAddr};
 use std::time::{Clock, Duration};
 use target::{Sender, Server, Target};
 
-/// How long a server may take to take a request or to answer it, in seconds.
+/// How long one read or write of a server's stream may wait, in seconds.
 const PATIENCE: u64 = 30;
 
 /// What the command is to do.
@@ -50,14 +50,16 @@ pub struct Refreshing<'a> {
 /// The time of the refreshes, and how long a relationship is not due again, in seconds.
 #[derive(Clone, Copy)]
 struct Times {
-    now: u64,
+    time: u64,
     at_least: u64,
 }
 
 impl Times {
     /// When a relationship is due again. A server that asks to be asked each second is not obeyed.
-    fn due(&self, outcome: &Outcome) -> u64 {
-        outcome.due.max(self.now.saturating_add(self.at_least))
+    fn due(&self, outcome: &Outcome) -> u64
+        ensures { result ≡ due_not_before self.now.time self.now.at_least outcome.now.due }
+    {
+        outcome.due.max(self.time.saturating_add(self.at_least))
     }
 }
 
@@ -112,7 +114,7 @@ fn refresh_list<H: Files + Clock + Net, W: Write, E: Write>(
 {
     let mut schedule = read_schedule(alloc, host, wanted.list)?;
     let times = Times {
-        now: time_of(host, wanted)?,
+        time: time_of(host, wanted)?,
         at_least: wanted.at_least,
     };
     let mut folder = Folder::new(alloc, host, wanted.folder);
@@ -221,14 +223,14 @@ fn refresh_each<H: Files, T: Target, L: Write>(
         let Some((place, _)) = schedule.next() else {
             return Ok(all_went_well);
         };
-        let Ok(outcome) = refresh_at(alloc, folder, target, schedule, place, times.now) else {
+        let Ok(outcome) = refresh_at(alloc, folder, target, schedule, place, times.time) else {
             return Err(Fault::Front(FrontError::Memory));
         };
         if let Some(fault) = target.fault() {
             return Err(fault);
         }
         let told = Told {
-            now: times.now,
+            now: times.time,
             due: times.due(&outcome),
             domain: schedule.relationship(place).domain(),
             stored: target.stored(),
