@@ -11,12 +11,13 @@ use Rattle.serde_json.specs.Read.{read}
 use Rattle.spiffe_doc.specs.declared.authority.Authority.{Authority}
 use Rattle.spiffe_doc.specs.Authority.{IsAuthority, BundleValue}
 use Rattle.spiffe_doc.specs.Judgement.{judge}
-use Rattle.spiffe_doc.specs.Text.{entry_trees, document_tree, text_of}
+use Rattle.spiffe_doc.specs.Text.{entry_trees, entry_text, document_tree, text_of}
 use Rattle.spiffe_doc.specs.Bundle.{is_among, is_kid_taken, AreApart, IsBundle}
-use Rattle.spiffe_doc.specs.Document.{distinct, elements, outcome, given_before, least_fault, authorities_of, bundle_of, document}
+use Rattle.spiffe_doc.specs.Document.{distinct, elements, outcome, given_before, least_fault, authorities_of, bundle_of, document, entry}
 use Rattle.std.specs.Str.{IsUtf8}
 use Rattle.spiffe_doc.proofs.TreeLemmas.{read-compact_text}
-use Rattle.spiffe_doc.proofs.TextUtf8.{document_utf8}
+use Rattle.spiffe_doc.proofs.TextUtf8.{document_utf8, entry_utf8}
+use Rattle.spiffe_doc.proofs.SetLemmas.{entry_text_reads}
 use Rattle.spiffe_doc.proofs.EntryLaws.{judge-entry_tree}
 use Rattle.spiffe_doc.proofs.TextLemmas.{document_reads, document_numbers, document_depth}
 use Rattle.spiffe_doc.proofs.FirstPlaces.{firsts_push}
@@ -122,6 +123,14 @@ document-text_of p h =
     let short = fits_limit (length (text_of p)) h.short in
     let utf8 : is_utf8 (text_of p) ≡ true = is_utf8-from_IsUtf8 _ (text_utf8 p h) in
     rw (short, utf8, text_reads p h, bundle_of-document_tree p h, short) refl
+
+-- and so is an entry by itself
+pub entry-entry_text : (a : Authority) → IsAuthority a → length (entry_text a) ≤ 1048576 → entry (entry_text a) ≡ Ok (Some a)
+unfolding entry
+entry-entry_text a h fits =
+    let short = fits_limit (length (entry_text a)) fits in
+    let utf8 : is_utf8 (entry_text a) ≡ true = is_utf8-from_IsUtf8 _ (entry_utf8 a h) in
+    rw (short, utf8, entry_text_reads a, judge-entry_tree 0 a h) refl
 
 -- one text is of one bundle
 pub text_of-injective : (a b : BundleValue) → IsBundle a → IsBundle b → text_of a ≡ text_of b → a ≡ b

@@ -14,14 +14,13 @@ use Rattle.spiffe_doc.specs.Equality.{authority_decides}
 use Rattle.spiffe_doc.specs.Judgement.{judge}
 use Rattle.spiffe_doc.specs.Bundle.{same_kid, is_among, is_kid_taken, AreApart, AreAuthorities}
 use Rattle.spiffe_doc.specs.AuthoritySet.{admitted, has, has_some, is_some_of, has_kid, kid_of, AreIndexed}
-use Rattle.spiffe_doc.specs.Writing.{entry_text}
-use Rattle.spiffe_doc.specs.Text.{entry_tree}
+use Rattle.spiffe_doc.specs.Text.{entry_tree, entry_text}
 use Rattle.spiffe_doc.specs.declared.error.DocError.TheVariants.{KidTwice, TooMany}
 use Rattle.spiffe_doc.proofs.TextLemmas.{entry_reads, entry_numbers, entry_depth}
 use Rattle.spiffe_doc.proofs.EntryLaws.{judge-entry_tree}
 use Rattle.spiffe_doc.proofs.TreeLemmas.{read-compact_text}
 
-entry_text_reads : (a : Authority) → read (entry_text a) ≡ Some (entry_tree a)
+pub entry_text_reads : (a : Authority) → read (entry_text a) ≡ Some (entry_tree a)
 unfolding entry_text
 entry_text_reads a = read-compact_text (entry_tree a) (entry_reads a) (entry_numbers a) (omega (arith, entry_depth a))
 

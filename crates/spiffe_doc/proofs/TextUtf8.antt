@@ -19,7 +19,7 @@ use Rattle.spiffe_doc.specs.declared.authority.Authority.{Authority}
 use Rattle.spiffe_doc.specs.declared.authority.Authority.TheVariants.{X509, Jwt}
 use Rattle.spiffe_doc.specs.Authority.{IsAuthority, BundleValue}
 use Rattle.spiffe_doc.specs.Key.{curve_text}
-use Rattle.spiffe_doc.specs.Text.{entry_tree, entry_trees, number_member, document_tree}
+use Rattle.spiffe_doc.specs.Text.{entry_tree, entry_text, entry_trees, number_member, document_tree}
 
 ascii : (xs : List ℕ) → are_ascii xs ≡ true → IsUtf8 xs
 ascii = IsUtf8-are_ascii
@@ -138,6 +138,11 @@ entry_texts (Jwt kid (Rsa key)) h = (
     ),
   ),
 )
+
+-- the text of an authority is UTF-8
+pub entry_utf8 : (a : Authority) → IsAuthority a → IsUtf8 (entry_text a)
+unfolding entry_text
+entry_utf8 a h = IsUtf8-compact_text (entry_tree a) (entry_texts a h)
 
 entries_texts : (xs : List Authority) → AllByRecursion IsAuthority xs → ItemsHaveTexts (entry_trees xs)
 entries_texts [] h = tt

@@ -10,7 +10,7 @@ use Rattle.spiffe_doc.specs.declared.authority.Authority.TheVariants.{X509, Jwt}
 use Rattle.spiffe_doc.specs.declared.error.DocError.{DocError}
 use Rattle.spiffe_doc.specs.declared.error.DocError.TheVariants.{KidTwice, TooMany}
 use Rattle.spiffe_doc.specs.Bundle.{is_among, is_kid_taken}
-use Rattle.spiffe_doc.specs.Writing.{entry_text}
+use Rattle.spiffe_doc.specs.Text.{entry_text}
 
 -- the list with one more authority, as an entry at this place gives it
 abbrev pub admitted : ℕ → List Authority → Authority → Result (List Authority) DocError

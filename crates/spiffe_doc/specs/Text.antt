@@ -35,6 +35,10 @@ entry_tree (Jwt kid (Rsa key)) = object (member (codes "e") (key_text key.e)
     (member (codes "kid") (string kid) (member (codes "kty") (string (codes "RSA"))
     (member (codes "n") (key_text key.n) (member (codes "use") (string (codes "jwt-svid")) no_members)))))
 
+-- the canonical text of an authority by itself: that tree's JSON, with no space
+unfoldable pub entry_text : Authority → List ℕ
+entry_text authority = compact_text (entry_tree authority)
+
 abbrev pub entry_trees : List Authority → Items
 entry_trees authorities = items_of (map entry_tree authorities)
 

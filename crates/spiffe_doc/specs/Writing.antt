@@ -1,14 +1,10 @@
 -- A canonical text in two pieces, for private contracts: up to the last entry, and what follows.
 use Rattle.std.specs.Prelude.{◌≡◌, ℕ, ◌≤◌, List, [], ◌∷◌, ◌++◌, length, take, codes, Bool, true, false, Option, Some, None, decimal}
-use Rattle.serde_json.specs.Written.{compact_text, comma_if}
+use Rattle.serde_json.specs.Written.{comma_if}
 use Rattle.spiffe_doc.specs.declared.authority.Authority.{Authority}
 use Rattle.spiffe_doc.specs.Authority.{BundleValue}
-use Rattle.spiffe_doc.specs.Text.{entry_tree, text_of}
+use Rattle.spiffe_doc.specs.Text.{entry_text, text_of}
 use Rattle.spiffe_doc.specs.Bundle.{IsBundle}
-
--- the canonical text of an authority by itself
-unfoldable pub entry_text : Authority → List ℕ
-entry_text authority = compact_text (entry_tree authority)
 
 -- their texts, a comma between each two, and one before where something stands there
 abbrev pub entry_texts : Bool → List Authority → List ℕ

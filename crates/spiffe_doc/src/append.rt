@@ -8,7 +8,7 @@ ghost use Rattle.spiffe_doc.specs.Bundle.{same_kid as under_one_kid, is_among as
 use crate::authority::Authority;
 use crate::bundle::{Bundle, MAX_AUTHORITIES, bundle_from};
 use crate::error::AppendError;
-use crate::text::{entry_text, push_entry};
+use crate::text::{push_entry, write_entry};
 use std::alloc::{AllocError, Global};
 
 impl Bundle {
@@ -49,7 +49,7 @@ fn front_and(alloc: Global, bundle: &Bundle, last: &Authority) -> Result<Vec<u8>
     ensures { IfOk result (λ front. front.items ≡ front_text (bundle.now.authorities ++ last.now ∷ [])) }
 {
     let mut front = bundle.front().to_vec(alloc)?;
-    let entry = entry_text(alloc, last)?;
+    let entry = write_entry(alloc, last)?;
     push_entry(&mut front, bundle.authorities().is_empty(), &entry)?;
     Ok(front)
 }

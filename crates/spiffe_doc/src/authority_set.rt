@@ -1,14 +1,15 @@
 //! The authorities that the entries of a document give, each once.
 ghost use Rattle.std.specs.Prelude.{◌≡◌, ◌⊎◌, ◌||◌, ◌++◌, ◌∷◌, [], List, ℕ, bytes_eq, Ok, Err, IfOk, OnOk, MatchResult};
 ghost use Rattle.spiffe_doc.specs.Authority.{IsAuthority};
-ghost use Rattle.spiffe_doc.specs.Writing.{entry_text as text_of_entry, front_text};
+ghost use Rattle.spiffe_doc.specs.Text.{entry_text};
+ghost use Rattle.spiffe_doc.specs.Writing.{front_text};
 ghost use Rattle.spiffe_doc.specs.AuthoritySet.{AreIndexed, admitted, with_new, has, has_some as has_bytes, is_some_of, kid_of};
 
 use crate::authority::Authority;
 use crate::bundle::MAX_AUTHORITIES;
 use crate::error::DocError;
 use crate::octets::Octets;
-use crate::text::{entry_text, push_entry};
+use crate::text::{push_entry, write_entry};
 use std::alloc::{AllocError, Global};
 use std::collections::BTreeSet;
 
@@ -51,7 +52,7 @@ impl AuthoritySet {
             (λ _. admitted place self.old.authorities.items authority ≡ Ok self.new.authorities.items)
             (λ e. (e ≡ DocError.Memory) ⊎ (admitted place self.old.authorities.items authority ≡ Err e)) }
     {
-        let entry = Octets::new(entry_text(alloc, &authority)?);
+        let entry = Octets::new(write_entry(alloc, &authority)?);
         let kid = key_id_bytes(alloc, &authority)?;
         if self.admits(place, &authority, &entry, &kid)? {
             self.add(authority, entry, kid)?;
@@ -69,7 +70,7 @@ impl AuthoritySet {
     ) -> Result<bool, DocError>
         requires whole { IsWhole self.now }
         requires lawful { IsAuthority authority.now }
-        requires entry { entry.now ≡ text_of_entry authority.now }
+        requires entry { entry.now ≡ entry_text authority.now }
         requires kid { kid.now ≡ kid_of authority.now }
         ensures { MatchResult result
             (λ new. admitted place self.now.authorities.items authority.now ≡ Ok (with_new new self.now.authorities.items authority.now))
@@ -96,7 +97,7 @@ impl AuthoritySet {
     ) -> Result<(), AllocError>
         requires indexed { AreIndexed self.old.texts self.old.kids self.old.authorities.items }
         requires written { self.old.text.items ≡ front_text self.old.authorities.items }
-        requires entry { entry ≡ text_of_entry authority }
+        requires entry { entry ≡ entry_text authority }
         requires kid { kid ≡ kid_of authority }
         ensures added { OnOk result (self.new.authorities.items ≡ self.old.authorities.items ++ authority ∷ []) }
         ensures indexed { OnOk result (AreIndexed self.new.texts self.new.kids self.new.authorities.items) }

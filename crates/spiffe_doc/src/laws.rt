@@ -1,5 +1,5 @@
 //! What holds of the definitions alone. Each law is the contract of a function that does nothing.
-ghost use Rattle.std.specs.Prelude.{◌≡◌, ◌↔◌, ◌<◌, List, ℕ, Ok, Err, Some, None, Option, Result, IfSome, true};
+ghost use Rattle.std.specs.Prelude.{◌≡◌, ◌↔◌, ◌<◌, ◌≤◌, length, List, ℕ, Ok, Err, Some, None, Option, Result, IfSome, true};
 ghost use Rattle.serde_json.specs.Data.{Data};
 ghost use Rattle.spiffe_doc.specs.declared.key.PublicKey.{PublicKey};
 ghost use Rattle.spiffe_doc.specs.declared.authority.Authority.{Authority};
@@ -9,7 +9,7 @@ ghost use Rattle.spiffe_doc.specs.Id.{IdValue, IsId, spiffe_id};
 ghost use Rattle.spiffe_doc.specs.Key.{EcKeyValue, RsaKeyValue};
 ghost use Rattle.spiffe_doc.specs.Authority.{IsAuthority, BundleValue};
 ghost use Rattle.spiffe_doc.specs.Equal.{ec_eq, rsa_eq, key_eq, authority_eq, bundle_eq};
-ghost use Rattle.spiffe_doc.specs.Text.{text_of};
+ghost use Rattle.spiffe_doc.specs.Text.{entry_text, text_of};
 ghost use Rattle.spiffe_doc.specs.Entry.{GivesAuthority, IsPassedOver, IsAtFault, IsOutcome, HasOneOutcome};
 ghost use Rattle.spiffe_doc.specs.Judgement.{judge};
 ghost use Rattle.spiffe_doc.specs.Bundle.{IsBundle};
@@ -33,6 +33,12 @@ pub fn equality_is_of_all_parts()
 /// The canonical text of a lawful bundle is a document of that bundle.
 pub fn texts_are_read_back()
     ensures { (bundle : BundleValue) → IsBundle bundle → document (text_of bundle) ≡ Ok bundle }
+{}
+
+/// The canonical text of a lawful authority is an entry of that authority, unless it is over the limit of documents.
+pub fn entries_are_read_back()
+    ensures { (authority : Authority) → IsAuthority authority → length (entry_text authority) ≤ 1048576
+        → entry (entry_text authority) ≡ Ok (Some authority) }
 {}
 
 /// An entry is judged to give an authority exactly where its texts are the encodings of the authority's bytes.

@@ -2,7 +2,7 @@
 //!
 //! `TrustDomain` and `SpiffeId` are the names of the SPIFFE-ID standard. `read_document` gives the `Bundle` that a
 //! document is, or the first reason why it is none; `write_document` gives a bundle's canonical text, which reads back
-//! as that bundle.
+//! as that bundle. `read_entry` and `write_entry` do this for one authority.
 #![tactic(auto)]
 
 mod append;
@@ -30,4 +30,4 @@ pub use id::{IdError, SpiffeId};
 pub use key::{Curve, EcKey, KeyMember, PublicKey, RsaKey};
 pub use name::{NameError, TrustDomain};
 pub use octets::Octets;
-pub use text::write_document;
+pub use text::{write_document, write_entry};

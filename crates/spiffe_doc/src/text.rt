@@ -5,8 +5,8 @@ ghost use Rattle.serde_json.specs.Written.{comma_if};
 ghost use Rattle.base64.specs.Engines.{standard, url_safe_no_pad};
 ghost use Rattle.base64.specs.GeneralPurpose.{encode_of};
 ghost use Rattle.spiffe_doc.specs.Key.{curve_text};
-ghost use Rattle.spiffe_doc.specs.Text.{entry_tree, text_of};
-ghost use Rattle.spiffe_doc.specs.Writing.{entry_text as text_of_entry, number_text, rest_text};
+ghost use Rattle.spiffe_doc.specs.Text.{entry_tree, entry_text, text_of};
+ghost use Rattle.spiffe_doc.specs.Writing.{number_text, rest_text};
 
 use crate::authority::{Authority, Certificate, KeyId};
 use crate::bundle::Bundle;
@@ -24,9 +24,11 @@ pub fn write_document(alloc: Global, bundle: &Bundle) -> Result<Vec<u8>, AllocEr
     bundle.text().to_vec(alloc)
 }
 
-/// The canonical text of an authority by itself.
-pub(crate) fn entry_text(alloc: Global, authority: &Authority) -> Result<Vec<u8>, AllocError>
-    ensures { IfOk result (λ text. text.items ≡ text_of_entry authority.now) }
+/// The canonical text of an authority by itself: compact JSON of a JWK (RFC 7517, section 4), its members in byte order
+/// of their names, as it stands in the document of a bundle. One of at most 1,048,576 bytes reads back as the authority.
+/// Errors only for want of memory.
+pub fn write_entry(alloc: Global, authority: &Authority) -> Result<Vec<u8>, AllocError>
+    ensures { IfOk result (λ text. text.items ≡ entry_text authority.now) }
 {
     entry_value(alloc, authority)?.to_vec(alloc)
 }

@@ -1,6 +1,7 @@
 //! Real bundles, with certificates and keys, and their canonical texts as another program made them.
 use super::bundle;
-use crate::write_document;
+use crate::{Bundle, write_document, write_entry};
+use std::alloc::{AllocError, Global};
 use std::test::Fail;
 
 /// A domain that has withdrawn what it published.
@@ -36,6 +37,27 @@ const LARGE_CURVE: &str =
 const LARGE_CURVE_TEXT: &str =
     "{\"keys\":[{\"crv\":\"P-521\",\"kty\":\"EC\",\"use\":\"x509-svid\",\"x\":\"AFxrgwFU0W1cXRyiDD-YS65G3-I-u-FmnoiSX_OruP0bxWA5zRfjUsNIOFjecLgJC7kVnxI8GbEbT6XYBFLxfJqW\",\"x5c\":[\"MIIB6TCCAUugAwIBAgIJAOGYitnwbBRKMAoGCCqGSM49BAMCMB0xDjAMBgNVBAoMBVNQSVJFMQswCQYDVQQGEwJVUzAeFw0yNjAxMDEwMDAwMDBaFw0yNzAxMDEwMDAwMDBaMB0xDjAMBgNVBAoMBVNQSVJFMQswCQYDVQQGEwJVUzCBmzAQBgcqhkjOPQIBBgUrgQQAIwOBhgAEAFxrgwFU0W1cXRyiDD+YS65G3+I+u+FmnoiSX/OruP0bxWA5zRfjUsNIOFjecLgJC7kVnxI8GbEbT6XYBFLxfJqWAAFGxd5s39XCjPIkFXbNHJksUoEkIAG6c97Se9uXNwZUiQbooKkEaeoyzlgqGDnFHzUWAheLzprSnRPs81JfXtoiozEwLzAPBgNVHRMBAf8EBTADAQH/MBwGA1UdEQQVMBOGEXNwaWZmZTovL3RkXzUuMi0xMAoGCCqGSM49BAMCA4GLADCBhwJCAJ8QHYhYzRRrXJU4d1oIu61cOSYNPbZq5X+w77it5cFop1q1IXulSQqL9niL1az40Nw34MhTsJ1U/1W73rEXO7s0AkEu2Qp1L8RPAondDSGmHzb/BW3iEA9IecHDvS13ehnEhdlYIYSRdRu4ef2c6O/V72ciEEpZD33GHyYOzQ2wzE/5GA==\"],\"y\":\"AAFGxd5s39XCjPIkFXbNHJksUoEkIAG6c97Se9uXNwZUiQbooKkEaeoyzlgqGDnFHzUWAheLzprSnRPs81JfXtoi\"},{\"crv\":\"P-521\",\"kid\":\"z5mWYflnva_fDnM3QgwT-PXUD2zgedG5\",\"kty\":\"EC\",\"use\":\"jwt-svid\",\"x\":\"APH13y7r79kDrpYwTHS7Gfj7uHT7x6dGdtGFsaefqddqaDM6agLSn4wUUH9oPYuSZ8kBYvcGmn1nX-dAoi90lB89\",\"y\":\"AayNnmYqWBibgqlLcRnfgeV6xdndgKnI9yFlC5ZA3-0h4zdR5mi7JwYdzZiMsCzmVUDo5HENMEklRYDcNdPXHVmv\"}],\"spiffe_sequence\":18446744073709551615}";
 
+/// The texts of a bundle's authorities in a list, as a document has them.
+fn listed(alloc: Global, bundle: &Bundle) -> Result<Vec<u8>, AllocError> {
+    let mut list = Vec::from_slice(alloc, b"{\"keys\":[")?;
+    for (place, authority) in bundle.authorities().iter().enumerate() {
+        if place > 0 {
+            list.push(b',')?;
+        }
+        list.extend_from_slice(&write_entry(alloc, authority)?)?;
+    }
+    list.push(b']')?;
+    Ok(list)
+}
+
+/// A canonical text up to the end of its list.
+fn front_of(text: &str) -> &str {
+    match text.split_once(",\"spiffe_") {
+        Some((front, _)) => front,
+        None => text,
+    }
+}
+
 #[test]
 fn real_bundles(rt: HostRuntime) -> Result<(), Fail> {
     let alloc = rt.alloc();
@@ -58,6 +80,7 @@ fn real_bundles(rt: HostRuntime) -> Result<(), Fail> {
         assert_eq!(rt; read.sequence(), sequence);
         assert_eq!(rt; read.refresh_hint(), refresh_hint);
         assert_eq!(rt; read.authorities().len(), count);
+        assert_eq!(rt; listed(alloc, &read)?.as_slice(), front_of(text).as_bytes());
         let again = bundle(alloc, text)?;
         assert!(rt; again == read);
         assert_eq!(rt; write_document(alloc, &again)?.as_slice(), text.as_bytes());

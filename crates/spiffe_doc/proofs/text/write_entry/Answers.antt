@@ -2,9 +2,9 @@ use Rattle.std.proofs.Common.{ap, ◌∙◌, ◌≡◌, false}
 use Rattle.std.proofs.lemmas.Result.{IfOk-weaker}
 use Rattle.serde_json.specs.View.{view}
 use Rattle.serde_json.specs.Written.{has_float, compact_text}
-use Rattle.spiffe_doc.specs.Writing.{entry_text}
+use Rattle.spiffe_doc.specs.Text.{entry_text}
 use Rattle.spiffe_doc.proofs.TextLemmas.{entry_no_float}
-use Rattle.spiffe_doc.proofs.text.entry_text.Goals as goal
+use Rattle.spiffe_doc.proofs.text.write_entry.Goals as goal
 
 pub returns : goal.returns
 unfolding entry_text
