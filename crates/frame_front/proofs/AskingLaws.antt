@@ -5,10 +5,11 @@ use Rattle.std.specs.List.{concat}
 use Rattle.std.specs.Int.{w64, to_be_bytes, from_be_bytes}
 use Rattle.std.proofs.lemmas.Bool.Decides.{nat_tests}
 use Rattle.std.proofs.lemmas.Nat.{from_be_bytes-to_be_bytes_8}
-use Rattle.spiffe_doc.specs.Authority.{BundleValue}
+use Rattle.spiffe_doc.specs.Authority.{IsAuthority, BundleValue}
+use Rattle.spiffe_doc.proofs.RoundTrip.{entry-entry_text}
 use Rattle.spiffe_doc.specs.Bundle.{IsBundle}
 use Rattle.spiffe_doc.specs.Name.{IsName}
-use Rattle.spiffe_doc.specs.Text.{text_of}
+use Rattle.spiffe_doc.specs.Text.{entry_text, text_of}
 use Rattle.map_core.specs.Name.{Name}
 use Rattle.map_core.specs.declared.op.Op.{Op}
 use Rattle.map_core.specs.declared.op.Op.TheVariants.{Set, SetIf, Append, Remove, Get, FetchAll}
@@ -19,11 +20,12 @@ use Rattle.frame_front.specs.declared.request.Version.TheVariants.{One, Two}
 use Rattle.frame_front.specs.declared.request.Request.TheVariants.{Ask, Speak}
 use Rattle.frame_front.specs.declared.refusal.Refusal.{Refusal}
 use Rattle.frame_front.specs.declared.refusal.Refusal.TheVariants.{BadRequest}
+use Rattle.spiffe_doc.specs.declared.authority.Authority.{Authority}
 use Rattle.map_core.specs.PlainMap.{PlainMap, ask}
 use Rattle.frame_front.specs.Frame.{frame, stream_of}
 use Rattle.frame_front.specs.PlainSession.{text_for, state_for, answers_to, state_after}
 use Rattle.frame_front.specs.Client.{reply_bytes}
-use Rattle.frame_front.specs.Request.{◌>>=◌, split_expect, at_end, name_of, bundle_of, named_bundle, only_name, set_of, set_if_of, remove_of, get_of, fetch_all_of, version_of, request_of}
+use Rattle.frame_front.specs.Request.{◌>>=◌, split_expect, at_end, name_of, bundle_of, given, authority_of, named_bundle, only_name, set_of, set_if_of, append_of, remove_of, get_of, fetch_all_of, version_of, request_of}
 use Rattle.frame_front.specs.Reply.{expect_bytes, coded_reply, version_frame}
 use Rattle.frame_front.specs.Asking.{is_written, IsExpect, IsLawfulOp, request_payload, request_payloads, request_preface, request_bytes}
 use Rattle.frame_front.proofs.FrameLemmas.{length-frame}
@@ -71,6 +73,18 @@ set_read : (d : Name) (b : BundleValue) → IsName d → IsBundle b → set_of (
 unfolding set_of
 set_read d b name lawful = ap (λ (r : Result (Name × BundleValue) Refusal). r >>= (λ item. Ok (Ask (Set item.0 item.1)))) (named_bundle-item d b name lawful)
 
+authority_of-text : (a : Authority) → IsAuthority a → nat_le (length (entry_text a)) 1048576 ≡ true → authority_of (entry_text a) ≡ Ok a
+unfolding authority_of
+authority_of-text a is fits = ap given (entry-entry_text a is (grind (arith, nat_tests, fits)))
+
+append_read : (d : Name) (a : Authority) → IsName d → IsAuthority a → nat_le (length (entry_text a)) 1048576 ≡ true
+    → append_of (length d ∷ d ++ entry_text a) ≡ Ok (Ask (Append d a))
+unfolding append_of
+append_read d a name is fits =
+    ap (λ (r : Result (List ℕ × List ℕ) Refusal). r >>= (λ parts. name_of parts.0 >>= (λ name. authority_of parts.1 >>= (λ authority. Ok (Ask (Append name authority)))))) (split_name-name d (entry_text a))
+    ∙ ap (λ (r : Result Name Refusal). r >>= (λ name. authority_of (entry_text a) >>= (λ authority. Ok (Ask (Append name authority))))) (name_of-name d name)
+    ∙ ap (λ (r : Result Authority Refusal). r >>= (λ authority. Ok (Ask (Append d authority)))) (authority_of-text a is fits)
+
 remove_read : (d : Name) → IsName d → remove_of (length d ∷ d) ≡ Ok (Ask (Remove d))
 unfolding remove_of
 remove_read d name = ap (λ (r : Result Name Refusal). r >>= (λ n. Ok (Ask (Remove n)))) (only_name-name d name)
@@ -79,14 +93,11 @@ get_read : (d : Name) → IsName d → get_of (length d ∷ d) ≡ Ok (Ask (Get 
 unfolding get_of
 get_read d name = ap (λ (r : Result Name Refusal). r >>= (λ n. Ok (Ask (Get n)))) (only_name-name d name)
 
-not_written : {A : Type 0} → false ≡ true → A
-not_written same = absurd cc
-
 pub read_second : (op : Op) → is_written op ≡ true → IsLawfulOp op → request_of Two (request_payload op) ≡ Ok (Ask op)
 unfolding request_of fetch_all_of
 read_second (Set d b) written lawful = set_read d b lawful.0 lawful.1
 read_second (SetIf d expect b) written lawful = set_if_read d expect b lawful.0 lawful.1 lawful.2
-read_second (Append d a) written lawful = not_written written
+read_second (Append d a) written lawful = append_read d a lawful.0 lawful.1 written
 read_second (Remove d) written lawful = remove_read d lawful
 read_second (Get d) written lawful = get_read d lawful
 read_second FetchAll written lawful = refl
@@ -98,7 +109,7 @@ pub read_first : (op : Op) → is_written op ≡ true → IsLawfulOp op → requ
 unfolding request_of fetch_all_of
 read_first (Set d b) written lawful alone = set_read d b lawful.0 lawful.1
 read_first (SetIf d expect b) written lawful alone = has_preface alone
-read_first (Append d a) written lawful alone = not_written written
+read_first (Append d a) written lawful alone = append_read d a lawful.0 lawful.1 written
 read_first (Remove d) written lawful alone = remove_read d lawful
 read_first (Get d) written lawful alone = get_read d lawful
 read_first FetchAll written lawful alone = refl
@@ -149,7 +160,9 @@ session_answers version m (Set d b) written lawful =
 session_answers version m (SetIf d expect b) written lawful =
     let told = behind version m (SetIf d expect b) (request_payload (SetIf d expect b)) (read_second (SetIf d expect b) written lawful) in
     (two_frames (86 ∷ 2 ∷ []) (request_payload (SetIf d expect b)), told.0, told.1)
-session_answers version m (Append d a) written lawful = not_written written
+session_answers version m (Append d a) written lawful =
+    let told = alone version m (Append d a) (request_payload (Append d a)) (read_any version (Append d a) written lawful refl) in
+    (one_frame (request_payload (Append d a)), told.0, told.1)
 session_answers version m (Remove d) written lawful =
     let told = alone version m (Remove d) (request_payload (Remove d)) (read_any version (Remove d) written lawful refl) in
     (one_frame (request_payload (Remove d)), told.0, told.1)

@@ -1,7 +1,6 @@
 -- The bytes of a request.
-use Rattle.std.specs.Prelude.{ℕ, ◌<◌, ◌^◌, List, [], ◌∷◌, ◌++◌, length, Bool, true, false}
-use Rattle.spiffe_doc.specs.Writing.{entry_text}
-use Rattle.spiffe_doc.specs.Text.{text_of}
+use Rattle.std.specs.Prelude.{◌≡◌, ℕ, ◌<◌, ◌^◌, List, [], ◌∷◌, ◌++◌, length, nat_le, Bool, true, false}
+use Rattle.spiffe_doc.specs.Text.{entry_text, text_of}
 use Rattle.spiffe_doc.specs.Name.{IsName}
 use Rattle.spiffe_doc.specs.Authority.{IsAuthority}
 use Rattle.spiffe_doc.specs.Bundle.{IsBundle}
@@ -9,6 +8,8 @@ use Rattle.map_core.specs.declared.op.Expect.{Expect}
 use Rattle.map_core.specs.declared.op.Expect.TheVariants.{Absent, Sequence, Unnumbered}
 use Rattle.map_core.specs.declared.op.Op.{Op}
 use Rattle.map_core.specs.declared.op.Op.TheVariants.{Set, SetIf, Append, Remove, Get, FetchAll}
+use Rattle.frame_front.specs.declared.asking.RequestError.{RequestError}
+use Rattle.frame_front.specs.declared.asking.RequestError.TheVariants.{Memory, TooLong, WriteFault}
 use Rattle.frame_front.specs.Frame.{frame}
 use Rattle.frame_front.specs.Reply.{expect_bytes}
 
@@ -52,14 +53,29 @@ request_payloads (Remove d) = request_payload (Remove d) ∷ []
 request_payloads (Get d) = request_payload (Get d) ∷ []
 request_payloads FetchAll = request_payload FetchAll ∷ []
 
--- whether requests of this kind are written: all but an append
+-- Whether the request of an operation is written: each but an append of an authority whose text is over the limit of
+-- documents.
 abbrev pub is_written : Op → Bool
 is_written (Set d b) = true
 is_written (SetIf d expect b) = true
-is_written (Append d a) = false
+is_written (Append d a) = nat_le (length (entry_text a)) 1048576
 is_written (Remove d) = true
 is_written (Get d) = true
 is_written FetchAll = true
+
+abbrev pub is_append : Op → Bool
+is_append (Set d b) = false
+is_append (SetIf d expect b) = false
+is_append (Append d a) = true
+is_append (Remove d) = false
+is_append (Get d) = false
+is_append FetchAll = false
+
+-- why nothing of a request is written: it is too long, or there was no memory for the text that it appends
+abbrev pub IsUnwritable : Op → RequestError → Type 0
+IsUnwritable op TooLong = is_written op ≡ false
+IsUnwritable op Memory = is_append op ≡ true
+IsUnwritable op WriteFault = ⊥
 
 -- a sequence of 8 bytes
 abbrev pub IsExpect : Expect → Type 0

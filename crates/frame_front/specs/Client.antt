@@ -110,10 +110,10 @@ pub record ClientState : Type 0 where
   pub ends : Ends
   pub ended : Option ClientError
 
--- Nothing is written or read: the client had ended, or it doesn't write such requests, or it had no memory to begin.
+-- Nothing is written or read: the client had ended, or the request is too long to be written, or there was no memory to begin.
 abbrev pub IsIdle : ClientState → Op → Answer → ClientState → Type 0
 IsIdle old op answer new = (new ≡ old)
-    × (((answer ≡ Err error.GateShut) × ((old.ended ≢ None) ⊎ (is_written op ≡ false))) ⊎ ((answer ≡ Err error.Memory) × (old.ended ≡ None) × (is_written op ≡ true)))
+    × (((answer ≡ Err error.GateShut) × ((old.ended ≢ None) ⊎ (is_written op ≡ false))) ⊎ ((answer ≡ Err error.Memory) × (old.ended ≡ None)))
 
 -- the reply is the answer
 abbrev pub IsAsked : Option ClientError → Op → Answer → Ends → Ends → Type 0

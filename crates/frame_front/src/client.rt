@@ -5,11 +5,11 @@ ghost use Rattle.frame_front.specs.Frame.{IsPayload, frame};
 ghost use Rattle.frame_front.specs.Reading.{CountsFault};
 ghost use Rattle.frame_front.specs.Reply.{coded};
 ghost use Rattle.frame_front.specs.Answer.{MayAnswer, IsLawfulAnswer};
-ghost use Rattle.frame_front.specs.Asking.{is_written as can_be_written};
+ghost use Rattle.frame_front.specs.Asking.{document_part};
 ghost use Rattle.frame_front.specs.Client.{Breaks, BeginsNoReply, is_of_one as has_one_frame, reply_preface, reply_bytes, Exchange, ends};
 
 use crate::answer::{is_code_for, read_answer};
-use crate::asking::{is_written, write_request};
+use crate::asking::{request_document, send_request};
 use crate::frame::MAX_PAYLOAD;
 use crate::listing::read_all;
 use crate::reading::read_frame;
@@ -20,11 +20,12 @@ use std::io::{Read, Write};
 use std::marker::Model;
 
 /// Asks a map whose session is served at the other end of a stream: each operation is one request, and
-/// its reply is read before the next. Documents are sent and taken as canonical texts only. An append is
-/// not asked: the client answers that the gate is shut, and goes on.
+/// its reply is read before the next. Documents are sent and taken as canonical texts only. An append of an
+/// authority whose text has over 1,048,576 bytes is not asked, as no server reads it: the client answers
+/// that the gate is shut, and goes on.
 ///
-/// Room for replies, 1,049,000 bytes, is taken before the first request is begun. If there is none, the
-/// client says so, has done nothing, and goes on.
+/// Room for replies, 1,049,000 bytes, is taken before the first request is begun, and room for the text of
+/// an authority before each append. If there is none, the client says so, has done nothing, and goes on.
 ///
 /// Once an exchange fails, the client has ended: it asks nothing more, and answers that the gate is shut.
 /// Whether the request that failed took effect is not known.
@@ -94,14 +95,18 @@ impl<R: Read, W: Write> Ask for Client<R, W> {
     ghost answers_plainly = { client_shows_nothing };
 
     fn ask(&mut self, op: Op) -> Result<Reply, AskError> {
-        if self.ended.is_some() || !is_written(&op) {
+        if self.ended.is_some() {
             return Err(AskError::GateShut);
         }
+        let Some(document) = request_document(self.alloc, &op)? else {
+            return Err(AskError::GateShut);
+        };
         if self.buffer.len() != MAX_PAYLOAD {
             self.buffer = room(self.alloc, MAX_PAYLOAD)?;
         }
         let (reader, writer) = (&mut self.reader, &mut self.writer);
-        match exchange(self.alloc, reader, writer, &mut self.buffer, &op) {
+        let document = document.as_slice();
+        match exchange(self.alloc, reader, writer, &mut self.buffer, &op, document) {
             Ok(answer) => answer,
             Err(why) => {
                 self.ended = Some(why);
@@ -248,15 +253,17 @@ fn read_reply<R: Read>(
     read_told(alloc, reader, buffer, op)
 }
 
-/// Writes the request for an operation, and reads the reply.
+/// Writes the request for an operation, which ends with the document, and reads the reply.
 fn exchange<R: Read, W: Write>(
     alloc: Global,
     reader: &mut Counted<R>,
     writer: &mut Counted<W>,
     buffer: &mut [u8],
     op: &Op,
+    document: &[u8],
 ) -> Result<Result<Reply, AskError>, ClientError>
-    requires written { can_be_written op.now ≡ true }
+    requires document { document.now ≡ document_part op.now }
+    requires short { length document.now ≤ 1048576 }
     requires room { length buffer.old ≡ 1049000 }
     requires reader_count { reader.old.faults < 2 ^ 64 - 1 }
     requires writer_count { writer.old.faults < 2 ^ 64 - 1 }
@@ -267,7 +274,7 @@ fn exchange<R: Read, W: Write>(
     ensures reader_count { OnOk result (reader.new.faults ≡ reader.old.faults) }
     ensures writer_count { OnOk result (writer.new.faults ≡ writer.old.faults) }
 {
-    match write_request(writer, op) {
+    match send_request(writer, op, document) {
         Ok(()) => read_reply(alloc, reader, buffer, op),
         Err(_) => Err(ClientError::WriteFault),
     }

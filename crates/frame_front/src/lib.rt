@@ -26,7 +26,7 @@ mod reply;
 mod request;
 mod session;
 
-pub use asking::{is_written, write_request};
+pub use asking::{RequestError, write_request};
 pub use client::Client;
 pub use client_error::ClientError;
 pub use counted::Counted;

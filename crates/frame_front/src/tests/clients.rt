@@ -2,10 +2,10 @@
 use super::exchanges::{Asked, EXCHANGES, Exchange, op, words};
 use super::{ALL_OF_ONE, Calls, FETCH_ALL, Pieces, SET};
 use crate::{
-    Client, ClientError, Counted, FaultyReader, FaultyWriter, is_written, serve, write_request,
+    Client, ClientError, Counted, FaultyReader, FaultyWriter, RequestError, serve, write_request,
 };
 use map_core::{Ask, AskError, Contents, Expect, Op, Reply};
-use spiffe_doc::{TrustDomain, read_entry};
+use spiffe_doc::{Authority, Certificate, Octets, PublicKey, RsaKey, TrustDomain};
 use std::alloc::{AllocError, Global};
 use std::process::Abort;
 use std::test::Fail;
@@ -123,8 +123,11 @@ fn a_writer_that_fails(rt: HostRuntime) -> Result<(), Fail> {
             let (reader, writer) = client.into_ends();
             assert!(rt; reader.end == exchange.reply, "room {room}");
             assert!(rt; writer.faults() == 1, "room {room}");
-            let (front, _) = exchange.request.split_at(room);
-            assert!(rt; writer.end.taken.as_slice() == front, "room {room}");
+            assert!(rt; writer.end.taken.len() == room, "room {room}");
+            assert!(rt;
+                exchange.request.starts_with(writer.end.taken.as_slice()),
+                "room {room}"
+            );
         }
     }
     Ok(())
@@ -132,7 +135,7 @@ fn a_writer_that_fails(rt: HostRuntime) -> Result<(), Fail> {
 
 #[test]
 fn what_is_no_reply(rt: HostRuntime) -> Result<(), Fail> {
-    let bad: [(usize, &[u8]); 22] = [
+    let bad: [(usize, &[u8]); 29] = [
         // The replies to other requests.
         (0, b"\x00\x00\x00\x01d"),
         (0, b"\x00\x00\x00\x0cf{\"keys\":[]}"),
@@ -159,6 +162,14 @@ fn what_is_no_reply(rt: HostRuntime) -> Result<(), Fail> {
         (7, b"\x00\x00\x00\x02v\x01\x00\x00\x00\x01s"),
         (7, b"\x00\x00\x00\x02v\x02\x00\x00\x00\x02\x24\x03"),
         (7, b"\x00\x00\x00\x02v\x02\x00\x00\x00\x02v\x02"),
+        // Of an append: other replies, no sequence, another kind of one, and bytes too many.
+        (21, b"\x00\x00\x00\x01s"),
+        (21, b"\x00\x00\x00\x09\x1f\x00\x00\x00\x00\x00\x00\x01\x02"),
+        (21, b"\x00\x00\x00\x02\x24\x00"),
+        (21, b"\x00\x00\x00\x01p"),
+        (21, b"\x00\x00\x00\x02p\x02"),
+        (21, b"\x00\x00\x00\x03p\x00\x00"),
+        (21, b"\x00\x00\x00\x02\x20\x00"),
     ];
     for (place, input) in bad {
         let Some(exchange) = EXCHANGES.get(place) else {
@@ -214,12 +225,20 @@ fn bad_lengths_of_replies(rt: HostRuntime) -> Result<(), Fail> {
 #[test]
 fn asks_what_a_session_answers(rt: HostRuntime) -> Result<(), Fail> {
     let alloc = rt.alloc();
-    let steps: [(Asked, &[u8], &str); 10] = [
+    let steps: [(Asked, &[u8], &str); 14] = [
         (
             Asked::Get,
             b"\x00\x00\x00\x01\x1e",
             "refused 30: no bundle stands under the name",
         ),
+        (
+            Asked::Append,
+            b"\x00\x00\x00\x01\x1e",
+            "refused 30: no bundle stands under the name",
+        ),
+        (Asked::Set, b"\x00\x00\x00\x01s", "stored"),
+        (Asked::Append, b"\x00\x00\x00\x02p\x00", "appended None"),
+        (Asked::Append, b"\x00\x00\x00\x01u", "unchanged"),
         (Asked::Set, b"\x00\x00\x00\x01s", "stored"),
         (Asked::Set, b"\x00\x00\x00\x01u", "unchanged"),
         (
@@ -268,7 +287,7 @@ fn asks_what_a_session_answers(rt: HostRuntime) -> Result<(), Fail> {
     let mut written = Counted::new(Vec::new(alloc));
     let mut contents = Contents::new(alloc);
     let ended = serve(alloc, &mut requests, &mut written, &mut contents, 1000);
-    assert!(rt; ended == Ok(13), "{ended:?}");
+    assert!(rt; ended == Ok(17), "{ended:?}");
     assert!(rt;
         written.end.as_slice() == replies.as_slice(),
         "{:?}",
@@ -296,22 +315,70 @@ fn a_request_is_flushed(rt: HostRuntime) -> Result<(), Fail> {
     Ok(())
 }
 
-// An append is not asked, and the client goes on.
+/// An authority with this key and a certificate of 786,384 bytes, which are 1,048,512 of base64.
+fn large(alloc: Global, key: RsaKey) -> Result<Op, Fail> {
+    let der = Octets::new(vec![in alloc; 0; 786_384]?);
+    Ok(Op::Append(
+        TrustDomain::parse(alloc, "a")?,
+        Authority::X509 {
+            key: PublicKey::Rsa(key),
+            der: Certificate::new(der),
+        },
+    ))
+}
+
+/// The append of an authority whose text has 1,048,576 bytes.
+fn longest_append(alloc: Global) -> Result<Op, Fail> {
+    let n = Octets::new(Vec::from_slice(alloc, b"\x01\x00\x01")?);
+    let e = Octets::new(Vec::from_slice(alloc, b"\x01\x00\x01")?);
+    large(alloc, RsaKey::new(n, e))
+}
+
+/// And one of 1,048,577: the modulus takes two characters more, and the exponent one less.
+fn longer_append(alloc: Global) -> Result<Op, Fail> {
+    let n = Octets::new(Vec::from_slice(alloc, b"\x01\x00\x01\x00")?);
+    let e = Octets::new(Vec::from_slice(alloc, b"\x01\x00")?);
+    large(alloc, RsaKey::new(n, e))
+}
+
+// The longest text is appended: the server says that there is no bundle, and not that the text is too long.
+#[test]
+fn the_longest_append(rt: HostRuntime) -> Result<(), Fail> {
+    let alloc = rt.alloc();
+    let reply: &[u8] = b"\x00\x00\x00\x01\x1e";
+    let mut client = Client::new(alloc, Counted::new(reply), Counted::new(Vec::new(alloc)));
+    let answer = client.ask(longest_append(alloc)?);
+    assert_eq!(rt;
+        words(alloc, &answer)?.as_str(),
+        "refused 30: no bundle stands under the name"
+    );
+    let (_, writer) = client.into_ends();
+    assert_eq!(rt; writer.end.len(), 1_048_583);
+    let mut requests = Counted::new(writer.end.as_slice());
+    let mut written = Counted::new(Vec::new(alloc));
+    let mut contents = Contents::new(alloc);
+    let ended = serve(alloc, &mut requests, &mut written, &mut contents, 1000);
+    assert!(rt; ended == Ok(1), "{ended:?}");
+    assert!(rt; written.end.as_slice() == reply);
+    Ok(())
+}
+
+// One byte more, and nothing is written; the client goes on.
 #[test]
 fn what_is_not_asked(rt: HostRuntime) -> Result<(), Fail> {
     let alloc = rt.alloc();
     let reply: &[u8] = b"\x00\x00\x00\x01s";
     let mut client = Client::new(alloc, Counted::new(reply), Counted::new(Vec::new(alloc)));
-    let jwk = b"{\"use\":\"jwt-svid\",\"kty\":\"RSA\",\"kid\":\"k\",\"n\":\"AQAB\",\"e\":\"AQAB\"}";
-    let Some(authority) = read_entry(alloc, jwk)? else {
-        return Err(Fail::from("the JWK is passed over"));
-    };
-    let append = Op::Append(TrustDomain::parse(alloc, "a")?, authority);
-    assert!(rt; matches!(client.ask(append), Err(AskError::GateShut)));
+    let answer = client.ask(longer_append(alloc)?);
+    assert!(rt; matches!(answer, Err(AskError::GateShut)));
     assert!(rt; client.ended().is_none());
     assert!(rt; matches!(client.ask(op(alloc, Asked::Set)?), Ok(Reply::Stored)));
     let (_, writer) = client.into_ends();
     assert!(rt; writer.end.as_slice() == SET);
+    let mut writer = Counted::new(Vec::new(alloc));
+    let told = write_request(alloc, &mut writer, &longer_append(alloc)?);
+    assert!(rt; told == Err(RequestError::TooLong), "{told:?}");
+    assert!(rt; writer.end.is_empty());
     Ok(())
 }
 
@@ -322,10 +389,9 @@ fn requests_one_after_the_other(rt: HostRuntime) -> Result<(), Fail> {
     let mut want = Vec::new(alloc);
     for exchange in EXCHANGES {
         let request = op(alloc, exchange.ask)?;
-        assert!(rt; is_written(&request), "{}", exchange.answer);
         assert!(rt; writer.faults() == 0, "{}", exchange.answer);
         assert!(rt;
-            write_request(&mut writer, &request).is_ok(),
+            write_request(alloc, &mut writer, &request).is_ok(),
             "{}",
             exchange.answer
         );
@@ -340,7 +406,7 @@ fn requests_one_after_the_other(rt: HostRuntime) -> Result<(), Fail> {
 fn without_memory(rt: &impl Abort, alloc: Global, ask: Asked, reply: &[u8]) -> Result<(), Fail> {
     let request = op(alloc, ask)?;
     // Room for the request, so that the writer has no growth of its own.
-    let writer = Counted::new(Vec::with_capacity(alloc, 64)?);
+    let writer = Counted::new(Vec::with_capacity(alloc, 128)?);
     let mut client = Client::new(alloc, Counted::new(reply), writer);
     let answer = client.ask(request);
     let ended = client.ended();
@@ -364,4 +430,9 @@ fn a_refused_growth_of_a_get(rt: HostRuntime) -> Result<(), Fail> {
 #[test]
 fn a_refused_growth_of_a_fetch_all(rt: HostRuntime) -> Result<(), Fail> {
     without_memory(&rt, rt.alloc(), Asked::FetchAll, ALL_OF_ONE)
+}
+
+#[test]
+fn a_refused_growth_of_an_append(rt: HostRuntime) -> Result<(), Fail> {
+    without_memory(&rt, rt.alloc(), Asked::Append, b"\x00\x00\x00\x02p\x00")
 }

@@ -1,7 +1,7 @@
 //! Exchanges of a client: what it is asked, what it writes, what it reads and what it answers.
 use super::{ALL_OF_NONE, ALL_OF_ONE, FETCH_ALL, GET, SET};
 use map_core::{AskError, Expect, Op, Reply};
-use spiffe_doc::{TrustDomain, read_document};
+use spiffe_doc::{Authority, TrustDomain, read_document, read_entry};
 use std::alloc::{AllocError, Global};
 use std::test::Fail;
 
@@ -10,6 +10,8 @@ use std::test::Fail;
 pub(super) enum Asked {
     Set,
     SetIf(Expect),
+    /// Of the authority `JWK`.
+    Append,
     Remove,
     Get,
     FetchAll,
@@ -24,7 +26,21 @@ const SET_IF_SEQUENCE: &[u8] =
 
 const SET_IF_UNNUMBERED: &[u8] = b"\x00\x00\x00\x02V\x02\x00\x00\x00\x0fC\x01a\x02{\"keys\":[]}";
 
+/// A key that signs JWT-SVIDs, with its members in another order than that of the canonical text.
+const JWK: &[u8] =
+    b"{\"use\":\"jwt-svid\",\"kty\":\"RSA\",\"kid\":\"k\",\"n\":\"AQAB\",\"e\":\"AQAB\"}";
+
+const APPEND: &[u8] =
+    b"\x00\x00\x00\x41A\x01a{\"e\":\"AQAB\",\"kid\":\"k\",\"kty\":\"RSA\",\"n\":\"AQAB\",\"use\":\"jwt-svid\"}";
+
 const REMOVE: &[u8] = b"\x00\x00\x00\x03R\x01a";
+
+fn authority(alloc: Global) -> Result<Authority, Fail> {
+    match read_entry(alloc, JWK)? {
+        Some(authority) => Ok(authority),
+        None => Err(Fail::from("the JWK is ignored")),
+    }
+}
 
 pub(super) fn op(alloc: Global, ask: Asked) -> Result<Op, Fail> {
     let domain = TrustDomain::parse(alloc, "a")?;
@@ -32,6 +48,7 @@ pub(super) fn op(alloc: Global, ask: Asked) -> Result<Op, Fail> {
     Ok(match ask {
         Asked::Set => Op::Set(domain, bundle),
         Asked::SetIf(expect) => Op::SetIf(domain, expect, bundle),
+        Asked::Append => Op::Append(domain, authority(alloc)?),
         Asked::Remove => Op::Remove(domain),
         Asked::Get => Op::Get(domain),
         Asked::FetchAll => Op::FetchAll,
@@ -73,7 +90,7 @@ pub(super) struct Exchange<'a> {
     pub answer: &'a str,
 }
 
-pub(super) const EXCHANGES: [Exchange<'static>; 21] = [
+pub(super) const EXCHANGES: [Exchange<'static>; 30] = [
     Exchange {
         ask: Asked::Set,
         request: SET,
@@ -199,5 +216,59 @@ pub(super) const EXCHANGES: [Exchange<'static>; 21] = [
         request: FETCH_ALL,
         reply: b"\x00\x00\x00\x15\x29\x00\x00\x00\x03\x00\x00\x00\x00\x00\x00\x01\x00\x00\x00\x00\x00\x00\x00\x01\x02",
         answer: "error 41: shard 3 moved from revision 256 to 258 before all shards were read",
+    },
+    Exchange {
+        ask: Asked::Append,
+        request: APPEND,
+        reply: b"\x00\x00\x00\x02p\x00",
+        answer: "appended None",
+    },
+    Exchange {
+        ask: Asked::Append,
+        request: APPEND,
+        reply: b"\x00\x00\x00\x0ap\x01\x00\x00\x00\x00\x00\x00\x01\x02",
+        answer: "appended Some(258)",
+    },
+    Exchange {
+        ask: Asked::Append,
+        request: APPEND,
+        reply: b"\x00\x00\x00\x01u",
+        answer: "unchanged",
+    },
+    Exchange {
+        ask: Asked::Append,
+        request: APPEND,
+        reply: b"\x00\x00\x00\x01\x1e",
+        answer: "refused 30: no bundle stands under the name",
+    },
+    Exchange {
+        ask: Asked::Append,
+        request: APPEND,
+        reply: b"\x00\x00\x00\x01\x20",
+        answer: "refused 32: the key ID stands there with another key",
+    },
+    Exchange {
+        ask: Asked::Append,
+        request: APPEND,
+        reply: b"\x00\x00\x00\x01\x21",
+        answer: "refused 33: the bundle has as many authorities as it may have",
+    },
+    Exchange {
+        ask: Asked::Append,
+        request: APPEND,
+        reply: b"\x00\x00\x00\x01\x22",
+        answer: "refused 34: the document would be too long",
+    },
+    Exchange {
+        ask: Asked::Append,
+        request: APPEND,
+        reply: b"\x00\x00\x00\x01\x23",
+        answer: "refused 35: the sequence is the greatest that there is",
+    },
+    Exchange {
+        ask: Asked::Append,
+        request: APPEND,
+        reply: b"\x00\x00\x00\x01\x16",
+        answer: "error 22: out of memory",
     },
 ];
