@@ -4,7 +4,7 @@ use Rattle.std.specs.Io.KnownBytes.{Appends}
 use Rattle.frame_front.specs.Outbox.{WritesFront}
 use Rattle.frame_front.specs.declared.error.FrontError.TheVariants.{Memory, WriteFault}
 use Rattle.bundled.specs.declared.command_line.Wanted.{Wanted}
-use Rattle.bundled.specs.declared.command_line.Wanted.TheVariants.{Run, Trace, Migrate, Refresh}
+use Rattle.bundled.specs.declared.command_line.Wanted.TheVariants.{Run, Trace, Migrate, Refresh, Serve}
 use Rattle.bundled.specs.declared.fault.Fault.{Fault}
 use Rattle.bundled.specs.declared.fault.Fault.TheVariants.{Front}
 use Rattle.bundled.specs.Settings.{AreSettings}
@@ -12,14 +12,16 @@ use Rattle.bundled.specs.Streams.{Streams, End, EndsWith, Tells}
 use Rattle.bundled.specs.Run.{Runs}
 use Rattle.bundled.specs.Trace.{Tracing}
 use Rattle.bundled.specs.Migrate.{Migration}
-use Rattle.bundled.specs.Refresh.{Refreshes}
+use Rattle.bundled.specs.Refresh.{RefreshRun}
+use Rattle.bundled.specs.Serve.{ServeRun}
 
 -- a command, with its settings
 abbrev pub Does : Wanted → ℕ → Streams → Streams → Type 0
 Does (Run shards turns) status old new = Runs turns status old new
 Does (Trace shards rounds) status old new = Tracing status old new
 Does Migrate status old new = Migration status old new
-Does (Refresh wanted) status old new = Refreshes status old new
+Does (Refresh wanted) status old new = RefreshRun status old new
+Does (Serve port settings) status old new = (new.input ≡ old.input) × ServeRun settings status old.output new.output old.error new.error
 
 -- some text is written; a front of it if the writer failed; nothing if memory ran out
 abbrev pub WritesText : Result (Unit {0}) Fault → End → End → Type 0

@@ -3,12 +3,14 @@ use Rattle.std.specs.Prelude.{ℕ, List, [], ◌∷◌, ◌++◌, Option, Some, 
 use Rattle.frame_front.specs.Error.{front_number}
 use Rattle.frame_front.specs.Dump.{dump_number}
 use Rattle.frame_front.specs.ClientError.{client_number}
+use Rattle.shard_store.specs.Close.{close_number}
+use Rattle.shard_store.specs.declared.close.CloseError.TheVariants as closing
 use Rattle.refresh.specs.Number.{relation_number}
 use Rattle.frame_front.specs.declared.dump.DumpError.TheVariants as dumps
 use Rattle.bundled.specs.declared.fault.RefreshFault.{RefreshFault}
 use Rattle.bundled.specs.declared.fault.RefreshFault.TheVariants.{BadRelationship, Client, NoConnection, NoClock}
 use Rattle.bundled.specs.declared.fault.Fault.{Fault}
-use Rattle.bundled.specs.declared.fault.Fault.TheVariants.{Front, Dump, BadLine, InputTooLong, Refresh}
+use Rattle.bundled.specs.declared.fault.Fault.TheVariants.{Front, Dump, BadLine, InputTooLong, Refresh, Listen, Close}
 
 abbrev pub refresh_number : RefreshFault → ℕ
 refresh_number (BadRelationship error line) = relation_number error
@@ -28,8 +30,10 @@ fault_number (Dump error) = dump_number error
 fault_number (BadLine line) = 70
 fault_number InputTooLong = 71
 fault_number (Refresh fault) = refresh_number fault
+fault_number Listen = 57
+fault_number (Close error) = close_number error
 
--- the number that says where, if there is one: a frame of a dump, or a line
+-- the number that says where, if there is one: a frame of a dump, a line, or a shard
 abbrev pub fault_place : Fault → Option ℕ
 fault_place (Front error) = None
 fault_place (Dump (dumps.BadDump frame)) = Some frame
@@ -37,6 +41,9 @@ fault_place (Dump dumps.Memory) = None
 fault_place (BadLine line) = Some line
 fault_place InputTooLong = None
 fault_place (Refresh fault) = refresh_place fault
+fault_place Listen = None
+fault_place (Close (closing.HeldAtEnd shard)) = Some shard
+fault_place (Close closing.Memory) = None
 
 -- a space and the number
 abbrev pub place_text : Option ℕ → List ℕ

@@ -3,7 +3,7 @@ use Rattle.std.specs.Prelude.{ℕ, ◌<◌, ◌≤◌, List, length, Option}
 use Rattle.std.specs.Io.KnownBytes.{Consumes, IsAtEnd}
 use Rattle.frame_front.specs.declared.error.FrontError.TheVariants.{BadLength, Truncated, ReadFault, WriteFault, TurnsUsed, Memory}
 use Rattle.bundled.specs.declared.fault.Fault.{Fault}
-use Rattle.bundled.specs.declared.fault.Fault.TheVariants.{Front, Dump, BadLine, InputTooLong, Refresh}
+use Rattle.bundled.specs.declared.fault.Fault.TheVariants.{Front, Dump, BadLine, InputTooLong, Refresh, Listen, Close}
 
 -- the most bytes of an input, and the most reads
 abbrev pub most_input : ℕ
@@ -31,3 +31,5 @@ InputFault (Front WriteFault) left_old left_new = ⊥
 InputFault (Dump error) left_old left_new = ⊥
 InputFault (BadLine line) left_old left_new = ⊥
 InputFault (Refresh fault) left_old left_new = ⊥
+InputFault Listen left_old left_new = ⊥
+InputFault (Close error) left_old left_new = ⊥

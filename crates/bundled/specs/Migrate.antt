@@ -7,7 +7,7 @@ use Rattle.frame_front.specs.Outbox.{WritesFront}
 use Rattle.frame_front.specs.declared.dump.DumpError.TheVariants as dumps
 use Rattle.frame_front.specs.declared.error.FrontError.TheVariants.{BadLength, Truncated, ReadFault, WriteFault, TurnsUsed, Memory}
 use Rattle.bundled.specs.declared.fault.Fault.{Fault}
-use Rattle.bundled.specs.declared.fault.Fault.TheVariants.{Front, Dump, BadLine, InputTooLong, Refresh}
+use Rattle.bundled.specs.declared.fault.Fault.TheVariants.{Front, Dump, BadLine, InputTooLong, Refresh, Listen, Close}
 use Rattle.bundled.specs.Input.{IsInput, InputFault}
 use Rattle.bundled.specs.Streams.{Streams, EndsWith}
 
@@ -33,6 +33,8 @@ Migrates (Err (Front BadLength)) left_old left_new held_old held_new = ⊥
 Migrates (Err (Front Truncated)) left_old left_new held_old held_new = ⊥
 Migrates (Err (BadLine line)) left_old left_new held_old held_new = ⊥
 Migrates (Err (Refresh fault)) left_old left_new held_old held_new = ⊥
+Migrates (Err Listen) left_old left_new held_old held_new = ⊥
+Migrates (Err (Close error)) left_old left_new held_old held_new = ⊥
 
 -- The whole command.
 pub record Migration (status : ℕ) (old new : Streams) : Type 0 where

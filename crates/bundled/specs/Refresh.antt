@@ -1,5 +1,5 @@
 -- What the command `refresh` does to its streams; what its lines say is not defined here.
-use Rattle.std.specs.Prelude.{◌≡◌, ◌≢◌, ◌⊎◌, ℕ, ◌+◌, max, min, List, [], ◌++◌, Bool, true, false, Result, Ok, Err}
+use Rattle.std.specs.Prelude.{◌≡◌, ℕ, ◌+◌, max, min, List, [], ◌++◌, Bool, true, false, Result, Ok, Err}
 use Rattle.bundled.specs.declared.fault.Fault.{Fault}
 use Rattle.bundled.specs.Streams.{Streams, End, Tells}
 use Rattle.bundled.specs.Fault.{fault_line}
@@ -16,7 +16,7 @@ last_line (Ok all_went_well) = []
 last_line (Err fault) = fault_line fault
 
 -- Nothing is read from standard input. To standard error go some lines, and then that of a fault; once it has failed, no more.
-pub record Refreshes (status : ℕ) (old new : Streams) : Type 0 where
+pub record RefreshRun (status : ℕ) (old new : Streams) : Type 0 where
   pub reads : new.input ≡ old.input
   pub ended : Result Bool Fault
   pub has_status : status ≡ refresh_status ended
@@ -27,7 +27,3 @@ pub record Refreshes (status : ℕ) (old new : Streams) : Type 0 where
 -- number of 64 bits
 abbrev pub due_not_before : ℕ → ℕ → ℕ → ℕ
 due_not_before now at_least due = max due (min (now + at_least) 18446744073709551615)
-
--- A text follows, unless the writer has failed since it had failed so often.
-abbrev pub Follows : ℕ → End → End → List ℕ → Type 0
-Follows before old new text = ((old.faults ≡ before) × Tells old new text) ⊎ ((old.faults ≢ before) × (new ≡ old))

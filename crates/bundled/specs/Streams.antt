@@ -1,11 +1,11 @@
 -- Standard input, output and error, or what stands in their place, and what a command that ends tells them.
-use Rattle.std.specs.Prelude.{◌≡◌, ℕ, ◌<◌, List, Option, Result, Ok, Err}
+use Rattle.std.specs.Prelude.{◌≡◌, ◌≢◌, ◌⊎◌, ℕ, ◌<◌, List, Option, Result, Ok, Err}
 use Rattle.std.specs.Io.KnownBytes.{Appends}
 use Rattle.frame_front.specs.declared.counted.Counted.{Counted}
 use Rattle.frame_front.specs.declared.error.FrontError.TheVariants.{BadLength, Truncated, ReadFault, WriteFault, TurnsUsed, Memory}
 use Rattle.frame_front.specs.Outbox.{WritesFront}
 use Rattle.bundled.specs.declared.fault.Fault.{Fault}
-use Rattle.bundled.specs.declared.fault.Fault.TheVariants.{Front, Dump, BadLine, InputTooLong, Refresh}
+use Rattle.bundled.specs.declared.fault.Fault.TheVariants.{Front, Dump, BadLine, InputTooLong, Refresh, Listen, Close}
 use Rattle.bundled.specs.Fault.{fault_line}
 
 -- the bytes that a reader has left or a writer holds, if they are known, and how many of its calls have failed
@@ -31,6 +31,10 @@ pub record Tells (old new : End) (bytes : List ℕ) : Type 0 where
   pub front : WritesFront old.bytes new.bytes bytes
   pub whole : new.faults ≡ old.faults → Appends old.bytes new.bytes bytes
 
+-- A text follows, unless the writer has failed since it had failed so often.
+abbrev pub TellsUnlessFailed : ℕ → End → End → List ℕ → Type 0
+TellsUnlessFailed before old new text = ((old.faults ≡ before) × Tells old new text) ⊎ ((old.faults ≢ before) × (new ≡ old))
+
 -- 53 is told only if the reader failed in the meantime, and 54 only if the writer did
 abbrev pub Blames : Fault → Streams → Streams → Type 0
 Blames (Front ReadFault) old new = old.input.faults < new.input.faults
@@ -43,6 +47,8 @@ Blames (Dump error) old new = Unit {0}
 Blames (BadLine line) old new = Unit {0}
 Blames InputTooLong old new = Unit {0}
 Blames (Refresh fault) old new = Unit {0}
+Blames Listen old new = Unit {0}
+Blames (Close error) old new = Unit {0}
 
 -- A command ends so, with this exit status: 0 if all went well, and nothing is written to standard error; 1 after a
 -- fault, whose line is written there.

@@ -2,7 +2,7 @@
 use Rattle.std.specs.Prelude.{◌≡◌, ℕ, List, Option, Result, Ok, Err}
 use Rattle.frame_front.specs.declared.error.FrontError.TheVariants.{BadLength, Truncated, ReadFault, WriteFault, TurnsUsed, Memory}
 use Rattle.bundled.specs.declared.fault.Fault.{Fault}
-use Rattle.bundled.specs.declared.fault.Fault.TheVariants.{Front, Dump, BadLine, InputTooLong, Refresh}
+use Rattle.bundled.specs.declared.fault.Fault.TheVariants.{Front, Dump, BadLine, InputTooLong, Refresh, Listen, Close}
 use Rattle.bundled.specs.Input.{IsInput, InputFault}
 use Rattle.bundled.specs.Streams.{Streams, EndsWith}
 
@@ -20,6 +20,8 @@ Traces (Err (Front BadLength)) left_old left_new held_old held_new = ⊥
 Traces (Err (Front Truncated)) left_old left_new held_old held_new = ⊥
 Traces (Err (Dump error)) left_old left_new held_old held_new = ⊥
 Traces (Err (Refresh fault)) left_old left_new held_old held_new = ⊥
+Traces (Err Listen) left_old left_new held_old held_new = ⊥
+Traces (Err (Close error)) left_old left_new held_old held_new = ⊥
 
 -- The whole command.
 pub record Tracing (status : ℕ) (old new : Streams) : Type 0 where

@@ -9,6 +9,7 @@ use crate::migrate::migrate_over;
 use crate::output::{tell, write_flushed};
 use crate::refreshing::refresh_over;
 use crate::run::run_over;
+use crate::serving::serve_over;
 use crate::trace::trace_over;
 use clap::error::ErrorKind;
 use frame_front::{Counted, FrontError};
@@ -16,7 +17,8 @@ use std::alloc::{AllocError, Global};
 use std::env::Env;
 use std::fs::Files;
 use std::io::{Read, Write};
-use std::net::Net;
+use std::net::{Net, TcpListener, TcpStream};
+use std::thread::Threads;
 use std::time::Clock;
 use std::{env, io};
 
@@ -24,7 +26,13 @@ const NOT_TEXT: &[u8] = b"error: an argument is not UTF-8\n\nFor more informatio
 
 /// Does what the arguments want, and answers the exit status: 0 if all went well, 1 after a fault, 2 if the arguments
 /// are refused.
-pub fn command_over<V: Env, H: Files + Clock + Net, R: Read, W: Write, E: Write>(
+pub fn command_over<
+    V: Env,
+    H: Files + Clock + Threads + Net<Listener = TcpListener, Stream = TcpStream> + Sync,
+    R: Read,
+    W: Write,
+    E: Write,
+>(
     alloc: Global,
     args: &V,
     host: &H,
@@ -54,6 +62,7 @@ pub fn command_over<V: Env, H: Files + Clock + Net, R: Read, W: Write, E: Write>
         }
         Ok(Wanted::Migrate) => migrate_over(alloc, reader, out, err),
         Ok(Wanted::Refresh(wanted)) => refresh_over(alloc, host, out, err, &wanted),
+        Ok(Wanted::Serve { port, settings }) => serve_over(alloc, host, out, err, port, settings),
         Err(error) => show(alloc, &error, out, err),
     }
 }

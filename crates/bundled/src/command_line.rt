@@ -3,6 +3,7 @@ ghost use Rattle.std.specs.Prelude.{◌<◌, ◌≤◌, IfOk};
 ghost use Rattle.bundled.specs.Settings.{AreSettings};
 
 use crate::refreshing::Refreshing;
+use crate::serving::Settings;
 use clap::{Arg, ArgMatches, Command, Error, value_parser};
 use std::alloc::{AllocError, Global};
 
@@ -17,6 +18,25 @@ const SHARDS: usize = 4;
 
 /// The rounds of a fetch-all where the command line doesn't say.
 const ROUNDS: usize = 3;
+
+/// The workers of a server where the command line doesn't say.
+const WORKERS: u64 = 2;
+
+/// The tries of a call at a shard that others hold where the command line doesn't say.
+const TRIES: u64 = 1000;
+
+const SERVING: &str = "\
+Each worker is a thread: it accepts one connection after the other, and serves each to its end. All workers
+share one store, which is empty at the start. A connection carries the frames that `run` reads and writes; see
+bundled run --help.
+
+On standard output come `listening PORT` before the first connection is accepted, and at the end `served N`,
+how many connections were served, and `domains M`, how many domains have a bundle. Faults of connections go to
+standard error then, in order of the workers. The status is 1 after a fault of the server itself, as a port
+that is taken, and 0 else.
+
+  bundled serve --port 8443 --connections 10
+  bundled refresh --relationships list --documents documents --port 8443";
 
 const EVENTS: &str = "\
 Each line of the input is an event; a caller is a number from 0 to 4294967295:
@@ -98,6 +118,8 @@ pub enum Wanted<'a> {
     Migrate,
     /// A refresh of each relationship of a list.
     Refresh(Refreshing<'a>),
+    /// A server at this port of 127.0.0.1; one that is free, if it is 0.
+    Serve { port: u16, settings: Settings },
 }
 
 /// Reads the command line.
@@ -112,11 +134,16 @@ pub fn wanted_by<'a>(alloc: Global, words: &'a [String]) -> Result<Wanted<'a>, E
         .subcommand(run_command(alloc)?)?
         .subcommand(trace_command(alloc)?)?
         .subcommand(migrate_command(alloc))?
-        .subcommand(refresh_command(alloc)?)?;
+        .subcommand(refresh_command(alloc)?)?
+        .subcommand(serve_command(alloc)?)?;
     let matches = command.try_get_matches_from(words)?;
     match matches.subcommand() {
         Some(("migrate", _)) => Ok(Wanted::Migrate),
         Some(("refresh", refresh)) => Ok(Wanted::Refresh(refreshing_of(refresh))),
+        Some(("serve", serve)) => Ok(Wanted::Serve {
+            port: serve.get_one::<u16>("port").unwrap_or(0),
+            settings: settings_of(serve),
+        }),
         Some(("trace", trace)) => Ok(Wanted::Trace {
             shards: shards_of(trace),
             rounds: rounds_of(trace),
@@ -156,6 +183,29 @@ fn turns_of(run: &ArgMatches<'_>) -> u64
     asked.unwrap_or(TURNS).clamp(1, MAX_TURNS)
 }
 
+fn settings_of(serve: &ArgMatches<'_>) -> Settings
+    ensures connections { (0 < result.connections) × (result.connections ≤ 1000) }
+    ensures limits { (result.rounds ≤ 16) × (result.tries ≤ 1000000) × (0 < result.turns) }
+{
+    Settings {
+        workers: serve
+            .get_one::<u64>("workers")
+            .unwrap_or(WORKERS)
+            .clamp(1, 64),
+        connections: serve
+            .get_one::<u64>("connections")
+            .unwrap_or(1)
+            .clamp(1, 1000),
+        shards: shards_of(serve),
+        rounds: rounds_of(serve) as u64,
+        tries: serve
+            .get_one::<u64>("tries")
+            .unwrap_or(TRIES)
+            .clamp(1, 1_000_000),
+        turns: turns_of(serve),
+    }
+}
+
 fn refreshing_of<'a>(refresh: &ArgMatches<'a>) -> Refreshing<'a> {
     Refreshing {
         list: refresh.get_str("relationships").unwrap_or_default(),
@@ -167,17 +217,29 @@ fn refreshing_of<'a>(refresh: &ArgMatches<'a>) -> Refreshing<'a> {
 }
 
 fn run_command<'a>(alloc: Global) -> Result<Command<'a>, AllocError> {
-    let turns = Arg::new(alloc, "turns")
-        .long("turns")
-        .value_name("READS")
-        .value_parser(value_parser!(u64).range(1..=1_000_000_000))
-        .default_value("1000000")
-        .help("How many reads the session may make");
     Command::new(alloc, "run")
         .about("Answers requests on standard input, over an empty store, on standard output")
         .after_help(FRAMES)
         .arg(shards_argument(alloc))?
-        .arg(turns)
+        .arg(turns_argument(alloc))
+}
+
+fn turns_argument<'a>(alloc: Global) -> Arg<'a> {
+    Arg::new(alloc, "turns")
+        .long("turns")
+        .value_name("READS")
+        .value_parser(value_parser!(u64).range(1..=1_000_000_000))
+        .default_value("1000000")
+        .help("How many reads a session may make")
+}
+
+fn rounds_argument<'a>(alloc: Global) -> Arg<'a> {
+    Arg::new(alloc, "rounds")
+        .long("rounds")
+        .value_name("COUNT")
+        .value_parser(value_parser!(u64).range(1..=16))
+        .default_value("3")
+        .help("How often a fetch-all reads all shards before it gives up")
 }
 
 fn shards_argument<'a>(alloc: Global) -> Arg<'a> {
@@ -190,19 +252,13 @@ fn shards_argument<'a>(alloc: Global) -> Arg<'a> {
 }
 
 fn trace_command<'a>(alloc: Global) -> Result<Command<'a>, AllocError> {
-    let rounds = Arg::new(alloc, "rounds")
-        .long("rounds")
-        .value_name("COUNT")
-        .value_parser(value_parser!(u64).range(1..=16))
-        .default_value("3")
-        .help("How often a fetch-all reads all shards before it gives up");
     Command::new(alloc, "trace")
         .about(
             "Runs events on standard input over an empty store, and explains every reply by one order",
         )
         .after_help(EVENTS)
         .arg(shards_argument(alloc))?
-        .arg(rounds)
+        .arg(rounds_argument(alloc))
 }
 
 fn migrate_command<'a>(alloc: Global) -> Command<'a> {
@@ -250,4 +306,41 @@ fn refresh_command<'a>(alloc: Global) -> Result<Command<'a>, AllocError> {
         .arg(now)?
         .arg(at_least)?
         .arg(port)
+}
+
+fn serve_command<'a>(alloc: Global) -> Result<Command<'a>, AllocError> {
+    let port = Arg::new(alloc, "port")
+        .long("port")
+        .value_name("PORT")
+        .value_parser(value_parser!(u16))
+        .required(true)
+        .help("The port of 127.0.0.1 to listen at; 0 takes one that is free");
+    let workers = Arg::new(alloc, "workers")
+        .long("workers")
+        .value_name("COUNT")
+        .value_parser(value_parser!(u64).range(1..=64))
+        .default_value("2")
+        .help("How many workers serve connections, each in a thread of its own");
+    let connections = Arg::new(alloc, "connections")
+        .long("connections")
+        .value_name("COUNT")
+        .value_parser(value_parser!(u64).range(1..=1000))
+        .default_value("1")
+        .help("How many connections each worker serves, one after the other");
+    let tries = Arg::new(alloc, "tries")
+        .long("tries")
+        .value_name("COUNT")
+        .value_parser(value_parser!(u64).range(1..=1_000_000))
+        .default_value("1000")
+        .help("How often a call tries a shard that others hold before it gives up");
+    Command::new(alloc, "serve")
+        .about("Answers requests at a port of this machine, over a store that its workers share")
+        .after_help(SERVING)
+        .arg(port)?
+        .arg(workers)?
+        .arg(connections)?
+        .arg(shards_argument(alloc))?
+        .arg(rounds_argument(alloc))?
+        .arg(tries)?
+        .arg(turns_argument(alloc))
 }

@@ -1,13 +1,14 @@
 //! Faults of commands.
 ghost use Rattle.std.specs.Prelude.{◌≡◌, ◌<◌, ◌-◌, ◌^◌, ◌++◌};
 ghost use Rattle.bundled.specs.Fault.{fault_number, fault_place, fault_line, refresh_number, refresh_place};
-ghost use Rattle.bundled.specs.Streams.{Tells, end_of};
+ghost use Rattle.bundled.specs.Streams.{Tells, TellsUnlessFailed, end_of};
 
 use crate::output::tell;
 use arrayvec::ArrayVec;
 use frame_front::{ClientError, Counted, DumpError, FrontError};
 use itoa::Buffer;
 use refresh::RelationError;
+use shard_store::CloseError;
 use std::io::Write;
 
 /// The most bytes of a fault's line: `fault`, a number of 3 digits and a place of 20, two spaces and a line feed.
@@ -27,6 +28,10 @@ pub enum Fault {
     InputTooLong,
     /// Relationships cannot be refreshed.
     Refresh(RefreshFault),
+    /// No connection can be accepted.
+    Listen,
+    /// The store gave no map at its end.
+    Close(CloseError),
 }
 
 /// Why relationships cannot be refreshed.
@@ -74,6 +79,8 @@ impl Fault {
             Fault::BadLine(_) => 70,
             Fault::InputTooLong => 71,
             Fault::Refresh(fault) => fault.number(),
+            Fault::Listen => 57,
+            Fault::Close(error) => error.number(),
         }
     }
 
@@ -85,6 +92,7 @@ impl Fault {
             Fault::Dump(DumpError::BadDump(frame)) => Some(*frame),
             Fault::BadLine(line) => Some(*line),
             Fault::Refresh(fault) => fault.place(),
+            Fault::Close(CloseError::HeldAtEnd(shard)) => Some(*shard as u64),
             _ => None,
         }
     }
@@ -114,5 +122,15 @@ impl Fault {
         let line = self.line();
         tell(err, line.as_slice());
         1
+    }
+
+    /// Writes the line of the fault; but nothing if a call of the writer has failed since `before` of them had failed.
+    pub fn tell_unless_failed<E: Write>(&self, err: &mut Counted<E>, before: u64)
+        requires { before < 2 ^ 64 - 1 }
+        ensures { TellsUnlessFailed before (end_of E.contents err.old) (end_of E.contents err.new) (fault_line self.now) }
+    {
+        if err.faults() == before {
+            self.tell(err);
+        }
     }
 }

@@ -11,6 +11,7 @@ mod output;
 mod refreshing;
 mod refusal_words;
 mod run;
+mod serving;
 #[cfg(test)]
 mod tests;
 mod trace;

@@ -1,8 +1,7 @@
 //! The command `refresh`: sets the bundles of a list of relationships, out of a folder of documents.
 ghost use Rattle.std.specs.Prelude.{◌≡◌, ◌<◌, ◌-◌, ◌^◌, List, ℕ};
-ghost use Rattle.bundled.specs.Refresh.{Refreshes, Follows, due_not_before};
+ghost use Rattle.bundled.specs.Refresh.{RefreshRun, due_not_before};
 ghost use Rattle.bundled.specs.Streams.{End, Streams, Tells, end_of};
-ghost use Rattle.bundled.specs.Fault.{fault_line};
 
 mod folder;
 mod list;
@@ -75,7 +74,7 @@ pub fn refresh_over<H: Files + Clock + Net, W: Write, E: Write>(
 ) -> u8
     requires out_count { out.old.faults < 2 ^ 64 - 1 }
     requires err_count { err.old.faults < 2 ^ 64 - 1 }
-    ensures { (input : End) → Refreshes result
+    ensures { (input : End) → RefreshRun result
         (record { input = input; output = end_of W.contents out.old; error = end_of E.contents err.old })
         (record { input = input; output = end_of W.contents out.new; error = end_of E.contents err.new }) }
 {
@@ -84,19 +83,9 @@ pub fn refresh_over<H: Files + Clock + Net, W: Write, E: Write>(
         Ok(true) => 0,
         Ok(false) => 3,
         Err(fault) => {
-            tell_fault(err, before, fault);
+            fault.tell_unless_failed(err, before);
             1
         }
-    }
-}
-
-/// Writes the line of a fault; but nothing if a call of the writer has failed since `before` of them had failed.
-fn tell_fault<E: Write>(err: &mut Counted<E>, before: u64, fault: Fault)
-    requires { before < 2 ^ 64 - 1 }
-    ensures { Follows before (end_of E.contents err.old) (end_of E.contents err.new) (fault_line fault) }
-{
-    if err.faults() == before {
-        fault.tell(err);
     }
 }
 
@@ -132,7 +121,7 @@ fn refresh_list<H: Files + Clock + Net, W: Write, E: Write>(
             )
         }
         None => {
-            let mut sender = Sender::new(out);
+            let mut sender = Sender::new(alloc, out);
             refresh_each(
                 alloc,
                 &mut folder,

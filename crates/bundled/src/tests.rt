@@ -15,8 +15,9 @@ use std::alloc::Global;
 use std::env::{Env, FillError};
 use std::fs::Files;
 use std::io::{Read, Write};
-use std::net::Net;
+use std::net::{Net, TcpListener, TcpStream};
 use std::process::Abort;
+use std::thread::Threads;
 use std::time::Clock;
 
 const FIRST_RUN: &[u8] = b"\x00\x00\x00\x0eS\x01a{\"keys\":[]}\x00\x00\x00\x03G\x01a";
@@ -93,14 +94,12 @@ impl Env for Words {
 }
 
 /// The whole program over these arguments and ends: its status, and what its writers are then.
-fn program<H: Files + Clock + Net, R: Read + Drop, W: Write, E: Write>(
-    host: &H,
-    alloc: Global,
-    line: &'static [u8],
-    reader: R,
-    out: W,
-    err: E,
-) -> (u8, W, E) {
+fn program<
+    H: Files + Clock + Threads + Net<Listener = TcpListener, Stream = TcpStream> + Sync,
+    R: Read + Drop,
+    W: Write,
+    E: Write,
+>(host: &H, alloc: Global, line: &'static [u8], reader: R, out: W, err: E) -> (u8, W, E) {
     let mut reader = Counted::new(reader);
     let mut out = Counted::new(out);
     let mut err = Counted::new(err);
@@ -115,12 +114,10 @@ fn program<H: Files + Clock + Net, R: Read + Drop, W: Write, E: Write>(
     (status, out.end, err.end)
 }
 
-fn command<H: Files + Clock + Net, R: Read + Drop>(
-    host: &H,
-    alloc: Global,
-    line: &'static [u8],
-    reader: R,
-) -> Left {
+fn command<
+    H: Files + Clock + Threads + Net<Listener = TcpListener, Stream = TcpStream> + Sync,
+    R: Read + Drop,
+>(host: &H, alloc: Global, line: &'static [u8], reader: R) -> Left {
     let (status, output, faults) = program(
         host,
         alloc,

@@ -1,7 +1,6 @@
 //! Lines of refreshes, as they are written.
 ghost use Rattle.std.specs.Prelude.{◌≡◌, ◌<◌, ◌-◌, ◌^◌, List, ℕ, true};
-ghost use Rattle.bundled.specs.Refresh.{Follows};
-ghost use Rattle.bundled.specs.Streams.{end_of};
+ghost use Rattle.bundled.specs.Streams.{TellsUnlessFailed, end_of};
 
 use super::outcome_lines::{Told, write_outcome};
 use crate::output::tell_flushed;
@@ -37,7 +36,7 @@ impl Write for Line {
 /// failed since `before` of them had failed. Answers whether none has failed since.
 pub fn write_line<W: Write>(end: &mut Counted<W>, before: u64, what: &What, told: &Told<'_>) -> bool
     requires { before < 2 ^ 64 - 1 }
-    ensures { (text : List ℕ) × Follows before (end_of W.contents end.old) (end_of W.contents end.new) text }
+    ensures { (text : List ℕ) × TellsUnlessFailed before (end_of W.contents end.old) (end_of W.contents end.new) text }
 {
     if end.faults() != before {
         return false;

@@ -5,6 +5,7 @@ ghost use Rattle.bundled.specs.Target.{Looks, SenderState};
 use crate::fault::{Fault, RefreshFault};
 use frame_front::{Client, Counted, FrontError, write_request};
 use map_core::{Ask, AskError, Op, Reply};
+use std::alloc::Global;
 use std::io::{Read, Write};
 use std::marker::Model;
 
@@ -23,17 +24,19 @@ pub trait Target: Ask {
 /// Writes requests as frames, and gets no answer: `Stored` says only that the frame is written.
 #[derive(Drop)]
 pub struct Sender<'a, W: Write> {
+    alloc: Global,
     out: &'a mut Counted<W>,
     has_failed: bool,
     is_empty: bool,
 }
 
 impl<'a, W: Write> Sender<'a, W> {
-    pub fn new(out: &'a mut Counted<W>) -> Sender<'a, W>
+    pub fn new(alloc: Global, out: &'a mut Counted<W>) -> Sender<'a, W>
         requires { out.old.faults < 2 ^ 64 - 1 }
         ensures { result ≡ record { held = W.contents out.old.end; has_failed = false } }
     {
         Sender {
+            alloc,
             out,
             has_failed: false,
             is_empty: false,
@@ -70,7 +73,7 @@ impl<W: Write> Ask for Sender<'_, W> {
         if self.has_failed {
             return Err(AskError::GateShut);
         }
-        match write_request(self.out, &op) {
+        match write_request(self.alloc, self.out, &op) {
             Ok(()) => Ok(Reply::Stored),
             Err(_) => {
                 self.has_failed = true;

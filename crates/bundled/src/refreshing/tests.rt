@@ -153,7 +153,7 @@ const FULL: &[u8] =
 fn senders(rt: HostRuntime) -> Result<(), Fail> {
     let alloc = rt.alloc();
     let mut out = Counted::new(Vec::new(alloc));
-    let mut sender = Sender::new(&mut out);
+    let mut sender = Sender::new(alloc, &mut out);
     assert!(rt; matches!(sender.ask(set(alloc, "a", FULL)?), Ok(Reply::Stored)));
     assert!(rt; !sender.has_emptied());
     assert!(rt;
@@ -169,7 +169,7 @@ fn senders(rt: HostRuntime) -> Result<(), Fail> {
             .ends_with(b"\x00\x00\x00\x0eS\x01a{\"keys\":[]}")
     );
     let mut short = Counted::new(FaultyWriter::new(alloc, 5));
-    let mut sender = Sender::new(&mut short);
+    let mut sender = Sender::new(alloc, &mut short);
     let answer = sender.ask(set(alloc, "a", FULL)?);
     assert!(rt; matches!(answer, Err(AskError::GateShut)));
     assert_eq!(rt; sender.fault(), Some(Fault::Front(FrontError::WriteFault)));

@@ -205,6 +205,14 @@ fn wanted(alloc: Global, words: &[&str]) -> Result<String, AllocError> {
             let (now, port) = (wanted.now, wanted.port);
             format!(in alloc; "refresh {list} {folder} {now:?} {at_least} {port:?}")
         }
+        Ok(Wanted::Serve { port, settings }) => {
+            let (workers, connections) = (settings.workers, settings.connections);
+            let (shards, rounds) = (settings.shards, settings.rounds);
+            let (tries, turns) = (settings.tries, settings.turns);
+            format!(in alloc;
+                "serve {port} {workers} {connections} {shards} {rounds} {tries} {turns}"
+            )
+        }
         Err(error) => format!(in alloc; "{error}"),
     }
 }
@@ -213,7 +221,7 @@ fn wanted(alloc: Global, words: &[&str]) -> Result<String, AllocError> {
 #[test]
 fn reads_the_command_line(rt: HostRuntime) -> Result<(), AllocError> {
     let alloc = rt.alloc();
-    let rows: [(&[&str], &str); 11] = [
+    let rows: [(&[&str], &str); 15] = [
         (&["bundled", "run"], "run 4 1000000"),
         (&["bundled", "run", "--turns", "7"], "run 4 7"),
         (
@@ -250,6 +258,32 @@ fn reads_the_command_line(rt: HostRuntime) -> Result<(), AllocError> {
             "trace 1 16",
         ),
         (&["bundled", "migrate"], "migrate"),
+        (
+            &["bundled", "serve", "--port", "0"],
+            "serve 0 2 1 4 3 1000 1000000",
+        ),
+        (
+            &[
+                "bundled",
+                "serve",
+                "--port=65535",
+                "--workers=64",
+                "--connections=1000",
+                "--shards=256",
+                "--rounds=16",
+                "--tries=1000000",
+                "--turns=1000000000",
+            ],
+            "serve 65535 64 1000 256 16 1000000 1000000000",
+        ),
+        (
+            &["bundled", "serve", "--port", "1", "--workers", "65"],
+            "error: invalid value '65' for '--workers <COUNT>': 65 is not in 1..=64\n\nFor more information, try '--help'.\n",
+        ),
+        (
+            &["bundled", "serve", "--port", "1", "--connections", "0"],
+            "error: invalid value '0' for '--connections <COUNT>': 0 is not in 1..=1000\n\nFor more information, try '--help'.\n",
+        ),
         (&["bundled", "--version"], "bundled 1.0.0\n"),
         (
             &["bundled", "run", "--turns", "0"],

@@ -1,6 +1,5 @@
 use Rattle.std.proofs.Common.{◌≡◌, ℕ, List, [], ◌++◌, sym, subst}
-use Rattle.bundled.specs.Refresh.{Follows}
-use Rattle.bundled.specs.Streams.{End, Tells, end_of}
+use Rattle.bundled.specs.Streams.{TellsUnlessFailed, End, Tells, end_of}
 use Rattle.bundled.proofs.Telling.{tells_nothing, tells_more}
 use Rattle.bundled.proofs.refreshing.refresh_each.Goals as goal
 
@@ -12,8 +11,8 @@ loop-preserved g c =
     let old = end_of g.L.Write.contents c.loop.lines in
     let new = end_of g.L.Write.contents c.write_line-is_written.new.end in
     let text = c.write_line-is_written.ensures.0 in
-    let follows : Follows c.args.lines.now.faults old new text =
-    subst (λ (before : ℕ). Follows before old new text) c.faults-before.ensures c.write_line-is_written.ensures.1 in
+    let follows : TellsUnlessFailed c.args.lines.now.faults old new text =
+    subst (λ (before : ℕ). TellsUnlessFailed before old new text) c.faults-before.ensures c.write_line-is_written.ensures.1 in
     (_, tells_more _ old new c.loop.invariant.0 text c.loop.invariant.1 follows)
 
 pub returns-then-not-is_written : goal.returns-then-not-is_written
@@ -21,6 +20,6 @@ returns-then-not-is_written g c =
     let old = end_of g.L.Write.contents c.loop.lines in
     let new = end_of g.L.Write.contents c.write_line-is_written.new.end in
     let text = c.write_line-is_written.ensures.0 in
-    let follows : Follows c.args.lines.now.faults old new text =
-    subst (λ (before : ℕ). Follows before old new text) c.faults-before.ensures c.write_line-is_written.ensures.1 in
+    let follows : TellsUnlessFailed c.args.lines.now.faults old new text =
+    subst (λ (before : ℕ). TellsUnlessFailed before old new text) c.faults-before.ensures c.write_line-is_written.ensures.1 in
     (_, tells_more _ old new c.loop.invariant.0 text c.loop.invariant.1 follows)

@@ -1,7 +1,6 @@
 use Rattle.std.proofs.Common.{ℕ, Err, refl, subst}
 use Rattle.bundled.specs.Fault.{fault_line}
-use Rattle.bundled.specs.Refresh.{Follows}
-use Rattle.bundled.specs.Streams.{end_of}
+use Rattle.bundled.specs.Streams.{TellsUnlessFailed, end_of}
 use Rattle.bundled.proofs.Telling.{tells_more}
 use Rattle.bundled.proofs.refreshing.refresh_over.Goals as goal
 
@@ -9,10 +8,10 @@ pub returns-in-Err : goal.returns-in-Err
 returns-in-Err g c =
     let old = end_of g.E.Write.contents c.args.err.now in
     let mid = end_of g.E.Write.contents c.refresh_list.new.err in
-    let new = end_of g.E.Write.contents c.tell_fault.new.err in
+    let new = end_of g.E.Write.contents c.tell_unless_failed.new.err in
     let line = fault_line c.in-Err.fault in
-    let follows : Follows old.faults mid new line =
-    subst (λ (before : ℕ). Follows before mid new line) c.faults-before.ensures c.tell_fault.ensures in
+    let follows : TellsUnlessFailed old.faults mid new line =
+    subst (λ (before : ℕ). TellsUnlessFailed before mid new line) c.faults-before.ensures c.tell_unless_failed.ensures in
     λ input. record {
       reads = refl;
       ended = Err c.in-Err.fault;

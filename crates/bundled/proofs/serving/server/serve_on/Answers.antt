@@ -1,0 +1,45 @@
+use Rattle.std.proofs.Common.{ℕ, List, [], length, true, subst, sym, arith, inr}
+use Rattle.bundled.specs.Closing.{AreAll}
+use Rattle.bundled.specs.Serve.{always_open, Reports}
+use Rattle.bundled.specs.Streams.{TellsUnlessFailed, end_of}
+use Rattle.bundled.proofs.WorkedLists.{all_own, all_long, ranges_same}
+use Rattle.bundled.proofs.serving.server.serve_on.Goals as goal
+
+pub report-requires-clause-some : goal.report-requires-clause-some
+report-requires-clause-some g c =
+    let served = c.in-Ok-serve_all.ensures in
+    omega (arith, all_long always_open c.in-Ok-serve_all.store 0 served.0 c.in-Ok-serve_all.worked.items served.2, served.1.workers, c.args.settings.some.0, c.in-Ok-serve_all.worked.ok)
+
+pub report-requires-clause-own : goal.report-requires-clause-own
+report-requires-clause-own g c =
+    let served = c.in-Ok-serve_all.ensures in
+    all_own always_open c.in-Ok-serve_all.store 0 served.0 c.in-Ok-serve_all.worked.items served.2
+
+pub report-requires-clause-all : goal.report-requires-clause-all
+report-requires-clause-all g c =
+    let served = c.in-Ok-serve_all.ensures in
+    subst AreAll (sym (ranges_same always_open c.in-Ok-serve_all.store 0 served.0 c.in-Ok-serve_all.worked.items served.2)) served.1.all
+
+pub returns-in-Ok-serve_all : goal.returns-in-Ok-serve_all
+returns-in-Ok-serve_all g c =
+    let served = c.in-Ok-serve_all.ensures in
+    let before = c.faults-before.ensures in
+    inr (
+      c.port.result,
+      record {
+        taken = true;
+        out = end_of g.W.Write.contents c.say.new.out;
+        error = end_of g.E.Write.contents c.say.new.err;
+        listening = c.if-not-say.ensures.offered;
+        told = subst (λ (b : ℕ). TellsUnlessFailed b (end_of g.E.Write.contents c.args.err.now) (end_of g.E.Write.contents c.say.new.err) []) before c.if-not-say.ensures.told;
+        serves = inr (
+          c.in-Ok-serve_all.store,
+          served.0,
+          c.in-Ok-serve_all.worked.items,
+          served.1,
+          served.2,
+          subst (λ (b : ℕ). Reports c.in-Ok-serve_all.worked.items b c.report.result (end_of g.W.Write.contents c.say.new.out) (end_of g.W.Write.contents c.report.new.out)
+              (end_of g.E.Write.contents c.say.new.err) (end_of g.E.Write.contents c.report.new.err)) before c.report.ensures,
+        );
+      },
+    )

@@ -1,0 +1,130 @@
+-- What the command `serve` says, and how it ends.
+use Rattle.std.specs.Prelude.{◌≡◌, ◌⊎◌, ℕ, suc, ◌&&◌, min, if◌then◌else◌, List, [], ◌∷◌, ◌++◌, length, codes, decimal, Bool, true, false, Result, Ok, Err}
+use Rattle.std.specs.List.{flat_map}
+use Rattle.std.specs.Io.KnownBytes.{Appends}
+use Rattle.frame_front.specs.Counted.{next_count}
+use Rattle.frame_front.specs.Outbox.{WritesFront}
+use Rattle.frame_front.specs.declared.error.FrontError.TheVariants.{Memory, WriteFault}
+use Rattle.map_core.specs.PlainMap.{PlainMap, bundles}
+use Rattle.shard_store.specs.Pass.{StoreView, PassView}
+use Rattle.shard_store.specs.declared.close.CloseError.{CloseError}
+use Rattle.bundled.specs.declared.fault.Fault.TheVariants.{Front, Listen as ListenFault, Close}
+use Rattle.bundled.specs.declared.serving.report.Said.{Said}
+use Rattle.bundled.specs.declared.serving.report.Said.TheVariants.{Listening, Served, Domains}
+use Rattle.bundled.specs.declared.serving.sessions.SessionFault.{SessionFault}
+use Rattle.bundled.specs.declared.serving.sessions.SessionFault.TheVariants as session
+use Rattle.bundled.specs.declared.serving.workers.Worked.{Worked}
+use Rattle.bundled.specs.Fault.{fault_line}
+use Rattle.bundled.specs.Streams.{End, Tells, TellsUnlessFailed}
+use Rattle.bundled.specs.declared.serving.settings.Settings.{Settings}
+use Rattle.bundled.specs.Workers.{AllWorked}
+use Rattle.bundled.specs.Closing.{ranges_of, AreAll, ClosesAs}
+
+-- a line of a word and a number
+abbrev pub said_line : Said → List ℕ
+said_line (Listening port) = codes "listening " ++ (decimal port ++ 10 ∷ [])
+said_line (Served count) = codes "served " ++ (decimal count ++ 10 ∷ [])
+said_line (Domains count) = codes "domains " ++ (decimal count ++ 10 ∷ [])
+
+-- A line is written whole; or a front of it, and the writer failed.
+abbrev pub IsOffered : Bool → List ℕ → End → End → Type 0
+IsOffered true line old new = Appends old.bytes new.bytes line × (new.faults ≡ old.faults)
+IsOffered false line old new = WritesFront old.bytes new.bytes line × (new.faults ≡ next_count old.faults)
+
+-- the fault of a line that was not taken
+abbrev pub untaken : Bool → List ℕ
+untaken true = []
+untaken false = fault_line (Front WriteFault)
+
+-- ---- the sessions
+
+-- how many sessions were begun
+abbrev pub begun : List (Result ℕ SessionFault) → ℕ
+begun [] = 0
+begun (Ok count ∷ results) = suc (begun results)
+begun (Err (session.Front error) ∷ results) = suc (begun results)
+begun (Err session.Listen ∷ results) = begun results
+
+-- a session came each time that a worker waited for one
+abbrev pub have_come : List (Result ℕ SessionFault) → Bool
+have_come [] = true
+have_come (Ok count ∷ results) = have_come results
+have_come (Err (session.Front error) ∷ results) = have_come results
+have_come (Err session.Listen ∷ results) = false
+
+-- the lines of their faults
+abbrev pub session_lines : List (Result ℕ SessionFault) → List ℕ
+session_lines [] = []
+session_lines (Ok count ∷ results) = session_lines results
+session_lines (Err (session.Front error) ∷ results) = fault_line (Front error) ++ session_lines results
+session_lines (Err session.Listen ∷ results) = fault_line ListenFault ++ session_lines results
+
+-- those of all workers, in their order
+abbrev pub results_of : List Worked → List (Result ℕ SessionFault)
+results_of worked = flat_map (λ w. w.results.items) worked
+
+-- ---- the end
+
+-- how many domains the map has; or the store gave no map, and nothing is offered
+abbrev pub OffersDomains : Result PlainMap CloseError → Bool → End → End → Type 0
+OffersDomains (Ok contents) taken old new = IsOffered taken (said_line (Domains (length (bundles contents)))) old new
+OffersDomains (Err error) taken old new = (new ≡ old) × (taken ≡ false)
+
+abbrev pub closing_line : Result PlainMap CloseError → Bool → List ℕ
+closing_line (Ok contents) taken = untaken taken
+closing_line (Err error) taken = fault_line (Close error)
+
+-- After the sessions: `served N`, their faults in order of the workers, and `domains M` or why the store gave no map. The status
+-- is 0 if both lines were taken and a session came each time that a worker waited for one.
+pub record Reports (worked : List Worked) (before status : ℕ) (out_old out_new err_old err_new : End) : Type 0 where
+  pub served_taken : Bool
+  pub between : End
+  pub served : IsOffered served_taken (said_line (Served (min (begun (results_of worked)) 18446744073709551615))) out_old between
+  pub closed : Result PlainMap CloseError
+  pub closes : ClosesAs worked closed
+  pub domains_taken : Bool
+  pub domains : OffersDomains closed domains_taken between out_new
+  pub told : TellsUnlessFailed before err_old err_new
+      (untaken served_taken ++ (session_lines (results_of worked) ++ closing_line closed domains_taken))
+  pub has_status : status ≡ (if served_taken && (have_come (results_of worked) && domains_taken) then 0 else 1)
+
+-- ---- the whole command
+
+-- a gate that is always open
+abbrev pub always_open : ℕ → ℕ → Bool → Type 0
+always_open worker call is_open = is_open ≡ true
+
+-- the store and the passes with which the workers begin: together the passes have all numbers
+pub record IsSetUp (settings : Settings) (store : StoreView) (passes : List PassView) : Type 0 where
+  pub workers : length passes ≡ settings.workers
+  pub shards : store.id.slots ≡ settings.shards
+  pub rounds : store.rounds ≡ settings.rounds
+  pub tries : store.tries ≡ settings.tries
+  pub all : AreAll (ranges_of passes)
+
+-- Each worker serves its connections over a pass of its own, and the end is reported; or memory runs out, and that is told.
+abbrev pub Serves : Settings → ℕ → ℕ → End → End → End → End → Type 0
+Serves settings before status out_old out_new err_old err_new =
+    ((status ≡ 1) × (out_new ≡ out_old) × TellsUnlessFailed before err_old err_new (fault_line (Front Memory)))
+    ⊎ ((store : StoreView) × (passes : List PassView) × (worked : List Worked) × IsSetUp settings store passes
+    × AllWorked always_open store 0 passes worked × Reports worked before status out_old out_new err_old err_new)
+
+-- Nothing is accepted if `listening PORT` is not taken.
+abbrev pub ServesIf : Bool → Settings → ℕ → ℕ → End → End → End → End → Type 0
+ServesIf true settings before status out_old out_new err_old err_new = Serves settings before status out_old out_new err_old err_new
+ServesIf false settings before status out_old out_new err_old err_new = (status ≡ 1) × (out_new ≡ out_old) × (err_new ≡ err_old)
+
+-- `listening PORT` is offered, and then connections are served.
+pub record Listens (settings : Settings) (port status : ℕ) (out_old out_new err_old err_new : End) : Type 0 where
+  pub taken : Bool
+  pub out : End
+  pub error : End
+  pub listening : IsOffered taken (said_line (Listening port)) out_old out
+  pub told : TellsUnlessFailed err_old.faults err_old error (untaken taken)
+  pub serves : ServesIf taken settings err_old.faults status out out_new error err_new
+
+-- The listener has a port and serves; or it has none, and that is told.
+abbrev pub ServeRun : Settings → ℕ → End → End → End → End → Type 0
+ServeRun settings status out_old out_new err_old err_new =
+    ((status ≡ 1) × (out_new ≡ out_old) × Tells err_old err_new (fault_line ListenFault))
+    ⊎ ((port : ℕ) × Listens settings port status out_old out_new err_old err_new)

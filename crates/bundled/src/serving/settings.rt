@@ -1,0 +1,21 @@
+//! How a server is set up.
+ghost use Rattle.std.specs.Prelude.{◌<◌, ◌≤◌};
+
+/// How many workers serve how many connections, over what store.
+#[derive(Clone, Copy, Debug)]
+pub struct Settings {
+    /// How many workers there are: 1 to 64.
+    pub workers: u64,
+    /// How many connections each worker accepts, one after the other.
+    pub connections: u64,
+    /// How many shards the store has: 1 to 256.
+    pub shards: usize,
+    /// How often a fetch-all reads all shards before it gives up: at least once.
+    pub rounds: u64,
+    /// How often a call tries a shard that others hold before it gives up: at least once.
+    pub tries: u64,
+    /// How many reads a session may make: at most 1,000,000,000.
+    pub turns: u64,
+    pub ghost some: { (0 < workers) × (0 < shards) × (0 < rounds) × (0 < tries) },
+    pub ghost few: { (workers ≤ 64) × (shards ≤ 256) × (turns ≤ 1000000000) },
+}

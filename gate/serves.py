@@ -1,0 +1,149 @@
+#!/usr/bin/env python3
+"""Runs the command `serve` as an operator does: over sockets of this machine, with clients that behave and clients that don't.
+
+usage: gate/serves.py   (over the program that rt ci or rt run has built in crates/bundled/out/)
+
+What is expected of the bundles in gate/bundles is not made by the program: each NAME.canonical was made by another one.
+"""
+import socket
+import struct
+import subprocess
+import sys
+
+sys.dont_write_bytecode = True
+
+from program_runs import frame  # noqa: E402
+from refreshes import BUNDLES, DUE, canonical  # noqa: E402
+from refusals import program  # noqa: E402
+
+SECONDS = 60
+EMPTY = b'{"keys":[]}'
+SET_A = frame(b"S\x01a" + EMPTY)
+GET_A = frame(b"G\x01a")
+FIRST = frame(b"s") + frame(b"f" + EMPTY)
+
+
+class Server:
+    """The program behind a port that it has chosen."""
+
+    def __init__(self, *options, port="0", err=subprocess.PIPE):
+        words = [program("bundled"), "serve", "--port", port, *options]
+        self.started = subprocess.Popen(words, stdin=subprocess.DEVNULL, stdout=subprocess.PIPE, stderr=err)
+        self.line = self.started.stdout.readline().decode()
+        self.port = int(self.line.split()[1]) if self.line.startswith("listening ") else None
+
+    def connect(self):
+        return socket.create_connection(("127.0.0.1", self.port), timeout=SECONDS)
+
+    def ask(self, request):
+        """What comes back, to its end, for a request that is the last."""
+        with self.connect() as stream:
+            stream.sendall(request)
+            stream.shutdown(socket.SHUT_WR)
+            return b"".join(iter(lambda: stream.recv(65536), b""))
+
+    def ended(self):
+        out, err = self.started.communicate(timeout=SECONDS)
+        return self.started.returncode, out.decode(), (err or b"").decode()
+
+
+def two_workers():
+    """Each of two connections is answered, whoever serves it, over one store."""
+    server = Server("--workers", "2")
+    assert server.ask(SET_A + GET_A) == FIRST
+    other = (SET_A + GET_A).replace(b"\x01a", b"\x01b")
+    assert server.ask(other) == FIRST
+    assert server.ended() == (0, "served 2\ndomains 2\n", ""), "ended otherwise"
+
+
+def side_by_side():
+    """While one worker waits inside a frame, the other serves; what the first set is seen by the second."""
+    server = Server("--workers", "2")
+    with server.connect() as slow:
+        slow.sendall(SET_A + b"\0\0\0\3G")
+        assert slow.recv(5) == frame(b"s")
+        assert server.ask(GET_A) == frame(b"f" + EMPTY)
+        slow.sendall(b"\x01a")
+        assert slow.recv(100) == frame(b"f" + EMPTY)
+    assert server.ended() == (0, "served 2\ndomains 1\n", ""), "ended otherwise"
+
+
+def real_bundles():
+    """A refresher sets real bundles, and another client fetches all of them."""
+    server = Server("--workers", "1", "--connections", "3")
+    words = ["--relationships", f"{BUNDLES}/relationships", "--documents", BUNDLES, "--now", "1000", "--port", str(server.port)]
+    for said in ("stored", "unchanged"):
+        ran = subprocess.run([program("bundled"), "refresh", *words], stdout=subprocess.PIPE, timeout=SECONDS)
+        lines = "".join(f"1000 {name} {said} due {1000 + due}\n" for name, due in sorted(DUE.items()))
+        assert (ran.returncode, ran.stdout.decode()) == (0, lines), ran
+    all = frame(b"a" + len(DUE).to_bytes(8, "big"))
+    all += b"".join(frame(b"i" + bytes([len(name)]) + name.encode() + canonical(name)) for name in sorted(DUE))
+    assert server.ask(frame(b"F")) == all
+    assert server.ended() == (0, f"served 3\ndomains {len(DUE)}\n", ""), "ended otherwise"
+
+
+def clients_that_fail():
+    """Clients that leave inside a frame, send a bad length, close at once or reset the connection; the server goes on."""
+    server = Server("--workers", "1", "--connections", "6")
+    assert server.ask(SET_A + b"\0\0\0\3G") == frame(b"s")
+    assert server.ask(GET_A + b"\0\0\0\0") == frame(b"f" + EMPTY)
+    assert server.ask(b"") == b""
+    with server.connect() as stream:
+        stream.setsockopt(socket.SOL_SOCKET, socket.SO_LINGER, struct.pack("ii", 1, 0))
+        stream.sendall(b"\0\0")
+    with server.connect() as stream:
+        stream.sendall(GET_A)
+        assert stream.recv(100) == frame(b"f" + EMPTY)
+    assert server.ask(GET_A + frame(b"R\x01a") + GET_A) == frame(b"f" + EMPTY) + frame(b"d") + frame(b"\x1e")
+    status, out, err = server.ended()
+    assert (status, out) == (0, "served 6\ndomains 0\n"), (status, out, err)
+    assert err == "fault 52\nfault 50\nfault 53\n", err
+
+
+def many_workers():
+    """64 workers take 64 connections that stand beside each other."""
+    server = Server("--workers", "64")
+    streams = [server.connect() for _ in range(64)]
+    for number, stream in enumerate(streams):
+        stream.sendall(SET_A.replace(b"\x01a", bytes([1, 48 + number % 10])))
+    for stream in streams:
+        assert stream.recv(5) in (frame(b"s"), frame(b"u"))
+        stream.close()
+    assert server.ended() == (0, "served 64\ndomains 10\n", ""), "ended otherwise"
+
+
+def ports_and_outputs():
+    """A port that is taken is a fault, and so is an output that takes nothing: then nothing is accepted."""
+    with socket.create_server(("127.0.0.1", 0)) as taken:
+        server = Server(port=str(taken.getsockname()[1]))
+        assert (server.line, server.ended()) == ("", (1, "", "fault 57\n")), server.line
+    with open("/dev/full", "wb") as full:
+        words = [program("bundled"), "serve", "--port", "0"]
+        ran = subprocess.run(words, stdin=subprocess.DEVNULL, stdout=full, stderr=subprocess.PIPE, timeout=SECONDS)
+        assert (ran.returncode, ran.stderr) == (1, b"fault 54\n"), ran
+    server = Server("--workers", "1")
+    server.started.stdout.close()
+    assert server.ask(SET_A) == frame(b"s")
+    err = server.started.stderr.read()
+    assert (server.started.wait(SECONDS), err) == (1, b"fault 54\nfault 54\n"), err
+    server.started.stderr.close()
+
+
+CHECKS = [two_workers, side_by_side, real_bundles, clients_that_fail, many_workers, ports_and_outputs]
+
+
+def main():
+    failed = 0
+    for check in CHECKS:
+        try:
+            check()
+            print(f"{check.__name__}: as it should be", flush=True)
+        except (AssertionError, subprocess.SubprocessError, OSError, ValueError) as error:
+            failed += 1
+            print(f"{check.__name__}: FAILED: {error!r}"[:2000], flush=True)
+    print(f"{len(CHECKS) - failed} passed, {failed} failed")
+    return 1 if failed else 0
+
+
+if __name__ == "__main__":
+    sys.exit(main())
