@@ -1,15 +1,14 @@
 -- What is said of one session more, and of one worker more.
 use Rattle.std.proofs.Common.{◌≡◌, ℕ, suc, ◌+◌, ◌<◌, ◌&&◌, List, [], ◌∷◌, ◌++◌, length, get_or, take, Bool, true, false, refl, sym, ap, ◌∙◌, arith, append_assoc, append-nil, Result, Ok, Err}
 use Rattle.std.specs.Prelude.{if◌then◌else◌}
-use Rattle.std.specs.List.{flat_map}
 use Rattle.std.proofs.Math.Seq.{take-suc}
 use Rattle.std.proofs.lemmas.Grind.{flat_map-append}
 use Rattle.bundled.specs.Fault.{fault_line}
 use Rattle.bundled.specs.declared.fault.Fault.TheVariants as faults
 use Rattle.bundled.specs.Serve.{begun, have_come, session_lines, results_of}
-use Rattle.bundled.specs.declared.serving.sessions.SessionFault.{SessionFault}
-use Rattle.bundled.specs.declared.serving.sessions.SessionFault.TheVariants.{Front, Listen}
-use Rattle.bundled.specs.declared.serving.workers.Worked.{Worked}
+use Rattle.workers.specs.declared.sessions.SessionFault.{SessionFault}
+use Rattle.workers.specs.declared.sessions.SessionFault.TheVariants.{Front, Listen}
+use Rattle.workers.specs.declared.run.Worked.{Worked}
 
 pub begun_append : (results more : List (Result ℕ SessionFault)) → begun (results ++ more) ≡ begun results + begun more
 begun_append [] more = omega arith
@@ -37,25 +36,24 @@ pub results_push : (worked : List Worked) (w : Worked) → results_of (worked ++
 results_push worked w =
     flat_map-append (λ (v : Worked). v.results.items) worked (w ∷ []) ∙ ap (λ (t : List (Result ℕ SessionFault)). results_of worked ++ t) (append-nil w.results.items)
 
-take_push : {X : Type 0} (xs : List X) (i : ℕ) (x : X) → i < length xs → x ≡ get_or xs i x → take (i + 1) xs ≡ take i xs ++ x ∷ []
-take_push xs i x inside is = let next : i + 1 ≡ suc i = omega arith in ap (λ (n : ℕ). take n xs) next ∙ take-suc xs i x inside ∙ ap (λ y. take i xs ++ y ∷ []) (sym is)
+one_more : {X : Type 0} (xs : List X) (i : ℕ) (d : X) → i < length xs → take (i + 1) xs ≡ take i xs ++ get_or xs i d ∷ []
+one_more xs i d inside = let next : i + 1 ≡ suc i = omega arith in ap (λ (n : ℕ). take n xs) next ∙ take-suc xs i d inside
 
 module _ (results : List (Result ℕ SessionFault)) (i : ℕ) (d : Result ℕ SessionFault) (inside : i < length results) where
-  one_more : take (i + 1) results ≡ take i results ++ get_or results i d ∷ []
-  one_more = let next : i + 1 ≡ suc i = omega arith in ap (λ (n : ℕ). take n results) next ∙ take-suc results i d inside
-
   pub begun_step : begun (take (i + 1) results) ≡ begun (take i results) + begun (get_or results i d ∷ [])
-  begun_step = ap begun one_more ∙ begun_append (take i results) (get_or results i d ∷ [])
+  begun_step = ap begun (one_more results i d inside) ∙ begun_append (take i results) (get_or results i d ∷ [])
 
   pub come_step : have_come (take (i + 1) results) ≡ (have_come (take i results) && have_come (get_or results i d ∷ []))
-  come_step = ap have_come one_more ∙ come_append (take i results) (get_or results i d ∷ [])
+  come_step = ap have_come (one_more results i d inside) ∙ come_append (take i results) (get_or results i d ∷ [])
 
   pub lines_step : session_lines (take (i + 1) results) ≡ session_lines (take i results) ++ session_lines (get_or results i d ∷ [])
-  lines_step = ap session_lines one_more ∙ lines_append (take i results) (get_or results i d ∷ [])
+  lines_step = ap session_lines (one_more results i d inside) ∙ lines_append (take i results) (get_or results i d ∷ [])
 
 module _ (worked : List Worked) (i : ℕ) (w : Worked) (inside : i < length worked) (is : w ≡ get_or worked i w) where
   results_step : results_of (take (i + 1) worked) ≡ results_of (take i worked) ++ w.results.items
-  results_step = ap results_of (take_push worked i w inside is) ∙ results_push (take i worked) w
+  results_step =
+      ap results_of (one_more worked i w inside ∙ ap (λ v. take i worked ++ v ∷ []) (sym is))
+      ∙ results_push (take i worked) w
 
   pub all_begun_step : begun (results_of (take (i + 1) worked)) ≡ begun (results_of (take i worked)) + begun w.results.items
   all_begun_step = ap begun results_step ∙ begun_append (results_of (take i worked)) w.results.items

@@ -8,8 +8,4 @@ pub mod Trace
 pub mod Target
 pub mod Refresh
 pub mod Command
-pub mod Gate
-pub mod Sessions
-pub mod Workers
-pub mod Closing
 pub mod Serve

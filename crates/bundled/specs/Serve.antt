@@ -11,14 +11,14 @@ use Rattle.shard_store.specs.declared.close.CloseError.{CloseError}
 use Rattle.bundled.specs.declared.fault.Fault.TheVariants.{Front, Listen as ListenFault, Close}
 use Rattle.bundled.specs.declared.serving.report.Said.{Said}
 use Rattle.bundled.specs.declared.serving.report.Said.TheVariants.{Listening, Served, Domains}
-use Rattle.bundled.specs.declared.serving.sessions.SessionFault.{SessionFault}
-use Rattle.bundled.specs.declared.serving.sessions.SessionFault.TheVariants as session
-use Rattle.bundled.specs.declared.serving.workers.Worked.{Worked}
+use Rattle.workers.specs.declared.sessions.SessionFault.{SessionFault}
+use Rattle.workers.specs.declared.sessions.SessionFault.TheVariants as session
+use Rattle.workers.specs.declared.run.Worked.{Worked}
 use Rattle.bundled.specs.Fault.{fault_line}
 use Rattle.bundled.specs.Streams.{End, Tells, TellsUnlessFailed}
 use Rattle.bundled.specs.declared.serving.settings.Settings.{Settings}
-use Rattle.bundled.specs.Workers.{AllWorked}
-use Rattle.bundled.specs.Closing.{ranges_of, AreAll, ClosesAs}
+use Rattle.workers.specs.Workers.{AllWorked}
+use Rattle.workers.specs.Closing.{ranges_of, AreAll, ClosesAs}
 
 -- a line of a word and a number
 abbrev pub said_line : Said → List ℕ

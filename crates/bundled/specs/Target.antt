@@ -1,7 +1,6 @@
 -- Whoever is asked to set the bundles that were read. None of them shows a map, since others may change it.
 use Rattle.std.specs.Prelude.{◌≡◌, ◌⊎◌, ℕ, List, Bool, true, false, Option, None, Some, Result, Ok, Err}
 use Rattle.std.specs.Io.KnownBytes.{Appends}
-use Rattle.map_core.specs.Name.{Name}
 use Rattle.map_core.specs.PlainMap.{PlainMap}
 use Rattle.map_core.specs.declared.op.Op.{Op}
 use Rattle.map_core.specs.declared.op.Op.TheVariants.{Set, SetIf, Append, Remove, Get, FetchAll}

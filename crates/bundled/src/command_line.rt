@@ -10,19 +10,19 @@ use std::alloc::{AllocError, Global};
 /// The most reads that a session may be given.
 pub const MAX_TURNS: u64 = 1_000_000_000;
 
-/// The reads that a session is given where the command line doesn't say.
+/// The reads that a session is given if the command line doesn't say.
 const TURNS: u64 = 1_000_000;
 
-/// The shards of a store where the command line doesn't say.
+/// The shards of a store if the command line doesn't say.
 const SHARDS: usize = 4;
 
-/// The rounds of a fetch-all where the command line doesn't say.
+/// The rounds of a fetch-all if the command line doesn't say.
 const ROUNDS: usize = 3;
 
-/// The workers of a server where the command line doesn't say.
+/// The workers of a server if the command line doesn't say.
 const WORKERS: u64 = 2;
 
-/// The tries of a call at a shard that others hold where the command line doesn't say.
+/// The tries of a call at a shard that others hold if the command line doesn't say.
 const TRIES: u64 = 1000;
 
 const SERVING: &str = "\
@@ -32,8 +32,8 @@ bundled run --help.
 
 On standard output come `listening PORT` before the first connection is accepted, and at the end `served N`,
 how many connections were served, and `domains M`, how many domains have a bundle. Faults of connections go to
-standard error then, in order of the workers. The status is 1 after a fault of the server itself, as a port
-that is taken, and 0 else.
+standard error then, in order of the workers. The status is 1 after a fault of the server itself, such
+as a port that is taken, and 0 otherwise.
 
   bundled serve --port 8443 --connections 10
   bundled refresh --relationships list --documents documents --port 8443";
@@ -57,7 +57,7 @@ The first example: a domain is set while a fetch-all has read its shard, and the
   record 1 caller 2 first 2 last 4 reply stored
   order 1 0";
 
-/// In how many seconds, at the least, a relationship is due again where the command line doesn't say.
+/// In how many seconds, at the least, a relationship is due again if the command line doesn't say.
 const AT_LEAST: u64 = 60;
 
 const RELATIONSHIPS: &str = "\

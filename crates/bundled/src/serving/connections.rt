@@ -1,8 +1,8 @@
 //! The connections of a listener, as the sessions of a worker.
 ghost use Rattle.std.specs.Prelude.{◌≡◌, ◌<◌, ◌≤◌, ℕ};
 
-use crate::serving::sessions::{ListenFault, Session, Sessions};
 use std::net::{TcpListener, TcpStream};
+use workers::{ListenFault, Session, Sessions};
 
 /// The connections that one worker accepts.
 #[derive(Drop)]

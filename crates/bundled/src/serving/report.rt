@@ -5,12 +5,11 @@ ghost use Rattle.bundled.specs.Streams.{TellsUnlessFailed, end_of};
 
 use crate::fault::Fault;
 use crate::output::write_flushed;
-use crate::serving::sessions::SessionFault;
-use crate::serving::workers::Worked;
 use arrayvec::ArrayVec;
 use frame_front::Counted;
 use itoa::Buffer;
 use std::io::Write;
+use workers::{SessionFault, Worked};
 
 /// The most bytes of a line: a word of 9 letters, a number of 20 digits, a space and a line feed.
 const LINE_BYTES: usize = 31;

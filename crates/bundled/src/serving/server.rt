@@ -2,48 +2,23 @@
 ghost use Rattle.std.specs.Prelude.{◌≡◌, ◌<◌, ◌≤◌, ◌-◌, ◌+◌, ◌^◌, ◌∷◌, [], List, IfOk, vec_len, length, if◌then◌else◌};
 ghost use Rattle.std.specs.List.{All, flat_map};
 ghost use Rattle.shard_store.specs.Pass.{IsOf, PassView};
-ghost use Rattle.bundled.specs.Workers.{AllWorked};
-ghost use Rattle.bundled.specs.Closing.{AreAll, ranges_of};
+ghost use Rattle.workers.specs.Workers.{AllWorked};
+ghost use Rattle.workers.specs.Closing.{AreAll, ranges_of};
 ghost use Rattle.bundled.specs.Serve.{IsSetUp, always_open, Reports, Serves, ServeRun};
 ghost use Rattle.bundled.specs.Streams.{end_of};
 
 use crate::fault::Fault;
-use crate::serving::closing::close_store;
 use crate::serving::connections::Connections;
-use crate::serving::gate::Open;
 use crate::serving::report::{Said, count_begun, say, tell_faults};
 use crate::serving::settings::Settings;
-use crate::serving::workers::{Worked, run_workers};
 use frame_front::{Counted, FrontError};
-use shard_store::{Pass, Store};
+use shard_store::Store;
 use std::alloc::{AllocError, Global};
 use std::io::Write;
 use std::mem::forget;
 use std::net::{Ipv4Addr, Net, TcpListener, TcpStream};
 use std::thread::Threads;
-
-/// A pass for each worker.
-fn passes_of(
-    alloc: Global,
-    store: &Store,
-    first: Pass,
-    workers: u64,
-) -> Result<Vec<Pass>, AllocError>
-    requires own { IsOf first store.now }
-    requires numbers { first.seen.ranges ≡ (0, 4294967296) ∷ [] }
-    requires workers { (0 < workers) × (workers ≤ 64) }
-    ensures count { IfOk result (λ passes. vec_len passes ≡ workers) }
-    ensures own { IfOk result (λ passes. All (λ pass. IsOf pass store.now) passes.items) }
-    ensures all { IfOk result (λ passes. AreAll (ranges_of passes.items)) }
-{
-    let mut passes = Vec::new(alloc);
-    let mut first = first;
-    for _ in 1..workers {
-        passes.push(store.split(&mut first, 1))?;
-    }
-    passes.push(first)?;
-    Ok(passes)
-}
+use workers::{Open, Worked, close_store, passes_of, run_workers};
 
 /// The same listener for each worker.
 fn connections_of<'a>(

@@ -1,5 +1,5 @@
-use Rattle.std.proofs.Common.{◌≡◌, ℕ, List, [], ◌++◌, sym, subst}
-use Rattle.bundled.specs.Streams.{TellsUnlessFailed, End, Tells, end_of}
+use Rattle.std.proofs.Common.{ℕ, [], subst}
+use Rattle.bundled.specs.Streams.{TellsUnlessFailed, end_of}
 use Rattle.bundled.proofs.Telling.{tells_nothing, tells_more}
 use Rattle.bundled.proofs.refreshing.refresh_each.Goals as goal
 

@@ -1,4 +1,4 @@
-use Rattle.std.proofs.Common.{◌≡◌, ℕ, List}
+use Rattle.std.proofs.Common.{ℕ, List}
 use Rattle.bundled.specs.Streams.{Tells, end_of}
 use Rattle.bundled.proofs.refreshing.refresh_each.Given as goal
 

@@ -1,5 +1,5 @@
 use Rattle.std.proofs.Common.{List, ℕ, ◌&&◌, take, sym, ap, subst, ◌∙◌}
-use Rattle.bundled.specs.Serve.{session_lines, have_come}
+use Rattle.bundled.specs.Serve.{have_come}
 use Rattle.bundled.specs.Streams.{TellsUnlessFailed, end_of}
 use Rattle.bundled.proofs.ReportLemmas.{lines_step, come_step}
 use Rattle.bundled.proofs.Telling.{told_more}

@@ -1,8 +1,7 @@
-use Rattle.std.proofs.Common.{◌≡◌, ℕ, List, ◌++◌, ◌&&◌, length, Bool, true, false, Ok, Err, refl, sym, ap, subst, ◌∙◌}
+use Rattle.std.proofs.Common.{◌≡◌, ℕ, List, ◌++◌, ◌&&◌, Bool, false, Ok, Err, refl, ap, subst, ◌∙◌}
 use Rattle.std.specs.Prelude.{min, if◌then◌else◌}
-use Rattle.map_core.specs.PlainMap.{bundles}
 use Rattle.bundled.specs.declared.serving.report.Said.TheVariants.{Served, Domains}
-use Rattle.bundled.specs.declared.serving.workers.Worked.{Worked}
+use Rattle.workers.specs.declared.run.Worked.{Worked}
 use Rattle.bundled.specs.Serve.{IsOffered, said_line, untaken, begun, have_come, session_lines, results_of}
 use Rattle.bundled.specs.Streams.{TellsUnlessFailed, end_of}
 use Rattle.bundled.proofs.Telling.{told_more}

@@ -1,8 +1,8 @@
-use Rattle.std.proofs.Common.{ℕ, List, [], length, true, subst, sym, arith, inr}
-use Rattle.bundled.specs.Closing.{AreAll}
+use Rattle.std.proofs.Common.{ℕ, [], true, subst, sym, arith, inr}
+use Rattle.workers.specs.Closing.{AreAll}
 use Rattle.bundled.specs.Serve.{always_open, Reports}
 use Rattle.bundled.specs.Streams.{TellsUnlessFailed, end_of}
-use Rattle.bundled.proofs.WorkedLists.{all_own, all_long, ranges_same}
+use Rattle.workers.proofs.WorkedLists.{all_own, all_long, ranges_same}
 use Rattle.bundled.proofs.serving.server.serve_on.Goals as goal
 
 pub report-requires-clause-some : goal.report-requires-clause-some

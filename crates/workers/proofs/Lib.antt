@@ -1,0 +1,7 @@
+pub mod WorkedLists
+mod ClosingLemmas
+mod KeptAlong
+mod NumberLemmas
+mod PassLaws
+mod ServedLists
+mod Simulated

@@ -1,0 +1,34 @@
+use Rattle.std.proofs.Common.{◌≡◌, ℕ, ◌+◌, ◌-◌, List, [], ◌∷◌, ap, ◌∙◌, All, sym, subst, arith}
+use Rattle.shard_store.specs.Changes.{without_last, just_last}
+use Rattle.shard_store.specs.Pass.{PassView, IsOf}
+use Rattle.workers.proofs.NumberLemmas.{HaveFrom, have_before, have_all}
+use Rattle.workers.proofs.WorkedLists.{all_push}
+use Rattle.workers.proofs.passes.passes_of.Goals as goal
+
+pub loop-preserved : goal.loop-preserved
+loop-preserved c =
+    let store = c.args.store.now in
+    let passes = c.loop.passes.items in
+    let n = 4294967297 - c.loop.counter in
+    let m = 4294967297 - (c.loop.counter + 1) in
+    let before : c.loop.first.seen.ranges ≡ (0, n) ∷ [] = c.loop.invariant.1 in
+    let kept : c.split.new.pass.seen.ranges ≡ (0, n - 1) ∷ [] = c.split.ensures.numbers.0 ∙ ap (without_last 1) before in
+    let given : c.split.result.seen.ranges ≡ (0 + (n - 1), 1) ∷ [] = c.split.ensures.numbers.1 ∙ ap (just_last 1) before in
+    let less : n - 1 ≡ m = omega arith in
+    let at : 0 + (n - 1) ≡ m = omega arith in
+    let next : m + 1 ≡ n = omega (arith, c.loop-test.true, c.requires.workers.1) in (
+      c.split.ensures.own.0,
+      kept ∙ ap (λ (k : ℕ). (0, k) ∷ []) less,
+      omega (arith, c.in_ok-push.ensures.len, c.loop.invariant.2),
+      subst (λ (ps : List PassView). All (λ p. IsOf p store) ps) (sym c.in_ok-push.ensures.items)
+          (all_push (λ p. IsOf p store) passes c.split.result c.loop.invariant.3 c.split.ensures.own.1),
+      subst (λ (ps : List PassView). HaveFrom m ps) (sym c.in_ok-push.ensures.items)
+          (have_before passes c.split.result n m 1 (given ∙ ap (λ (k : ℕ). (k, 1) ∷ []) at) next c.loop.invariant.4),
+    )
+
+pub returns-clause-all : goal.returns-clause-all
+returns-clause-all c =
+    let passes = c.loop.passes.items in
+    let n = 4294967297 - c.loop.counter in
+    let all = have_before passes c.loop.first n 0 n c.loop.invariant.1 (omega arith) c.loop.invariant.4 in
+    have_all c.push-2.new.self.items (subst (λ (ps : List PassView). HaveFrom 0 ps) (sym c.in_ok-push-2.ensures.items) all)

@@ -1,0 +1,4 @@
+pub mod Gate
+pub mod Sessions
+pub mod Workers
+pub mod Closing

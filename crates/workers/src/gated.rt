@@ -1,0 +1,55 @@
+//! A map that is asked through a gate.
+ghost use Rattle.std.specs.Prelude.{◌≡◌};
+
+use crate::gate::Gate;
+use map_core::{Ask, AskError, Op, Reply};
+
+/// A map that one worker asks through a gate. Its calls are counted from 1; the count stays at 2^64 - 1 once there.
+#[derive(Drop)]
+pub struct Gated<'a, A, G> {
+    pub ask: A,
+    pub gate: &'a G,
+    pub worker: u64,
+    pub calls: u64,
+}
+
+impl<'a, A, G> Gated<'a, A, G> {
+    /// No call has been made yet.
+    pub fn new(ask: A, gate: &'a G, worker: u64) -> Gated<'a, A, G>
+        ensures ask { result.ask ≡ ask }
+        ensures gate { result.gate.now ≡ gate.now }
+        ensures worker { result.worker ≡ worker }
+        ensures calls { result.calls ≡ 0 }
+    {
+        Gated {
+            ask,
+            gate,
+            worker,
+            calls: 0,
+        }
+    }
+}
+
+impl<'a, A: Ask, G: Gate> Ask for Gated<'a, A, G> {
+    ghost use Rattle.workers.specs.Gate.{GatedAnswer, gated_answers_plainly};
+    ghost use Rattle.frame_front.specs.Counted.{next_count};
+
+    ghost answers = { λ old op answer new. (new.worker ≡ old.worker) × (new.gate.now ≡ old.gate.now) × (new.calls ≡ next_count old.calls)
+        × GatedAnswer A.answers (G.opens old.gate.now old.worker new.calls) old.ask op answer new.ask };
+
+    // What stands behind the gate is shown.
+    ghost shows = { λ gated. A.shows gated.ask };
+
+    ghost answers_plainly = { λ old op answer new m shown answered. gated_answers_plainly (G.opens old.gate.now old.worker new.calls) A.answers A.shows A.answers_plainly old.ask op answer new.ask m shown answered.3 };
+
+    /// Asks once if the gate is open; else nothing is asked.
+    fn ask(&mut self, op: Op) -> Result<Reply, AskError> {
+        self.calls = self.calls.saturating_add(1);
+        if !self.gate.before(self.worker, self.calls) {
+            return Err(AskError::GateShut);
+        }
+        let answer = self.ask.ask(op);
+        self.gate.after(self.worker, self.calls);
+        answer
+    }
+}

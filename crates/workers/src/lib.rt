@@ -1,0 +1,22 @@
+//! Workers: threads that serve sessions over the store that they share, each call through a gate.
+//!
+//! `run_workers` gives each pass of a store a thread and the sessions of a `Sessions`, which may be a list in memory or
+//! a listener: no word of this crate speaks of sockets. `passes_of` makes the passes, and `close_store` joins them
+//! again, when no worker is left, and gives the map at the end.
+#![tactic(auto)]
+
+mod closing;
+mod gate;
+mod gated;
+mod passes;
+mod run;
+mod sessions;
+#[cfg(test)]
+mod tests;
+
+pub use closing::close_store;
+pub use gate::{Gate, Open};
+pub use gated::Gated;
+pub use passes::passes_of;
+pub use run::{Worked, run_workers};
+pub use sessions::{ListenFault, Session, SessionFault, Sessions};
