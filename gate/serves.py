@@ -5,10 +5,12 @@ usage: gate/serves.py   (over the program that rt ci or rt run has built in crat
 
 What is expected of the bundles in gate/bundles is not made by the program: each NAME.canonical was made by another one.
 """
+import os
 import socket
 import struct
 import subprocess
 import sys
+import time
 
 sys.dont_write_bytecode = True
 
@@ -26,9 +28,9 @@ FIRST = frame(b"s") + frame(b"f" + EMPTY)
 class Server:
     """The program behind a port that it has chosen."""
 
-    def __init__(self, *options, port="0", err=subprocess.PIPE):
+    def __init__(self, *options, port="0", stdin=subprocess.DEVNULL):
         words = [program("bundled"), "serve", "--port", port, *options]
-        self.started = subprocess.Popen(words, stdin=subprocess.DEVNULL, stdout=subprocess.PIPE, stderr=err)
+        self.started = subprocess.Popen(words, stdin=stdin, stdout=subprocess.PIPE, stderr=subprocess.PIPE)
         self.line = self.started.stdout.readline().decode()
         self.port = int(self.line.split()[1]) if self.line.startswith("listening ") else None
 
@@ -129,7 +131,62 @@ def ports_and_outputs():
     server.started.stderr.close()
 
 
-CHECKS = [two_workers, side_by_side, real_bundles, clients_that_fail, many_workers, ports_and_outputs]
+def silent_clients():
+    """A client that is silent inside a frame is given up; between frames it may be silent."""
+    server = Server("--workers", "1", "--connections", "3", "--idle", "1")
+    with server.connect() as stream:
+        stream.sendall(SET_A + b"\0\0\0\3G")
+        assert stream.recv(5) == frame(b"s")
+        assert stream.recv(5) == b""
+    with server.connect() as stream:
+        for _ in range(2):
+            for byte in GET_A:
+                stream.sendall(bytes([byte]))
+            assert stream.recv(100) == frame(b"f" + EMPTY)
+            time.sleep(2.5)
+    assert server.ask(GET_A) == frame(b"f" + EMPTY)
+    assert server.ended() == (0, "served 3\ndomains 1\n", "fault 53\n"), "ended otherwise"
+
+
+def client_that_never_reads():
+    """A client that asks for more than the sockets hold, and reads nothing, is given up."""
+    server = Server("--workers", "1", "--connections", "2", "--idle", "1")
+    with open(f"{BUNDLES}/many.json", "rb") as it, server.connect() as stream:
+        stream.sendall(frame(b"S\x01a" + it.read()) + 2000 * GET_A)
+        assert server.ask(GET_A) == frame(b"f" + canonical("many"))
+    assert server.ended() == (0, "served 2\ndomains 1\n", "fault 54\n"), "ended otherwise"
+
+
+def replies_before_a_bad_length():
+    """What was answered comes, though a bad length follows and much that nobody reads."""
+    server = Server("--workers", "1")
+    with server.connect() as stream:
+        stream.sendall(GET_A + bytes(4) + bytes(30000))
+        time.sleep(0.5)
+        stream.sendall(b"more")
+        assert b"".join(iter(lambda: stream.recv(65536), b"")) == frame(b"\x1e")
+    assert server.ended() == (0, "served 1\ndomains 0\n", "fault 50\n"), "ended otherwise"
+
+
+def stops_at_the_end_of_input():
+    """Without an end of connections the server stops at the end of its input: workers that wait, and one in a session."""
+    end, hold = os.pipe()
+    server = Server("--workers", "3", "--connections", "unlimited", "--until-eof", stdin=end)
+    os.close(end)
+    os.write(hold, b"what is read says nothing")
+    assert server.ask(SET_A) == frame(b"s")
+    for _ in range(10):
+        assert server.ask(GET_A) == frame(b"f" + EMPTY)
+    with server.connect() as stream:
+        stream.sendall(GET_A)
+        assert stream.recv(100) == frame(b"f" + EMPTY)
+        os.close(hold)
+        assert stream.recv(100) == b""
+    assert server.ended() == (0, "served 12\ndomains 1\n", ""), "ended otherwise"
+
+
+CHECKS = [two_workers, side_by_side, real_bundles, clients_that_fail, many_workers, ports_and_outputs, silent_clients,
+          client_that_never_reads, replies_before_a_bad_length, stops_at_the_end_of_input]
 
 
 def main():

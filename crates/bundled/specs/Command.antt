@@ -1,5 +1,5 @@
 -- What the program does: one of its commands, or a text in place of one.
-use Rattle.std.specs.Prelude.{◌≡◌, ℕ, List, Result, Ok, Err, ◌⊎◌}
+use Rattle.std.specs.Prelude.{◌≡◌, ℕ, false, List, Result, Ok, Err, ◌⊎◌}
 use Rattle.std.specs.Io.KnownBytes.{Appends}
 use Rattle.frame_front.specs.Outbox.{WritesFront}
 use Rattle.frame_front.specs.declared.error.FrontError.TheVariants.{Memory, WriteFault}
@@ -21,7 +21,7 @@ Does (Run shards turns) status old new = Runs turns status old new
 Does (Trace shards rounds) status old new = Tracing status old new
 Does Migrate status old new = Migration status old new
 Does (Refresh wanted) status old new = RefreshRun status old new
-Does (Serve port settings) status old new = (new.input ≡ old.input) × ServeRun settings status old.output new.output old.error new.error
+Does (Serve port settings) status old new = (settings.until_eof ≡ false → new.input ≡ old.input) × ServeRun settings status old.output new.output old.error new.error
 
 -- some text is written; a front of it if the writer failed; nothing if memory ran out
 abbrev pub WritesText : Result (Unit {0}) Fault → End → End → Type 0

@@ -62,7 +62,9 @@ pub fn command_over<
         }
         Ok(Wanted::Migrate) => migrate_over(alloc, reader, out, err),
         Ok(Wanted::Refresh(wanted)) => refresh_over(alloc, host, out, err, &wanted),
-        Ok(Wanted::Serve { port, settings }) => serve_over(alloc, host, out, err, port, settings),
+        Ok(Wanted::Serve { port, settings }) => serve_over(
+            alloc, host, reader, out, err, port, settings,
+        ),
         Err(error) => show(alloc, &error, out, err),
     }
 }

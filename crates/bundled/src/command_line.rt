@@ -1,10 +1,11 @@
 //! The command line.
-ghost use Rattle.std.specs.Prelude.{◌<◌, ◌≤◌, IfOk};
+ghost use Rattle.std.specs.Prelude.{◌≡◌, ◌<◌, ◌≤◌, IfOk, IfSome};
 ghost use Rattle.bundled.specs.Settings.{AreSettings};
 
 use crate::refreshing::Refreshing;
 use crate::serving::Settings;
-use clap::{Arg, ArgMatches, Command, Error, value_parser};
+use clap::error::ErrorKind;
+use clap::{Arg, ArgAction, ArgMatches, Command, Error, value_parser};
 use std::alloc::{AllocError, Global};
 
 /// The most reads that a session may be given.
@@ -21,6 +22,12 @@ const ROUNDS: usize = 3;
 
 /// The workers of a server if the command line doesn't say.
 const WORKERS: u64 = 2;
+
+/// How often an operation is asked again while others are in the way, if the command line doesn't say.
+const RETRIES: u64 = 1000;
+
+/// For how many seconds a client may be silent inside a frame if the command line doesn't say.
+const IDLE: u64 = 60;
 
 /// The tries of a call at a shard that others hold if the command line doesn't say.
 const TRIES: u64 = 1000;
@@ -140,10 +147,13 @@ pub fn wanted_by<'a>(alloc: Global, words: &'a [String]) -> Result<Wanted<'a>, E
     match matches.subcommand() {
         Some(("migrate", _)) => Ok(Wanted::Migrate),
         Some(("refresh", refresh)) => Ok(Wanted::Refresh(refreshing_of(refresh))),
-        Some(("serve", serve)) => Ok(Wanted::Serve {
-            port: serve.get_one::<u16>("port").unwrap_or(0),
-            settings: settings_of(serve),
-        }),
+        Some(("serve", serve)) => match connections_of(serve) {
+            Ok(connections) => Ok(Wanted::Serve {
+                port: serve.get_one::<u16>("port").unwrap_or(0),
+                settings: settings_of(serve, connections),
+            }),
+            Err(NoCount) => Err(bad_connections(alloc)?),
+        },
         Some(("trace", trace)) => Ok(Wanted::Trace {
             shards: shards_of(trace),
             rounds: rounds_of(trace),
@@ -183,27 +193,55 @@ fn turns_of(run: &ArgMatches<'_>) -> u64
     asked.unwrap_or(TURNS).clamp(1, MAX_TURNS)
 }
 
-fn settings_of(serve: &ArgMatches<'_>) -> Settings
-    ensures connections { (0 < result.connections) × (result.connections ≤ 1000) }
+fn settings_of(serve: &ArgMatches<'_>, connections: Option<u64>) -> Settings
+    ensures connections { result.connections ≡ connections }
     ensures limits { (result.rounds ≤ 16) × (result.tries ≤ 1000000) × (0 < result.turns) }
+    ensures times { (result.retries ≤ 1000000) × (0 < result.idle) × (result.idle ≤ 86400) }
 {
     Settings {
         workers: serve
             .get_one::<u64>("workers")
             .unwrap_or(WORKERS)
             .clamp(1, 64),
-        connections: serve
-            .get_one::<u64>("connections")
-            .unwrap_or(1)
-            .clamp(1, 1000),
+        connections,
+        until_eof: serve.get_flag("until-eof"),
         shards: shards_of(serve),
         rounds: rounds_of(serve) as u64,
+        retries: serve
+            .get_one::<u64>("retries")
+            .unwrap_or(RETRIES)
+            .min(1_000_000),
+        idle: serve.get_one::<u64>("idle").unwrap_or(IDLE).clamp(1, 86400),
         tries: serve
             .get_one::<u64>("tries")
             .unwrap_or(TRIES)
             .clamp(1, 1_000_000),
         turns: turns_of(serve),
     }
+}
+
+/// The text is no number of connections.
+struct NoCount;
+
+/// How many connections each worker serves; without a number there is no end of them.
+fn connections_of(serve: &ArgMatches<'_>) -> Result<Option<u64>, NoCount>
+    ensures { IfOk result (λ count. IfSome count (λ n. (0 < n) × (n ≤ 1000))) }
+{
+    let text = serve.get_str("connections").unwrap_or("1");
+    if text == "unlimited" {
+        return Ok(None);
+    }
+    match text.parse::<u64>() {
+        Ok(count) if 0 < count && count <= 1000 => Ok(Some(count)),
+        _ => Err(NoCount),
+    }
+}
+
+fn bad_connections(alloc: Global) -> Result<Error, AllocError> {
+    serve_command(alloc)?.error(
+        ErrorKind::ValueValidation,
+        "--connections takes a number in 1..=1000, or `unlimited`",
+    )
 }
 
 fn refreshing_of<'a>(refresh: &ArgMatches<'a>) -> Refreshing<'a> {
@@ -324,23 +362,45 @@ fn serve_command<'a>(alloc: Global) -> Result<Command<'a>, AllocError> {
     let connections = Arg::new(alloc, "connections")
         .long("connections")
         .value_name("COUNT")
-        .value_parser(value_parser!(u64).range(1..=1000))
         .default_value("1")
-        .help("How many connections each worker serves, one after the other");
+        .help(
+            "How many connections each worker serves, one after the other: 1..=1000, or unlimited",
+        );
+    let until_eof = Arg::new(alloc, "until-eof")
+        .long("until-eof")
+        .action(ArgAction::SetTrue)
+        .help("Stop at the end of standard input, and not before");
     let tries = Arg::new(alloc, "tries")
         .long("tries")
         .value_name("COUNT")
         .value_parser(value_parser!(u64).range(1..=1_000_000))
         .default_value("1000")
         .help("How often a call tries a shard that others hold before it gives up");
+    let retries = Arg::new(alloc, "retries")
+        .long("retries")
+        .value_name("COUNT")
+        .value_parser(value_parser!(u64).range(0..=1_000_000))
+        .default_value("1000")
+        .help(
+            "How often a request is asked again before it is answered that others are in the way",
+        );
+    let idle = Arg::new(alloc, "idle")
+        .long("idle")
+        .value_name("SECONDS")
+        .value_parser(value_parser!(u64).range(1..=86400))
+        .default_value("60")
+        .help("How long a client may be silent inside a request, or take nothing of a reply");
     Command::new(alloc, "serve")
         .about("Answers requests at a port of this machine, over a store that its workers share")
         .after_help(SERVING)
         .arg(port)?
         .arg(workers)?
         .arg(connections)?
+        .arg(until_eof)?
         .arg(shards_argument(alloc))?
         .arg(rounds_argument(alloc))?
         .arg(tries)?
+        .arg(retries)?
+        .arg(idle)?
         .arg(turns_argument(alloc))
 }

@@ -3,5 +3,6 @@ mod ClosingLemmas
 mod KeptAlong
 mod NumberLemmas
 mod PassLaws
+mod Retries
 mod ServedLists
 mod Simulated

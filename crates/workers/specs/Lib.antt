@@ -2,3 +2,4 @@ pub mod Gate
 pub mod Sessions
 pub mod Workers
 pub mod Closing
+pub mod Retrying

@@ -9,6 +9,7 @@ mod closing;
 mod gate;
 mod gated;
 mod passes;
+mod retrying;
 mod run;
 mod sessions;
 #[cfg(test)]
@@ -18,5 +19,6 @@ pub use closing::close_store;
 pub use gate::{Gate, Open};
 pub use gated::Gated;
 pub use passes::passes_of;
+pub use retrying::Retrying;
 pub use run::{Worked, run_workers};
 pub use sessions::{ListenFault, Session, SessionFault, Sessions};

@@ -6,11 +6,13 @@ ghost use Rattle.workers.specs.Workers.{AllWorked, AreNumbered, HasWorked};
 
 use crate::gate::Gate;
 use crate::gated::Gated;
+use crate::retrying::Retrying;
 use crate::sessions::{SessionFault, Sessions, serve_sessions};
 use shard_store::{Pass, Seated, Store};
 use std::alloc::{AllocError, Global};
 use std::thread;
 use std::thread::Threads;
+use std::time::Clock;
 
 /// A worker before it begins.
 #[derive(Drop)]
@@ -28,10 +30,12 @@ pub struct Worked {
 }
 
 /// Serves the sessions of one worker.
-fn work<S: Sessions + Drop, G: Gate>(
+fn work<C: Clock, S: Sessions + Drop, G: Gate>(
+    clock: &C,
     alloc: Global,
     store: &Store,
     gate: &G,
+    retries: u64,
     worker: Worker<S>,
 ) -> Result<Worked, AllocError>
     requires own { IsOf worker.pass store.now }
@@ -42,14 +46,20 @@ fn work<S: Sessions + Drop, G: Gate>(
         pass,
         mut sessions,
     } = worker;
-    let mut ask = Gated::new(Seated::new(store, pass), gate, number);
+    let patient = Retrying::new(Seated::new(store, pass), clock, retries);
+    let mut ask = Gated::new(patient, gate, number);
     let results = serve_sessions(alloc, &mut sessions, &mut ask)?;
     let Gated {
-        ask: seated,
+        ask: patient,
         gate: _,
         worker: _,
         calls: _,
     } = ask;
+    let Retrying {
+        ask: seated,
+        clock: _,
+        retries: _,
+    } = patient;
     Ok(Worked {
         pass: seated.into_pass(),
         results,
@@ -112,15 +122,17 @@ fn all_worked(
 }
 
 /// Runs a worker for each pass, in a thread of its own if one can be made, and joins them. Each serves its sessions
-/// through the gate, one after the other. What they give back stands in the order of the passes. If memory runs out, the
-/// passes are gone, and sessions may have been served.
-pub fn run_workers<R: Threads + Sync, S: Sessions + Send + Drop, G: Gate + Sync>(
+/// through the gate, one after the other; what the store answers while others are in the way is asked again, at most
+/// `retries` times. What they give back stands in the order of the passes. If memory runs out, the passes are gone, and
+/// sessions may have been served.
+pub fn run_workers<R: Threads + Clock + Sync, S: Sessions + Send + Drop, G: Gate + Sync>(
     rt: &R,
     alloc: Global,
     store: &Store,
     passes: Vec<Pass>,
     sessions: Vec<S>,
     gate: &G,
+    retries: u64,
 ) -> Result<Vec<Worked>, AllocError>
     requires same { vec_len passes ≡ vec_len sessions }
     requires own { All (λ pass. IsOf pass store.now) passes.items }
@@ -130,7 +142,7 @@ pub fn run_workers<R: Threads + Sync, S: Sessions + Send + Drop, G: Gate + Sync>
     let run = |worker: Worker<S>| -> Result<Worked, AllocError>
         requires { IsOf worker.pass store.now }
         ensures { IfOk result (λ worked. HasWorked (G.opens gate.entry.now) store.entry.now worker.number worker.pass worked) }
-    { work(alloc, store, gate, worker) };
+    { work(rt, alloc, store, gate, retries, worker) };
     let given = thread::map_vec(rt, workers, &run)?;
     all_worked(alloc, given)
 }

@@ -4,14 +4,18 @@ ghost use Rattle.std.specs.List.{All};
 ghost use Rattle.shard_store.specs.Pass.{IsOf};
 
 use crate::gate::{Gate, Open};
+use crate::retrying::Retrying;
 use crate::run::run_workers;
 use crate::sessions::{ListenFault, Session, SessionFault, Sessions};
 use frame_front::FrontError;
+use map_core::{Ask, AskError, Op, Reply};
 use shard_store::{Pass, Store};
+use spiffe_doc::TrustDomain;
 use std::alloc::{AllocError, Global};
 use std::sync::{Mutex, Wait};
 use std::test::Fail;
 use std::thread::Threads;
+use std::time::Clock;
 
 /// One session over memory.
 #[derive(Drop)]
@@ -156,7 +160,7 @@ fn store_for_two(alloc: Global) -> Result<(Store, Vec<Pass>), AllocError>
 }
 
 /// What two workers write and how their sessions end, if each is to have so many.
-fn run_two<R: Threads + Sync, G: Gate + Sync>(
+fn run_two<R: Threads + Clock + Sync, G: Gate + Sync>(
     rt: &R,
     alloc: Global,
     inputs: (&[u8], &[u8]),
@@ -177,7 +181,7 @@ fn run_two<R: Threads + Sync, G: Gate + Sync>(
         output: Some(&mut second),
         left,
     })?;
-    let worked = run_workers(rt, alloc, &store, passes, sessions, gate)?;
+    let worked = run_workers(rt, alloc, &store, passes, sessions, gate, 1_000_000)?;
     let mut results = Vec::new(alloc);
     for worker in worked.as_slice() {
         for result in worker.results.as_slice() {
@@ -302,5 +306,72 @@ fn two_workers_beside_each_other(rt: HostRuntime) -> Result<(), Fail> {
     assert!(rt; ended.first.as_slice() == replies.as_slice());
     assert!(rt; ended.second.as_slice() == replies.as_slice());
     assert!(rt; ended.results.as_slice() == [Ok(200), Ok(200)].as_slice());
+    Ok(())
+}
+
+/// Answers so often that another caller is in the way, and counts what it is asked.
+#[derive(Drop)]
+struct Busy {
+    answer: AskError,
+    left: u64,
+    asked: u64,
+}
+
+impl Ask for Busy {
+    ghost use Rattle.std.specs.Prelude.{None};
+
+    ghost answers = { λ old op answer new. Unit {0} };
+
+    ghost shows = { λ _. None };
+
+    ghost answers_plainly = { λ old op answer new m shown answered. absurd (cc shown) };
+
+    fn ask(&mut self, _op: Op) -> Result<Reply, AskError> {
+        self.asked = self.asked.saturating_add(1);
+        if self.left == 0 {
+            return Ok(Reply::Stored);
+        }
+        self.left -= 1;
+        Err(self.answer)
+    }
+}
+
+// Each row: what is answered how often, how often it may be asked again, the number of the last answer, and how often it
+// was asked for that.
+#[test]
+fn transient_answers_are_asked_again(rt: HostRuntime) -> Result<(), Fail> {
+    let held = AskError::Held {
+        shard: 1,
+        revision: 2,
+    };
+    let moved = AskError::Moved {
+        shard: 1,
+        first: 2,
+        second: 3,
+    };
+    let worn = AskError::Worn { shard: 1 };
+    let rows = [
+        (held, 0, 5, 0, 1),
+        (held, 3, 5, 0, 4),
+        (moved, 5, 5, 0, 6),
+        (held, 6, 5, 42, 6),
+        (moved, 1, 0, 41, 1),
+        (worn, 1, 5, 40, 1),
+        (AskError::GateShut, 1, 5, 56, 1),
+    ];
+    for (answer, left, retries, last, asked) in rows {
+        let busy = Busy {
+            answer,
+            left,
+            asked: 0,
+        };
+        let mut ask = Retrying::new(busy, &rt, retries);
+        let name = TrustDomain::parse(rt.alloc(), "a")?;
+        let number = ask
+            .ask(Op::Get(name))
+            .map_or_else(|error| error.number(), |_| 0);
+        assert_eq!(rt; number, last);
+        assert_eq!(rt; ask.ask.asked, asked);
+    }
     Ok(())
 }

@@ -1,5 +1,5 @@
 //! A server: its store, its workers, and what it says of them.
-ghost use Rattle.std.specs.Prelude.{◌≡◌, ◌<◌, ◌≤◌, ◌-◌, ◌+◌, ◌^◌, ◌∷◌, [], List, IfOk, vec_len, length, if◌then◌else◌};
+ghost use Rattle.std.specs.Prelude.{◌≡◌, false, ◌<◌, ◌≤◌, ◌-◌, ◌+◌, ◌^◌, ◌∷◌, [], List, IfOk, vec_len, length, if◌then◌else◌};
 ghost use Rattle.std.specs.List.{All, flat_map};
 ghost use Rattle.shard_store.specs.Pass.{IsOf, PassView};
 ghost use Rattle.workers.specs.Workers.{AllWorked};
@@ -11,19 +11,23 @@ use crate::fault::Fault;
 use crate::serving::connections::Connections;
 use crate::serving::report::{Said, count_begun, say, tell_faults};
 use crate::serving::settings::Settings;
+use crate::serving::stop::{Stop, Watch};
 use frame_front::{Counted, FrontError};
-use shard_store::Store;
+use shard_store::{Pass, Store};
 use std::alloc::{AllocError, Global};
-use std::io::Write;
+use std::io::{Read, Write};
 use std::mem::forget;
 use std::net::{Ipv4Addr, Net, TcpListener, TcpStream};
+use std::thread;
 use std::thread::Threads;
+use std::time::Clock;
 use workers::{Open, Worked, close_store, passes_of, run_workers};
 
 /// The same listener for each worker.
 fn connections_of<'a>(
     alloc: Global,
     listener: &'a TcpListener,
+    stop: &'a Stop,
     settings: Settings,
 ) -> Result<Vec<Connections<'a>>, AllocError>
     ensures { IfOk result (λ all. vec_len all ≡ settings.workers) }
@@ -32,27 +36,74 @@ fn connections_of<'a>(
     for _ in 0..settings.workers {
         all.push(Connections {
             listener,
-            left: settings.connections,
+            stop,
+            left: settings.connections.unwrap_or(u64::MAX),
+            idle: settings.idle,
             turns: settings.turns,
         })?;
     }
     Ok(all)
 }
 
-/// Serves connections until each worker has had as many as it may accept, and answers what the workers gave back, and
-/// the store.
-fn serve_all<R: Threads + Sync>(
+/// Runs the workers, and beside them waits for the end of the input: then they are to stop.
+fn run_until_end<R: Threads + Clock + Net<Stream = TcpStream> + Sync, I: Read>(
+    rt: &R,
+    alloc: Global,
+    store: &Store,
+    passes: Vec<Pass>,
+    connections: Vec<Connections<'_>>,
+    settings: Settings,
+    end: &mut Watch<'_, I>,
+) -> Result<Vec<Worked>, AllocError>
+    requires same { vec_len passes ≡ vec_len connections }
+    requires own { All (λ pass. IsOf pass store.now) passes.items }
+    ensures { IfOk result (λ all. AllWorked always_open store.now 0 passes.items all.items) }
+{
+    let retries = settings.retries;
+    let run = || -> Result<Vec<Worked>, AllocError>
+        requires same { vec_len passes ≡ vec_len connections }
+        requires own { All (λ pass. IsOf pass store.now) passes.items }
+        ensures { IfOk result (λ all. AllWorked always_open store.entry.now 0 passes.items all.items) }
+    { run_workers(rt, alloc, store, passes, connections, &Open, retries) };
+    let (worked, ()) = thread::join(rt, run, || end.stop_at_end(rt, settings.workers));
+    worked
+}
+
+/// Serves connections until each worker has had as many as it may accept, or the server is to stop; answers what the
+/// workers gave back, and the store.
+fn serve_all<R: Threads + Clock + Net<Stream = TcpStream> + Sync, I: Read>(
     rt: &R,
     alloc: Global,
     listener: &TcpListener,
+    port: u16,
     settings: Settings,
+    input: &mut Counted<I>,
 ) -> Result<(Store, Vec<Worked>), AllocError>
-    ensures { IfOk result (λ served. (passes : List PassView) × IsSetUp settings served.0 passes × AllWorked always_open served.0 0 passes served.1.items) }
+    ensures served { IfOk result (λ served. (passes : List PassView) × IsSetUp settings served.0 passes × AllWorked always_open served.0 0 passes served.1.items) }
+    ensures read { settings.until_eof ≡ false → input.new ≡ input.old }
 {
     let (store, first) = Store::new(alloc, settings.shards, settings.rounds, settings.tries)?;
     let passes = passes_of(alloc, &store, first, settings.workers)?;
-    let connections = connections_of(alloc, listener, settings)?;
-    let worked = run_workers(rt, alloc, &store, passes, connections, &Open)?;
+    let stop = Stop::new();
+    let connections = connections_of(alloc, listener, &stop, settings)?;
+    let worked = if settings.until_eof {
+        let mut end = Watch {
+            input,
+            stop: &stop,
+            port,
+        };
+        run_until_end(rt, alloc, &store, passes, connections, settings, &mut end)?
+    } else {
+        run_workers(
+            rt,
+            alloc,
+            &store,
+            passes,
+            connections,
+            &Open,
+            settings.retries,
+        )?
+    };
     Ok((store, worked))
 }
 
@@ -96,22 +147,30 @@ fn report<W: Write, E: Write>(
     }
 }
 
-/// Answers the connections of a listener until each worker has had as many as it may accept; answers the exit status.
+/// Answers the connections of a listener until each worker has had as many as it may accept, or until the end of the input
+/// if the server is to stop then; answers the exit status.
 ///
 /// `listening PORT` goes to the output first; nothing is accepted if it is not taken. At the end come `served N`, how many
 /// sessions were begun, and `domains M`, how many domains have a bundle then. The faults of sessions are told in between,
 /// in order of the workers; they don't change the status, except that a worker to which no connection came does.
-pub fn serve_on<R: Threads + Sync, W: Write, E: Write>(
+pub fn serve_on<
+    R: Threads + Clock + Net<Listener = TcpListener, Stream = TcpStream> + Sync,
+    I: Read,
+    W: Write,
+    E: Write,
+>(
     rt: &R,
     alloc: Global,
     listener: &TcpListener,
     settings: Settings,
+    input: &mut Counted<I>,
     out: &mut Counted<W>,
     err: &mut Counted<E>,
 ) -> u8
     requires { err.old.faults < 2 ^ 64 - 1 }
-    ensures { ServeRun settings result (end_of W.contents out.old) (end_of W.contents out.new)
+    ensures run { ServeRun settings result (end_of W.contents out.old) (end_of W.contents out.new)
         (end_of E.contents err.old) (end_of E.contents err.new) }
+    ensures read { settings.until_eof ≡ false → input.new ≡ input.old }
 {
     let before = err.faults();
     let Ok(address) = listener.local_addr() else {
@@ -120,7 +179,7 @@ pub fn serve_on<R: Threads + Sync, W: Write, E: Write>(
     if !say(out, err, before, Said::Listening(address.port())) {
         return 1;
     }
-    match serve_all(rt, alloc, listener, settings) {
+    match serve_all(rt, alloc, listener, address.port(), settings, input) {
         Ok((store, worked)) => report(store, worked, out, err, before),
         Err(_) => {
             Fault::Front(FrontError::Memory).tell_unless_failed(err, before);
@@ -132,23 +191,26 @@ pub fn serve_on<R: Threads + Sync, W: Write, E: Write>(
 /// Listens at the port of 127.0.0.1, or at one that is free if it is 0, and serves; answers the exit status. A port that
 /// can't be had is a fault.
 pub fn serve_over<
-    H: Threads + Net<Listener = TcpListener, Stream = TcpStream> + Sync,
+    H: Threads + Clock + Net<Listener = TcpListener, Stream = TcpStream> + Sync,
+    I: Read,
     W: Write,
     E: Write,
 >(
     alloc: Global,
     host: &H,
+    input: &mut Counted<I>,
     out: &mut Counted<W>,
     err: &mut Counted<E>,
     port: u16,
     settings: Settings,
 ) -> u8
     requires { err.old.faults < 2 ^ 64 - 1 }
-    ensures { ServeRun settings result (end_of W.contents out.old) (end_of W.contents out.new)
+    ensures run { ServeRun settings result (end_of W.contents out.old) (end_of W.contents out.new)
         (end_of E.contents err.old) (end_of E.contents err.new) }
+    ensures read { settings.until_eof ≡ false → input.new ≡ input.old }
 {
     match TcpListener::bind(host, (Ipv4Addr::LOCALHOST, port)) {
-        Ok(listener) => serve_on(host, alloc, &listener, settings, out, err),
+        Ok(listener) => serve_on(host, alloc, &listener, settings, input, out, err),
         Err(_) => Fault::Listen.tell(err),
     }
 }

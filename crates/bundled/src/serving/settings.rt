@@ -6,12 +6,18 @@ ghost use Rattle.std.specs.Prelude.{◌<◌, ◌≤◌};
 pub struct Settings {
     /// How many workers there are: 1 to 64.
     pub workers: u64,
-    /// How many connections each worker accepts, one after the other.
-    pub connections: u64,
+    /// How many connections each worker accepts, one after the other; without a number there is no end of them.
+    pub connections: Option<u64>,
+    /// Whether the server stops at the end of its input.
+    pub until_eof: bool,
     /// How many shards the store has: 1 to 256.
     pub shards: usize,
     /// How often a fetch-all reads all shards before it gives up: at least once.
     pub rounds: u64,
+    /// How often an operation is asked again while others are in the way.
+    pub retries: u64,
+    /// For how many seconds a client may be silent inside a frame, and a write may make no progress.
+    pub idle: u64,
     /// How often a call tries a shard that others hold before it gives up: at least once.
     pub tries: u64,
     /// How many reads a session may make: at most 1,000,000,000.

@@ -7,7 +7,7 @@ use std::io::{Read, Write};
 use std::net::{Ipv4Addr, Net, Shutdown, TcpListener, TcpStream};
 use std::test::Fail;
 use std::thread::Threads;
-use std::time::Duration;
+use std::time::{Clock, Duration};
 use std::{io, thread};
 
 const SET_AND_GET_A: &[u8] = b"\x00\x00\x00\x0eS\x01a{\"keys\":[]}\x00\x00\x00\x03G\x01a";
@@ -63,15 +63,18 @@ fn settings(workers: u64) -> Option<Settings> {
     }
     Some(Settings {
         workers,
-        connections: 1,
+        connections: Some(1),
+        until_eof: false,
         shards: 4,
         rounds: 3,
+        retries: 1000,
+        idle: 20,
         tries: 1_000_000,
         turns: 1000,
     })
 }
 
-fn serve_and_ask<H: Threads + Net<Listener = TcpListener, Stream = TcpStream> + Sync>(
+fn serve_and_ask<H: Threads + Clock + Net<Listener = TcpListener, Stream = TcpStream> + Sync>(
     host: &H,
     alloc: Global,
     workers: u64,
@@ -88,7 +91,15 @@ fn serve_and_ask<H: Threads + Net<Listener = TcpListener, Stream = TcpStream> + 
         move || {
             let mut out = Counted::new(Vec::new(alloc));
             let mut err = Counted::new(Vec::new(alloc));
-            let status = serve_on(host, alloc, lent, settings, &mut out, &mut err);
+            let status = serve_on(
+                host,
+                alloc,
+                lent,
+                settings,
+                &mut Counted::new(b"".as_slice()),
+                &mut out,
+                &mut err,
+            );
             (status, out.end, err.end)
         },
         move || ask_all(host, alloc, port, requests),
@@ -160,7 +171,15 @@ fn a_port_that_is_taken(rt: HostRuntime) -> Result<(), Fail> {
     };
     let mut out = Counted::new(Vec::new(alloc));
     let mut err = Counted::new(Vec::new(alloc));
-    let status = serve_over(alloc, &rt, &mut out, &mut err, port, settings);
+    let status = serve_over(
+        alloc,
+        &rt,
+        &mut Counted::new(b"".as_slice()),
+        &mut out,
+        &mut err,
+        port,
+        settings,
+    );
     assert!(rt; out.end.is_empty());
     assert_eq!(rt; err.end.as_slice(), b"fault 57\n".as_slice());
     assert_eq!(rt; status, 1);
@@ -176,7 +195,15 @@ fn an_output_that_takes_nothing(rt: HostRuntime) -> Result<(), Fail> {
     };
     let mut out = Counted::new(FaultyWriter::new(alloc, 4));
     let mut err = Counted::new(Vec::new(alloc));
-    let status = serve_over(alloc, &rt, &mut out, &mut err, 0, settings);
+    let status = serve_over(
+        alloc,
+        &rt,
+        &mut Counted::new(b"".as_slice()),
+        &mut out,
+        &mut err,
+        0,
+        settings,
+    );
     assert_eq!(rt; out.end.taken.as_slice(), b"list".as_slice());
     assert_eq!(rt; err.end.as_slice(), b"fault 54\n".as_slice());
     assert_eq!(rt; status, 1);

@@ -206,22 +206,27 @@ fn wanted(alloc: Global, words: &[&str]) -> Result<String, AllocError> {
             format!(in alloc; "refresh {list} {folder} {now:?} {at_least} {port:?}")
         }
         Ok(Wanted::Serve { port, settings }) => {
-            let (workers, connections) = (settings.workers, settings.connections);
+            let (workers, stops) = (settings.workers, settings.until_eof);
+            let connections = settings.connections.unwrap_or(0);
             let (shards, rounds) = (settings.shards, settings.rounds);
             let (tries, turns) = (settings.tries, settings.turns);
+            let (retries, idle) = (settings.retries, settings.idle);
             format!(in alloc;
-                "serve {port} {workers} {connections} {shards} {rounds} {tries} {turns}"
+                "serve {port} {workers} {connections} {stops} {shards} {rounds} {tries} {retries} {idle} {turns}"
             )
         }
         Err(error) => format!(in alloc; "{error}"),
     }
 }
 
+const NO_COUNT: &str =
+    "error: --connections takes a number in 1..=1000, or `unlimited`\n\nUsage: serve [OPTIONS] --port <PORT>\n\nFor more information, try '--help'.\n";
+
 // The numbers that a line gives or leaves to their defaults, of which no reply tells.
 #[test]
 fn reads_the_command_line(rt: HostRuntime) -> Result<(), AllocError> {
     let alloc = rt.alloc();
-    let rows: [(&[&str], &str); 15] = [
+    let rows: [(&[&str], &str); 18] = [
         (&["bundled", "run"], "run 4 1000000"),
         (&["bundled", "run", "--turns", "7"], "run 4 7"),
         (
@@ -260,7 +265,7 @@ fn reads_the_command_line(rt: HostRuntime) -> Result<(), AllocError> {
         (&["bundled", "migrate"], "migrate"),
         (
             &["bundled", "serve", "--port", "0"],
-            "serve 0 2 1 4 3 1000 1000000",
+            "serve 0 2 1 false 4 3 1000 1000 60 1000000",
         ),
         (
             &[
@@ -272,17 +277,37 @@ fn reads_the_command_line(rt: HostRuntime) -> Result<(), AllocError> {
                 "--shards=256",
                 "--rounds=16",
                 "--tries=1000000",
+                "--retries=1000000",
+                "--idle=86400",
                 "--turns=1000000000",
             ],
-            "serve 65535 64 1000 256 16 1000000 1000000000",
+            "serve 65535 64 1000 false 256 16 1000000 1000000 86400 1000000000",
         ),
         (
             &["bundled", "serve", "--port", "1", "--workers", "65"],
             "error: invalid value '65' for '--workers <COUNT>': 65 is not in 1..=64\n\nFor more information, try '--help'.\n",
         ),
         (
+            &[
+                "bundled",
+                "serve",
+                "--port=1",
+                "--connections=unlimited",
+                "--until-eof",
+            ],
+            "serve 1 2 0 true 4 3 1000 1000 60 1000000",
+        ),
+        (
             &["bundled", "serve", "--port", "1", "--connections", "0"],
-            "error: invalid value '0' for '--connections <COUNT>': 0 is not in 1..=1000\n\nFor more information, try '--help'.\n",
+            NO_COUNT,
+        ),
+        (
+            &["bundled", "serve", "--port", "1", "--connections", "1001"],
+            NO_COUNT,
+        ),
+        (
+            &["bundled", "serve", "--port", "1", "--connections", "many"],
+            NO_COUNT,
         ),
         (&["bundled", "--version"], "bundled 1.0.0\n"),
         (

@@ -7,22 +7,22 @@ use Rattle.bundled.proofs.serving.server.serve_on.Goals as goal
 
 pub report-requires-clause-some : goal.report-requires-clause-some
 report-requires-clause-some g c =
-    let served = c.in-Ok-serve_all.ensures in
+    let served = c.in-Ok-serve_all.ensures.served in
     omega (arith, all_long always_open c.in-Ok-serve_all.store 0 served.0 c.in-Ok-serve_all.worked.items served.2, served.1.workers, c.args.settings.some.0, c.in-Ok-serve_all.worked.ok)
 
 pub report-requires-clause-own : goal.report-requires-clause-own
 report-requires-clause-own g c =
-    let served = c.in-Ok-serve_all.ensures in
+    let served = c.in-Ok-serve_all.ensures.served in
     all_own always_open c.in-Ok-serve_all.store 0 served.0 c.in-Ok-serve_all.worked.items served.2
 
 pub report-requires-clause-all : goal.report-requires-clause-all
 report-requires-clause-all g c =
-    let served = c.in-Ok-serve_all.ensures in
+    let served = c.in-Ok-serve_all.ensures.served in
     subst AreAll (sym (ranges_same always_open c.in-Ok-serve_all.store 0 served.0 c.in-Ok-serve_all.worked.items served.2)) served.1.all
 
-pub returns-in-Ok-serve_all : goal.returns-in-Ok-serve_all
-returns-in-Ok-serve_all g c =
-    let served = c.in-Ok-serve_all.ensures in
+pub returns-in-Ok-serve_all-clause-run : goal.returns-in-Ok-serve_all-clause-run
+returns-in-Ok-serve_all-clause-run g c =
+    let served = c.in-Ok-serve_all.ensures.served in
     let before = c.faults-before.ensures in
     inr (
       c.port.result,

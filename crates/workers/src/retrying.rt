@@ -1,0 +1,66 @@
+//! A map that is asked again while others are in the way.
+ghost use Rattle.std.specs.Prelude.{◌≡◌};
+ghost use Rattle.workers.specs.Retrying.{is_transient};
+
+use map_core::{Ask, AskError, Op, Reply};
+use std::thread;
+use std::time::{Clock, Duration};
+
+/// How many microseconds it waits before it asks again: enough that whoever holds a shard gets the processor.
+const PAUSE: u64 = 20;
+
+/// A map that is asked again after an answer that has done nothing and may be another soon: a shard that another caller
+/// holds, or shards that changed in each round of a fetch-all.
+#[derive(Drop)]
+pub struct Retrying<'a, A, C> {
+    pub ask: A,
+    pub clock: &'a C,
+    /// How often an operation may be asked again.
+    pub retries: u64,
+}
+
+impl<'a, A, C> Retrying<'a, A, C> {
+    pub fn new(ask: A, clock: &'a C, retries: u64) -> Retrying<'a, A, C>
+        ensures ask { result.ask ≡ ask }
+        ensures retries { result.retries ≡ retries }
+    {
+        Retrying {
+            ask,
+            clock,
+            retries,
+        }
+    }
+}
+
+/// Whether the same operation may be answered otherwise soon.
+fn may_change(answer: &Result<Reply, AskError>) -> bool
+    ensures { result ≡ is_transient answer.now }
+{
+    matches!(answer, Err(AskError::Held { .. } | AskError::Moved { .. }))
+}
+
+impl<'a, A: Ask, C: Clock> Ask for Retrying<'a, A, C> {
+    ghost use Rattle.workers.specs.Retrying.{Retried, retried_answers_plainly};
+
+    ghost answers = { λ old op answer new. (new.retries ≡ old.retries) × Retried A.answers old.retries old.ask op answer new.ask };
+
+    ghost shows = { λ retrying. A.shows retrying.ask };
+
+    ghost answers_plainly = { λ old op answer new m shown answered. retried_answers_plainly A.answers A.shows A.answers_plainly old.retries old.ask op answer new.ask m shown answered.1 };
+
+    /// Asks, and asks again while the answer may change. The last answer counts; it is want of memory if there is no room
+    /// for a copy of the operation.
+    fn ask(&mut self, op: Op) -> Result<Reply, AskError> {
+        for _ in 0..self.retries {
+            let Ok(copy) = op.copy() else {
+                return Err(AskError::Memory);
+            };
+            let answer = self.ask.ask(copy);
+            if !may_change(&answer) {
+                return answer;
+            }
+            thread::sleep(self.clock, Duration::from_micros(PAUSE));
+        }
+        self.ask.ask(op)
+    }
+}
