@@ -6,7 +6,7 @@ use map_core::{Ask, AskError, Op, Reply};
 use std::thread;
 use std::time::{Clock, Duration};
 
-/// How many microseconds it waits before it asks again: enough that whoever holds a shard gets the processor.
+/// How many microseconds it waits before it asks again, so that whoever holds a shard may get the processor.
 const PAUSE: u64 = 20;
 
 /// A map that is asked again after an answer that has done nothing and may be another soon: a shard that another caller

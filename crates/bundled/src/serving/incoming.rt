@@ -10,12 +10,13 @@ use std::time::Duration;
 /// How many bytes the length of a frame has.
 const LENGTH_BYTES: usize = 4;
 
-/// How many milliseconds a read waits before it looks whether the server is to stop, and how many such ticks a second has.
+/// How many milliseconds a read waits before it looks whether the server is to stop: a tick.
 pub const TICK: u64 = 250;
 
+/// How many ticks a second has.
 pub const TICKS_A_SECOND: u64 = 4;
 
-/// How many milliseconds a read waits, when the rest of a connection is read that nobody answers any more.
+/// How many milliseconds a read waits for the rest of a connection that is not answered any more.
 const LAST_WAIT: u64 = 250;
 
 /// How many such reads there are.
