@@ -93,8 +93,7 @@ impl Shard {
     }
 }
 
-// Asks a version that nobody shares in its place. One that is shared stays; where it would change, another one takes
-// its place.
+// Asks a version that nobody shares in its place.
 fn ask_version(alloc: Global, version: &mut Arc<Contents>, op: Op) -> Result<Reply, AskError>
     ensures reply { IfOk result (λ r. r ≡ (ask (arc_value version.old) op).reply) }
     ensures left { OnOk result (arc_value version.new ≡ (ask (arc_value version.old) op).map) }
@@ -104,7 +103,17 @@ fn ask_version(alloc: Global, version: &mut Arc<Contents>, op: Op) -> Result<Rep
     if let Some(contents) = Arc::get_mut(version) {
         return contents.ask(op);
     }
-    let (reply, after) = version.asked(&op)?;
+    ask_shared(alloc, version, &op)
+}
+
+// Asks a version that others share too: it stays, and where the operation would change it, another one takes its place.
+fn ask_shared(alloc: Global, version: &mut Arc<Contents>, op: &Op) -> Result<Reply, AskError>
+    ensures reply { IfOk result (λ r. r ≡ (ask (arc_value version.old) op.now).reply) }
+    ensures left { OnOk result (arc_value version.new ≡ (ask (arc_value version.old) op.now).map) }
+    ensures refused { IfErr result (λ e. e ≡ AskError.Memory) }
+    ensures err { OnErr result (arc_value version.new ≡ arc_value version.old) }
+{
+    let (reply, after) = version.asked(op)?;
     if let Some(after) = after {
         let Ok(after) = Arc::new(alloc, after) else {
             return Err(AskError::Memory);
