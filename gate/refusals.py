@@ -22,11 +22,20 @@ def build_shim(room):
     return shim
 
 
-def program(name):
-    path = f"{ROOT}/crates/{name.replace('_tests', '')}/out/{name}"
+def built(crate, name):
+    path = f"{ROOT}/crates/{crate}/out/{name}"
     if not os.path.isfile(path):
         sys.exit(f"{path} is not built: ./check builds all, rt run the program, and rt test a crate's tests")
     return path
+
+
+def program(name):
+    return built(name, name)
+
+
+def tests_of(crate):
+    """The tests over the crate's public contract, which stand in a crate of their own."""
+    return built(f"{crate}_tests", f"{crate}_tests_tests")
 
 
 def run_once(words, given, first=0, last=0, shim=None):

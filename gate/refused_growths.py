@@ -16,7 +16,7 @@ from concurrent.futures import ThreadPoolExecutor
 sys.dont_write_bytecode = True
 
 from program_runs import program_runs  # noqa: E402
-from refusals import MOST_GROWTHS, Run, build_shim, program, run_once, sweep  # noqa: E402
+from refusals import MOST_GROWTHS, Run, build_shim, run_once, sweep, tests_of  # noqa: E402
 
 # The crates of which all tests are run, but for those that have too many growths to try each.
 ALL = ["spiffe_doc", "map_core", "step_core"]
@@ -40,7 +40,7 @@ def test_allows(name):
 
 def test_runs():
     for crate in [*ALL, *SOME]:
-        tests = program(f"{crate}_tests")
+        tests = tests_of(crate)
         names = re.findall(r"^(\S+): test$", run_once([tests, "--list"], b"")[0].out.decode(), re.M)
         words = SOME.get(crate, [""])
         for word in words:

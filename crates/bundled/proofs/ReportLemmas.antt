@@ -3,8 +3,8 @@ use Rattle.std.proofs.Common.{◌≡◌, ℕ, suc, ◌+◌, ◌<◌, ◌&&◌, L
 use Rattle.std.specs.Prelude.{if◌then◌else◌}
 use Rattle.std.proofs.Math.Seq.{take-suc}
 use Rattle.std.proofs.lemmas.Grind.{flat_map-append}
-use Rattle.bundled.specs.Fault.{fault_line}
-use Rattle.bundled.specs.declared.fault.Fault.TheVariants as faults
+use Rattle.commands.specs.Fault.{fault_line}
+use Rattle.commands.specs.declared.fault.Fault.TheVariants as faults
 use Rattle.bundled.specs.Serve.{begun, have_come, session_lines, results_of}
 use Rattle.workers.specs.declared.sessions.SessionFault.{SessionFault}
 use Rattle.workers.specs.declared.sessions.SessionFault.TheVariants.{Front, Listen}

@@ -5,13 +5,13 @@ use Rattle.frame_front.specs.Outbox.{WritesFront}
 use Rattle.frame_front.specs.declared.error.FrontError.TheVariants.{Memory, WriteFault}
 use Rattle.bundled.specs.declared.command_line.Wanted.{Wanted}
 use Rattle.bundled.specs.declared.command_line.Wanted.TheVariants.{Run, Trace, Migrate, Refresh, Serve}
-use Rattle.bundled.specs.declared.fault.Fault.{Fault}
-use Rattle.bundled.specs.declared.fault.Fault.TheVariants.{Front}
+use Rattle.commands.specs.declared.fault.Fault.{Fault}
+use Rattle.commands.specs.declared.fault.Fault.TheVariants.{Front}
 use Rattle.bundled.specs.Settings.{AreSettings}
-use Rattle.bundled.specs.Streams.{Streams, End, EndsWith, Tells}
-use Rattle.bundled.specs.Run.{Runs}
-use Rattle.bundled.specs.Trace.{Tracing}
-use Rattle.bundled.specs.Migrate.{Migration}
+use Rattle.commands.specs.Streams.{Streams, End, EndsWith, Tells}
+use Rattle.commands.specs.Run.{Runs}
+use Rattle.commands.specs.Trace.{Tracing}
+use Rattle.commands.specs.Migrate.{Migration}
 use Rattle.bundled.specs.Refresh.{RefreshRun}
 use Rattle.bundled.specs.Serve.{ServeRun}
 

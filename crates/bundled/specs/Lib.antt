@@ -1,10 +1,4 @@
 pub mod Settings
-pub mod Fault
-pub mod Streams
-pub mod Input
-pub mod Run
-pub mod Migrate
-pub mod Trace
 pub mod Target
 pub mod Refresh
 pub mod Command

@@ -8,14 +8,14 @@ use Rattle.frame_front.specs.declared.error.FrontError.TheVariants.{Memory, Writ
 use Rattle.map_core.specs.PlainMap.{PlainMap, bundles}
 use Rattle.shard_store.specs.Pass.{StoreView, PassView}
 use Rattle.shard_store.specs.declared.close.CloseError.{CloseError}
-use Rattle.bundled.specs.declared.fault.Fault.TheVariants.{Front, Listen as ListenFault, Close}
+use Rattle.commands.specs.declared.fault.Fault.TheVariants.{Front, Listen as ListenFault, Close}
 use Rattle.bundled.specs.declared.serving.report.Said.{Said}
 use Rattle.bundled.specs.declared.serving.report.Said.TheVariants.{Listening, Served, Domains}
 use Rattle.workers.specs.declared.sessions.SessionFault.{SessionFault}
 use Rattle.workers.specs.declared.sessions.SessionFault.TheVariants as session
 use Rattle.workers.specs.declared.run.Worked.{Worked}
-use Rattle.bundled.specs.Fault.{fault_line}
-use Rattle.bundled.specs.Streams.{End, Tells, TellsUnlessFailed}
+use Rattle.commands.specs.Fault.{fault_line}
+use Rattle.commands.specs.Streams.{End, Tells, TellsUnlessFailed}
 use Rattle.bundled.specs.declared.serving.settings.Settings.{Settings}
 use Rattle.workers.specs.Workers.{AllWorked}
 use Rattle.workers.specs.Closing.{ranges_of, AreAll, ClosesAs}

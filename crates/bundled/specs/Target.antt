@@ -8,8 +8,8 @@ use Rattle.map_core.specs.declared.reply.Reply.{Reply}
 use Rattle.map_core.specs.declared.reply.Reply.TheVariants.{Stored}
 use Rattle.map_core.specs.declared.reply.AskError.{AskError}
 use Rattle.map_core.specs.declared.reply.AskError.TheVariants.{GateShut, Memory}
-use Rattle.frame_front.specs.Asking.{request_bytes}
-use Rattle.frame_front.specs.Client.{ClientState, Asks}
+use Rattle.frame_client.specs.Asking.{request_bytes}
+use Rattle.frame_client.specs.Client.{ClientState, Asks}
 use Rattle.frame_front.specs.Outbox.{WritesFront}
 
 pub shows_none : (m : PlainMap) → None ≡ Some m → ⊥

@@ -1,16 +1,16 @@
 //! The program, from its arguments to its exit status.
 ghost use Rattle.std.specs.Prelude.{◌≡◌, ◌<◌, ◌-◌, ◌^◌, ◌⊎◌};
 ghost use Rattle.bundled.specs.Command.{Commands, Shows, Refuses};
-ghost use Rattle.bundled.specs.Streams.{End, Streams, Tells, end_of, streams};
+ghost use Rattle.commands.specs.Streams.{End, Streams, Tells, end_of, streams};
 
 use crate::command_line::{Wanted, wanted_by};
-use crate::fault::Fault;
-use crate::migrate::migrate_over;
-use crate::output::{tell, write_flushed};
+use commands::Fault;
+use commands::migrate_over;
+use commands::{tell, write_flushed};
 use crate::refreshing::refresh_over;
-use crate::run::run_over;
+use commands::run_over;
 use crate::serving::serve_over;
-use crate::trace::trace_over;
+use commands::trace_over;
 use clap::error::ErrorKind;
 use frame_front::{Counted, FrontError};
 use std::alloc::{AllocError, Global};

@@ -3,18 +3,10 @@
 
 mod command;
 mod command_line;
-mod fault;
-mod input;
-mod lines;
-mod migrate;
-mod output;
 mod refreshing;
-mod refusal_words;
-mod run;
 mod serving;
 #[cfg(test)]
 mod tests;
-mod trace;
 
 use command::command_over;
 use frame_front::Counted;

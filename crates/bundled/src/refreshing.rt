@@ -1,7 +1,7 @@
 //! The command `refresh`: sets the bundles of a list of relationships, out of a folder of documents.
 ghost use Rattle.std.specs.Prelude.{◌≡◌, ◌<◌, ◌-◌, ◌^◌, List, ℕ};
 ghost use Rattle.bundled.specs.Refresh.{RefreshRun, due_not_before};
-ghost use Rattle.bundled.specs.Streams.{End, Streams, Tells, end_of};
+ghost use Rattle.commands.specs.Streams.{End, Streams, Tells, end_of};
 
 mod folder;
 mod list;
@@ -11,10 +11,10 @@ mod target;
 #[cfg(test)]
 mod tests;
 
-use crate::fault::{Fault, RefreshFault};
-use crate::input::read_input;
+use commands::{Fault, RefreshFault, read_input};
 use folder::Folder;
-use frame_front::{Client, Counted, FrontError};
+use frame_client::Client;
+use frame_front::{Counted, FrontError};
 use list::{ListError, read_list};
 use map_core::Reply;
 use outcome_lines::Told;

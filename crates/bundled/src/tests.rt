@@ -1,15 +1,8 @@
-//! The commands over memory: what comes in, what goes out, the fault line and the status.
-ghost use Rattle.std.specs.Prelude.{◌<◌, ◌≤◌};
-
-mod commands;
-mod dumps;
+//! The whole program over memory: what comes in, what goes out, the fault line and the status.
+mod command_lines;
 mod ends;
-mod refreshers;
-mod sessions;
 
 use crate::command::command_over;
-use crate::migrate::migrate_over;
-use crate::run::run_over;
 use frame_front::Counted;
 use std::alloc::Global;
 use std::env::{Env, FillError};
@@ -36,33 +29,6 @@ struct Left {
     output: Vec<u8>,
     faults: Vec<u8>,
     status: u8,
-}
-
-fn run<R: Read + Drop>(alloc: Global, reader: R, shards: usize, turns: u64) -> Left
-    requires some { 0 < shards }
-    requires few { turns ≤ 1000000000 }
-{
-    let mut reader = Counted::new(reader);
-    let mut out = Counted::new(Vec::new(alloc));
-    let mut err = Counted::new(Vec::new(alloc));
-    let status = run_over(alloc, &mut reader, &mut out, &mut err, shards, turns);
-    Left {
-        output: out.end,
-        faults: err.end,
-        status,
-    }
-}
-
-fn migrate<R: Read + Drop>(alloc: Global, reader: R) -> Left {
-    let mut reader = Counted::new(reader);
-    let mut out = Counted::new(Vec::new(alloc));
-    let mut err = Counted::new(Vec::new(alloc));
-    let status = migrate_over(alloc, &mut reader, &mut out, &mut err);
-    Left {
-        output: out.end,
-        faults: err.end,
-        status,
-    }
 }
 
 /// Arguments in memory, with a space between each and the next.

@@ -11,10 +11,3 @@ pub mod DumpPlaces
 pub mod DumpTexts
 pub mod PlaceLemmas
 pub mod MigrationLemmas
-pub mod AskingLemmas
-pub mod ReadingLemmas
-pub mod AnswerLemmas
-pub mod ClientLemmas
-pub mod AskingLaws
-pub mod MapAnswers
-pub mod ListingLemmas

@@ -11,10 +11,3 @@ pub mod Session
 pub mod Transcript
 pub mod PlainSession
 pub mod Dump
-pub mod ClientError
-pub mod Asking
-pub mod Reading
-pub mod Answer
-pub mod Client
-pub mod ClientLaws
-pub mod Listing

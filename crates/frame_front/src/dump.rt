@@ -125,10 +125,7 @@ fn first_count(dump: &[u8]) -> Option<(u64, &[u8])>
 
 /// A domain and its bundle, if the payload is one.
 #[tactic(auto, unfolding(crate::specs::Dump::item_of))]
-pub(crate) fn read_item(
-    alloc: Global,
-    payload: &[u8],
-) -> Result<Option<(TrustDomain, Bundle)>, AllocError>
+pub fn read_item(alloc: Global, payload: &[u8]) -> Result<Option<(TrustDomain, Bundle)>, AllocError>
     ensures { IfOk result (λ item. item_of payload.now ≡ item) }
 {
     let Some((code, bytes)) = payload.split_first() else {
@@ -152,7 +149,8 @@ struct Item<'a> {
     rest: &'a [u8],
 }
 
-pub(crate) fn is_after(last: &Option<TrustDomain>, domain: &TrustDomain) -> bool
+/// Whether a domain may follow the last one, if there is one: names ascend along a dump.
+pub fn is_after(last: &Option<TrustDomain>, domain: &TrustDomain) -> bool
     ensures after { result ≡ true → IsAfter last.now domain.now }
     ensures not_after { result ≡ false → ¬ (IsAfter last.now domain.now) }
 {

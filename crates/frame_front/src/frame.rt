@@ -7,14 +7,14 @@ use crate::FrontError;
 use std::alloc::AllocError;
 
 /// The most bytes of a payload. A payload has at least one.
-pub(crate) const MAX_PAYLOAD: usize = 1_049_000;
+pub const MAX_PAYLOAD: usize = 1_049_000;
 
 /// The bytes of a length.
-pub(crate) const LENGTH_BYTES: usize = 4;
+pub const LENGTH_BYTES: usize = 4;
 
 /// The length that stands first.
 #[tactic(auto, unfolding(crate::specs::Frame::spelled_length))]
-pub(crate) fn spelled_length(bytes: &[u8]) -> usize
+pub fn spelled_length(bytes: &[u8]) -> usize
     requires { 4 ≤ length bytes.now }
     ensures value { result ≡ length_spelled bytes.now }
     ensures bytes { to_be_bytes w32 result ≡ take 4 bytes.now }

@@ -3,14 +3,10 @@
 //!
 //! `serve` reads frames from any reader and writes replies to any writer, over whatever can be asked:
 //! one map, or shards of it. `Decoder` takes frames out of a stream by itself, and `migrate` turns the
-//! reply to a fetch-all into requests that store it again. `Client` is the other end of a session, and can
-//! be asked as a map itself; `write_request` writes its requests alone.
+//! reply to a fetch-all into requests that store it again. `wire` is what the other end of a session is made
+//! of too, which crate `frame_client` is.
 #![tactic(auto)]
 
-mod answer;
-mod asking;
-mod client;
-mod client_error;
 mod counted;
 mod decoder;
 mod dump;
@@ -18,17 +14,13 @@ mod error;
 mod faulty;
 mod frame;
 pub mod laws;
-mod listing;
 mod outbox;
-mod reading;
 mod refusal;
 mod reply;
 mod request;
 mod session;
+pub mod wire;
 
-pub use asking::{RequestError, write_request};
-pub use client::Client;
-pub use client_error::ClientError;
 pub use counted::Counted;
 pub use decoder::Decoder;
 pub use dump::{DumpError, migrate};
@@ -37,6 +29,3 @@ pub use faulty::{FaultyReader, FaultyWriter};
 pub use refusal::Refusal;
 pub use request::{Request, Version, read_request};
 pub use session::serve;
-
-#[cfg(test)]
-mod tests;

@@ -125,7 +125,7 @@ fn write_reply<W: Write>(writer: &mut Counted<W>, reply: &ReplyText) -> Result<(
 }
 
 /// Writes all of the first bytes, and then all of the others.
-pub(crate) fn write_both<W: Write>(
+pub fn write_both<W: Write>(
     writer: &mut Counted<W>,
     first: &[u8],
     others: &[u8],

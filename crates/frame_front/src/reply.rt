@@ -18,7 +18,7 @@ use std::marker::Model;
 const HEAD_BYTES: usize = 25;
 
 /// A code, a length and the longest name.
-pub(crate) const ITEM_HEAD_BYTES: usize = 257;
+pub const ITEM_HEAD_BYTES: usize = 257;
 
 /// The code of a reply stands after its length.
 const CODE_PLACE: usize = 4;
@@ -126,14 +126,14 @@ fn put(bytes: &mut ArrayVec<u8, HEAD_BYTES>, more: &[u8])
 }
 
 /// Whether a code is the number of an error of whoever was asked.
-pub(crate) fn is_error_code(code: u8) -> bool
+pub fn is_error_code(code: u8) -> bool
     ensures { result ≡ error_code code }
 {
     matches!(code, 22 | 40 | 41 | 42 | 56)
 }
 
 /// The canonical text, of at most 1,048,576 bytes.
-pub(crate) fn canonical_text(bundle: &Bundle) -> &[u8]
+pub fn canonical_text(bundle: &Bundle) -> &[u8]
     ensures value { result.now ≡ text_of bundle.now }
     ensures short { length result.now ≤ 1048576 }
 {
@@ -271,7 +271,8 @@ fn sequence_bytes(sequence: Option<u64>) -> ArrayVec<u8, HEAD_BYTES>
     bytes
 }
 
-pub(crate) fn expect_bytes(expect: Expect) -> ArrayVec<u8, HEAD_BYTES>
+/// How a reply or a request spells an expectation: a byte, and with a sequence its 8 bytes.
+pub fn expect_bytes(expect: Expect) -> ArrayVec<u8, HEAD_BYTES>
     ensures value { result.items ≡ bytes_of_expect expect }
     ensures few { array_vec_len result ≤ 9 }
 {

@@ -8,8 +8,6 @@ pub mod laws;
 pub mod op;
 pub mod reply;
 mod table;
-#[cfg(test)]
-mod tests;
 pub mod union;
 
 pub use ask::Ask;

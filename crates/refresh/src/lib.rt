@@ -12,8 +12,6 @@ pub mod outcome;
 pub mod relationship;
 pub mod schedule;
 pub mod source;
-#[cfg(test)]
-mod tests;
 
 pub use due::next_due;
 pub use error::RelationError;

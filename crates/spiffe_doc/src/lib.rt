@@ -18,8 +18,6 @@ pub mod laws;
 pub mod name;
 pub mod octets;
 mod short_text;
-#[cfg(test)]
-mod tests;
 mod text;
 
 pub use authority::{Authority, Certificate, KeyId};

@@ -10,8 +10,6 @@ pub mod run;
 pub mod shard;
 pub mod shards;
 pub mod task;
-#[cfg(test)]
-mod tests;
 pub mod trace;
 
 pub use event::{Event, Why};

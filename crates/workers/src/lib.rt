@@ -12,8 +12,6 @@ mod passes;
 mod retrying;
 mod run;
 mod sessions;
-#[cfg(test)]
-mod tests;
 
 pub use closing::close_store;
 pub use gate::{Gate, Open};

@@ -1,5 +1,5 @@
 //! Outcomes of refreshes as lines: what the command `refresh` prints.
-use crate::refusal_words::{write_error, write_refusal};
+use commands::{write_error, write_refusal};
 use frame_front::Refusal;
 use map_core::Reply;
 use refresh::What;

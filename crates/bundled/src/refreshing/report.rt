@@ -1,10 +1,10 @@
 //! Lines of refreshes, as they are written.
 ghost use Rattle.std.specs.Prelude.{◌≡◌, ◌<◌, ◌-◌, ◌^◌, List, ℕ, true};
-ghost use Rattle.bundled.specs.Streams.{TellsUnlessFailed, end_of};
+ghost use Rattle.commands.specs.Streams.{TellsUnlessFailed, end_of};
 
 use super::outcome_lines::{Told, write_outcome};
-use crate::output::tell_flushed;
 use arrayvec::ArrayVec;
+use commands::tell_flushed;
 use frame_front::Counted;
 use refresh::What;
 use std::io;

@@ -2,8 +2,9 @@
 ghost use Rattle.std.specs.Prelude.{◌≡◌, ◌<◌, ◌-◌, ◌^◌, false};
 ghost use Rattle.bundled.specs.Target.{Looks, SenderState};
 
-use crate::fault::{Fault, RefreshFault};
-use frame_front::{Client, Counted, FrontError, write_request};
+use commands::{Fault, RefreshFault};
+use frame_client::{Client, write_request};
+use frame_front::{Counted, FrontError};
 use map_core::{Ask, AskError, Op, Reply};
 use std::alloc::Global;
 use std::io::{Read, Write};
@@ -107,7 +108,7 @@ pub struct Server<R: Read, W: Write> {
 }
 
 impl<R: Read, W: Write> Model for Server<R, W> {
-    ghost use Rattle.frame_front.specs.Client.{ClientState};
+    ghost use Rattle.frame_client.specs.Client.{ClientState};
 
     ghost Value = { ClientState };
 

@@ -2,8 +2,9 @@
 use super::list::{ListError, read_list};
 use super::outcome_lines::{Told, write_outcome};
 use super::target::{Sender, Server, Target};
-use crate::fault::Fault;
-use frame_front::{Client, Counted, FaultyWriter, FrontError};
+use commands::Fault;
+use frame_client::Client;
+use frame_front::{Counted, FaultyWriter, FrontError};
 use map_core::{Ask, AskError, MapRefusal, Op, Reply};
 use refresh::{RelationError, What};
 use spiffe_doc::{DocError, NameError, TrustDomain, read_document};

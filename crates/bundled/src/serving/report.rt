@@ -1,11 +1,10 @@
 //! What a server says, on its output and on standard error.
 ghost use Rattle.std.specs.Prelude.{◌≡◌, ◌<◌, ◌≤◌, ◌-◌, ◌+◌, ◌^◌, ◌++◌, ◌∷◌, [], min, length, decimal};
 ghost use Rattle.bundled.specs.Serve.{IsOffered, said_line, untaken, begun, have_come, session_lines, results_of};
-ghost use Rattle.bundled.specs.Streams.{TellsUnlessFailed, end_of};
+ghost use Rattle.commands.specs.Streams.{TellsUnlessFailed, end_of};
 
-use crate::fault::Fault;
-use crate::output::write_flushed;
 use arrayvec::ArrayVec;
+use commands::{Fault, write_flushed};
 use frame_front::Counted;
 use itoa::Buffer;
 use std::io::Write;
@@ -51,7 +50,7 @@ fn line_of(word: &[u8], number: u64) -> ArrayVec<u8, LINE_BYTES>
 
 /// Writes a line, and sees that the writer keeps nothing back. If the line is not taken, that is told as a fault.
 /// Answers whether it was taken.
-#[tactic(auto, using(crate::proofs::Telling::told_nothing))]
+#[tactic(auto, using(commands::proofs::Telling::told_nothing))]
 pub fn say<W: Write, E: Write>(
     out: &mut Counted<W>,
     err: &mut Counted<E>,
@@ -135,7 +134,7 @@ fn tell_results<E: Write>(
 }
 
 /// And that of one session, if it has one.
-#[tactic(auto, using(crate::proofs::Telling::told_nothing))]
+#[tactic(auto, using(commands::proofs::Telling::told_nothing))]
 fn tell_end<E: Write>(ended: &Result<u64, SessionFault>, err: &mut Counted<E>, before: u64) -> bool
     requires { before < 2 ^ 64 - 1 }
     ensures told { TellsUnlessFailed before (end_of E.contents err.old) (end_of E.contents err.new) (session_lines (ended.now ∷ [])) }

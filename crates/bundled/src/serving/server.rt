@@ -5,9 +5,9 @@ ghost use Rattle.shard_store.specs.Pass.{IsOf, PassView};
 ghost use Rattle.workers.specs.Workers.{AllWorked};
 ghost use Rattle.workers.specs.Closing.{AreAll, ranges_of};
 ghost use Rattle.bundled.specs.Serve.{IsSetUp, always_open, Reports, Serves, ServeRun};
-ghost use Rattle.bundled.specs.Streams.{end_of};
+ghost use Rattle.commands.specs.Streams.{end_of};
 
-use crate::fault::Fault;
+use commands::Fault;
 use crate::serving::connections::Connections;
 use crate::serving::report::{Said, count_begun, say, tell_faults};
 use crate::serving::settings::Settings;

@@ -1,7 +1,5 @@
 //! Ends that fail, and what the commands then leave.
-use super::{
-    DUMP_OF_ONE, FIRST_REPLIES, FIRST_RUN, Left, MIGRATED, command, left_is, migrate, program, run,
-};
+use super::{DUMP_OF_ONE, FIRST_REPLIES, FIRST_RUN, Left, MIGRATED, command, left_is, program};
 use frame_front::{FaultyReader, FaultyWriter};
 use std::alloc::AllocError;
 use std::io;
@@ -22,13 +20,19 @@ fn readers_that_fail(rt: HostRuntime) -> Result<(), AllocError> {
     let reader = FaultyReader::new(Vec::from_slice(alloc, FIRST_RUN)?, 18);
     left_is(
         &rt,
-        &run(alloc, reader, 4, 100),
+        &command(&rt, alloc, b"bundled run", reader),
         b"\x00\x00\x00\x01s",
         "fault 53\n",
         1,
     );
     let reader = FaultyReader::new(Vec::from_slice(alloc, DUMP_OF_ONE)?, 18);
-    left_is(&rt, &migrate(alloc, reader), b"", "fault 53\n", 1);
+    left_is(
+        &rt,
+        &command(&rt, alloc, b"bundled migrate", reader),
+        b"",
+        "fault 53\n",
+        1,
+    );
     let reader = FaultyReader::new(Vec::from_slice(alloc, b"step 1\n")?, 3);
     left_is(
         &rt,

@@ -1,6 +1,6 @@
 use Rattle.std.proofs.Common.{Err, refl, inl, inr}
 use Rattle.frame_front.specs.declared.error.FrontError.TheVariants.{Memory}
-use Rattle.bundled.specs.declared.fault.Fault.TheVariants.{Front}
+use Rattle.commands.specs.declared.fault.Fault.TheVariants.{Front}
 use Rattle.bundled.proofs.command.command_over.Goals as goal
 
 pub returns-in-Err-2 : goal.returns-in-Err-2

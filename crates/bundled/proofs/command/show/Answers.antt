@@ -1,6 +1,6 @@
 use Rattle.std.proofs.Common.{Err, refl, inl}
 use Rattle.frame_front.specs.declared.error.FrontError.TheVariants.{Memory}
-use Rattle.bundled.specs.declared.fault.Fault.TheVariants.{Front}
+use Rattle.commands.specs.declared.fault.Fault.TheVariants.{Front}
 use Rattle.bundled.proofs.command.show.Goals as goal
 
 pub returns-in_default-clause-shows : goal.returns-in_default-clause-shows

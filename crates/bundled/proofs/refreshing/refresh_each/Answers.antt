@@ -1,6 +1,6 @@
 use Rattle.std.proofs.Common.{ℕ, [], subst}
-use Rattle.bundled.specs.Streams.{TellsUnlessFailed, end_of}
-use Rattle.bundled.proofs.Telling.{tells_nothing, tells_more}
+use Rattle.commands.specs.Streams.{TellsUnlessFailed, end_of}
+use Rattle.commands.proofs.Telling.{tells_nothing, tells_more}
 use Rattle.bundled.proofs.refreshing.refresh_each.Goals as goal
 
 pub loop-init : goal.loop-init

@@ -1,5 +1,5 @@
 use Rattle.std.proofs.Common.{ℕ, List}
-use Rattle.bundled.specs.Streams.{Tells, end_of}
+use Rattle.commands.specs.Streams.{Tells, end_of}
 use Rattle.bundled.proofs.refreshing.refresh_each.Given as goal
 
 -- some lines were written, unless the writer failed

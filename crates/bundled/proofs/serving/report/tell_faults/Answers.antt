@@ -1,8 +1,8 @@
 use Rattle.std.proofs.Common.{List, ℕ, ◌&&◌, sym, ap, take, subst, ◌∙◌}
 use Rattle.bundled.specs.Serve.{session_lines, have_come, results_of}
-use Rattle.bundled.specs.Streams.{TellsUnlessFailed, end_of}
+use Rattle.commands.specs.Streams.{TellsUnlessFailed, end_of}
 use Rattle.bundled.proofs.ReportLemmas.{all_lines_step, all_come_step}
-use Rattle.bundled.proofs.Telling.{told_more}
+use Rattle.commands.proofs.Telling.{told_more}
 use Rattle.bundled.proofs.serving.report.tell_faults.Goals as goal
 
 pub loop-worker-preserved : goal.loop-worker-preserved

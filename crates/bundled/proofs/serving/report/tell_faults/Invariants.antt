@@ -1,6 +1,6 @@
 use Rattle.std.proofs.Common.{◌≡◌, take}
 use Rattle.bundled.specs.Serve.{have_come as all_came, session_lines, results_of}
-use Rattle.bundled.specs.Streams.{TellsUnlessFailed, end_of}
+use Rattle.commands.specs.Streams.{TellsUnlessFailed, end_of}
 use Rattle.bundled.proofs.serving.report.tell_faults.Given as goal
 
 abbrev pub invariant-loop-worker : goal.invariant-loop-worker

@@ -1,8 +1,8 @@
 use Rattle.std.proofs.Common.{List, ℕ, ◌&&◌, take, sym, ap, subst, ◌∙◌}
 use Rattle.bundled.specs.Serve.{have_come}
-use Rattle.bundled.specs.Streams.{TellsUnlessFailed, end_of}
+use Rattle.commands.specs.Streams.{TellsUnlessFailed, end_of}
 use Rattle.bundled.proofs.ReportLemmas.{lines_step, come_step}
-use Rattle.bundled.proofs.Telling.{told_more}
+use Rattle.commands.proofs.Telling.{told_more}
 use Rattle.bundled.proofs.serving.report.tell_results.Goals as goal
 
 pub loop-result-preserved : goal.loop-result-preserved

@@ -3,8 +3,8 @@ use Rattle.std.specs.Prelude.{min, if◌then◌else◌}
 use Rattle.bundled.specs.declared.serving.report.Said.TheVariants.{Served, Domains}
 use Rattle.workers.specs.declared.run.Worked.{Worked}
 use Rattle.bundled.specs.Serve.{IsOffered, said_line, untaken, begun, have_come, session_lines, results_of}
-use Rattle.bundled.specs.Streams.{TellsUnlessFailed, end_of}
-use Rattle.bundled.proofs.Telling.{told_more}
+use Rattle.commands.specs.Streams.{TellsUnlessFailed, end_of}
+use Rattle.commands.proofs.Telling.{told_more}
 use Rattle.bundled.proofs.ReportLemmas.{all_three, not_all}
 use Rattle.bundled.proofs.serving.server.report.Goals as goal
 

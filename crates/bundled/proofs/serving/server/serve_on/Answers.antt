@@ -1,7 +1,7 @@
 use Rattle.std.proofs.Common.{ℕ, [], true, subst, sym, arith, inr}
 use Rattle.workers.specs.Closing.{AreAll}
 use Rattle.bundled.specs.Serve.{always_open, Reports}
-use Rattle.bundled.specs.Streams.{TellsUnlessFailed, end_of}
+use Rattle.commands.specs.Streams.{TellsUnlessFailed, end_of}
 use Rattle.workers.proofs.WorkedLists.{all_own, all_long, ranges_same}
 use Rattle.bundled.proofs.serving.server.serve_on.Goals as goal
 

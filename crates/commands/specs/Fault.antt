@@ -1,0 +1,55 @@
+-- The numbers of faults, and the lines that tell them.
+use Rattle.std.specs.Prelude.{ℕ, List, [], ◌∷◌, ◌++◌, Option, Some, None, codes, decimal}
+use Rattle.frame_front.specs.Error.{front_number}
+use Rattle.frame_front.specs.Dump.{dump_number}
+use Rattle.frame_client.specs.ClientError.{client_number}
+use Rattle.shard_store.specs.Close.{close_number}
+use Rattle.shard_store.specs.declared.close.CloseError.TheVariants as closing
+use Rattle.refresh.specs.Number.{relation_number}
+use Rattle.frame_front.specs.declared.dump.DumpError.TheVariants as dumps
+use Rattle.commands.specs.declared.fault.RefreshFault.{RefreshFault}
+use Rattle.commands.specs.declared.fault.RefreshFault.TheVariants.{BadRelationship, Client, NoConnection, NoClock}
+use Rattle.commands.specs.declared.fault.Fault.{Fault}
+use Rattle.commands.specs.declared.fault.Fault.TheVariants.{Front, Dump, BadLine, InputTooLong, Refresh, Listen, Close}
+
+abbrev pub refresh_number : RefreshFault → ℕ
+refresh_number (BadRelationship error line) = relation_number error
+refresh_number (Client error) = client_number error
+refresh_number NoConnection = 57
+refresh_number NoClock = 72
+
+abbrev pub refresh_place : RefreshFault → Option ℕ
+refresh_place (BadRelationship error line) = Some line
+refresh_place (Client error) = None
+refresh_place NoConnection = None
+refresh_place NoClock = None
+
+abbrev pub fault_number : Fault → ℕ
+fault_number (Front error) = front_number error
+fault_number (Dump error) = dump_number error
+fault_number (BadLine line) = 70
+fault_number InputTooLong = 71
+fault_number (Refresh fault) = refresh_number fault
+fault_number Listen = 57
+fault_number (Close error) = close_number error
+
+-- the number that says where, if there is one: a frame of a dump, a line, or a shard
+abbrev pub fault_place : Fault → Option ℕ
+fault_place (Front error) = None
+fault_place (Dump (dumps.BadDump frame)) = Some frame
+fault_place (Dump dumps.Memory) = None
+fault_place (BadLine line) = Some line
+fault_place InputTooLong = None
+fault_place (Refresh fault) = refresh_place fault
+fault_place Listen = None
+fault_place (Close (closing.HeldAtEnd shard)) = Some shard
+fault_place (Close closing.Memory) = None
+
+-- a space and the number
+abbrev pub place_text : Option ℕ → List ℕ
+place_text (Some place) = 32 ∷ decimal place
+place_text None = []
+
+-- `fault`, its number and its place in decimal, with single spaces between; a line feed ends it
+abbrev pub fault_line : Fault → List ℕ
+fault_line fault = codes "fault " ++ decimal (fault_number fault) ++ place_text (fault_place fault) ++ 10 ∷ []

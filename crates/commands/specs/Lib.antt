@@ -1,0 +1,6 @@
+pub mod Fault
+pub mod Streams
+pub mod Input
+pub mod Run
+pub mod Migrate
+pub mod Trace

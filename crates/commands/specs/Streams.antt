@@ -1,0 +1,57 @@
+-- Standard input, output and error, or what stands in their place, and what a command that ends tells them.
+use Rattle.std.specs.Prelude.{◌≡◌, ◌≢◌, ◌⊎◌, ℕ, ◌<◌, List, Option, Result, Ok, Err}
+use Rattle.std.specs.Io.KnownBytes.{Appends}
+use Rattle.frame_front.specs.declared.counted.Counted.{Counted}
+use Rattle.frame_front.specs.declared.error.FrontError.TheVariants.{BadLength, Truncated, ReadFault, WriteFault, TurnsUsed, Memory}
+use Rattle.frame_front.specs.Outbox.{WritesFront}
+use Rattle.commands.specs.declared.fault.Fault.{Fault}
+use Rattle.commands.specs.declared.fault.Fault.TheVariants.{Front, Dump, BadLine, InputTooLong, Refresh, Listen, Close}
+use Rattle.commands.specs.Fault.{fault_line}
+
+-- the bytes that a reader has left or a writer holds, if they are known, and how many of its calls have failed
+pub record End : Type 0 where
+  pub bytes : Option (List ℕ)
+  pub faults : ℕ
+
+abbrev pub end_of : {E : Type 0} → (E → Option (List ℕ)) → Counted E → End
+end_of bytes_of counted = record { bytes = bytes_of counted.end; faults = counted.faults }
+
+pub record Streams : Type 0 where
+  pub input : End
+  pub output : End
+  pub error : End
+
+abbrev pub streams : {R W E : Type 0} → (R → Option (List ℕ)) → (W → Option (List ℕ)) → (E → Option (List ℕ))
+    → Counted R → Counted W → Counted E → Streams
+streams left_of held_of told_of reader out err =
+    record { input = end_of left_of reader; output = end_of held_of out; error = end_of told_of err }
+
+-- These bytes are written; only a front of them if a call of the writer failed.
+pub record Tells (old new : End) (bytes : List ℕ) : Type 0 where
+  pub front : WritesFront old.bytes new.bytes bytes
+  pub whole : new.faults ≡ old.faults → Appends old.bytes new.bytes bytes
+
+-- A text follows, unless the writer has failed since it had failed so often.
+abbrev pub TellsUnlessFailed : ℕ → End → End → List ℕ → Type 0
+TellsUnlessFailed before old new text = ((old.faults ≡ before) × Tells old new text) ⊎ ((old.faults ≢ before) × (new ≡ old))
+
+-- 53 is told only if the reader failed in the meantime, and 54 only if the writer did
+abbrev pub Blames : Fault → Streams → Streams → Type 0
+Blames (Front ReadFault) old new = old.input.faults < new.input.faults
+Blames (Front WriteFault) old new = old.output.faults < new.output.faults
+Blames (Front BadLength) old new = Unit {0}
+Blames (Front Truncated) old new = Unit {0}
+Blames (Front TurnsUsed) old new = Unit {0}
+Blames (Front Memory) old new = Unit {0}
+Blames (Dump error) old new = Unit {0}
+Blames (BadLine line) old new = Unit {0}
+Blames InputTooLong old new = Unit {0}
+Blames (Refresh fault) old new = Unit {0}
+Blames Listen old new = Unit {0}
+Blames (Close error) old new = Unit {0}
+
+-- A command ends so, with this exit status: 0 if all went well, and nothing is written to standard error; 1 after a
+-- fault, whose line is written there.
+abbrev pub EndsWith : {T : Type 0} → Result T Fault → ℕ → Streams → Streams → Type 0
+EndsWith (Ok value) status old new = (status ≡ 0) × (new.error ≡ old.error)
+EndsWith (Err fault) status old new = (status ≡ 1) × Tells old.error new.error (fault_line fault) × Blames fault old new

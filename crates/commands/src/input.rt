@@ -1,0 +1,47 @@
+//! Input that is read whole before it is judged.
+ghost use Rattle.std.specs.Prelude.{◌≡◌, ◌<◌, ◌-◌, ◌^◌, Err, IfOk, IfErr};
+ghost use Rattle.frame_front.specs.declared.error.FrontError.TheVariants.{ReadFault};
+ghost use Rattle.commands.specs.Input.{IsInput, InputFault};
+ghost use Rattle.commands.specs.declared.fault.Fault.TheVariants.{Front};
+
+use crate::fault::Fault;
+use frame_front::{Counted, FrontError};
+use std::alloc::Global;
+use std::io::Read;
+
+/// The most bytes of an input.
+pub const MAX_INPUT: usize = 16_777_216;
+
+/// The most reads that an input may take.
+const MAX_READS: u64 = 1_000_000;
+
+/// The most bytes of one read.
+const PIECE_BYTES: usize = 4096;
+
+/// All of the input.
+pub fn read_input<R: Read>(alloc: Global, reader: &mut Counted<R>) -> Result<Vec<u8>, Fault>
+    requires { reader.old.faults < 2 ^ 64 - 1 }
+    ensures ok { IfOk result (λ input. IsInput input.items (R.remaining reader.old.end) (R.remaining reader.new.end)) }
+    ensures err { IfErr result (λ fault. InputFault fault (R.remaining reader.old.end) (R.remaining reader.new.end)) }
+    ensures read_fault { result ≡ Err (Front ReadFault) → reader.old.faults < reader.new.faults }
+{
+    let mut input = Vec::new(alloc);
+    let mut piece = [0; PIECE_BYTES];
+    for turn in 0..MAX_READS {
+        let count = match reader.read(&mut piece) {
+            Ok(count) => count,
+            Err(_) => return Err(Fault::Front(FrontError::ReadFault)),
+        };
+        if count == 0 {
+            return Ok(input);
+        }
+        let (fresh, _) = piece.split_at(count);
+        if MAX_INPUT - input.len() < count {
+            return Err(Fault::InputTooLong);
+        }
+        if let Err(_) = input.extend_from_slice(fresh) {
+            return Err(Fault::Front(FrontError::Memory));
+        }
+    }
+    Err(Fault::Front(FrontError::TurnsUsed))
+}

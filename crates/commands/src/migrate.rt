@@ -1,0 +1,56 @@
+//! The command `migrate`: a dump of version 1 becomes requests of version 2.
+ghost use Rattle.std.specs.Prelude.{◌≡◌, ◌<◌, ◌-◌, ◌^◌, Err};
+ghost use Rattle.frame_front.specs.declared.error.FrontError.TheVariants.{ReadFault, WriteFault};
+ghost use Rattle.commands.specs.Migrate.{Migrates, Migration};
+ghost use Rattle.commands.specs.Streams.{streams};
+ghost use Rattle.commands.specs.declared.fault.Fault.TheVariants.{Front};
+
+use crate::fault::Fault;
+use crate::input::read_input;
+use crate::output::write_flushed;
+use frame_front::{Counted, migrate};
+use std::alloc::Global;
+use std::io::{Read, Write};
+
+/// Reads a dump and writes the requests that store it again; answers the exit status.
+pub fn migrate_over<R: Read, W: Write, E: Write>(
+    alloc: Global,
+    reader: &mut Counted<R>,
+    out: &mut Counted<W>,
+    err: &mut Counted<E>,
+) -> u8
+    requires reader_count { reader.old.faults < 2 ^ 64 - 1 }
+    requires out_count { out.old.faults < 2 ^ 64 - 1 }
+    requires err_count { err.old.faults < 2 ^ 64 - 1 }
+    ensures migrates { Migration result
+        (streams R.remaining W.contents E.contents reader.old out.old err.old)
+        (streams R.remaining W.contents E.contents reader.new out.new err.new) }
+    ensures silent { result ≡ 0 → err.new ≡ err.old }
+{
+    match migrate_input(alloc, reader, out) {
+        Ok(()) => 0,
+        Err(fault) => fault.tell(err),
+    }
+}
+
+fn migrate_input<R: Read, W: Write>(
+    alloc: Global,
+    reader: &mut Counted<R>,
+    out: &mut Counted<W>,
+) -> Result<(), Fault>
+    requires reader_count { reader.old.faults < 2 ^ 64 - 1 }
+    requires out_count { out.old.faults < 2 ^ 64 - 1 }
+    ensures migrates { Migrates result (R.remaining reader.old.end) (R.remaining reader.new.end) (W.contents out.old.end) (W.contents out.new.end) }
+    ensures read_fault { result ≡ Err (Front ReadFault) → reader.old.faults < reader.new.faults }
+    ensures write_fault { result ≡ Err (Front WriteFault) → out.old.faults < out.new.faults }
+{
+    let input = match read_input(alloc, reader) {
+        Ok(input) => input,
+        Err(fault) => return Err(fault),
+    };
+    let stream = match migrate(alloc, input.as_slice()) {
+        Ok(stream) => stream,
+        Err(error) => return Err(Fault::Dump(error)),
+    };
+    write_flushed(out, stream.as_slice())
+}

@@ -1,0 +1,66 @@
+//! The command `run`: one session over an empty store.
+ghost use Rattle.std.specs.Prelude.{◌≡◌, ◌≤◌, ◌<◌, ◌-◌, ◌^◌, Err};
+ghost use Rattle.std.specs.FinMap as finite;
+ghost use Rattle.frame_front.specs.PlainSession.{PlainTranscript};
+ghost use Rattle.frame_front.specs.declared.error.FrontError.TheVariants.{ReadFault, WriteFault};
+ghost use Rattle.map_core.specs.PlainMap.{PlainMap};
+ghost use Rattle.step_core.specs.Shards.{ShardsAnswer};
+ghost use Rattle.commands.specs.Run.{Runs};
+ghost use Rattle.commands.specs.Streams.{streams};
+
+use crate::fault::Fault;
+use frame_front::{Counted, FrontError, serve};
+use std::alloc::Global;
+use std::io::{Read, Write};
+use std::mem::forget;
+use step_core::Shards;
+
+/// Serves one session over an empty store of so many shards, of at most so many reads, and answers the exit status.
+pub fn run_over<R: Read, W: Write, E: Write>(
+    alloc: Global,
+    reader: &mut Counted<R>,
+    out: &mut Counted<W>,
+    err: &mut Counted<E>,
+    shards: usize,
+    turns: u64,
+) -> u8
+    requires some { 0 < shards }
+    requires few { turns ≤ 1000000000 }
+    requires reader_count { reader.old.faults < 2 ^ 64 - 1 }
+    requires out_count { out.old.faults < 2 ^ 64 - 1 }
+    requires err_count { err.old.faults < 2 ^ 64 - 1 }
+    ensures runs { Runs turns result
+        (streams R.remaining W.contents E.contents reader.old out.old err.old)
+        (streams R.remaining W.contents E.contents reader.new out.new err.new) }
+    ensures silent { result ≡ 0 → err.new ≡ err.old }
+{
+    match serve_store(alloc, reader, out, shards, turns) {
+        Ok(_) => 0,
+        Err(error) => Fault::Front(error).tell(err),
+    }
+}
+
+fn serve_store<R: Read, W: Write>(
+    alloc: Global,
+    reader: &mut Counted<R>,
+    out: &mut Counted<W>,
+    shards: usize,
+    turns: u64,
+) -> Result<u64, FrontError>
+    requires some { 0 < shards }
+    requires few { turns ≤ 1000000000 }
+    requires reader_count { reader.old.faults < 2 ^ 64 - 1 }
+    requires out_count { out.old.faults < 2 ^ 64 - 1 }
+    ensures session { (left : PlainMap) × PlainTranscript ShardsAnswer result turns (R.remaining reader.old.end)
+        (R.remaining reader.new.end) (W.contents out.old.end) (W.contents out.new.end) finite.empty left }
+    ensures read_fault { result ≡ Err ReadFault → reader.old.faults < reader.new.faults }
+    ensures write_fault { result ≡ Err WriteFault → out.old.faults < out.new.faults }
+{
+    let Ok(mut store) = Shards::new(alloc, shards) else {
+        return Err(FrontError::Memory);
+    };
+    let served = serve(alloc, reader, out, &mut store, turns);
+    // The process ends with the session, and its memory goes back as a whole: no walk over every bundle.
+    forget(store);
+    served
+}

@@ -1,0 +1,7 @@
+pub mod AskingLemmas
+pub mod ReadingLemmas
+pub mod AnswerLemmas
+pub mod ClientLemmas
+pub mod AskingLaws
+pub mod MapAnswers
+pub mod ListingLemmas

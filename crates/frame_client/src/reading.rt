@@ -1,0 +1,58 @@
+//! Reading one frame, and no byte beyond it.
+ghost use Rattle.std.specs.Prelude.{◌≡◌, ◌<◌, ◌-◌, ◌^◌, ℕ, List, length, take, OnOk, IfOk, IfErr};
+ghost use Rattle.std.specs.Io.KnownBytes.{Consumes};
+ghost use Rattle.frame_front.specs.Frame.{IsPayload, frame};
+ghost use Rattle.frame_client.specs.Reading.{StopsShort, NoFrame, CountsFault};
+
+use crate::ClientError;
+use frame_front::Counted;
+use frame_front::wire::{LENGTH_BYTES, MAX_PAYLOAD, spelled_length};
+use std::io::Read;
+
+/// Reads until the buffer is full.
+fn fill<R: Read>(reader: &mut Counted<R>, buffer: &mut [u8]) -> Result<(), ClientError>
+    requires count { reader.old.faults < 2 ^ 64 - 1 }
+    ensures len { length buffer.new ≡ length buffer.old }
+    ensures ok { OnOk result (Consumes (R.remaining reader.old.end) (R.remaining reader.new.end) buffer.new) }
+    ensures quiet { OnOk result (reader.new.faults ≡ reader.old.faults) }
+    ensures err { IfErr result (λ why. (read : List ℕ)
+        × Consumes (R.remaining reader.old.end) (R.remaining reader.new.end) read
+        × (length read < length buffer.old) × StopsShort why (R.remaining reader.new.end)) }
+    ensures counted { IfErr result (λ why. CountsFault why reader.old.faults reader.new.faults) }
+{
+    let mut filled = 0;
+    while filled < buffer.len() {
+        match reader.read(&mut buffer[filled..]) {
+            Ok(0) => return Err(ClientError::Truncated),
+            Ok(count) => filled += count,
+            Err(_) => return Err(ClientError::ReadFault),
+        }
+    }
+    Ok(())
+}
+
+/// Reads one frame into the front of the buffer, and says how many bytes its payload has.
+pub(crate) fn read_frame<R: Read>(
+    reader: &mut Counted<R>,
+    buffer: &mut [u8],
+) -> Result<usize, ClientError>
+    requires room { length buffer.old ≡ 1049000 }
+    requires count { reader.old.faults < 2 ^ 64 - 1 }
+    ensures len { length buffer.new ≡ length buffer.old }
+    ensures ok { IfOk result (λ size. (length (take size buffer.new) ≡ size) × IsPayload (take size buffer.new)
+        × Consumes (R.remaining reader.old.end) (R.remaining reader.new.end) (frame (take size buffer.new))) }
+    ensures quiet { OnOk result (reader.new.faults ≡ reader.old.faults) }
+    ensures err { IfErr result (λ why. (read : List ℕ)
+        × Consumes (R.remaining reader.old.end) (R.remaining reader.new.end) read
+        × NoFrame why read (R.remaining reader.new.end)) }
+    ensures counted { IfErr result (λ why. CountsFault why reader.old.faults reader.new.faults) }
+{
+    let mut field = [0; LENGTH_BYTES];
+    fill(reader, &mut field)?;
+    let size = spelled_length(&field);
+    if size == 0 || size > MAX_PAYLOAD {
+        return Err(ClientError::BadLength);
+    }
+    fill(reader, &mut buffer[..size])?;
+    Ok(size)
+}

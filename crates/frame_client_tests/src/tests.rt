@@ -1,0 +1,59 @@
+//! Worked examples of clients.
+mod clients;
+mod exchanges;
+mod numbers;
+
+use std::io;
+use std::io::{Read, Write};
+
+/// Set `a` to the empty document.
+const SET: &[u8] = b"\x00\x00\x00\x0eS\x01a{\"keys\":[]}";
+
+const GET: &[u8] = b"\x00\x00\x00\x03G\x01a";
+
+const FETCH_ALL: &[u8] = b"\x00\x00\x00\x01F";
+
+/// The reply to a fetch-all of `a` and the empty document.
+const ALL_OF_ONE: &[u8] =
+    b"\x00\x00\x00\x09a\x00\x00\x00\x00\x00\x00\x00\x01\x00\x00\x00\x0ei\x01a{\"keys\":[]}";
+
+const ALL_OF_NONE: &[u8] = b"\x00\x00\x00\x09a\x00\x00\x00\x00\x00\x00\x00\x00";
+
+/// A reader that gives its bytes in pieces of a size, and the first of another size.
+#[derive(Drop)]
+struct Pieces<'a> {
+    bytes: &'a [u8],
+    first: usize,
+    size: usize,
+}
+
+impl<'a> Read for Pieces<'a> {
+    fn read(&mut self, buf: &mut [u8]) -> io::Result<usize> {
+        let size = self.first.min(buf.len()).min(self.bytes.len());
+        let (given, rest) = self.bytes.split_at(size);
+        let (front, _) = buf.split_at_mut(size);
+        front.copy_from_slice(given);
+        self.bytes = rest;
+        self.first = self.size;
+        Ok(size)
+    }
+}
+
+/// A writer that counts its calls.
+#[derive(Drop)]
+struct Calls {
+    writes: u64,
+    flushes: u64,
+}
+
+impl Write for Calls {
+    fn write(&mut self, buf: &[u8]) -> io::Result<usize> {
+        self.writes = self.writes.saturating_add(1);
+        Ok(buf.len())
+    }
+
+    fn flush(&mut self) -> io::Result<()> {
+        self.flushes = self.flushes.saturating_add(1);
+        Ok(())
+    }
+}

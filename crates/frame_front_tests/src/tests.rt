@@ -1,0 +1,134 @@
+//! Worked examples of sessions: a row is what comes in and, beside it, what goes out.
+mod bundles;
+mod decoders;
+mod dumps;
+mod ends;
+mod numbers;
+mod refusals;
+mod replies;
+mod rounds;
+mod sessions;
+mod sizes;
+
+use frame_front::{Counted, FrontError, serve};
+use map_core::Contents;
+use std::alloc::{AllocError, Global};
+use std::io;
+use std::io::{Read, Write};
+use std::process::Abort;
+
+/// Set `a` to the empty document.
+const SET: &[u8] = b"\x00\x00\x00\x0eS\x01a{\"keys\":[]}";
+
+const GET: &[u8] = b"\x00\x00\x00\x03G\x01a";
+
+const FETCH_ALL: &[u8] = b"\x00\x00\x00\x01F";
+
+/// The reply to a fetch-all of `a` and the empty document.
+const ALL_OF_ONE: &[u8] =
+    b"\x00\x00\x00\x09a\x00\x00\x00\x00\x00\x00\x00\x01\x00\x00\x00\x0ei\x01a{\"keys\":[]}";
+
+const ALL_OF_NONE: &[u8] = b"\x00\x00\x00\x09a\x00\x00\x00\x00\x00\x00\x00\x00";
+
+/// A reader that gives its bytes in pieces of a size, and the first of another size.
+#[derive(Drop)]
+struct Pieces<'a> {
+    bytes: &'a [u8],
+    first: usize,
+    size: usize,
+}
+
+impl<'a> Read for Pieces<'a> {
+    fn read(&mut self, buf: &mut [u8]) -> io::Result<usize> {
+        let size = self.first.min(buf.len()).min(self.bytes.len());
+        let (given, rest) = self.bytes.split_at(size);
+        let (front, _) = buf.split_at_mut(size);
+        front.copy_from_slice(given);
+        self.bytes = rest;
+        self.first = self.size;
+        Ok(size)
+    }
+}
+
+/// A writer that counts its calls.
+#[derive(Drop)]
+struct Calls {
+    writes: u64,
+    flushes: u64,
+}
+
+impl Write for Calls {
+    fn write(&mut self, buf: &[u8]) -> io::Result<usize> {
+        self.writes = self.writes.saturating_add(1);
+        Ok(buf.len())
+    }
+
+    fn flush(&mut self) -> io::Result<()> {
+        self.flushes = self.flushes.saturating_add(1);
+        Ok(())
+    }
+}
+
+/// What a session over this map ends with, and what it writes.
+fn answers_of<R: Read>(
+    alloc: Global,
+    contents: &mut Contents,
+    reader: R,
+) -> Result<(Result<u64, FrontError>, Vec<u8>), AllocError>
+where
+    R: Drop,
+{
+    let mut reader = Counted::new(reader);
+    let mut writer = Counted::new(Vec::new(alloc));
+    let ended = serve(alloc, &mut reader, &mut writer, contents, 1_000_000_000);
+    Ok((ended, writer.end))
+}
+
+/// Adds a frame: a length of 4 bytes, and the parts of a payload.
+fn put_frame(out: &mut Vec<u8>, parts: &[&[u8]]) -> Result<(), AllocError> {
+    let mut size: u32 = 0;
+    for part in parts {
+        size = size.saturating_add(u32::try_from(part.len()).unwrap_or(u32::MAX));
+    }
+    out.extend_from_slice(&size.to_be_bytes())?;
+    for part in parts {
+        out.extend_from_slice(part)?;
+    }
+    Ok(())
+}
+
+/// A session: its name, what comes in, how it ends, and what goes out.
+#[derive(Clone, Copy)]
+struct Session<'a> {
+    name: &'a str,
+    input: &'a [u8],
+    ended: Result<u64, FrontError>,
+    output: &'a [u8],
+}
+
+/// Serves each session over an empty map: in pieces of 4,096 bytes and of one.
+fn serve_each(rt: &impl Abort, alloc: Global, sessions: &[Session<'_>]) -> Result<(), AllocError> {
+    for session in sessions {
+        for size in [4096, 1] {
+            let mut contents = Contents::new(alloc);
+            let reader = Pieces {
+                bytes: session.input,
+                first: size,
+                size,
+            };
+            let (ended, written) = answers_of(alloc, &mut contents, reader)?;
+            assert!(rt;
+                ended == session.ended,
+                "{} in pieces of {size}: {ended:?}",
+                session.name
+            );
+            assert!(rt;
+                written.as_slice() == session.output,
+                "{} in pieces of {size}: {:?}",
+                session.name,
+                written.as_slice()
+            );
+        }
+    }
+    Ok(())
+}

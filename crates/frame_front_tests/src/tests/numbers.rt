@@ -1,0 +1,79 @@
+//! The numbers and the messages of errors.
+use frame_front::{DumpError, FrontError, Refusal};
+use spiffe_doc::{DocError, NameError};
+use std::test::Fail;
+
+#[test]
+fn errors_that_end_a_session(rt: HostRuntime) -> Result<(), Fail> {
+    let rows = [
+        (FrontError::Memory, 22, "out of memory"),
+        (
+            FrontError::BadLength,
+            50,
+            "a frame has a length of 0 or of more than 1049000",
+        ),
+        (FrontError::Truncated, 52, "the input ended inside a frame"),
+        (FrontError::ReadFault, 53, "the reader failed"),
+        (FrontError::WriteFault, 54, "the writer failed"),
+        (
+            FrontError::TurnsUsed,
+            55,
+            "the reads that a session may make are used up",
+        ),
+    ];
+    for (error, number, message) in rows {
+        assert_eq!(rt; error.number(), number, "{message}");
+        assert_eq!(rt; format!(in rt.alloc(); "{error}")?.as_str(), message);
+    }
+    Ok(())
+}
+
+#[test]
+fn errors_of_dumps(rt: HostRuntime) -> Result<(), Fail> {
+    let rows = [
+        (
+            DumpError::BadDump(7),
+            63,
+            "frame 7 of the dump is wrong, missing or too much",
+        ),
+        (DumpError::Memory, 22, "out of memory"),
+    ];
+    for (error, number, message) in rows {
+        assert_eq!(rt; error.number(), number, "{message}");
+        assert_eq!(rt; format!(in rt.alloc(); "{error}")?.as_str(), message);
+    }
+    Ok(())
+}
+
+#[test]
+fn refusals_of_requests(rt: HostRuntime) -> Result<(), Fail> {
+    let rows = [
+        (Refusal::BadRequest, 51, None, "the payload is no request"),
+        (
+            Refusal::BadName(NameError::Empty),
+            1,
+            None,
+            "the trust domain: the trust domain name is empty",
+        ),
+        (
+            Refusal::BadDocument(DocError::BadEntry(4)),
+            16,
+            Some(4),
+            "the document: key 4 is not a JSON object",
+        ),
+        (
+            Refusal::PassedOver,
+            23,
+            None,
+            "the key has a type, a use or a curve that is passed over",
+        ),
+        (Refusal::Memory, 22, None, "out of memory"),
+    ];
+    for (refusal, number, place, message) in rows {
+        assert_eq!(rt; refusal.number(), number, "{message}");
+        assert!(rt; refusal.place() == place, "{message}");
+        assert_eq!(rt; format!(in rt.alloc(); "{refusal}")?.as_str(), message);
+    }
+    assert!(rt; Refusal::BadName(NameError::BadChar(2)).place() == Some(2));
+    Ok(())
+}

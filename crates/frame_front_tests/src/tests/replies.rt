@@ -1,0 +1,62 @@
+//! How answers that no session over one map gives are coded.
+use super::GET;
+use frame_front::{Counted, serve};
+use map_core::{Ask, AskError, Op, Reply};
+
+/// Gives each operation this answer.
+#[derive(Drop)]
+struct Refuses(AskError);
+
+impl Ask for Refuses {
+    ghost use Rattle.std.specs.Prelude.{None};
+
+    ghost answers = { λ before op answer after. Unit {0} };
+
+    ghost shows = { λ m. None };
+
+    ghost answers_plainly = { λ old op result new m shown answer. absurd (cc shown) };
+
+    fn ask(&mut self, _op: Op) -> Result<Reply, AskError> {
+        Err(self.0)
+    }
+}
+
+#[test]
+fn codes_errors(rt: HostRuntime) {
+    let moved: &[u8] =
+        b"\x00\x00\x00\x15\x29\x00\x00\x00\x00\x00\x00\x00\x00\x00\x00\x00\x00\x00\x00\x00\x00\x00\x00\x00\x01";
+    let held: &[u8] = b"\x00\x00\x00\x0d\x2a\x00\x00\x00\x01\x00\x00\x00\x00\x00\x00\x00\x03";
+    let shut: &[u8] = b"\x00\x00\x00\x01\x38";
+    let worn: &[u8] = b"\x00\x00\x00\x05\x28\x00\x00\x00\xff";
+    let memory: &[u8] = b"\x00\x00\x00\x01\x16";
+    let rows = [
+        (
+            AskError::Moved {
+                shard: 0,
+                first: 0,
+                second: 1,
+            },
+            moved,
+        ),
+        (
+            AskError::Held {
+                shard: 1,
+                revision: 3,
+            },
+            held,
+        ),
+        (AskError::GateShut, shut),
+        (AskError::Worn { shard: 255 }, worn),
+        (AskError::Memory, memory),
+    ];
+    for (error, text) in rows {
+        let mut reader = Counted::new(GET);
+        let mut writer = Counted::new(Vec::new(rt.alloc()));
+        let mut refuses = Refuses(error);
+        assert_eq!(rt;
+            serve(rt.alloc(), &mut reader, &mut writer, &mut refuses, 10),
+            Ok(1)
+        );
+        assert!(rt; writer.end.as_slice() == text, "{error}");
+    }
+}

@@ -1,0 +1,391 @@
+//! Worked examples of the plain map. A row is what is asked and, beside it, what is answered.
+mod appends;
+mod snapshots;
+
+use map_core::{Ask, AskError, Contents, Expect, MapRefusal, Op, Reply, Snapshot};
+use spiffe_doc::{Authority, Bundle, TrustDomain, read_document, read_entry};
+use std::alloc::{AllocError, Global};
+use std::test::Fail;
+
+/// The X.509 authority with an EC key that the word `x509` stands for.
+const X509_ENTRY: &str =
+    "{\"use\":\"x509-svid\",\"kty\":\"EC\",\"crv\":\"P-256\",\"x\":\"AAAAAAAAAAAAAAAAAAAAAAAAAAAAAAAAAAAAAAAAAAA\",\"y\":\"AAAAAAAAAAAAAAAAAAAAAAAAAAAAAAAAAAAAAAAAAAA\",\"x5c\":[\"MAA=\"]}";
+
+/// One JWT authority, written as its key ID and the modulus of its key: `k:AQAB`. Or an X.509 authority: `x509`.
+fn entry_text(alloc: Global, word: &str) -> Result<String, Fail> {
+    if word == "x509" {
+        return Ok(String::from_str(alloc, X509_ENTRY)?);
+    }
+    let Some((kid, n)) = word.split_once(':') else {
+        return Err(Fail::from("an entry is a key ID, a colon and a modulus"));
+    };
+    Ok(format!(in alloc;
+        "{{\"use\":\"jwt-svid\",\"kty\":\"RSA\",\"n\":\"{n}\",\"e\":\"AQAB\",\"kid\":\"{kid}\"}}"
+    )?)
+}
+
+fn authority(alloc: Global, word: &str) -> Result<Authority, Fail> {
+    let text = entry_text(alloc, word)?;
+    match read_entry(alloc, text.as_bytes())? {
+        Some(authority) => Ok(authority),
+        None => Err(Fail::from("the entry is passed over")),
+    }
+}
+
+/// A bundle, written as its sequence or `-`, and after a slash its authorities: `5/k:AQAB,l:AQAB`.
+fn bundle(alloc: Global, word: &str) -> Result<Bundle, Fail> {
+    let (sequence, entries) = word.split_once('/').unwrap_or((word, ""));
+    let mut text = String::from_str(alloc, "{\"keys\":[")?;
+    let mut rest = entries;
+    for count in 0..entries.len() {
+        let (entry, others) = rest.split_once(',').unwrap_or((rest, ""));
+        if entry.is_empty() {
+            break;
+        }
+        if count > 0 {
+            text.push(',')?;
+        }
+        text.push_str(entry_text(alloc, entry)?.as_str())?;
+        rest = others;
+    }
+    if sequence == "-" {
+        text.push_str("]}")?;
+    } else {
+        text.push_str(format!(in alloc; "],\"spiffe_sequence\":{sequence}}}")?.as_str())?;
+    }
+    Ok(read_document(alloc, text.as_bytes())?)
+}
+
+fn expect(word: &str) -> Result<Expect, Fail> {
+    match word {
+        "absent" => Ok(Expect::Absent),
+        "none" => Ok(Expect::Unnumbered),
+        _ => Ok(Expect::Sequence(word.parse()?)),
+    }
+}
+
+/// The operation of a line: `set a 5`, `setif a absent 5`, `append a k:AQAB`, `remove a`, `get a` or `fetch`.
+fn operation(alloc: Global, line: &str) -> Result<Op, Fail> {
+    let (verb, rest) = line.split_once(' ').unwrap_or((line, ""));
+    let (name, rest) = rest.split_once(' ').unwrap_or((rest, ""));
+    if verb == "fetch" {
+        return Ok(Op::FetchAll);
+    }
+    let domain = TrustDomain::parse(alloc, name)?;
+    match verb {
+        "set" => Ok(Op::Set(domain, bundle(alloc, rest)?)),
+        "setif" => {
+            let (expected, rest) = rest.split_once(' ').unwrap_or((rest, ""));
+            Ok(Op::SetIf(domain, expect(expected)?, bundle(alloc, rest)?))
+        }
+        "append" => Ok(Op::Append(domain, authority(alloc, rest)?)),
+        "remove" => Ok(Op::Remove(domain)),
+        "get" => Ok(Op::Get(domain)),
+        _ => Err(Fail::from("no operation has this name")),
+    }
+}
+
+fn sequence_text(alloc: Global, sequence: Option<u64>) -> Result<String, AllocError> {
+    match sequence {
+        Some(sequence) => format!(in alloc; "{sequence}"),
+        None => format!(in alloc; "-"),
+    }
+}
+
+fn bundle_text(alloc: Global, bundle: &Bundle) -> Result<String, AllocError> {
+    let sequence = sequence_text(alloc, bundle.sequence())?;
+    let count = bundle.authorities().len();
+    format!(in alloc; "{sequence}/{count}")
+}
+
+fn refusal_text(alloc: Global, why: MapRefusal) -> Result<String, AllocError> {
+    let number = why.number();
+    match why {
+        MapRefusal::Stale(sequence) => format!(in alloc; "refused {number} {sequence}"),
+        MapRefusal::NotExpected(found) => format!(in alloc; "refused {number} {found}"),
+        _ => format!(in alloc; "refused {number}"),
+    }
+}
+
+fn snapshot_text(alloc: Global, all: &Snapshot) -> Result<String, AllocError> {
+    let mut text = format!(in alloc; "all {}", all.len())?;
+    for (domain, bundle) in all.pairs() {
+        text.push(' ')?;
+        text.push_str(domain.as_str())?;
+        text.push(' ')?;
+        text.push_str(bundle_text(alloc, bundle)?.as_str())?;
+    }
+    Ok(text)
+}
+
+/// A reply, with a bundle as its sequence and the number of its authorities.
+fn reply_text(alloc: Global, reply: &Reply) -> Result<String, AllocError> {
+    match reply {
+        Reply::Stored => format!(in alloc; "stored"),
+        Reply::Unchanged => format!(in alloc; "unchanged"),
+        Reply::Appended(sequence) => {
+            let sequence = sequence_text(alloc, *sequence)?;
+            format!(in alloc; "appended {sequence}")
+        }
+        Reply::Removed => format!(in alloc; "removed"),
+        Reply::Found(bundle) => {
+            let bundle = bundle_text(alloc, bundle)?;
+            format!(in alloc; "found {bundle}")
+        }
+        Reply::All(all) => snapshot_text(alloc, all),
+        Reply::Refused(why) => refusal_text(alloc, *why),
+    }
+}
+
+/// Asks once more if memory runs out, since nothing has changed then.
+fn answer(map: &mut Contents, op: &Op) -> Result<Reply, Fail> {
+    match map.ask(op.copy()?) {
+        Err(AskError::Memory) => Ok(map.ask(op.copy()?)?),
+        other => Ok(other?),
+    }
+}
+
+/// What stands under the name.
+fn found(alloc: Global, map: &mut Contents, name: &str) -> Result<Bundle, Fail> {
+    match get(map, TrustDomain::parse(alloc, name)?)? {
+        Reply::Found(bundle) => Ok(bundle),
+        _ => Err(Fail::from("the bundle is not found")),
+    }
+}
+
+fn get(map: &mut Contents, domain: TrustDomain) -> Result<Reply, Fail> {
+    answer(map, &Op::Get(domain))
+}
+
+fn set(map: &mut Contents, domain: TrustDomain, bundle: Bundle) -> Result<Reply, Fail> {
+    answer(map, &Op::Set(domain, bundle))
+}
+
+/// The bundles of a copy of the map, and how many the map counts.
+fn left_text(alloc: Global, map: &Contents) -> Result<String, Fail> {
+    let all = map.copy()?.into_snapshot()?;
+    let text = snapshot_text(alloc, &all)?;
+    Ok(format!(in alloc; "{text} of {}", map.len())?)
+}
+
+/// The map after an operation: the one that is given, or the one that stands as it was.
+fn after_text(alloc: Global, map: &Contents, after: &Option<Contents>) -> Result<String, Fail> {
+    match after {
+        Some(after) => left_text(alloc, after),
+        None => left_text(alloc, map),
+    }
+}
+
+/// What is told of an operation beforehand: the reply, whether it changes the map, twice, and the map after it.
+fn told(alloc: Global, map: &Contents, op: &Op) -> Result<String, Fail> {
+    let (reply, after) = map.asked(op)?;
+    let reply = reply_text(alloc, &reply)?;
+    let left = after_text(alloc, map, &after)?;
+    let changes = map.would_change(op)?;
+    let gives = after.is_some();
+    Ok(format!(in alloc; "{reply}, {changes} {gives}: {left}")?)
+}
+
+/// The same of an operation that is asked.
+fn done(alloc: Global, map: &mut Contents, op: &Op) -> Result<String, Fail> {
+    let reply = answer(map, op)?;
+    let changes = reply.is_change();
+    let reply = reply_text(alloc, &reply)?;
+    let left = left_text(alloc, map)?;
+    Ok(format!(in alloc; "{reply}, {changes} {changes}: {left}")?)
+}
+
+fn told_and_done(alloc: Global, map: &mut Contents, op: &Op) -> Result<(String, String), Fail> {
+    let told = told(alloc, map, op)?;
+    let done = done(alloc, map, op)?;
+    Ok((told, done))
+}
+
+/// One row: the reply is the expected one, and what is told beforehand agrees with it.
+fn play_row(alloc: Global, map: &mut Contents, line: &str, expected: &str) -> Result<(), Fail> {
+    let (told, done) = told_and_done(alloc, map, &operation(alloc, line)?)?;
+    let (text, _) = done.split_once(", ").unwrap_or(("", ""));
+    if text != expected {
+        return Err(Fail::from(format!(in alloc; "{line}: {text}, and not {expected}")?));
+    }
+    if told.as_str() != done.as_str() {
+        return Err(Fail::from(format!(in alloc; "{line}: {told} was told before {done}")?));
+    }
+    Ok(())
+}
+
+fn play(alloc: Global, map: &mut Contents, rows: &[(&str, &str)]) -> Result<(), Fail> {
+    for (line, expected) in rows {
+        play_row(alloc, map, line, expected)?;
+    }
+    Ok(())
+}
+
+/// Plays the rows on an empty map.
+fn play_new(alloc: Global, rows: &[(&str, &str)]) -> Result<(), Fail> {
+    let mut map = Contents::new(alloc);
+    play(alloc, &mut map, rows)
+}
+
+#[test]
+fn sets_by_sequence(rt: HostRuntime) -> Result<(), Fail> {
+    let rows = [
+        ("set a 5", "stored"),
+        ("set a 4", "refused 31 5"),
+        ("get a", "found 5/0"),
+        ("set a 5/k:AQAB", "stored"),
+        ("set a 5/k:AQAB", "unchanged"),
+        ("set a -", "stored"),
+        ("set a -", "unchanged"),
+        ("set a 0", "stored"),
+    ];
+    play_new(rt.alloc(), &rows)
+}
+
+#[test]
+fn sets_where_expected(rt: HostRuntime) -> Result<(), Fail> {
+    let rows = [
+        ("setif a absent 7", "stored"),
+        ("setif a absent 7", "refused 36 a bundle of sequence 7"),
+        ("setif a 7 8", "stored"),
+        ("setif a 8 3", "refused 31 8"),
+        ("setif a 8 8", "unchanged"),
+        ("remove a", "removed"),
+        ("setif a absent 3", "refused 31 8"),
+        ("setif a none 3", "refused 36 no bundle"),
+        ("setif a 8 9", "refused 36 no bundle"),
+        ("setif a absent -", "stored"),
+        ("setif a 0 9", "refused 36 a bundle without a sequence"),
+        ("setif a none 9", "stored"),
+        ("get a", "found 9/0"),
+    ];
+    play_new(rt.alloc(), &rows)
+}
+
+#[test]
+fn remembers_removed_sequences(rt: HostRuntime) -> Result<(), Fail> {
+    let rows = [
+        ("set a 5", "stored"),
+        ("remove a", "removed"),
+        ("get a", "refused 30"),
+        ("set a 4", "refused 31 5"),
+        ("append a k:AQAB", "refused 30"),
+        ("remove a", "refused 30"),
+        ("set a 4", "refused 31 5"),
+        ("set a 5", "stored"),
+        ("remove a", "removed"),
+        ("set a -", "stored"),
+        ("remove a", "removed"),
+        ("set a 1", "stored"),
+    ];
+    play_new(rt.alloc(), &rows)
+}
+
+#[test]
+fn shows_bundles_in_order(rt: HostRuntime) -> Result<(), Fail> {
+    let rows = [
+        ("fetch", "all 0"),
+        ("get a", "refused 30"),
+        ("remove a", "refused 30"),
+        ("set b -", "stored"),
+        ("set a.b 2", "stored"),
+        ("set a 1", "stored"),
+        ("set a-b 3/k:AQAB", "stored"),
+        ("set 0 -", "stored"),
+        ("fetch", "all 5 0 -/0 a 1/0 a-b 3/1 a.b 2/0 b -/0"),
+        ("remove a-b", "removed"),
+        ("remove b", "removed"),
+        ("fetch", "all 3 0 -/0 a 1/0 a.b 2/0"),
+    ];
+    let mut map = Contents::new(rt.alloc());
+    play(rt.alloc(), &mut map, &rows)?;
+    assert_eq!(rt; map.len(), 3);
+    Ok(())
+}
+
+#[test]
+fn a_snapshot_is_of_its_pairs(rt: HostRuntime) -> Result<(), Fail> {
+    let alloc = rt.alloc();
+    let mut pairs = Vec::new(alloc);
+    pairs.push((TrustDomain::parse(alloc, "a")?, bundle(alloc, "5")?))?;
+    let all = Snapshot::from_pairs(pairs);
+    assert_eq!(rt; snapshot_text(alloc, &all)?.as_str(), "all 1 a 5/0");
+    assert_eq!(rt; all.into_pairs().len(), 1);
+    Ok(())
+}
+
+#[test]
+fn numbers_and_texts_of_refusals(rt: HostRuntime) -> Result<(), Fail> {
+    let alloc = rt.alloc();
+    let refusals = [
+        (MapRefusal::NoDomain, 30, "no bundle stands under the name"),
+        (
+            MapRefusal::Stale(5),
+            31,
+            "the sequence is lower than 5, which the name had",
+        ),
+        (
+            MapRefusal::KidTaken,
+            32,
+            "the key ID stands there with another key",
+        ),
+        (
+            MapRefusal::TooMany,
+            33,
+            "the bundle has as many authorities as it may have",
+        ),
+        (MapRefusal::TooLong, 34, "the document would be too long"),
+        (
+            MapRefusal::SequenceFull,
+            35,
+            "the sequence is the greatest that there is",
+        ),
+        (
+            MapRefusal::NotExpected(Expect::Sequence(7)),
+            36,
+            "what stands there is not what was expected: it is a bundle of sequence 7",
+        ),
+    ];
+    for (refusal, number, text) in refusals {
+        assert_eq!(rt; refusal.number(), number);
+        assert_eq!(rt; format!(in alloc; "{refusal}")?.as_str(), text);
+    }
+    Ok(())
+}
+
+#[test]
+fn numbers_and_texts_of_errors(rt: HostRuntime) -> Result<(), Fail> {
+    let alloc = rt.alloc();
+    let moved = AskError::Moved {
+        shard: 3,
+        first: 0,
+        second: 2,
+    };
+    let errors = [
+        (AskError::Memory, 22, "out of memory"),
+        (
+            AskError::Worn { shard: 3 },
+            40,
+            "shard 3 has used up its revisions",
+        ),
+        (
+            moved,
+            41,
+            "shard 3 moved from revision 0 to 2 before all shards were read",
+        ),
+        (
+            AskError::Held {
+                shard: 3,
+                revision: 2,
+            },
+            42,
+            "shard 3 is held at revision 2",
+        ),
+        (AskError::GateShut, 56, "the gate is shut"),
+    ];
+    for (error, number, text) in errors {
+        assert_eq!(rt; error.number(), number);
+        assert_eq!(rt; format!(in alloc; "{error}")?.as_str(), text);
+    }
+    Ok(())
+}

@@ -1,0 +1,542 @@
+//! Worked examples of relationships, due times and refreshes.
+mod beside_sessions;
+
+use map_core::{Ask, AskError, Contents, MapRefusal, Op, Reply};
+use refresh::{
+    Outcome, Profile, RelationError, Relationship, Schedule, Source, SourceFault, What, next_due,
+    refresh_at, refresh_once,
+};
+use spiffe_doc::{IdError, NameError, TrustDomain, read_document};
+use std::alloc::Global;
+use std::test::Fail;
+
+/// Gives the document that is kept for a trust domain, and counts its fetches.
+#[derive(Drop)]
+struct Folder<'a> {
+    alloc: Global,
+    documents: &'a [(&'a str, &'a str)],
+    fetches: u64,
+}
+
+impl<'a> Source for Folder<'a> {
+    ghost fetches = { λ before relationship document after. Unit {0} };
+
+    fn fetch(&mut self, relationship: &Relationship) -> Result<Vec<u8>, SourceFault> {
+        self.fetches = self.fetches.saturating_add(1);
+        for (name, document) in self.documents {
+            if relationship.domain().as_str() == *name {
+                return match document.as_bytes().to_vec(self.alloc) {
+                    Ok(bytes) => Ok(bytes),
+                    Err(_) => Err(SourceFault),
+                };
+            }
+        }
+        Err(SourceFault)
+    }
+}
+
+/// Gives no map: each operation is refused so.
+#[derive(Drop)]
+struct Refuses(AskError);
+
+impl Ask for Refuses {
+    ghost use Rattle.std.specs.Prelude.{None, Option};
+    ghost use Rattle.map_core.specs.PlainMap.{PlainMap};
+
+    ghost answers = { λ before op answer after. Unit {0} };
+
+    ghost shows = { λ m. None };
+
+    ghost answers_plainly = { λ old op result new m shown answer. absurd (cc shown) };
+
+    fn ask(&mut self, _op: Op) -> Result<Reply, AskError> {
+        Err(self.0)
+    }
+}
+
+fn web(alloc: Global, domain: &str) -> Result<Relationship, Fail> {
+    let read = Relationship::read(
+        alloc,
+        domain,
+        "https://bundles.example/a",
+        "https_web",
+        None,
+    );
+    Ok(read?)
+}
+
+#[test]
+fn due_times(rt: HostRuntime) {
+    let rows = [
+        (1000, Some(0), 1001),
+        (1000, Some(1), 1001),
+        (1000, Some(2), 1002),
+        (1000, None, 1300),
+        (0, Some(60), 60),
+        (18446744073709551605, Some(60), 18446744073709551615),
+        (18446744073709551615, Some(0), 18446744073709551615),
+        (18446744073709551615, None, 18446744073709551615),
+        (0, Some(18446744073709551615), 18446744073709551615),
+        (1, Some(18446744073709551615), 18446744073709551615),
+    ];
+    for (now, hint, due) in rows {
+        assert_eq!(rt; next_due(now, hint), due, "now {now}");
+    }
+}
+
+/// What a relationship of these texts is: its number, or 0, and the place of the fault.
+fn fault_of(
+    alloc: Global,
+    domain: &str,
+    url: &str,
+    profile: &str,
+    endpoint_id: Option<&str>,
+) -> Option<RelationError> {
+    match Relationship::read(alloc, domain, url, profile, endpoint_id) {
+        Ok(_) => None,
+        Err(error) => Some(error),
+    }
+}
+
+#[test]
+fn faults_of_relationships(rt: HostRuntime) {
+    let alloc = rt.alloc();
+    let url = "https://bundles.example/a";
+    let spiffe = "https_spiffe";
+    let rows = [
+        ("a", url, "https_web", None, None),
+        ("a", url, "https_web", Some("no ID"), None),
+        ("a", url, spiffe, Some("spiffe://a/b"), None),
+        (
+            "a",
+            "HTTPS://bundles.example:8443/a?b",
+            "https_web",
+            None,
+            None,
+        ),
+        ("a", "https://@bundles.example/a", "https_web", None, None),
+        ("a", "https://:@bundles.example/a", "https_web", None, None),
+        (
+            "a",
+            "http://bundles.example/a",
+            "https_web",
+            None,
+            Some(RelationError::BadUrl),
+        ),
+        (
+            "a",
+            "https://u@bundles.example/a",
+            "https_web",
+            None,
+            Some(RelationError::BadUrl),
+        ),
+        (
+            "a",
+            "https://:p@bundles.example/a",
+            "https_web",
+            None,
+            Some(RelationError::BadUrl),
+        ),
+        (
+            "a",
+            "https://",
+            "https_web",
+            None,
+            Some(RelationError::BadUrl),
+        ),
+        (
+            "a",
+            "bundles.example/a",
+            "https_web",
+            None,
+            Some(RelationError::BadUrl),
+        ),
+        ("a", "", "https_web", None, Some(RelationError::BadUrl)),
+        (
+            "a",
+            url,
+            "https_other",
+            None,
+            Some(RelationError::BadProfile),
+        ),
+        ("a", url, "", None, Some(RelationError::BadProfile)),
+        ("a", url, spiffe, None, Some(RelationError::NoEndpointId)),
+        (
+            "a",
+            url,
+            spiffe,
+            Some("spiffe://a/"),
+            Some(RelationError::EndpointId(IdError::BadPath(0))),
+        ),
+        (
+            "a",
+            url,
+            spiffe,
+            Some("a"),
+            Some(RelationError::EndpointId(IdError::NotSpiffe)),
+        ),
+        (
+            "",
+            "",
+            "",
+            None,
+            Some(RelationError::Domain(NameError::Empty)),
+        ),
+        (
+            "aB",
+            "",
+            "",
+            None,
+            Some(RelationError::Domain(NameError::BadChar(1))),
+        ),
+        ("a", "", "https_other", None, Some(RelationError::BadUrl)),
+        (
+            "a",
+            url,
+            "https_other",
+            Some("no ID"),
+            Some(RelationError::BadProfile),
+        ),
+    ];
+    for (domain, url, profile, endpoint_id, fault) in rows {
+        assert_eq!(rt;
+            fault_of(alloc, domain, url, profile, endpoint_id),
+            fault,
+            "{domain} {url} {profile}"
+        );
+    }
+}
+
+#[test]
+fn parts_of_relationships(rt: HostRuntime) -> Result<(), Fail> {
+    let alloc = rt.alloc();
+    let read = Relationship::read(
+        alloc,
+        "b.example",
+        "https://b.example:8443",
+        "https_spiffe",
+        Some("spiffe://b.example/spire/server"),
+    )?;
+    assert_eq!(rt; read.domain().as_str(), "b.example");
+    assert_eq!(rt; read.url().as_str(), "https://b.example:8443/");
+    let Profile::HttpsSpiffe(id) = read.profile() else {
+        return Err(Fail::from("the profile has an ID"));
+    };
+    assert_eq!(rt; id.domain().as_str(), "b.example");
+    assert_eq!(rt; id.path(), "/spire/server");
+    let read = Relationship::read(alloc, "a", "https://b.example", "https_web", Some("x"))?;
+    assert!(rt; matches!(read.profile(), Profile::HttpsWeb));
+    Ok(())
+}
+
+#[test]
+fn urls_of_2048_bytes(rt: HostRuntime) -> Result<(), Fail> {
+    let alloc = rt.alloc();
+    let mut url = String::from_str(alloc, "https://bundles.example/")?;
+    for _ in 0..2024 {
+        url.push('a')?;
+    }
+    assert_eq!(rt; url.len(), 2048);
+    assert_eq!(rt; fault_of(alloc, "a", &url, "https_web", None), None);
+    url.push('a')?;
+    assert_eq!(rt;
+        fault_of(alloc, "a", &url, "https_web", None),
+        Some(RelationError::BadUrl)
+    );
+    Ok(())
+}
+
+#[test]
+fn numbers_and_texts(rt: HostRuntime) -> Result<(), Fail> {
+    let rows = [
+        (
+            RelationError::Domain(NameError::TooLong),
+            2,
+            "the trust domain name has over 255 bytes",
+        ),
+        (
+            RelationError::BadUrl,
+            60,
+            "the endpoint URL is not a URL of at most 2048 bytes with the scheme https and without a user name and a password",
+        ),
+        (
+            RelationError::BadProfile,
+            61,
+            "the endpoint profile is neither https_web nor https_spiffe",
+        ),
+        (
+            RelationError::NoEndpointId,
+            62,
+            "the endpoint profile https_spiffe needs the SPIFFE ID of the endpoint",
+        ),
+        (
+            RelationError::EndpointId(IdError::NotSpiffe),
+            4,
+            "the SPIFFE ID of the endpoint: the text does not begin with spiffe://",
+        ),
+        (RelationError::Memory, 22, "out of memory"),
+    ];
+    for (error, number, text) in rows {
+        assert_eq!(rt; error.number(), number);
+        assert_eq!(rt; format!(in rt.alloc(); "{error}")?.as_str(), text);
+    }
+    assert_eq!(rt;
+        format!(in rt.alloc(); "{}", SourceFault)?.as_str(),
+        "the endpoint gave no document"
+    );
+    Ok(())
+}
+
+/// An outcome as text: what it came to, and when the next refresh is due.
+fn outcome_text(alloc: Global, outcome: &Outcome) -> Result<String, Fail> {
+    let due = outcome.due;
+    Ok(match &outcome.what {
+        What::Taken(Reply::Stored) => format!(in alloc; "stored {due}")?,
+        What::Taken(Reply::Unchanged) => format!(in alloc; "unchanged {due}")?,
+        What::Taken(Reply::Refused(MapRefusal::Stale(held))) => {
+            format!(in alloc; "stale {held} {due}")?
+        }
+        What::Taken(_) => return Err(Fail::from("no such reply comes to a Set")),
+        What::BadDocument(error) => format!(in alloc; "bad {} {due}", error.number())?,
+        What::NoAnswer => format!(in alloc; "none {due}")?,
+        What::Asked(error) => format!(in alloc; "asked {} {due}", error.number())?,
+    })
+}
+
+/// Two relationships, and the second's endpoint gives nothing.
+#[test]
+fn two_relationships(rt: HostRuntime) -> Result<(), Fail> {
+    let alloc = rt.alloc();
+    let mut source = Folder {
+        alloc,
+        documents: &[("a", "{\"keys\":[],\"spiffe_refresh_hint\":60}")],
+        fetches: 0,
+    };
+    let mut map = Contents::new(alloc);
+    let mut schedule = Schedule::new(alloc, vec![in alloc; web(alloc, "a")?, web(alloc, "b")?]?)?;
+    assert_eq!(rt; schedule.len(), 2);
+    assert_eq!(rt; schedule.next(), Some((0, 0)));
+    let first = refresh_at(alloc, &mut source, &mut map, &mut schedule, 0, 1000)?;
+    assert_eq!(rt; outcome_text(alloc, &first)?.as_str(), "stored 1060");
+    assert_eq!(rt; schedule.next(), Some((1, 0)));
+    let second = refresh_at(alloc, &mut source, &mut map, &mut schedule, 1, 1000)?;
+    assert_eq!(rt; outcome_text(alloc, &second)?.as_str(), "none 1300");
+    assert_eq!(rt; schedule.next(), Some((0, 1060)));
+    let third = refresh_at(alloc, &mut source, &mut map, &mut schedule, 0, 1060)?;
+    assert_eq!(rt; outcome_text(alloc, &third)?.as_str(), "unchanged 1120");
+    let mut array = Folder {
+        alloc,
+        documents: &[("a", "[]")],
+        fetches: 0,
+    };
+    let fourth = refresh_at(alloc, &mut array, &mut map, &mut schedule, 0, 1060)?;
+    assert_eq!(rt; outcome_text(alloc, &fourth)?.as_str(), "bad 12 1360");
+    assert_eq!(rt; (schedule.due(0), schedule.due(1)), (1360, 1300));
+    assert_eq!(rt; schedule.relationship(1).domain().as_str(), "b");
+    assert_eq!(rt; (source.fetches, array.fetches), (3, 1));
+    assert_eq!(rt; map.len(), 1);
+    Ok(())
+}
+
+/// An endpoint for each domain `d0` to `d999`: what it gives depends on the number of the domain and on how many
+/// fetches there have been.
+#[derive(Drop)]
+struct Endpoints {
+    alloc: Global,
+    fetches: u64,
+}
+
+impl Endpoints {
+    fn document(&self, number: u64) -> Option<String> {
+        let fetches = self.fetches;
+        let made = match number % 5 {
+            0 => format!(in self.alloc;
+                "{{\"keys\":[],\"spiffe_sequence\":{fetches},\"spiffe_refresh_hint\":{}}}",
+                10 + number % 50
+            ),
+            1 => format!(in self.alloc; "{{\"keys\":[]}}"),
+            2 => format!(in self.alloc;
+                "{{\"keys\":[],\"spiffe_sequence\":{},\"spiffe_refresh_hint\":{}}}",
+                9 + fetches % 3,
+                number % 97
+            ),
+            3 => format!(in self.alloc; "[]"),
+            _ => return None,
+        };
+        made.ok()
+    }
+}
+
+impl Source for Endpoints {
+    ghost fetches = { λ before relationship document after. Unit {0} };
+
+    fn fetch(&mut self, relationship: &Relationship) -> Result<Vec<u8>, SourceFault> {
+        self.fetches = self.fetches.saturating_add(1);
+        let Some(digits) = relationship.domain().as_str().strip_prefix("d") else {
+            return Err(SourceFault);
+        };
+        let Ok(number) = digits.parse::<u64>() else {
+            return Err(SourceFault);
+        };
+        match self.document(number) {
+            Some(text) => Ok(text.into_bytes()),
+            None => Err(SourceFault),
+        }
+    }
+}
+
+/// The number of an outcome: 1 stored, 2 unchanged, 4 no answer, else the number of its refusal.
+fn outcome_number(outcome: &Outcome) -> u64 {
+    match &outcome.what {
+        What::Taken(Reply::Stored) => 1,
+        What::Taken(Reply::Unchanged) => 2,
+        What::Taken(Reply::Refused(why)) => u64::from(why.number()),
+        What::Taken(_) => 0,
+        What::BadDocument(error) => u64::from(error.number()),
+        What::NoAnswer => 4,
+        What::Asked(error) => u64::from(error.number()),
+    }
+}
+
+/// The hash FNV-1a, of whole numbers in place of bytes.
+fn hash_with(hash: u64, value: u64) -> u64 {
+    (hash ^ value).wrapping_mul(1_099_511_628_211)
+}
+
+/// 1,000 relationships and 10,000 refreshes, each when it is due. A program of another language made the table: the
+/// hash of all places, outcomes and due times so far, after each 1,000 refreshes.
+#[test]
+fn ten_thousand_refreshes(rt: HostRuntime) -> Result<(), Fail> {
+    let alloc = rt.alloc();
+    let table: [u64; 10] = [
+        10_429_078_414_123_294_372,
+        3_475_901_908_210_728_064,
+        6_898_065_092_472_164_811,
+        6_728_568_976_754_935_236,
+        9_464_064_057_376_746_143,
+        3_197_192_746_810_455_316,
+        15_648_196_741_047_738_872,
+        17_436_450_552_786_703_693,
+        15_488_748_206_951_795_731,
+        6_236_970_780_191_813_919,
+    ];
+    let mut relationships = Vec::new(alloc);
+    for number in 0..1000 {
+        let name = format!(in alloc; "d{number}")?;
+        relationships.push(web(alloc, name.as_str())?)?;
+    }
+    let mut schedule = Schedule::new(alloc, relationships)?;
+    let mut source = Endpoints { alloc, fetches: 0 };
+    let mut map = Contents::new(alloc);
+    let mut hash = 14_695_981_039_346_656_037;
+    let mut now = 0;
+    for expected in table {
+        for _ in 0..1000 {
+            let Some((place, due)) = schedule.next() else {
+                return Err(Fail::from("a relationship is next"));
+            };
+            now = due.max(now);
+            let outcome = refresh_at(alloc, &mut source, &mut map, &mut schedule, place, now)?;
+            assert_eq!(rt; schedule.due(place), outcome.due);
+            hash = hash_with(hash, place as u64);
+            hash = hash_with(hash, outcome_number(&outcome));
+            hash = hash_with(hash, outcome.due);
+        }
+        assert_eq!(rt; hash, expected);
+    }
+    assert_eq!(rt; source.fetches, 10_000);
+    Ok(())
+}
+
+/// A map that refuses is told as it refuses; out of memory is an error.
+#[test]
+fn maps_that_refuse(rt: HostRuntime) -> Result<(), Fail> {
+    let alloc = rt.alloc();
+    let relationship = web(alloc, "a")?;
+    let mut source = Folder {
+        alloc,
+        documents: &[("a", "{\"keys\":[],\"spiffe_refresh_hint\":60}")],
+        fetches: 0,
+    };
+    let mut held = Refuses(AskError::Held {
+        shard: 0,
+        revision: 3,
+    });
+    let outcome = refresh_once(alloc, &mut source, &mut held, &relationship, 1000)?;
+    assert_eq!(rt; outcome_text(alloc, &outcome)?.as_str(), "asked 42 1060");
+    let mut full = Refuses(AskError::Memory);
+    assert!(rt; refresh_once(alloc, &mut source, &mut full, &relationship, 1000).is_err());
+    assert_eq!(rt; source.fetches, 2);
+    Ok(())
+}
+
+/// An older document is refused, and the bundle that is held stays.
+#[test]
+fn older_documents(rt: HostRuntime) -> Result<(), Fail> {
+    let alloc = rt.alloc();
+    let relationship = web(alloc, "a")?;
+    let mut map = Contents::new(alloc);
+    let mut source = Folder {
+        alloc,
+        documents: &[("a", "{\"keys\":[],\"spiffe_sequence\":7}")],
+        fetches: 0,
+    };
+    let newer = refresh_once(alloc, &mut source, &mut map, &relationship, 0)?;
+    assert_eq!(rt; outcome_text(alloc, &newer)?.as_str(), "stored 300");
+    let mut earlier = Folder {
+        alloc,
+        documents: &[(
+            "a",
+            "{\"keys\":[],\"spiffe_sequence\":6,\"spiffe_refresh_hint\":5}",
+        )],
+        fetches: 0,
+    };
+    let older = refresh_once(alloc, &mut earlier, &mut map, &relationship, 300)?;
+    assert_eq!(rt; outcome_text(alloc, &older)?.as_str(), "stale 7 305");
+    let get = Op::Get(TrustDomain::parse(alloc, "a")?);
+    let Reply::Found(bundle) = map.ask(get)? else {
+        return Err(Fail::from("the bundle is held"));
+    };
+    assert!(rt; bundle == read_document(alloc, b"{\"keys\":[],\"spiffe_sequence\":7}")?);
+    Ok(())
+}
+
+/// A refresh that memory was refused to has changed nothing besides the source, and is made again.
+#[test]
+fn a_refused_growth_changes_nothing(rt: HostRuntime) -> Result<(), Fail> {
+    let alloc = rt.alloc();
+    let name = "a-trust-domain-of-over-24-bytes";
+    let mut source = Folder {
+        alloc,
+        documents: &[(
+            "a-trust-domain-of-over-24-bytes",
+            "{\"keys\":[{\"use\":\"jwt-svid\",\"kty\":\"RSA\",\"kid\":\"k\",\"n\":\"AQAB\",\"e\":\"AQAB\"}]}",
+        )],
+        fetches: 0,
+    };
+    let mut map = Contents::new(alloc);
+    let mut schedule = Schedule::new(alloc, vec![in alloc; web(alloc, name)?]?)?;
+    let mut tries = 1;
+    match refresh_at(alloc, &mut source, &mut map, &mut schedule, 0, 1000) {
+        Ok(outcome) if matches!(outcome.what, What::Taken(Reply::Stored)) => {}
+        // The source is refused memory too, and has no other word for it.
+        Ok(outcome) => {
+            assert!(rt; matches!(outcome.what, What::NoAnswer));
+            assert_eq!(rt; (schedule.next(), map.len()), (Some((0, 1300)), 0));
+            tries = 2;
+        }
+        Err(_) => {
+            assert_eq!(rt; (schedule.next(), map.len()), (Some((0, 0)), 0));
+            tries = 2;
+        }
+    }
+    if tries == 2 {
+        let again = refresh_at(alloc, &mut source, &mut map, &mut schedule, 0, 1000)?;
+        assert!(rt; matches!(again.what, What::Taken(Reply::Stored)));
+    }
+    assert_eq!(rt;
+        (schedule.next(), map.len(), source.fetches),
+        (Some((0, 1300)), 1, tries)
+    );
+    Ok(())
+}

@@ -1,0 +1,213 @@
+use super::{bundle, jwt_point, keys, letters, refusal, refusal_of, x509_point};
+use spiffe_doc::{DocError, KeyMember, read_document, write_document};
+use std::alloc::{AllocError, Global};
+use std::test::Fail;
+
+#[test]
+fn refused_documents(rt: HostRuntime) -> Result<(), Fail> {
+    let alloc = rt.alloc();
+    let rows = [
+        ("", DocError::NotJson),
+        ("[]", DocError::NotObject),
+        ("5", DocError::NotObject),
+        ("{\"spiffe_sequence\":1}", DocError::NoKeys),
+        ("{\"keys\":null}", DocError::NoKeys),
+        ("{\"spiffe_sequence\":-1,\"keys\":{}}", DocError::NoKeys),
+        (
+            "{\"keys\":[],\"spiffe_sequence\":18446744073709551616}",
+            DocError::BadSequence,
+        ),
+        (
+            "{\"keys\":[],\"spiffe_sequence\":-1}",
+            DocError::BadSequence,
+        ),
+        (
+            "{\"keys\":[],\"spiffe_sequence\":1.5}",
+            DocError::BadSequence,
+        ),
+        (
+            "{\"keys\":[],\"spiffe_sequence\":1e0}",
+            DocError::BadSequence,
+        ),
+        (
+            "{\"keys\":[],\"spiffe_sequence\":\"1\"}",
+            DocError::BadSequence,
+        ),
+        (
+            "{\"keys\":[5],\"spiffe_refresh_hint\":\"x\"}",
+            DocError::BadHint,
+        ),
+        (
+            "{\"keys\":[5],\"spiffe_refresh_hint\":-1,\"spiffe_sequence\":-1}",
+            DocError::BadSequence,
+        ),
+        ("{\"keys\":[5]}", DocError::BadEntry(0)),
+        (
+            "{\"keys\":[{\"kty\":\"OKP\",\"use\":\"jwt-svid\"},5]}",
+            DocError::BadEntry(1),
+        ),
+        (
+            "{\"keys\":[{\"kty\":\"OKP\",\"use\":\"jwt-svid\"},{},{\"kty\":\"EC\",\"use\":\"jwt-svid\"},5]}",
+            DocError::BadKey {
+                place: 2,
+                member: KeyMember::Crv,
+            },
+        ),
+        (
+            "{\"keys\":[{},{\"kty\":\"RSA\",\"use\":\"jwt-svid\",\"n\":\"AQAB\"}]}",
+            DocError::BadKey {
+                place: 1,
+                member: KeyMember::E,
+            },
+        ),
+        (
+            "{\"keys\":[{},{\"kty\":\"RSA\",\"use\":\"x509-svid\",\"n\":\"AQAB\",\"e\":\"AQAB\"}]}",
+            DocError::BadX5c(1),
+        ),
+        (
+            "{\"keys\":[{},{\"kty\":\"RSA\",\"use\":\"jwt-svid\",\"n\":\"AQAB\",\"e\":\"AQAB\"}]}",
+            DocError::BadKid(1),
+        ),
+    ];
+    for (document, wanted) in rows {
+        assert_eq!(rt; refusal(alloc, document)?, Some(wanted), "{document}");
+    }
+    assert_eq!(rt;
+        refusal_of(alloc, b"{\"keys\":[],\"z\":\"\xff\"}")?,
+        Some(DocError::NotJson)
+    );
+    Ok(())
+}
+
+#[test]
+fn canonical_texts(rt: HostRuntime) -> Result<(), Fail> {
+    let alloc = rt.alloc();
+    let a43 = letters(alloc, 'A', 43)?;
+    let point = keys(
+        alloc,
+        &x509_point(alloc, "P-256", &a43, &a43, "[\"MAA=\"]")?,
+    )?;
+    let point_text = format!(in alloc;
+        "{{\"keys\":[{{\"crv\":\"P-256\",\"kty\":\"EC\",\"use\":\"x509-svid\",\"x\":\"{a43}\",\"x5c\":[\"MAA=\"],\"y\":\"{a43}\"}}]}}"
+    )?;
+    let kid = keys(alloc, &jwt_point(alloc, "k\\u00e9", &a43)?)?;
+    let kid_text = format!(in alloc;
+        "{{\"keys\":[{{\"crv\":\"P-256\",\"kid\":\"k\u{e9}\",\"kty\":\"EC\",\"use\":\"jwt-svid\",\"x\":\"{a43}\",\"y\":\"{a43}\"}}]}}"
+    )?;
+    let rows = [
+        ("{\"keys\":[]}", "{\"keys\":[]}", 11),
+        (" {\"z\":{}, \"keys\" : [ ]\n}", "{\"keys\":[]}", 11),
+        (
+            "{\"keys\":[],\"spiffe_sequence\":null}",
+            "{\"keys\":[]}",
+            11,
+        ),
+        (
+            "{\"keys\":[],\"spiffe_sequence\":18446744073709551615}",
+            "{\"keys\":[],\"spiffe_sequence\":18446744073709551615}",
+            50,
+        ),
+        (point.as_str(), point_text.as_str(), 170),
+        (kid.as_str(), kid_text.as_str(), 166),
+        (
+            "{\"keys\":[{\"use\":\"x509-svid\",\"kty\":\"RSA\",\"n\":\"AQAB\",\"e\":\"AQAB\",\"x5c\":[\"MAA=\"]}],\"spiffe_sequence\":1,\"spiffe_refresh_hint\":60}",
+            "{\"keys\":[{\"e\":\"AQAB\",\"kty\":\"RSA\",\"n\":\"AQAB\",\"use\":\"x509-svid\",\"x5c\":[\"MAA=\"]}],\"spiffe_refresh_hint\":60,\"spiffe_sequence\":1}",
+            124,
+        ),
+        (
+            "{\"keys\":[{\"use\":\"jwt-svid\",\"kty\":\"RSA\",\"n\":\"AQAB\",\"e\":\"AQAB\",\"kid\":\"k\",\"alg\":\"RS256\"}]}",
+            "{\"keys\":[{\"e\":\"AQAB\",\"kid\":\"k\",\"kty\":\"RSA\",\"n\":\"AQAB\",\"use\":\"jwt-svid\"}]}",
+            73,
+        ),
+    ];
+    for (document, wanted, len) in rows {
+        let bundle = bundle(alloc, document)?;
+        assert_eq!(rt; bundle.text(), wanted.as_bytes(), "{document}");
+        assert_eq!(rt; bundle.text_len(), len, "{document}");
+        let written = write_document(alloc, &bundle)?;
+        assert_eq!(rt; written.as_slice(), wanted.as_bytes(), "{document}");
+        assert!(rt; read_document(alloc, &written)? == bundle, "{document}");
+    }
+    Ok(())
+}
+
+#[test]
+fn the_empty_document(rt: HostRuntime) -> Result<(), Fail> {
+    let empty = bundle(rt.alloc(), "{\"keys\":[]}")?;
+    assert_eq!(rt; empty.sequence(), None);
+    assert_eq!(rt; empty.refresh_hint(), None);
+    assert_eq!(rt; empty.authorities().len(), 0usize);
+    Ok(())
+}
+
+#[test]
+fn sequences_and_hints(rt: HostRuntime) -> Result<(), Fail> {
+    let alloc = rt.alloc();
+    let greatest = bundle(
+        alloc,
+        "{\"keys\":[],\"spiffe_sequence\":18446744073709551615}",
+    )?;
+    assert_eq!(rt; greatest.sequence(), Some(18446744073709551615u64));
+    assert_eq!(rt; greatest.refresh_hint(), None);
+    let both = bundle(
+        alloc,
+        "{\"spiffe_refresh_hint\":0,\"keys\":[],\"spiffe_sequence\":7}",
+    )?;
+    assert_eq!(rt; both.sequence(), Some(7u64));
+    assert_eq!(rt; both.refresh_hint(), Some(0u64));
+    let neither = bundle(
+        alloc,
+        "{\"keys\":[],\"spiffe_sequence\":null,\"spiffe_refresh_hint\":null}",
+    )?;
+    assert_eq!(rt; neither.sequence(), None);
+    assert_eq!(rt; neither.refresh_hint(), None);
+    Ok(())
+}
+
+#[test]
+fn truncated_documents(rt: HostRuntime) -> Result<(), Fail> {
+    let alloc = rt.alloc();
+    let a43 = letters(alloc, 'A', 43)?;
+    let whole = keys(
+        alloc,
+        &x509_point(alloc, "P-256", &a43, &a43, "[\"MAA=\"]")?,
+    )?;
+    assert_eq!(rt; whole.len(), 170usize);
+    for len in 0..170 {
+        let front = whole.as_bytes().get(..len).ok_or("a shorter document")?;
+        let refusal = read_document(alloc, front).err();
+        assert!(rt; refusal != None, "{len}");
+        if refusal == Some(DocError::Memory) {
+            return Err(AllocError)?;
+        }
+        assert_eq!(rt; refusal, Some(DocError::NotJson), "{len}");
+    }
+    Ok(())
+}
+
+/// A document with so many arrays, one in another, besides its keys.
+fn nested(alloc: Global, depth: usize) -> Result<String, AllocError> {
+    format!(in alloc;
+        "{{\"keys\":[],\"z\":{}{}}}",
+        letters(alloc, '[', depth)?,
+        letters(alloc, ']', depth)?
+    )
+}
+
+#[test]
+fn long_and_nested_documents(rt: HostRuntime) -> Result<(), Fail> {
+    let alloc = rt.alloc();
+    let longest = format!(in alloc; "{{\"keys\":[]}}{}", letters(alloc, ' ', 1048565)?)?;
+    assert_eq!(rt; longest.len(), 1048576usize);
+    assert_eq!(rt; refusal(alloc, &longest)?, None);
+    assert_eq!(rt;
+        refusal(alloc, &format!(in alloc; "{longest} ")?)?,
+        Some(DocError::TooLong)
+    );
+    assert_eq!(rt; refusal(alloc, &nested(alloc, 126)?)?, None);
+    assert_eq!(rt;
+        refusal(alloc, &nested(alloc, 127)?)?,
+        Some(DocError::NotJson)
+    );
+    Ok(())
+}

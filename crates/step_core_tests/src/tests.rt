@@ -1,0 +1,221 @@
+//! Worked examples. Events and records are written as lines of text, and the expected lines are written out. Want of
+//! memory ends a test by an error and never changes an answer, so each may be run with any allocation refused.
+mod runs;
+mod shards;
+mod tasks;
+
+use map_core::{AskError, Contents, Expect, MapRefusal, Op, Reply, Snapshot};
+use spiffe_doc::{Bundle, TrustDomain, read_document, read_entry};
+use std::alloc::{AllocError, Global};
+use std::test::Fail;
+use step_core::{Event, OpRecord, Why, run_events};
+
+/// The next word of a line, and the rest.
+fn cut(line: &str) -> (&str, &str) {
+    line.split_once(' ').unwrap_or((line, ""))
+}
+
+fn bundle(alloc: Global, document: &str) -> Result<Bundle, Fail> {
+    Ok(read_document(alloc, document.as_bytes())?)
+}
+
+fn expectation(word: &str) -> Result<Expect, Fail> {
+    match word {
+        "absent" => Ok(Expect::Absent),
+        "none" => Ok(Expect::Unnumbered),
+        _ => Ok(Expect::Sequence(word.parse()?)),
+    }
+}
+
+/// The operation of a line: `set a DOCUMENT`, `setif a absent DOCUMENT`, `append a ENTRY`, `remove a`, `get a`, `fetch`.
+fn operation(alloc: Global, line: &str) -> Result<Op, Fail> {
+    let (verb, rest) = cut(line);
+    if verb == "fetch" {
+        return Ok(Op::FetchAll);
+    }
+    let (name, rest) = cut(rest);
+    let domain = TrustDomain::parse(alloc, name)?;
+    match verb {
+        "set" => Ok(Op::Set(domain, bundle(alloc, rest)?)),
+        "setif" => {
+            let (expected, rest) = cut(rest);
+            Ok(Op::SetIf(domain, expectation(expected)?, bundle(alloc, rest)?))
+        }
+        "append" => match read_entry(alloc, rest.as_bytes())? {
+            Some(authority) => Ok(Op::Append(domain, authority)),
+            None => Err(Fail::from("the entry is passed over")),
+        },
+        "remove" => Ok(Op::Remove(domain)),
+        "get" => Ok(Op::Get(domain)),
+        _ => Err(Fail::from("no operation has this name")),
+    }
+}
+
+fn why(line: &str) -> Result<Why, Fail> {
+    let (verb, rest) = cut(line);
+    if verb == "memory" {
+        return Ok(Why::Memory);
+    }
+    let (shard, revision) = cut(rest);
+    Ok(Why::Held {
+        shard: shard.parse()?,
+        revision: revision.parse()?,
+    })
+}
+
+/// The event of a line: `begin 1 OPERATION`, `step 1`, `end 1`, `quit 1 memory`, `quit 1 held 0 3`.
+fn event(alloc: Global, line: &str) -> Result<Event, Fail> {
+    let (verb, rest) = cut(line);
+    let (caller, rest) = cut(rest);
+    let caller: u32 = caller.parse()?;
+    match verb {
+        "begin" => Ok(Event::Begin(caller, operation(alloc, rest)?)),
+        "step" => Ok(Event::Step(caller)),
+        "end" => Ok(Event::End(caller)),
+        "quit" => Ok(Event::Quit(caller, why(rest)?)),
+        _ => Err(Fail::from("no event has this name")),
+    }
+}
+
+fn bundle_text(alloc: Global, bundle: &Bundle) -> Result<String, Fail> {
+    Ok(String::from_str(alloc, std::str::from_utf8(bundle.text())?)?)
+}
+
+fn snapshot_text(alloc: Global, all: &Snapshot) -> Result<String, Fail> {
+    let mut text = format!(in alloc; "all {}", all.len())?;
+    for (domain, bundle) in all.pairs() {
+        text.push(' ')?;
+        text.push_str(domain.as_str())?;
+        text.push(' ')?;
+        text.push_str(bundle_text(alloc, bundle)?.as_str())?;
+    }
+    Ok(text)
+}
+
+/// All bundles of the map.
+fn contents_text(alloc: Global, contents: &Contents) -> Result<String, Fail> {
+    snapshot_text(alloc, &contents.copy()?.into_snapshot()?)
+}
+
+fn expect_text(alloc: Global, expect: Expect) -> Result<String, AllocError> {
+    match expect {
+        Expect::Absent => format!(in alloc; "absent"),
+        Expect::Unnumbered => format!(in alloc; "none"),
+        Expect::Sequence(sequence) => format!(in alloc; "{sequence}"),
+    }
+}
+
+fn refusal_text(alloc: Global, why: MapRefusal) -> Result<String, AllocError> {
+    let number = why.number();
+    match why {
+        MapRefusal::Stale(sequence) => format!(in alloc; "refused {number} {sequence}"),
+        MapRefusal::NotExpected(found) => {
+            let found = expect_text(alloc, found)?;
+            format!(in alloc; "refused {number} {found}")
+        }
+        _ => format!(in alloc; "refused {number}"),
+    }
+}
+
+fn reply_text(alloc: Global, reply: &Reply) -> Result<String, Fail> {
+    match reply {
+        Reply::Stored => Ok(format!(in alloc; "stored")?),
+        Reply::Unchanged => Ok(format!(in alloc; "unchanged")?),
+        Reply::Appended(Some(sequence)) => Ok(format!(in alloc; "appended {sequence}")?),
+        Reply::Appended(None) => Ok(format!(in alloc; "appended -")?),
+        Reply::Removed => Ok(format!(in alloc; "removed")?),
+        Reply::Found(bundle) => {
+            let bundle = bundle_text(alloc, bundle)?;
+            Ok(format!(in alloc; "found {bundle}")?)
+        }
+        Reply::All(all) => snapshot_text(alloc, all),
+        Reply::Refused(why) => Ok(refusal_text(alloc, *why)?),
+    }
+}
+
+fn error_text(alloc: Global, error: AskError) -> Result<String, AllocError> {
+    match error {
+        AskError::Memory => format!(in alloc; "memory"),
+        AskError::Worn { shard } => format!(in alloc; "worn {shard}"),
+        AskError::Moved {
+            shard,
+            first,
+            second,
+        } => format!(in alloc; "moved {shard} {first} {second}"),
+        AskError::Held { shard, revision } => format!(in alloc; "held {shard} {revision}"),
+        AskError::GateShut => format!(in alloc; "gate shut"),
+    }
+}
+
+fn answer_text(alloc: Global, answer: &Result<Reply, AskError>) -> Result<String, Fail> {
+    match answer {
+        Ok(reply) => reply_text(alloc, reply),
+        Err(error) => Ok(error_text(alloc, *error)?),
+    }
+}
+
+/// A line of an operation: `wrote` stands at its end if a shard was changed.
+fn record_text(alloc: Global, number: usize, entry: &OpRecord) -> Result<String, Fail> {
+    let last = match entry.last {
+        Some(last) => format!(in alloc; "{last}")?,
+        None => format!(in alloc; "-")?,
+    };
+    let reply = match &entry.reply {
+        Some(answer) => answer_text(alloc, answer)?,
+        None => format!(in alloc; "-")?,
+    };
+    let wrote = if entry.wrote { " wrote" } else { "" };
+    let (caller, first) = (entry.caller, entry.first);
+    Ok(format!(in alloc;
+        "record {number} caller {caller} first {first} last {last} reply {reply}{wrote}"
+    )?)
+}
+
+/// A list of events over so many shards and rounds, and the records and the order of its run.
+#[derive(Clone, Copy, Drop)]
+struct Run<'a> {
+    shards: usize,
+    rounds: usize,
+    events: &'a [&'a str],
+    shows: &'a [&'a str],
+}
+
+/// The line that is shown is the expected one.
+fn same_line(alloc: Global, shown: &str, expected: Option<&&str>) -> Result<(), Fail> {
+    match expected {
+        Some(expected) if *expected == shown => Ok(()),
+        Some(expected) => Err(Fail::from(format!(in alloc; "{shown}, and not {expected}")?)),
+        None => Err(Fail::from(format!(in alloc; "{shown}, and no more lines")?)),
+    }
+}
+
+fn order_text(alloc: Global, order: &[usize]) -> Result<String, AllocError> {
+    let mut text = String::from_str(alloc, "order")?;
+    for number in order {
+        text.push_str(format!(in alloc; " {number}")?.as_str())?;
+    }
+    Ok(text)
+}
+
+/// The run shows the expected lines and no others.
+fn play(alloc: Global, run: &Run) -> Result<(), Fail> {
+    if run.shards == 0 || run.rounds == 0 {
+        return Err(Fail::from("a run has a shard and a round"));
+    }
+    let mut events = Vec::new(alloc);
+    for line in run.events {
+        events.push(event(alloc, line)?)?;
+    }
+    let trace = run_events(alloc, run.shards, run.rounds, &events)?;
+    for (number, entry) in trace.ops.iter().enumerate() {
+        let line = record_text(alloc, number, entry)?;
+        same_line(alloc, line.as_str(), run.shows.get(number))?;
+    }
+    let count = trace.ops.len();
+    let line = order_text(alloc, &trace.order)?;
+    same_line(alloc, line.as_str(), run.shows.get(count))?;
+    match run.shows.get(count..) {
+        Some([_]) => Ok(()),
+        _ => Err(Fail::from("more lines are expected")),
+    }
+}

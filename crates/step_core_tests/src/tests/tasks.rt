@@ -1,0 +1,278 @@
+//! Single shards and tasks, step by step.
+use super::{answer_text, contents_text, operation};
+use map_core::{AskError, Contents, Op, Reply};
+use spiffe_doc::TrustDomain;
+use std::alloc::Global;
+use std::test::Fail;
+use step_core::home::home;
+use step_core::{Answer, Shard, Task, Want};
+
+#[test]
+fn names_have_homes(rt: HostRuntime) -> Result<(), Fail> {
+    let rows = [
+        ("example.org", 2, 0),
+        ("example.org", 16, 2),
+        ("a", 2, 1),
+        ("b", 2, 0),
+        ("a", 1, 0),
+        ("zz", 256, 244),
+    ];
+    for (name, shards, expected) in &rows {
+        let domain = TrustDomain::parse(rt.alloc(), name)?;
+        let shards: usize = *shards;
+        if shards == 0 || home(&domain, shards) != *expected {
+            return Err(Fail::from(*name));
+        }
+    }
+    Ok(())
+}
+
+/// What a shard is asked, what it answers, and its revision then.
+type Row<'a> = (&'a str, &'a str, u64);
+
+/// The shard answers a row, and share gives what look gives.
+fn play_row(alloc: Global, shard: &mut Shard, row: &Row) -> Result<(), Fail> {
+    let (line, expected, revision) = *row;
+    let answer = shard.step(operation(alloc, line)?);
+    let text = answer_text(alloc, &answer)?;
+    let (looked, contents) = shard.look();
+    let (shared, version) = shard.share()?;
+    if text.as_str() != expected || looked != revision {
+        return Err(Fail::from(format!(in alloc;
+            "{line}: {text} at {looked}, and not {expected} at {revision}"
+        )?));
+    }
+    let (looked_at, given) = (
+        contents_text(alloc, contents)?,
+        contents_text(alloc, &version)?,
+    );
+    if shared != looked || given.as_str() != looked_at.as_str() {
+        return Err(Fail::from(format!(in alloc; "{line}: share is not look")?));
+    }
+    Ok(())
+}
+
+fn play(alloc: Global, shard: &mut Shard, rows: &[Row]) -> Result<(), Fail> {
+    for row in rows {
+        play_row(alloc, shard, row)?;
+    }
+    Ok(())
+}
+
+/// The same, while the version before each step is kept by another, for whom it stays as it was.
+fn play_shared(alloc: Global, shard: &mut Shard, rows: &[Row]) -> Result<(), Fail> {
+    for row in rows {
+        let (_, version) = shard.share()?;
+        let before = contents_text(alloc, &version)?;
+        play_row(alloc, shard, row)?;
+        if contents_text(alloc, &version)?.as_str() != before.as_str() {
+            let (line, _, _) = *row;
+            return Err(Fail::from(format!(in alloc; "{line}: a shared version has changed")?));
+        }
+    }
+    Ok(())
+}
+
+/// Plays the rows on a new shard that nobody shares, and on one whose versions are shared.
+fn play_new(alloc: Global, rows: &[Row]) -> Result<(), Fail> {
+    play(alloc, &mut Shard::new(alloc)?, rows)?;
+    play_shared(alloc, &mut Shard::new(alloc)?, rows)
+}
+
+#[test]
+fn a_revision_counts_changes(rt: HostRuntime) -> Result<(), Fail> {
+    let rows = [
+        ("set a {\"keys\":[],\"spiffe_sequence\":5}", "stored", 1),
+        (
+            "set a {\"keys\":[],\"spiffe_sequence\":4}",
+            "refused 31 5",
+            1,
+        ),
+        (
+            "set a {\"keys\":[{\"kty\":\"RSA\",\"use\":\"jwt-svid\",\"kid\":\"k\",\"n\":\"AQAB\",\"e\":\"AQAB\"}],\"spiffe_sequence\":5}",
+            "stored",
+            2,
+        ),
+        (
+            "set a {\"keys\":[{\"kty\":\"RSA\",\"use\":\"jwt-svid\",\"kid\":\"k\",\"n\":\"AQAB\",\"e\":\"AQAB\"}],\"spiffe_sequence\":5}",
+            "unchanged",
+            2,
+        ),
+        ("set a {\"keys\":[]}", "stored", 3),
+        ("get a", "found {\"keys\":[]}", 3),
+        ("remove a", "removed", 4),
+        ("remove a", "refused 30", 4),
+        ("set a {\"keys\":[]}", "stored", 5),
+    ];
+    play_new(rt.alloc(), &rows)
+}
+
+/// A removed domain remembers its sequence, and the revision counts what the mark lets through.
+#[test]
+fn a_mark_lets_few_changes_through(rt: HostRuntime) -> Result<(), Fail> {
+    let rows = [
+        ("set a {\"keys\":[],\"spiffe_sequence\":5}", "stored", 1),
+        ("remove a", "removed", 2),
+        ("get a", "refused 30", 2),
+        (
+            "set a {\"keys\":[],\"spiffe_sequence\":4}",
+            "refused 31 5",
+            2,
+        ),
+        (
+            "append a {\"kty\":\"RSA\",\"use\":\"jwt-svid\",\"kid\":\"k\",\"n\":\"AQAB\",\"e\":\"AQAB\"}",
+            "refused 30",
+            2,
+        ),
+        ("remove a", "refused 30", 2),
+        ("set a {\"keys\":[],\"spiffe_sequence\":5}", "stored", 3),
+        ("remove a", "removed", 4),
+        ("set a {\"keys\":[]}", "stored", 5),
+        ("remove a", "removed", 6),
+        ("set a {\"keys\":[],\"spiffe_sequence\":1}", "stored", 7),
+    ];
+    play_new(rt.alloc(), &rows)
+}
+
+/// Each operation on one name, with an authority of either kind.
+#[test]
+fn each_operation_is_a_step(rt: HostRuntime) -> Result<(), Fail> {
+    let rows = [
+        ("setif a 3 {\"keys\":[]}", "refused 36 absent", 0),
+        (
+            "setif a absent {\"keys\":[],\"spiffe_sequence\":9}",
+            "stored",
+            1,
+        ),
+        (
+            "append a {\"kty\":\"RSA\",\"use\":\"jwt-svid\",\"kid\":\"k\",\"n\":\"AQAB\",\"e\":\"AQAB\"}",
+            "appended 10",
+            2,
+        ),
+        (
+            "append a {\"kty\":\"RSA\",\"use\":\"jwt-svid\",\"kid\":\"k\",\"n\":\"AQAB\",\"e\":\"AQAB\"}",
+            "unchanged",
+            2,
+        ),
+        (
+            "append a {\"kty\":\"RSA\",\"use\":\"jwt-svid\",\"kid\":\"k\",\"n\":\"AQAC\",\"e\":\"AQAB\"}",
+            "refused 32",
+            2,
+        ),
+        (
+            "append a {\"kty\":\"EC\",\"use\":\"x509-svid\",\"crv\":\"P-256\",\"x\":\"AAAAAAAAAAAAAAAAAAAAAAAAAAAAAAAAAAAAAAAAAAA\",\"y\":\"AAAAAAAAAAAAAAAAAAAAAAAAAAAAAAAAAAAAAAAAAAA\",\"x5c\":[\"MAA=\"]}",
+            "appended 11",
+            3,
+        ),
+        (
+            "get a",
+            "found {\"keys\":[{\"e\":\"AQAB\",\"kid\":\"k\",\"kty\":\"RSA\",\"n\":\"AQAB\",\"use\":\"jwt-svid\"},{\"crv\":\"P-256\",\"kty\":\"EC\",\"use\":\"x509-svid\",\"x\":\"AAAAAAAAAAAAAAAAAAAAAAAAAAAAAAAAAAAAAAAAAAA\",\"x5c\":[\"MAA=\"],\"y\":\"AAAAAAAAAAAAAAAAAAAAAAAAAAAAAAAAAAAAAAAAAAA\"}],\"spiffe_sequence\":11}",
+            3,
+        ),
+        ("remove a", "removed", 4),
+        ("setif a absent {\"keys\":[]}", "stored", 5),
+        (
+            "append a {\"kty\":\"RSA\",\"use\":\"jwt-svid\",\"kid\":\"k\",\"n\":\"AQAB\",\"e\":\"AQAB\"}",
+            "appended -",
+            6,
+        ),
+    ];
+    play_new(rt.alloc(), &rows)
+}
+
+#[test]
+fn a_worn_shard_changes_no_more(rt: HostRuntime) -> Result<(), Fail> {
+    let alloc = rt.alloc();
+    let mut worn = Shard::with(alloc, 4611686018427387904, Contents::new(alloc))?;
+    let rows = [
+        ("set a {\"keys\":[]}", "worn 0", 4611686018427387904),
+        ("get a", "refused 30", 4611686018427387904),
+    ];
+    play(alloc, &mut worn, &rows)?;
+    let mut last = Shard::with(alloc, 4611686018427387903, Contents::new(alloc))?;
+    let rows = [
+        ("set a {\"keys\":[]}", "stored", 4611686018427387904),
+        ("set a {\"keys\":[]}", "unchanged", 4611686018427387904),
+        ("remove a", "worn 0", 4611686018427387904),
+        ("get a", "found {\"keys\":[]}", 4611686018427387904),
+    ];
+    play(alloc, &mut last, &rows)
+}
+
+/// A version that was shared stays as it was, and a shard that nobody shares goes on from the last one.
+#[test]
+fn a_shared_version_stays(rt: HostRuntime) -> Result<(), Fail> {
+    let alloc = rt.alloc();
+    let mut shard = Shard::new(alloc)?;
+    play(alloc, &mut shard, &[("set a {\"keys\":[]}", "stored", 1)])?;
+    let (_, first) = shard.share()?;
+    play(alloc, &mut shard, &[("set b {\"keys\":[]}", "stored", 2)])?;
+    let (_, second) = shard.share()?;
+    play(alloc, &mut shard, &[("get b", "found {\"keys\":[]}", 2)])?;
+    play(alloc, &mut shard, &[("remove a", "removed", 3)])?;
+    assert_eq!(rt;
+        (first.len(), second.len(), shard.look().1.len()),
+        (1, 2, 1)
+    );
+    Ok(())
+}
+
+fn seen(alloc: Global, revision: u64) -> Result<Answer, Fail> {
+    let (_, contents) = Shard::new(alloc)?.share()?;
+    Ok(Answer::Seen { revision, contents })
+}
+
+/// A fetch-all over two shards: the second round reads both again, though the first shard had not moved.
+#[test]
+fn a_fetch_all_wants_all_again(rt: HostRuntime) -> Result<(), Fail> {
+    let alloc = rt.alloc();
+    let mut task = Task::begin(alloc, &Op::FetchAll, 2, 2)?;
+    for revisions in [(3, 4, 5), (3, 5, 5)] {
+        let (first, second, now) = revisions;
+        assert_eq!(rt; task.wants(), Want::Collect(0));
+        task.give(seen(alloc, first)?);
+        assert_eq!(rt; task.wants(), Want::Collect(1));
+        task.give(seen(alloc, second)?);
+        assert_eq!(rt; task.wants(), Want::Confirm(0));
+        task.give(Answer::Revision(first));
+        assert_eq!(rt; task.wants(), Want::Confirm(1));
+        task.give(Answer::Revision(now));
+    }
+    if task.wants() != Want::Done {
+        return Err(Fail::from("the task is not done"));
+    }
+    assert_eq!(rt; answer_text(alloc, &task.reply())?.as_str(), "all 0");
+    Ok(())
+}
+
+#[test]
+fn a_fetch_all_names_the_last_shard_that_moved(rt: HostRuntime) -> Result<(), Fail> {
+    let alloc = rt.alloc();
+    let mut task = Task::begin(alloc, &Op::FetchAll, 1, 2)?;
+    for (first, second) in [(0, 1), (7, 9)] {
+        task.give(seen(alloc, first)?);
+        task.give(Answer::Revision(second));
+    }
+    if task.wants() != Want::Done {
+        return Err(Fail::from("the task is not done"));
+    }
+    assert_eq!(rt; answer_text(alloc, &task.reply())?.as_str(), "moved 0 7 9");
+    Ok(())
+}
+
+/// One on a name is a step of its shard; what it does not want changes nothing.
+#[test]
+fn an_operation_on_a_name_is_one_step(rt: HostRuntime) -> Result<(), Fail> {
+    let alloc = rt.alloc();
+    let mut task = Task::begin(alloc, &operation(alloc, "get a")?, 2, 1)?;
+    task.give(Answer::Revision(0));
+    task.give(seen(alloc, 0)?);
+    assert_eq!(rt; task.wants(), Want::Do(1));
+    task.give(Answer::Replied(Ok(Reply::Unchanged)));
+    task.give(Answer::Replied(Err(AskError::Memory)));
+    if task.wants() != Want::Done {
+        return Err(Fail::from("the task is not done"));
+    }
+    assert_eq!(rt; answer_text(alloc, &task.reply())?.as_str(), "unchanged");
+    Ok(())
+}
