@@ -6,3 +6,4 @@ mod PassLaws
 mod Retries
 mod ServedLists
 mod Simulated
+mod Fillings

@@ -3,3 +3,4 @@ pub mod Sessions
 pub mod Workers
 pub mod Closing
 pub mod Retrying
+pub mod Filling

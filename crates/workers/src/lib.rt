@@ -6,6 +6,7 @@
 #![tactic(auto)]
 
 mod closing;
+mod filling;
 mod gate;
 mod gated;
 mod passes;
@@ -14,6 +15,7 @@ mod run;
 mod sessions;
 
 pub use closing::close_store;
+pub use filling::{FillError, fill_store};
 pub use gate::{Gate, Open};
 pub use gated::Gated;
 pub use passes::passes_of;

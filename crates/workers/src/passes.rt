@@ -8,7 +8,7 @@ use shard_store::{Pass, Store};
 use std::alloc::{AllocError, Global};
 
 /// A pass for each worker, out of the first pass of a store. Each but the last has one number, and the last has the
-/// rest, so that together they have all.
+/// rest, so that together they have all. Each has seen what the first had seen.
 pub fn passes_of(
     alloc: Global,
     store: &Store,
@@ -21,6 +21,7 @@ pub fn passes_of(
     ensures count { IfOk result (λ passes. vec_len passes ≡ workers) }
     ensures own { IfOk result (λ passes. All (λ pass. IsOf pass store.now) passes.items) }
     ensures all { IfOk result (λ passes. AreAll (ranges_of passes.items)) }
+    ensures logs { IfOk result (λ passes. All (λ pass. pass.seen.log ≡ first.seen.log) passes.items) }
 {
     let mut passes = Vec::new(alloc);
     let mut first = first;

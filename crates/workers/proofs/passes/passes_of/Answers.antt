@@ -24,6 +24,9 @@ loop-preserved c =
           (all_push (λ p. IsOf p store) passes c.split.result c.loop.invariant.3 c.split.ensures.own.1),
       subst (λ (ps : List PassView). HaveFrom m ps) (sym c.in_ok-push.ensures.items)
           (have_before passes c.split.result n m 1 (given ∙ ap (λ (k : ℕ). (k, 1) ∷ []) at) next c.loop.invariant.4),
+      c.split.ensures.logs.0 ∙ c.loop.invariant.5,
+      subst (λ (ps : List PassView). All (λ p. p.seen.log ≡ c.args.first.seen.log) ps) (sym c.in_ok-push.ensures.items)
+          (all_push (λ p. p.seen.log ≡ c.args.first.seen.log) passes c.split.result c.loop.invariant.6 (c.split.ensures.logs.1 ∙ c.loop.invariant.5)),
     )
 
 pub returns-clause-all : goal.returns-clause-all
@@ -32,3 +35,8 @@ returns-clause-all c =
     let n = 4294967297 - c.loop.counter in
     let all = have_before passes c.loop.first n 0 n c.loop.invariant.1 (omega arith) c.loop.invariant.4 in
     have_all c.push-2.new.self.items (subst (λ (ps : List PassView). HaveFrom 0 ps) (sym c.in_ok-push-2.ensures.items) all)
+
+pub returns-clause-logs : goal.returns-clause-logs
+returns-clause-logs c =
+    subst (λ (ps : List PassView). All (λ p. p.seen.log ≡ c.args.first.seen.log) ps) (sym c.in_ok-push-2.ensures.items)
+    (all_push (λ p. p.seen.log ≡ c.args.first.seen.log) c.loop.passes.items c.loop.first c.loop.invariant.6 c.loop.invariant.5)

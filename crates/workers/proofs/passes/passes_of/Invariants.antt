@@ -9,3 +9,5 @@ invariant-loop l =
     IsOf l.first l.store × (l.first.seen.ranges ≡ (0, 4294967297 - l.counter) ∷ [])
     × (vec_len l.passes + 1 ≡ l.counter) × All (λ pass. IsOf pass l.store) l.passes.items
     × HaveFrom (4294967297 - l.counter) l.passes.items
+    × (l.first.seen.log ≡ l.fn.first.seen.log)
+    × All (λ pass. pass.seen.log ≡ l.fn.first.seen.log) l.passes.items

@@ -1,0 +1,40 @@
+use Rattle.std.proofs.Common.{◌≡◌, List, [], ◌∷◌, sym, ap, subst, refl, ◌∙◌, arith}
+use Rattle.std.specs.Prelude.{ℕ, suc, Ok, Some}
+use Rattle.shard_store.specs.declared.change.Seen.{Seen}
+use Rattle.shard_store.specs.Pass.{StoreView, SeatedView}
+use Rattle.shard_store.specs.Seated.{SeatedAnswer}
+use Rattle.workers.specs.Filling.{seated, stored_replies}
+use Rattle.workers.specs.Workers.{IsFurther}
+use Rattle.workers.proofs.Fillings.{fills_by}
+use Rattle.workers.proofs.KeptAlong.{sessions_keep}
+use Rattle.workers.proofs.PassLaws.{StaysSeated, seated_same, seated_then, seated_answer}
+use Rattle.workers.proofs.filling.fill_store.Goals as goal
+
+-- the pass stays at its store
+stays : (c : goal.After-drop-writer-2) → StaysSeated c.new-seated.result c.serve.new.ask
+stays c =
+    sessions_keep SeatedAnswer StaysSeated seated_same seated_then seated_answer (Ok c.in-Ok.answered ∷ []) c.new-seated.result c.serve.new.ask (
+      c.serve.new.ask,
+      record { turns = _; left_old = _; left_new = _; held_old = _; held_new = _; transcript = c.in-Ok.ensures.transcript },
+      refl,
+    )
+
+pub returns-clause-own : goal.returns-clause-own
+returns-clause-own c = c.into_pass.ensures.own ∙ ap (λ (s : StoreView). s.id) ((stays c).0 ∙ c.new-seated.ensures.store)
+
+pub returns-clause-further : goal.returns-clause-further
+returns-clause-further c =
+    subst (λ (x : Seen). IsFurther x c.args.first.seen) (sym c.into_pass.ensures.seen)
+    (subst (λ (x : Seen). IsFurther c.serve.new.ask.seen x) c.new-seated.ensures.seen (stays c).1)
+
+pub returns-clause-stored : goal.returns-clause-stored
+returns-clause-stored c =
+    let store = c.args.store.now in
+    let begun : c.new-seated.result ≡ seated store c.args.first.seen =
+    ap (λ (x : StoreView). seated x c.new-seated.result.seen) c.new-seated.ensures.store ∙ ap (seated store) c.new-seated.ensures.seen in
+    let done : c.serve.new.ask ≡ seated store c.into_pass.result.seen =
+    ap (λ (x : StoreView). seated x c.serve.new.ask.seen) ((stays c).0 ∙ c.new-seated.ensures.store) ∙ ap (seated store) (sym c.into_pass.ensures.seen) in
+    let written = sym c.as_slice.ensures.value ∙ c.if-not-are_stored.ensures refl in
+    fills_by c.args.requests.now store c.args.first.seen c.into_pass.result.seen c.in-Some.count c.in-Ok.answered 1000000 _ _ _ _ c.new-seated.result c.serve.new.ask
+    (omega (arith, c.in-Some.ensures)) (ap (λ x. Some x.now) c.new-reader.ensures.end)
+    (ap (λ x. Some x.items) c.new-writer.ensures.end ∙ ap Some c.new.ensures.items) (ap Some written) begun done c.in-Ok.ensures.transcript
