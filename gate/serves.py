@@ -10,6 +10,7 @@ import socket
 import struct
 import subprocess
 import sys
+import tempfile
 import time
 
 sys.dont_write_bytecode = True
@@ -78,10 +79,34 @@ def real_bundles():
         ran = subprocess.run([program("bundled"), "refresh", *words], stdout=subprocess.PIPE, timeout=SECONDS)
         lines = "".join(f"1000 {name} {said} due {1000 + due}\n" for name, due in sorted(DUE.items()))
         assert (ran.returncode, ran.stdout.decode()) == (0, lines), ran
-    all = frame(b"a" + len(DUE).to_bytes(8, "big"))
-    all += b"".join(frame(b"i" + bytes([len(name)]) + name.encode() + canonical(name)) for name in sorted(DUE))
-    assert server.ask(frame(b"F")) == all
+    assert server.ask(frame(b"F")) == dump_of_all()
     assert server.ended() == (0, f"served 3\ndomains {len(DUE)}\n", ""), "ended otherwise"
+
+
+def dump_of_all():
+    """The reply to a fetch-all of the bundles in gate/bundles."""
+    items = [frame(b"i" + bytes([len(name)]) + name.encode() + canonical(name)) for name in sorted(DUE)]
+    return frame(b"a" + len(DUE).to_bytes(8, "big")) + b"".join(items)
+
+
+def filled_stores():
+    """A dump fills the store before the first client comes; what is no dump is refused, and nothing listens."""
+    with tempfile.TemporaryDirectory(prefix="filled-stores-") as room:
+        dump = f"{room}/dump"
+        with open(dump, "wb") as it:
+            it.write(dump_of_all())
+        server = Server("--workers", "2", "--load", dump)
+        assert server.ask(frame(b"F")) == dump_of_all()
+        assert server.ask(frame(b"R\x04many") + frame(b"G\x04many")) == frame(b"d") + frame(b"\x1e")
+        assert server.ended() == (0, f"served 2\ndomains {len(DUE) - 1}\n", ""), "ended otherwise"
+        for bad, line in [(dump_of_all()[:-1], f"fault 63 {len(DUE)}\n"), (b"", "fault 63 0\n"), (None, "fault 53\n")]:
+            if bad is None:
+                os.remove(dump)
+            else:
+                with open(dump, "wb") as it:
+                    it.write(bad)
+            server = Server("--load", dump)
+            assert (server.line, server.ended()) == ("", (1, "", line)), server.line
 
 
 def clients_that_fail():
@@ -185,7 +210,7 @@ def stops_at_the_end_of_input():
     assert server.ended() == (0, "served 12\ndomains 1\n", ""), "ended otherwise"
 
 
-CHECKS = [two_workers, side_by_side, real_bundles, clients_that_fail, many_workers, ports_and_outputs, silent_clients,
+CHECKS = [two_workers, side_by_side, real_bundles, filled_stores, clients_that_fail, many_workers, ports_and_outputs, silent_clients,
           client_that_never_reads, replies_before_a_bad_length, stops_at_the_end_of_input]
 
 

@@ -13,7 +13,7 @@ use Rattle.commands.specs.Run.{Runs}
 use Rattle.commands.specs.Trace.{Tracing}
 use Rattle.commands.specs.Migrate.{Migration}
 use Rattle.bundled.specs.Refresh.{RefreshRun}
-use Rattle.bundled.specs.Serve.{ServeRun}
+use Rattle.bundled.specs.Serve.{ServeCommand}
 
 -- a command, with its settings
 abbrev pub Does : Wanted → ℕ → Streams → Streams → Type 0
@@ -21,7 +21,8 @@ Does (Run shards turns) status old new = Runs turns status old new
 Does (Trace shards rounds) status old new = Tracing status old new
 Does Migrate status old new = Migration status old new
 Does (Refresh wanted) status old new = RefreshRun status old new
-Does (Serve port settings) status old new = (settings.until_eof ≡ false → new.input ≡ old.input) × ServeRun settings status old.output new.output old.error new.error
+Does (Serve port load settings) status old new =
+    (settings.until_eof ≡ false → new.input ≡ old.input) × ServeCommand load settings status old.output new.output old.error new.error
 
 -- some text is written; a front of it if the writer failed; nothing if memory ran out
 abbrev pub WritesText : Result (Unit {0}) Fault → End → End → Type 0

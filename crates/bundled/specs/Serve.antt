@@ -1,13 +1,18 @@
 -- What the command `serve` says, and how it ends.
-use Rattle.std.specs.Prelude.{◌≡◌, ◌⊎◌, ℕ, suc, ◌&&◌, min, if◌then◌else◌, List, [], ◌∷◌, ◌++◌, length, codes, decimal, Bool, true, false, Result, Ok, Err}
-use Rattle.std.specs.List.{flat_map}
+use Rattle.std.specs.Prelude.{◌≡◌, ◌⊎◌, ℕ, suc, ◌&&◌, min, if◌then◌else◌, List, [], ◌∷◌, ◌++◌, length, codes, decimal, Bool, true, false, Option, Some, None, Result, Ok, Err}
+use Rattle.std.specs.List.{All, flat_map}
 use Rattle.std.specs.Io.KnownBytes.{Appends}
 use Rattle.frame_front.specs.Counted.{next_count}
 use Rattle.frame_front.specs.Outbox.{WritesFront}
+use Rattle.frame_front.specs.Dump.{Domains as AllDomains, IsDump, AreLawful, requests_for}
+use Rattle.frame_front.specs.Frame.{stream_of}
+use Rattle.frame_front.specs.declared.error.FrontError.{FrontError}
 use Rattle.frame_front.specs.declared.error.FrontError.TheVariants.{Memory, WriteFault}
 use Rattle.map_core.specs.PlainMap.{PlainMap, bundles}
+use Rattle.shard_store.specs.declared.change.Seen.{Seen}
 use Rattle.shard_store.specs.Pass.{StoreView, PassView}
 use Rattle.shard_store.specs.declared.close.CloseError.{CloseError}
+use Rattle.commands.specs.declared.fault.Fault.{Fault}
 use Rattle.commands.specs.declared.fault.Fault.TheVariants.{Front, Listen as ListenFault, Close}
 use Rattle.bundled.specs.declared.serving.report.Said.{Said}
 use Rattle.bundled.specs.declared.serving.report.Said.TheVariants.{Listening, Served, Domains}
@@ -17,6 +22,7 @@ use Rattle.workers.specs.declared.run.Worked.{Worked}
 use Rattle.commands.specs.Fault.{fault_line}
 use Rattle.commands.specs.Streams.{End, Tells, TellsUnlessFailed}
 use Rattle.bundled.specs.declared.serving.settings.Settings.{Settings}
+use Rattle.workers.specs.Filling.{Fills}
 use Rattle.workers.specs.Workers.{AllWorked}
 use Rattle.workers.specs.Closing.{ranges_of, AreAll, ClosesAs}
 
@@ -94,37 +100,70 @@ pub record Reports (worked : List Worked) (before status : ℕ) (out_old out_new
 abbrev pub always_open : ℕ → ℕ → Bool → Type 0
 always_open worker call is_open = is_open ≡ true
 
--- the store and the passes with which the workers begin: together the passes have all numbers
-pub record IsSetUp (settings : Settings) (store : StoreView) (passes : List PassView) : Type 0 where
+-- what fills the store before anything is accepted: nothing, or the requests that store again what a dump holds
+abbrev pub IsLoad : {A : Type 0} → Option A → List ℕ → Type 0
+IsLoad None requests = requests ≡ []
+IsLoad (Some file) requests = (dump : List ℕ) × (items : AllDomains) × IsDump dump items × AreLawful items × (requests ≡ stream_of (requests_for items) [])
+
+-- The first pass has stored what the requests hold, if there are any, and has its numbers still.
+abbrev pub Filled : List ℕ → StoreView → Seen → Seen → Type 0
+Filled [] store old new = new ≡ old
+Filled (byte ∷ more) store old new = Fills (byte ∷ more) store old new
+
+-- the store and the passes with which the workers begin: each has seen with what the store was filled, and together they have
+-- all numbers
+pub record IsSetUp (settings : Settings) (requests : List ℕ) (store : StoreView) (passes : List PassView) : Type 0 where
   pub workers : length passes ≡ settings.workers
   pub shards : store.id.slots ≡ settings.shards
   pub rounds : store.rounds ≡ settings.rounds
   pub tries : store.tries ≡ settings.tries
   pub all : AreAll (ranges_of passes)
+  pub fresh : Seen
+  pub empty : fresh.log ≡ []
+  pub first : Seen
+  pub filled : Filled requests store fresh first
+  pub seen : All (λ pass. pass.seen.log ≡ first.log) passes
 
 -- Each worker serves its connections over a pass of its own, and the end is reported; or memory runs out, and that is told.
-abbrev pub Serves : Settings → ℕ → ℕ → End → End → End → End → Type 0
-Serves settings before status out_old out_new err_old err_new =
+abbrev pub Serves : StoreView → List PassView → ℕ → ℕ → End → End → End → End → Type 0
+Serves store passes before status out_old out_new err_old err_new =
     ((status ≡ 1) × (out_new ≡ out_old) × TellsUnlessFailed before err_old err_new (fault_line (Front Memory)))
-    ⊎ ((store : StoreView) × (passes : List PassView) × (worked : List Worked) × IsSetUp settings store passes
-    × AllWorked always_open store 0 passes worked × Reports worked before status out_old out_new err_old err_new)
+    ⊎ ((worked : List Worked) × AllWorked always_open store 0 passes worked × Reports worked before status out_old out_new err_old err_new)
 
 -- Nothing is accepted if `listening PORT` is not taken.
-abbrev pub ServesIf : Bool → Settings → ℕ → ℕ → End → End → End → End → Type 0
-ServesIf true settings before status out_old out_new err_old err_new = Serves settings before status out_old out_new err_old err_new
-ServesIf false settings before status out_old out_new err_old err_new = (status ≡ 1) × (out_new ≡ out_old) × (err_new ≡ err_old)
+abbrev pub ServesIf : Bool → StoreView → List PassView → ℕ → ℕ → End → End → End → End → Type 0
+ServesIf true store passes before status out_old out_new err_old err_new = Serves store passes before status out_old out_new err_old err_new
+ServesIf false store passes before status out_old out_new err_old err_new = (status ≡ 1) × (out_new ≡ out_old) × (err_new ≡ err_old)
 
 -- `listening PORT` is offered, and then connections are served.
-pub record Listens (settings : Settings) (port status : ℕ) (out_old out_new err_old err_new : End) : Type 0 where
+pub record Listens (store : StoreView) (passes : List PassView) (port status : ℕ) (out_old out_new err_old err_new : End) : Type 0 where
   pub taken : Bool
   pub out : End
   pub error : End
   pub listening : IsOffered taken (said_line (Listening port)) out_old out
   pub told : TellsUnlessFailed err_old.faults err_old error (untaken taken)
-  pub serves : ServesIf taken settings err_old.faults status out out_new error err_new
+  pub serves : ServesIf taken store passes err_old.faults status out out_new error err_new
 
--- The listener has a port and serves; or it has none, and that is told.
-abbrev pub ServeRun : Settings → ℕ → End → End → End → End → Type 0
-ServeRun settings status out_old out_new err_old err_new =
-    ((status ≡ 1) × (out_new ≡ out_old) × Tells err_old err_new (fault_line ListenFault))
-    ⊎ ((port : ℕ) × Listens settings port status out_old out_new err_old err_new)
+-- It ends before anything is said, and why is told.
+abbrev pub EndsEarly : Fault → ℕ → End → End → End → End → Type 0
+EndsEarly fault status out_old out_new err_old err_new = (status ≡ 1) × (out_new ≡ out_old) × Tells err_old err_new (fault_line fault)
+
+-- The listener has a port, the store is filled, and connections are served; or there is no port, or the store is not filled for
+-- want of memory.
+abbrev pub ServeRun : Settings → List ℕ → ℕ → End → End → End → End → Type 0
+ServeRun settings requests status out_old out_new err_old err_new =
+    EndsEarly ListenFault status out_old out_new err_old err_new
+    ⊎ (((error : FrontError) × EndsEarly (Front error) status out_old out_new err_old err_new)
+    ⊎ ((port : ℕ) × (store : StoreView) × (passes : List PassView) × IsSetUp settings requests store passes
+    × Listens store passes port status out_old out_new err_old err_new))
+
+-- What is to fill the store is no dump, or can't be read.
+abbrev pub LoadFails : {A : Type 0} → Option A → ℕ → End → End → End → End → Type 0
+LoadFails None status out_old out_new err_old err_new = ⊥
+LoadFails (Some file) status out_old out_new err_old err_new = (fault : Fault) × EndsEarly fault status out_old out_new err_old err_new
+
+-- The whole command: what is to fill the store is judged before it listens.
+abbrev pub ServeCommand : {A : Type 0} → Option A → Settings → ℕ → End → End → End → End → Type 0
+ServeCommand load settings status out_old out_new err_old err_new =
+    LoadFails load status out_old out_new err_old err_new
+    ⊎ ((requests : List ℕ) × IsLoad load requests × ServeRun settings requests status out_old out_new err_old err_new)

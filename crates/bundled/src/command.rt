@@ -4,14 +4,10 @@ ghost use Rattle.bundled.specs.Command.{Commands, Shows, Refuses};
 ghost use Rattle.commands.specs.Streams.{End, Streams, Tells, end_of, streams};
 
 use crate::command_line::{Wanted, wanted_by};
-use commands::Fault;
-use commands::migrate_over;
-use commands::{tell, write_flushed};
 use crate::refreshing::refresh_over;
-use commands::run_over;
 use crate::serving::serve_over;
-use commands::trace_over;
 use clap::error::ErrorKind;
+use commands::{Fault, migrate_over, run_over, tell, trace_over, write_flushed};
 use frame_front::{Counted, FrontError};
 use std::alloc::{AllocError, Global};
 use std::env::Env;
@@ -62,9 +58,13 @@ pub fn command_over<
         }
         Ok(Wanted::Migrate) => migrate_over(alloc, reader, out, err),
         Ok(Wanted::Refresh(wanted)) => refresh_over(alloc, host, out, err, &wanted),
-        Ok(Wanted::Serve { port, settings }) => serve_over(
-            alloc, host, reader, out, err, port, settings,
-        ),
+        Ok(
+            Wanted::Serve {
+                port,
+                load,
+                settings,
+            },
+        ) => serve_over(alloc, host, reader, out, err, port, load, settings),
         Err(error) => show(alloc, &error, out, err),
     }
 }

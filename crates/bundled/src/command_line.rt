@@ -34,8 +34,8 @@ const TRIES: u64 = 1000;
 
 const SERVING: &str = "\
 Each worker is a thread: it accepts one connection after the other, and serves each to its end. All workers
-share one store, which is empty at the start. A connection carries the frames that `run` reads and writes; see
-bundled run --help.
+share one store, which is empty at the start, or holds what --load gives it: a dump, judged whole and stored before
+the port is listened at. A connection carries the frames that `run` reads and writes; see bundled run --help.
 
 On standard output come `listening PORT` before the first connection is accepted, and at the end `served N`,
 how many connections were served, and `domains M`, how many domains have a bundle. Faults of connections go to
@@ -118,15 +118,26 @@ byte is below 64 is a refusal with that number.";
 #[derive(Clone, Copy, Debug)]
 pub enum Wanted<'a> {
     /// A session over an empty store of so many shards, of at most so many reads.
-    Run { shards: usize, turns: u64 },
+    Run {
+        shards: usize,
+        turns: u64,
+    },
     /// A run of events over so many shards, a fetch-all in so many rounds.
-    Trace { shards: usize, rounds: usize },
+    Trace {
+        shards: usize,
+        rounds: usize,
+    },
     /// The requests that store a dump again.
     Migrate,
     /// A refresh of each relationship of a list.
     Refresh(Refreshing<'a>),
-    /// A server at this port of 127.0.0.1; one that is free, if it is 0.
-    Serve { port: u16, settings: Settings },
+    /// A server at this port of 127.0.0.1; one that is free, if it is 0. Its store is filled with the dump in a file, if one
+    /// is named.
+    Serve {
+        port: u16,
+        load: Option<&'a str>,
+        settings: Settings,
+    },
 }
 
 /// Reads the command line.
@@ -150,6 +161,7 @@ pub fn wanted_by<'a>(alloc: Global, words: &'a [String]) -> Result<Wanted<'a>, E
         Some(("serve", serve)) => match connections_of(serve) {
             Ok(connections) => Ok(Wanted::Serve {
                 port: serve.get_one::<u16>("port").unwrap_or(0),
+                load: serve.get_str("load"),
                 settings: settings_of(serve, connections),
             }),
             Err(NoCount) => Err(bad_connections(alloc)?),
@@ -370,6 +382,9 @@ fn serve_command<'a>(alloc: Global) -> Result<Command<'a>, AllocError> {
         .long("until-eof")
         .action(ArgAction::SetTrue)
         .help("Stop at the end of standard input, and not before");
+    let load = Arg::new(alloc, "load").long("load").value_name("FILE").help(
+        "A dump with which the store is filled: the reply to a fetch-all, as migrate takes it",
+    );
     let tries = Arg::new(alloc, "tries")
         .long("tries")
         .value_name("COUNT")
@@ -397,6 +412,7 @@ fn serve_command<'a>(alloc: Global) -> Result<Command<'a>, AllocError> {
         .arg(workers)?
         .arg(connections)?
         .arg(until_eof)?
+        .arg(load)?
         .arg(shards_argument(alloc))?
         .arg(rounds_argument(alloc))?
         .arg(tries)?

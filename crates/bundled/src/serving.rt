@@ -1,8 +1,10 @@
 //! The command `serve`: workers answer connections, over a store that they share.
 mod connections;
 mod incoming;
+mod load;
 mod report;
 mod server;
+mod set_up;
 mod settings;
 mod stop;
 #[cfg(test)]

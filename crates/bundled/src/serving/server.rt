@@ -1,27 +1,30 @@
 //! A server: its store, its workers, and what it says of them.
 ghost use Rattle.std.specs.Prelude.{◌≡◌, false, ◌<◌, ◌≤◌, ◌-◌, ◌+◌, ◌^◌, ◌∷◌, [], List, IfOk, vec_len, length, if◌then◌else◌};
 ghost use Rattle.std.specs.List.{All, flat_map};
-ghost use Rattle.shard_store.specs.Pass.{IsOf, PassView};
+ghost use Rattle.shard_store.specs.Pass.{IsOf};
 ghost use Rattle.workers.specs.Workers.{AllWorked};
 ghost use Rattle.workers.specs.Closing.{AreAll, ranges_of};
-ghost use Rattle.bundled.specs.Serve.{IsSetUp, always_open, Reports, Serves, ServeRun};
+ghost use Rattle.bundled.specs.Serve.{always_open, Listens, Reports, ServeCommand, ServeRun};
 ghost use Rattle.commands.specs.Streams.{end_of};
 
-use commands::Fault;
 use crate::serving::connections::Connections;
+use crate::serving::load::requests_of;
 use crate::serving::report::{Said, count_begun, say, tell_faults};
+use crate::serving::set_up::SetUp;
 use crate::serving::settings::Settings;
 use crate::serving::stop::{Stop, Watch};
+use commands::Fault;
 use frame_front::{Counted, FrontError};
 use shard_store::{Pass, Store};
 use std::alloc::{AllocError, Global};
+use std::fs::Files;
 use std::io::{Read, Write};
 use std::mem::forget;
 use std::net::{Ipv4Addr, Net, TcpListener, TcpStream};
 use std::thread;
 use std::thread::Threads;
 use std::time::Clock;
-use workers::{Open, Worked, close_store, passes_of, run_workers};
+use workers::{Open, Worked, close_store, run_workers};
 
 /// The same listener for each worker.
 fn connections_of<'a>(
@@ -70,41 +73,34 @@ fn run_until_end<R: Threads + Clock + Net<Stream = TcpStream> + Sync, I: Read>(
 }
 
 /// Serves connections until each worker has had as many as it may accept, or the server is to stop; answers what the
-/// workers gave back, and the store.
+/// workers gave back.
 fn serve_all<R: Threads + Clock + Net<Stream = TcpStream> + Sync, I: Read>(
     rt: &R,
     alloc: Global,
     listener: &TcpListener,
     port: u16,
     settings: Settings,
+    store: &Store,
+    passes: Vec<Pass>,
     input: &mut Counted<I>,
-) -> Result<(Store, Vec<Worked>), AllocError>
-    ensures served { IfOk result (λ served. (passes : List PassView) × IsSetUp settings served.0 passes × AllWorked always_open served.0 0 passes served.1.items) }
+) -> Result<Vec<Worked>, AllocError>
+    requires workers { vec_len passes ≡ settings.workers }
+    requires own { All (λ pass. IsOf pass store.now) passes.items }
+    ensures worked { IfOk result (λ all. AllWorked always_open store.now 0 passes.items all.items) }
     ensures read { settings.until_eof ≡ false → input.new ≡ input.old }
 {
-    let (store, first) = Store::new(alloc, settings.shards, settings.rounds, settings.tries)?;
-    let passes = passes_of(alloc, &store, first, settings.workers)?;
     let stop = Stop::new();
     let connections = connections_of(alloc, listener, &stop, settings)?;
-    let worked = if settings.until_eof {
-        let mut end = Watch {
-            input,
-            stop: &stop,
-            port,
-        };
-        run_until_end(rt, alloc, &store, passes, connections, settings, &mut end)?
-    } else {
-        run_workers(
-            rt,
-            alloc,
-            &store,
-            passes,
-            connections,
-            &Open,
-            settings.retries,
-        )?
+    if !settings.until_eof {
+        let retries = settings.retries;
+        return run_workers(rt, alloc, store, passes, connections, &Open, retries);
+    }
+    let mut end = Watch {
+        input,
+        stop: &stop,
+        port,
     };
-    Ok((store, worked))
+    run_until_end(rt, alloc, store, passes, connections, settings, &mut end)
 }
 
 fn status_of(all_went_well: bool) -> u8
@@ -147,8 +143,43 @@ fn report<W: Write, E: Write>(
     }
 }
 
+/// Listens and serves: `listening PORT` goes to the output first, and nothing is accepted if it is not taken.
+fn listen<R: Threads + Clock + Net<Stream = TcpStream> + Sync, I: Read, W: Write, E: Write>(
+    rt: &R,
+    alloc: Global,
+    listener: &TcpListener,
+    port: u16,
+    settings: Settings,
+    set_up: SetUp,
+    input: &mut Counted<I>,
+    out: &mut Counted<W>,
+    err: &mut Counted<E>,
+) -> u8
+    requires count { err.old.faults < 2 ^ 64 - 1 }
+    requires workers { vec_len set_up.passes ≡ settings.workers }
+    requires own { All (λ pass. IsOf pass set_up.store) set_up.passes.items }
+    requires all { AreAll (ranges_of set_up.passes.items) }
+    ensures run { Listens set_up.store set_up.passes.items port result (end_of W.contents out.old) (end_of W.contents out.new)
+        (end_of E.contents err.old) (end_of E.contents err.new) }
+    ensures read { settings.until_eof ≡ false → input.new ≡ input.old }
+{
+    let before = err.faults();
+    let SetUp { store, passes } = set_up;
+    if !say(out, err, before, Said::Listening(port)) {
+        return 1;
+    }
+    match serve_all(rt, alloc, listener, port, settings, &store, passes, input) {
+        Ok(worked) => report(store, worked, out, err, before),
+        Err(_) => {
+            Fault::Front(FrontError::Memory).tell_unless_failed(err, before);
+            1
+        }
+    }
+}
+
 /// Answers the connections of a listener until each worker has had as many as it may accept, or until the end of the input
-/// if the server is to stop then; answers the exit status.
+/// if the server is to stop then; answers the exit status. Before that the store is filled with what the requests hold, if
+/// there are any: the request for version 2, and requests of which each stores a bundle, as `migrate` makes them.
 ///
 /// `listening PORT` goes to the output first; nothing is accepted if it is not taken. At the end come `served N`, how many
 /// sessions were begun, and `domains M`, how many domains have a bundle then. The faults of sessions are told in between,
@@ -163,35 +194,31 @@ pub fn serve_on<
     alloc: Global,
     listener: &TcpListener,
     settings: Settings,
+    requests: &[u8],
     input: &mut Counted<I>,
     out: &mut Counted<W>,
     err: &mut Counted<E>,
 ) -> u8
     requires { err.old.faults < 2 ^ 64 - 1 }
-    ensures run { ServeRun settings result (end_of W.contents out.old) (end_of W.contents out.new)
+    ensures run { ServeRun settings requests.now result (end_of W.contents out.old) (end_of W.contents out.new)
         (end_of E.contents err.old) (end_of E.contents err.new) }
     ensures read { settings.until_eof ≡ false → input.new ≡ input.old }
 {
-    let before = err.faults();
     let Ok(address) = listener.local_addr() else {
         return Fault::Listen.tell(err);
     };
-    if !say(out, err, before, Said::Listening(address.port())) {
-        return 1;
-    }
-    match serve_all(rt, alloc, listener, address.port(), settings, input) {
-        Ok((store, worked)) => report(store, worked, out, err, before),
-        Err(_) => {
-            Fault::Front(FrontError::Memory).tell_unless_failed(err, before);
-            1
-        }
+    let port = address.port();
+    match SetUp::new(alloc, settings, requests) {
+        Ok(set_up) => listen(rt, alloc, listener, port, settings, set_up, input, out, err),
+        Err(error) => Fault::Front(error).tell(err),
     }
 }
 
-/// Listens at the port of 127.0.0.1, or at one that is free if it is 0, and serves; answers the exit status. A port that
-/// can't be had is a fault.
+/// Listens at the port of 127.0.0.1, or at one that is free if it is 0, and serves; answers the exit status. The dump of the
+/// file, if one is named, fills the store before. A port that can't be had is a fault, and so is a file that can't be read or
+/// has no dump.
 pub fn serve_over<
-    H: Threads + Clock + Net<Listener = TcpListener, Stream = TcpStream> + Sync,
+    H: Files + Threads + Clock + Net<Listener = TcpListener, Stream = TcpStream> + Sync,
     I: Read,
     W: Write,
     E: Write,
@@ -202,15 +229,21 @@ pub fn serve_over<
     out: &mut Counted<W>,
     err: &mut Counted<E>,
     port: u16,
+    load: Option<&str>,
     settings: Settings,
 ) -> u8
     requires { err.old.faults < 2 ^ 64 - 1 }
-    ensures run { ServeRun settings result (end_of W.contents out.old) (end_of W.contents out.new)
+    ensures run { ServeCommand load.entry settings result (end_of W.contents out.old) (end_of W.contents out.new)
         (end_of E.contents err.old) (end_of E.contents err.new) }
     ensures read { settings.until_eof ≡ false → input.new ≡ input.old }
 {
+    let requests = match requests_of(alloc, host, load) {
+        Ok(requests) => requests,
+        Err(fault) => return fault.tell(err),
+    };
+    let requests = requests.as_slice();
     match TcpListener::bind(host, (Ipv4Addr::LOCALHOST, port)) {
-        Ok(listener) => serve_on(host, alloc, &listener, settings, input, out, err),
+        Ok(listener) => serve_on(host, alloc, &listener, settings, requests, input, out, err),
         Err(_) => Fault::Listen.tell(err),
     }
 }

@@ -14,6 +14,13 @@ const SET_AND_GET_A: &[u8] = b"\x00\x00\x00\x0eS\x01a{\"keys\":[]}\x00\x00\x00\x
 
 const SET_AND_GET_B: &[u8] = b"\x00\x00\x00\x0eS\x01b{\"keys\":[]}\x00\x00\x00\x03G\x01b";
 
+const GET_A: &[u8] = b"\x00\x00\x00\x03G\x01a";
+
+const FOUND_A: &[u8] = b"\x00\x00\x00\x0cf{\"keys\":[]}";
+
+/// The requests that store `a` with the empty document again.
+const HOLDS_A: &[u8] = b"\x00\x00\x00\x02V\x02\x00\x00\x00\x0fC\x01a\x00{\"keys\":[]}";
+
 const REPLIES: &[u8] = b"\x00\x00\x00\x01s\x00\x00\x00\x0cf{\"keys\":[]}";
 
 /// What the server replies to these bytes, which are the last that it is sent.
@@ -78,6 +85,7 @@ fn serve_and_ask<H: Threads + Clock + Net<Listener = TcpListener, Stream = TcpSt
     host: &H,
     alloc: Global,
     workers: u64,
+    filling: &[u8],
     requests: &[&[u8]],
 ) -> Result<Left, Fail> {
     let listener = TcpListener::bind(host, (Ipv4Addr::LOCALHOST, 0))?;
@@ -96,6 +104,7 @@ fn serve_and_ask<H: Threads + Clock + Net<Listener = TcpListener, Stream = TcpSt
                 alloc,
                 lent,
                 settings,
+                filling,
                 &mut Counted::new(b"".as_slice()),
                 &mut out,
                 &mut err,
@@ -119,7 +128,7 @@ fn serve_and_ask<H: Threads + Clock + Net<Listener = TcpListener, Stream = TcpSt
 
 #[test]
 fn serves_two_connections(rt: HostRuntime) -> Result<(), Fail> {
-    let left = serve_and_ask(&rt, rt.alloc(), 2, &[SET_AND_GET_A, SET_AND_GET_B])?;
+    let left = serve_and_ask(&rt, rt.alloc(), 2, b"", &[SET_AND_GET_A, SET_AND_GET_B])?;
     for reply in left.replies.as_slice() {
         assert_eq!(rt; reply.as_slice(), REPLIES);
     }
@@ -130,11 +139,24 @@ fn serves_two_connections(rt: HostRuntime) -> Result<(), Fail> {
     Ok(())
 }
 
+#[test]
+fn a_store_is_filled_before_it_is_asked(rt: HostRuntime) -> Result<(), Fail> {
+    let left = serve_and_ask(&rt, rt.alloc(), 1, HOLDS_A, &[GET_A])?;
+    for reply in left.replies.as_slice() {
+        assert_eq!(rt; reply.as_slice(), FOUND_A);
+    }
+    assert_eq!(rt; left.replies.len(), 1);
+    assert_eq!(rt; left.output.as_slice(), b"served 1\ndomains 1\n".as_slice());
+    assert!(rt; left.faults.is_empty());
+    assert_eq!(rt; left.status, 0);
+    Ok(())
+}
+
 // Which worker has which connection is not known; each has one.
 #[test]
 fn serves_by_64_workers(rt: HostRuntime) -> Result<(), Fail> {
     let requests = [SET_AND_GET_A; 64];
-    let left = serve_and_ask(&rt, rt.alloc(), 64, &requests)?;
+    let left = serve_and_ask(&rt, rt.alloc(), 64, b"", &requests)?;
     assert_eq!(rt; left.replies.len(), 64);
     assert_eq!(rt;
         left.output.as_slice(),
@@ -150,11 +172,11 @@ fn serves_by_64_workers(rt: HostRuntime) -> Result<(), Fail> {
 #[test]
 fn clients_that_fail(rt: HostRuntime) -> Result<(), Fail> {
     let half = b"\x00\x00\x00\x03G".as_slice();
-    let left = serve_and_ask(&rt, rt.alloc(), 2, &[SET_AND_GET_A, half])?;
+    let left = serve_and_ask(&rt, rt.alloc(), 2, b"", &[SET_AND_GET_A, half])?;
     assert_eq!(rt; left.output.as_slice(), b"served 2\ndomains 1\n".as_slice());
     assert_eq!(rt; left.faults.as_slice(), b"fault 52\n".as_slice());
     assert_eq!(rt; left.status, 0);
-    let left = serve_and_ask(&rt, rt.alloc(), 1, &[b"\x00\x00\x00\x00".as_slice()])?;
+    let left = serve_and_ask(&rt, rt.alloc(), 1, b"", &[b"\x00\x00\x00\x00".as_slice()])?;
     assert_eq!(rt; left.output.as_slice(), b"served 1\ndomains 0\n".as_slice());
     assert_eq!(rt; left.faults.as_slice(), b"fault 50\n".as_slice());
     assert_eq!(rt; left.status, 0);
@@ -178,10 +200,35 @@ fn a_port_that_is_taken(rt: HostRuntime) -> Result<(), Fail> {
         &mut out,
         &mut err,
         port,
+        None,
         settings,
     );
     assert!(rt; out.end.is_empty());
     assert_eq!(rt; err.end.as_slice(), b"fault 57\n".as_slice());
+    assert_eq!(rt; status, 1);
+    Ok(())
+}
+
+#[test]
+fn a_dump_that_is_not_there(rt: HostRuntime) -> Result<(), Fail> {
+    let alloc = rt.alloc();
+    let Some(settings) = settings(2) else {
+        return Err(Fail::from("there are 1 to 64 workers"));
+    };
+    let mut out = Counted::new(Vec::new(alloc));
+    let mut err = Counted::new(Vec::new(alloc));
+    let status = serve_over(
+        alloc,
+        &rt,
+        &mut Counted::new(b"".as_slice()),
+        &mut out,
+        &mut err,
+        0,
+        Some("no folder/no file"),
+        settings,
+    );
+    assert!(rt; out.end.is_empty());
+    assert_eq!(rt; err.end.as_slice(), b"fault 53\n".as_slice());
     assert_eq!(rt; status, 1);
     Ok(())
 }
@@ -202,6 +249,7 @@ fn an_output_that_takes_nothing(rt: HostRuntime) -> Result<(), Fail> {
         &mut out,
         &mut err,
         0,
+        None,
         settings,
     );
     assert_eq!(rt; out.end.taken.as_slice(), b"list".as_slice());

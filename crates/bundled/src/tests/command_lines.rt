@@ -205,14 +205,20 @@ fn wanted(alloc: Global, words: &[&str]) -> Result<String, AllocError> {
             let (now, port) = (wanted.now, wanted.port);
             format!(in alloc; "refresh {list} {folder} {now:?} {at_least} {port:?}")
         }
-        Ok(Wanted::Serve { port, settings }) => {
+        Ok(
+            Wanted::Serve {
+                port,
+                load,
+                settings,
+            },
+        ) => {
             let (workers, stops) = (settings.workers, settings.until_eof);
             let connections = settings.connections.unwrap_or(0);
             let (shards, rounds) = (settings.shards, settings.rounds);
             let (tries, turns) = (settings.tries, settings.turns);
             let (retries, idle) = (settings.retries, settings.idle);
             format!(in alloc;
-                "serve {port} {workers} {connections} {stops} {shards} {rounds} {tries} {retries} {idle} {turns}"
+                "serve {port} {load:?} {workers} {connections} {stops} {shards} {rounds} {tries} {retries} {idle} {turns}"
             )
         }
         Err(error) => format!(in alloc; "{error}"),
@@ -265,7 +271,7 @@ fn reads_the_command_line(rt: HostRuntime) -> Result<(), AllocError> {
         (&["bundled", "migrate"], "migrate"),
         (
             &["bundled", "serve", "--port", "0"],
-            "serve 0 2 1 false 4 3 1000 1000 60 1000000",
+            "serve 0 None 2 1 false 4 3 1000 1000 60 1000000",
         ),
         (
             &[
@@ -279,9 +285,10 @@ fn reads_the_command_line(rt: HostRuntime) -> Result<(), AllocError> {
                 "--tries=1000000",
                 "--retries=1000000",
                 "--idle=86400",
+                "--load=dumps/a",
                 "--turns=1000000000",
             ],
-            "serve 65535 64 1000 false 256 16 1000000 1000000 86400 1000000000",
+            "serve 65535 Some(\"dumps/a\") 64 1000 false 256 16 1000000 1000000 86400 1000000000",
         ),
         (
             &["bundled", "serve", "--port", "1", "--workers", "65"],
@@ -295,7 +302,7 @@ fn reads_the_command_line(rt: HostRuntime) -> Result<(), AllocError> {
                 "--connections=unlimited",
                 "--until-eof",
             ],
-            "serve 1 2 0 true 4 3 1000 1000 60 1000000",
+            "serve 1 None 2 0 true 4 3 1000 1000 60 1000000",
         ),
         (
             &["bundled", "serve", "--port", "1", "--connections", "0"],

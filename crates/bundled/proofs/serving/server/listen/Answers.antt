@@ -1,0 +1,34 @@
+use Rattle.std.proofs.Common.{ℕ, [], true, subst, sym, arith, inr}
+use Rattle.workers.specs.Closing.{AreAll}
+use Rattle.bundled.specs.Serve.{always_open, Reports}
+use Rattle.commands.specs.Streams.{TellsUnlessFailed, end_of}
+use Rattle.workers.proofs.WorkedLists.{all_own, all_long, ranges_same}
+use Rattle.bundled.proofs.serving.server.listen.Goals as goal
+
+pub report-requires-clause-some : goal.report-requires-clause-some
+report-requires-clause-some g c =
+    omega (arith, all_long always_open c.args.set_up.store 0 c.args.set_up.passes.items c.in-Ok.worked.items c.in-Ok.ensures.worked, c.requires.workers, c.args.settings.some.0, c.in-Ok.worked.ok)
+
+pub report-requires-clause-own : goal.report-requires-clause-own
+report-requires-clause-own g c = all_own always_open c.args.set_up.store 0 c.args.set_up.passes.items c.in-Ok.worked.items c.in-Ok.ensures.worked
+
+pub report-requires-clause-all : goal.report-requires-clause-all
+report-requires-clause-all g c =
+    subst AreAll (sym (ranges_same always_open c.args.set_up.store 0 c.args.set_up.passes.items c.in-Ok.worked.items c.in-Ok.ensures.worked)) c.requires.all
+
+pub returns-in-Ok-clause-run : goal.returns-in-Ok-clause-run
+returns-in-Ok-clause-run g c =
+    let before = c.faults-before.ensures in
+    record {
+      taken = true;
+      out = end_of g.W.Write.contents c.say.new.out;
+      error = end_of g.E.Write.contents c.say.new.err;
+      listening = c.if-not-say.ensures.offered;
+      told = subst (λ (b : ℕ). TellsUnlessFailed b (end_of g.E.Write.contents c.args.err.now) (end_of g.E.Write.contents c.say.new.err) []) before c.if-not-say.ensures.told;
+      serves = inr (
+        c.in-Ok.worked.items,
+        c.in-Ok.ensures.worked,
+        subst (λ (b : ℕ). Reports c.in-Ok.worked.items b c.report.result (end_of g.W.Write.contents c.say.new.out) (end_of g.W.Write.contents c.report.new.out)
+            (end_of g.E.Write.contents c.say.new.err) (end_of g.E.Write.contents c.report.new.err)) before c.report.ensures,
+      );
+    }
