@@ -32,10 +32,13 @@ fn authority(alloc: Global, word: &str) -> Result<Authority, Fail> {
     }
 }
 
-/// A bundle, written as its sequence or `-`, and after a slash its authorities: `5/k:AQAB,l:AQAB`.
-fn bundle(alloc: Global, word: &str) -> Result<Bundle, Fail> {
-    let (sequence, entries) = word.split_once('/').unwrap_or((word, ""));
-    let mut text = String::from_str(alloc, "{\"keys\":[")?;
+fn push_entry(alloc: Global, text: &mut String, word: &str) -> Result<(), Fail> {
+    Ok(text.push_str(entry_text(alloc, word)?.as_str())?)
+}
+
+/// The member `keys` of a document with these entries.
+fn keys_text(alloc: Global, entries: &str) -> Result<String, Fail> {
+    let mut text = String::from_str(alloc, "\"keys\":[")?;
     let mut rest = entries;
     for count in 0..entries.len() {
         let (entry, others) = rest.split_once(',').unwrap_or((rest, ""));
@@ -45,14 +48,24 @@ fn bundle(alloc: Global, word: &str) -> Result<Bundle, Fail> {
         if count > 0 {
             text.push(',')?;
         }
-        text.push_str(entry_text(alloc, entry)?.as_str())?;
+        push_entry(alloc, &mut text, entry)?;
         rest = others;
     }
-    if sequence == "-" {
-        text.push_str("]}")?;
-    } else {
-        text.push_str(format!(in alloc; "],\"spiffe_sequence\":{sequence}}}")?.as_str())?;
+    text.push(']')?;
+    Ok(text)
+}
+
+fn document_text(alloc: Global, sequence: &str, keys: &str) -> Result<String, AllocError> {
+    match sequence {
+        "-" => format!(in alloc; "{{{keys}}}"),
+        _ => format!(in alloc; "{{{keys},\"spiffe_sequence\":{sequence}}}"),
     }
+}
+
+/// A bundle, written as its sequence or `-`, and after a slash its authorities: `5/k:AQAB,l:AQAB`.
+fn bundle(alloc: Global, word: &str) -> Result<Bundle, Fail> {
+    let (sequence, entries) = word.split_once('/').unwrap_or((word, ""));
+    let text = document_text(alloc, sequence, keys_text(alloc, entries)?.as_str())?;
     Ok(read_document(alloc, text.as_bytes())?)
 }
 
@@ -64,23 +77,34 @@ fn expect(word: &str) -> Result<Expect, Fail> {
     }
 }
 
+fn set_operation(alloc: Global, name: &str, rest: &str) -> Result<Op, Fail> {
+    let domain = TrustDomain::parse(alloc, name)?;
+    Ok(Op::Set(domain, bundle(alloc, rest)?))
+}
+
+fn set_if_operation(alloc: Global, name: &str, rest: &str) -> Result<Op, Fail> {
+    let (expected, rest) = rest.split_once(' ').unwrap_or((rest, ""));
+    let expected = expect(expected)?;
+    let domain = TrustDomain::parse(alloc, name)?;
+    Ok(Op::SetIf(domain, expected, bundle(alloc, rest)?))
+}
+
+fn append_operation(alloc: Global, name: &str, rest: &str) -> Result<Op, Fail> {
+    let domain = TrustDomain::parse(alloc, name)?;
+    Ok(Op::Append(domain, authority(alloc, rest)?))
+}
+
 /// The operation of a line: `set a 5`, `setif a absent 5`, `append a k:AQAB`, `remove a`, `get a` or `fetch`.
 fn operation(alloc: Global, line: &str) -> Result<Op, Fail> {
     let (verb, rest) = line.split_once(' ').unwrap_or((line, ""));
     let (name, rest) = rest.split_once(' ').unwrap_or((rest, ""));
-    if verb == "fetch" {
-        return Ok(Op::FetchAll);
-    }
-    let domain = TrustDomain::parse(alloc, name)?;
     match verb {
-        "set" => Ok(Op::Set(domain, bundle(alloc, rest)?)),
-        "setif" => {
-            let (expected, rest) = rest.split_once(' ').unwrap_or((rest, ""));
-            Ok(Op::SetIf(domain, expect(expected)?, bundle(alloc, rest)?))
-        }
-        "append" => Ok(Op::Append(domain, authority(alloc, rest)?)),
-        "remove" => Ok(Op::Remove(domain)),
-        "get" => Ok(Op::Get(domain)),
+        "set" => set_operation(alloc, name, rest),
+        "setif" => set_if_operation(alloc, name, rest),
+        "append" => append_operation(alloc, name, rest),
+        "remove" => Ok(Op::Remove(TrustDomain::parse(alloc, name)?)),
+        "get" => Ok(Op::Get(TrustDomain::parse(alloc, name)?)),
+        "fetch" => Ok(Op::FetchAll),
         _ => Err(Fail::from("no operation has this name")),
     }
 }
@@ -195,28 +219,40 @@ fn done(alloc: Global, map: &mut Contents, op: &Op) -> Result<String, Fail> {
     Ok(format!(in alloc; "{reply}, {changes} {changes}: {left}")?)
 }
 
-fn told_and_done(alloc: Global, map: &mut Contents, op: &Op) -> Result<(String, String), Fail> {
-    let told = told(alloc, map, op)?;
-    let done = done(alloc, map, op)?;
-    Ok((told, done))
-}
-
-/// One row: the reply is the expected one, and what is told beforehand agrees with it.
-fn play_row(alloc: Global, map: &mut Contents, line: &str, expected: &str) -> Result<(), Fail> {
-    let (told, done) = told_and_done(alloc, map, &operation(alloc, line)?)?;
+/// What is done has the expected reply, and what was told beforehand agrees with it.
+fn judge(alloc: Global, row: (&str, &str), told: &str, done: &str) -> Result<(), Fail> {
+    let (line, expected) = row;
     let (text, _) = done.split_once(", ").unwrap_or(("", ""));
     if text != expected {
         return Err(Fail::from(format!(in alloc; "{line}: {text}, and not {expected}")?));
     }
-    if told.as_str() != done.as_str() {
+    if told != done {
         return Err(Fail::from(format!(in alloc; "{line}: {told} was told before {done}")?));
     }
     Ok(())
 }
 
+/// Tells of an operation, does it, and judges both.
+fn play_operation(
+    alloc: Global,
+    map: &mut Contents,
+    row: (&str, &str),
+    op: &Op,
+) -> Result<(), Fail> {
+    let told = told(alloc, map, op)?;
+    let done = done(alloc, map, op)?;
+    judge(alloc, row, told.as_str(), done.as_str())
+}
+
+fn play_row(alloc: Global, map: &mut Contents, row: (&str, &str)) -> Result<(), Fail> {
+    let (line, _) = row;
+    let op = operation(alloc, line)?;
+    play_operation(alloc, map, row, &op)
+}
+
 fn play(alloc: Global, map: &mut Contents, rows: &[(&str, &str)]) -> Result<(), Fail> {
-    for (line, expected) in rows {
-        play_row(alloc, map, line, expected)?;
+    for row in rows {
+        play_row(alloc, map, *row)?;
     }
     Ok(())
 }
@@ -303,13 +339,24 @@ fn shows_bundles_in_order(rt: HostRuntime) -> Result<(), Fail> {
     Ok(())
 }
 
+/// A name with its bundle.
+fn pair(alloc: Global, name: &str, word: &str) -> Result<(TrustDomain, Bundle), Fail> {
+    let domain = TrustDomain::parse(alloc, name)?;
+    Ok((domain, bundle(alloc, word)?))
+}
+
+/// The snapshot of one pair.
+fn snapshot_of(alloc: Global, name: &str, word: &str) -> Result<Snapshot, Fail> {
+    let mut pairs = Vec::new(alloc);
+    pairs.push(pair(alloc, name, word)?)?;
+    Ok(Snapshot::from_pairs(pairs))
+}
+
 #[test]
 fn a_snapshot_is_of_its_pairs(rt: HostRuntime) -> Result<(), Fail> {
-    let alloc = rt.alloc();
-    let mut pairs = Vec::new(alloc);
-    pairs.push((TrustDomain::parse(alloc, "a")?, bundle(alloc, "5")?))?;
-    let all = Snapshot::from_pairs(pairs);
-    assert_eq!(rt; snapshot_text(alloc, &all)?.as_str(), "all 1 a 5/0");
+    let all = snapshot_of(rt.alloc(), "a", "5")?;
+    let text = snapshot_text(rt.alloc(), &all)?;
+    assert_eq!(rt; text.as_str(), "all 1 a 5/0");
     assert_eq!(rt; all.into_pairs().len(), 1);
     Ok(())
 }

@@ -54,6 +54,11 @@ fn authority(alloc: Global, entry: &str) -> Result<Authority, DocError> {
     }
 }
 
+/// Whether the authority is that of the entry.
+fn is_entry(alloc: Global, kept: &Authority, entry: &str) -> Result<bool, DocError> {
+    Ok(*kept == authority(alloc, entry)?)
+}
+
 /// The document of these entries.
 fn keys(alloc: Global, entries: &str) -> Result<String, AllocError> {
     format!(in alloc; "{{\"keys\":[{entries}]}}")

@@ -5,10 +5,10 @@ mod shards;
 mod tasks;
 
 use map_core::{AskError, Contents, Expect, MapRefusal, Op, Reply, Snapshot};
-use spiffe_doc::{Bundle, TrustDomain, read_document, read_entry};
+use spiffe_doc::{Authority, Bundle, TrustDomain, read_document, read_entry};
 use std::alloc::{AllocError, Global};
 use std::test::Fail;
-use step_core::{Event, OpRecord, Why, run_events};
+use step_core::{Event, OpRecord, Trace, Why, run_events};
 
 /// The next word of a line, and the rest.
 fn cut(line: &str) -> (&str, &str) {
@@ -27,26 +27,41 @@ fn expectation(word: &str) -> Result<Expect, Fail> {
     }
 }
 
+fn authority(alloc: Global, entry: &str) -> Result<Authority, Fail> {
+    match read_entry(alloc, entry.as_bytes())? {
+        Some(authority) => Ok(authority),
+        None => Err(Fail::from("the entry is passed over")),
+    }
+}
+
+fn set_operation(alloc: Global, name: &str, document: &str) -> Result<Op, Fail> {
+    let domain = TrustDomain::parse(alloc, name)?;
+    Ok(Op::Set(domain, bundle(alloc, document)?))
+}
+
+fn set_if_operation(alloc: Global, name: &str, rest: &str) -> Result<Op, Fail> {
+    let (expected, document) = cut(rest);
+    let expected = expectation(expected)?;
+    let domain = TrustDomain::parse(alloc, name)?;
+    Ok(Op::SetIf(domain, expected, bundle(alloc, document)?))
+}
+
+fn append_operation(alloc: Global, name: &str, entry: &str) -> Result<Op, Fail> {
+    let domain = TrustDomain::parse(alloc, name)?;
+    Ok(Op::Append(domain, authority(alloc, entry)?))
+}
+
 /// The operation of a line: `set a DOCUMENT`, `setif a absent DOCUMENT`, `append a ENTRY`, `remove a`, `get a`, `fetch`.
 fn operation(alloc: Global, line: &str) -> Result<Op, Fail> {
     let (verb, rest) = cut(line);
-    if verb == "fetch" {
-        return Ok(Op::FetchAll);
-    }
     let (name, rest) = cut(rest);
-    let domain = TrustDomain::parse(alloc, name)?;
     match verb {
-        "set" => Ok(Op::Set(domain, bundle(alloc, rest)?)),
-        "setif" => {
-            let (expected, rest) = cut(rest);
-            Ok(Op::SetIf(domain, expectation(expected)?, bundle(alloc, rest)?))
-        }
-        "append" => match read_entry(alloc, rest.as_bytes())? {
-            Some(authority) => Ok(Op::Append(domain, authority)),
-            None => Err(Fail::from("the entry is passed over")),
-        },
-        "remove" => Ok(Op::Remove(domain)),
-        "get" => Ok(Op::Get(domain)),
+        "set" => set_operation(alloc, name, rest),
+        "setif" => set_if_operation(alloc, name, rest),
+        "append" => append_operation(alloc, name, rest),
+        "remove" => Ok(Op::Remove(TrustDomain::parse(alloc, name)?)),
+        "get" => Ok(Op::Get(TrustDomain::parse(alloc, name)?)),
+        "fetch" => Ok(Op::FetchAll),
         _ => Err(Fail::from("no operation has this name")),
     }
 }
@@ -154,16 +169,24 @@ fn answer_text(alloc: Global, answer: &Result<Reply, AskError>) -> Result<String
     }
 }
 
+fn last_text(alloc: Global, last: Option<u64>) -> Result<String, AllocError> {
+    match last {
+        Some(last) => format!(in alloc; "{last}"),
+        None => format!(in alloc; "-"),
+    }
+}
+
+fn told_text(alloc: Global, entry: &OpRecord) -> Result<String, Fail> {
+    match &entry.reply {
+        Some(answer) => answer_text(alloc, answer),
+        None => Ok(format!(in alloc; "-")?),
+    }
+}
+
 /// A line of an operation: `wrote` stands at its end if a shard was changed.
 fn record_text(alloc: Global, number: usize, entry: &OpRecord) -> Result<String, Fail> {
-    let last = match entry.last {
-        Some(last) => format!(in alloc; "{last}")?,
-        None => format!(in alloc; "-")?,
-    };
-    let reply = match &entry.reply {
-        Some(answer) => answer_text(alloc, answer)?,
-        None => format!(in alloc; "-")?,
-    };
+    let last = last_text(alloc, entry.last)?;
+    let reply = told_text(alloc, entry)?;
     let wrote = if entry.wrote { " wrote" } else { "" };
     let (caller, first) = (entry.caller, entry.first);
     Ok(format!(in alloc;
@@ -197,25 +220,51 @@ fn order_text(alloc: Global, order: &[usize]) -> Result<String, AllocError> {
     Ok(text)
 }
 
-/// The run shows the expected lines and no others.
-fn play(alloc: Global, run: &Run) -> Result<(), Fail> {
-    if run.shards == 0 || run.rounds == 0 {
-        return Err(Fail::from("a run has a shard and a round"));
-    }
+fn events(alloc: Global, lines: &[&str]) -> Result<Vec<Event>, Fail> {
     let mut events = Vec::new(alloc);
-    for line in run.events {
+    for line in lines {
         events.push(event(alloc, line)?)?;
     }
-    let trace = run_events(alloc, run.shards, run.rounds, &events)?;
+    Ok(events)
+}
+
+fn same_record(
+    alloc: Global,
+    number: usize,
+    entry: &OpRecord,
+    expected: Option<&&str>,
+) -> Result<(), Fail> {
+    let line = record_text(alloc, number, entry)?;
+    same_line(alloc, line.as_str(), expected)
+}
+
+fn same_order(alloc: Global, order: &[usize], expected: Option<&&str>) -> Result<(), Fail> {
+    let line = order_text(alloc, order)?;
+    same_line(alloc, line.as_str(), expected)
+}
+
+/// The trace shows the lines and no others.
+fn same_trace(alloc: Global, trace: &Trace, shows: &[&str]) -> Result<(), Fail> {
     for (number, entry) in trace.ops.iter().enumerate() {
-        let line = record_text(alloc, number, entry)?;
-        same_line(alloc, line.as_str(), run.shows.get(number))?;
+        same_record(alloc, number, entry, shows.get(number))?;
     }
     let count = trace.ops.len();
-    let line = order_text(alloc, &trace.order)?;
-    same_line(alloc, line.as_str(), run.shows.get(count))?;
-    match run.shows.get(count..) {
+    same_order(alloc, &trace.order, shows.get(count))?;
+    match shows.get(count..) {
         Some([_]) => Ok(()),
         _ => Err(Fail::from("more lines are expected")),
     }
+}
+
+/// The run of these events shows the expected lines and no others.
+fn play_events(alloc: Global, run: &Run, events: &[Event]) -> Result<(), Fail> {
+    if run.shards == 0 || run.rounds == 0 {
+        return Err(Fail::from("a run has a shard and a round"));
+    }
+    let trace = run_events(alloc, run.shards, run.rounds, events)?;
+    same_trace(alloc, &trace, run.shows)
+}
+
+fn play(alloc: Global, run: &Run) -> Result<(), Fail> {
+    play_events(alloc, run, &events(alloc, run.events)?)
 }

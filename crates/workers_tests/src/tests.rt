@@ -12,10 +12,7 @@ use std::sync::{Mutex, Wait};
 use std::test::Fail;
 use std::thread::Threads;
 use std::time::Clock;
-use workers::gate::{Gate, Open};
-use workers::retrying::Retrying;
-use workers::run::run_workers;
-use workers::sessions::{ListenFault, Session, SessionFault, Sessions};
+use workers::{Gate, ListenFault, Open, Retrying, Session, SessionFault, Sessions, run_workers};
 
 /// One session over memory.
 #[derive(Drop)]

@@ -1,33 +1,63 @@
-use super::{authority, bundle, jwt_point, jwt_rsa, keys, letters, refusal, x509_point};
+use super::{authority, bundle, is_entry, jwt_point, jwt_rsa, keys, letters, refusal, x509_point};
 use spiffe_doc::{AppendError, Authority, Bundle, DocError};
 use std::alloc::{AllocError, Global};
+use std::process::Abort;
 use std::test::Fail;
 
+/// A JWT entry over P-256, whose point begins with the letter and is zero from there on.
+fn point(alloc: Global, kid: &str, first: char) -> Result<String, AllocError> {
+    let rest = letters(alloc, 'A', 42)?;
+    jwt_point(alloc, kid, &format!(in alloc; "{first}{rest}")?)
+}
+
+/// Such entries, each with its key id and its letter.
+fn points(alloc: Global, entries: &[(&str, char)]) -> Result<String, AllocError> {
+    let mut text = String::new(alloc);
+    for (place, (kid, first)) in entries.iter().enumerate() {
+        if place > 0 {
+            text.push(',')?;
+        }
+        text.push_str(&point(alloc, kid, *first)?)?;
+    }
+    Ok(text)
+}
+
+/// The bundle of such entries.
+fn bundle_of_points(alloc: Global, entries: &[(&str, char)]) -> Result<Bundle, DocError> {
+    bundle(alloc, &keys(alloc, &points(alloc, entries)?)?)
+}
+
 #[test]
-fn equal_authorities_and_key_ids(rt: HostRuntime) -> Result<(), Fail> {
+fn equal_authorities_stand_once(rt: HostRuntime) -> Result<(), Fail> {
     let alloc = rt.alloc();
-    let first = jwt_point(alloc, "k", &letters(alloc, 'A', 43)?)?;
-    let other = jwt_point(
-        alloc,
-        "k",
-        &format!(in alloc; "E{}", letters(alloc, 'A', 42)?)?,
-    )?;
-    let another = jwt_point(alloc, "l", &letters(alloc, 'A', 43)?)?;
-    let equal = bundle(
-        alloc,
-        &keys(alloc, &format!(in alloc; "{first},{another},{first}")?)?,
-    )?;
+    let equal = bundle_of_points(alloc, &[("k", 'A'), ("l", 'A'), ("k", 'A')])?;
     assert_eq!(rt; equal.authorities().len(), 2usize);
-    let once = bundle(
-        alloc,
-        &keys(alloc, &format!(in alloc; "{first},{another}")?)?,
-    )?;
+    let once = bundle_of_points(alloc, &[("k", 'A'), ("l", 'A')])?;
     assert!(rt; equal == once);
     assert_eq!(rt; equal.text(), once.text());
-    let twice = keys(alloc, &format!(in alloc; "{first},{other}")?)?;
-    assert_eq!(rt; refusal(alloc, &twice)?, Some(DocError::KidTwice(1)));
-    let later = keys(alloc, &format!(in alloc; "{first},{another},{other},5")?)?;
-    assert_eq!(rt; refusal(alloc, &later)?, Some(DocError::KidTwice(2)));
+    Ok(())
+}
+
+#[test]
+fn key_ids_of_two_keys_are_refused(rt: HostRuntime) -> Result<(), Fail> {
+    let alloc = rt.alloc();
+    let twice = points(alloc, &[("k", 'A'), ("k", 'E')])?;
+    assert_eq!(rt;
+        refusal(alloc, &keys(alloc, &twice)?)?,
+        Some(DocError::KidTwice(1))
+    );
+    Ok(())
+}
+
+#[test]
+fn key_ids_of_two_keys_come_before_later_faults(rt: HostRuntime) -> Result<(), Fail> {
+    let alloc = rt.alloc();
+    let points = points(alloc, &[("k", 'A'), ("l", 'A'), ("k", 'E')])?;
+    let later = format!(in alloc; "{points},5")?;
+    assert_eq!(rt;
+        refusal(alloc, &keys(alloc, &later)?)?,
+        Some(DocError::KidTwice(2))
+    );
     Ok(())
 }
 
@@ -43,104 +73,155 @@ fn many(alloc: Global, count: usize, last: &str, rest: &str) -> Result<String, A
     format!(in alloc; "{{\"keys\":[{entries}]{rest}}}")
 }
 
+/// Why the authority is not appended to the bundle, if it is not.
+fn refusal_to_append(
+    alloc: Global,
+    bundle: &Bundle,
+    authority: &Authority,
+) -> Result<Option<AppendError>, AllocError> {
+    match bundle.appended(alloc, authority) {
+        Ok(_) => Ok(None),
+        Err(AppendError::Memory) => Err(AllocError),
+        Err(refusal) => Ok(Some(refusal)),
+    }
+}
+
+/// The same of the authority of an entry.
 fn append_refusal(
     alloc: Global,
     bundle: &Bundle,
     entry: &str,
 ) -> Result<Option<AppendError>, Fail> {
-    let authority = authority(alloc, entry)?;
-    match bundle.appended(alloc, &authority) {
-        Ok(_) => Ok(None),
-        Err(AppendError::Memory) => Err(AllocError)?,
-        Err(refusal) => Ok(Some(refusal)),
-    }
+    Ok(refusal_to_append(alloc, bundle, &authority(alloc, entry)?)?)
+}
+
+/// The bundle of 1,024 authorities, with the key ids `k0` to `k1023`, and of what follows `keys`.
+fn full(alloc: Global, rest: &str) -> Result<Bundle, DocError> {
+    let last = jwt_rsa(alloc, "k1023", "AQAB")?;
+    bundle(alloc, &many(alloc, 1023, &last, rest)?)
+}
+
+/// A document of 1,024 authorities and an entry with this key id and this modulus.
+fn full_and(alloc: Global, kid: &str, n: &str) -> Result<String, AllocError> {
+    many(alloc, 1024, &jwt_rsa(alloc, kid, n)?, "")
 }
 
 #[test]
 fn full_bundles(rt: HostRuntime) -> Result<(), Fail> {
     let alloc = rt.alloc();
-    let last = jwt_rsa(alloc, "k1023", "AQAB")?;
-    let full = bundle(alloc, &many(alloc, 1023, &last, "")?)?;
+    let full = full(alloc, "")?;
     assert_eq!(rt; full.authorities().len(), 1024usize);
     let refused = append_refusal(alloc, &full, &jwt_rsa(alloc, "z", "AQAB")?)?;
     assert_eq!(rt; refused, Some(AppendError::TooMany));
-    let more = jwt_rsa(alloc, "k1024", "AQAB")?;
-    assert_eq!(rt;
-        refusal(alloc, &many(alloc, 1024, &more, "")?)?,
-        Some(DocError::TooMany)
-    );
-    let equal = jwt_rsa(alloc, "k0", "AQAB")?;
-    assert!(rt; bundle(alloc, &many(alloc, 1024, &equal, "")?)? == full);
-    // A taken key id is told before a full list.
-    let other = jwt_rsa(alloc, "k0", "AQAC")?;
-    assert_eq!(rt;
-        refusal(alloc, &many(alloc, 1024, &other, "")?)?,
-        Some(DocError::KidTwice(1024))
-    );
     Ok(())
 }
 
 #[test]
-fn refused_appends_in_order(rt: HostRuntime) -> Result<(), Fail> {
+fn full_bundles_take_an_equal_entry(rt: HostRuntime) -> Result<(), Fail> {
     let alloc = rt.alloc();
-    let first = jwt_rsa(alloc, "k0", "AQAB")?;
-    let greatest = ",\"spiffe_sequence\":18446744073709551615";
-    let last = jwt_rsa(alloc, "k1023", "AQAB")?;
-    let full = bundle(alloc, &many(alloc, 1023, &last, greatest)?)?;
-    let some = bundle(
-        alloc,
-        &format!(in alloc; "{{\"keys\":[{first}]{greatest}}}")?,
-    )?;
-    let other = jwt_rsa(alloc, "k0", "AQAC")?;
-    let more = jwt_rsa(alloc, "z", "AQAB")?;
+    let equal = bundle(alloc, &full_and(alloc, "k0", "AQAB")?)?;
+    assert!(rt; equal == full(alloc, "")?);
+    Ok(())
+}
+
+/// A taken key id is told before a full list.
+#[test]
+fn full_documents(rt: HostRuntime) -> Result<(), Fail> {
+    let alloc = rt.alloc();
     let rows = [
-        (&full, &first, AppendError::Present),
-        (&full, &other, AppendError::KidTaken),
-        (&full, &more, AppendError::TooMany),
-        (&some, &first, AppendError::Present),
-        (&some, &other, AppendError::KidTaken),
-        (&some, &more, AppendError::SequenceFull),
+        ("k1024", "AQAB", DocError::TooMany),
+        ("k0", "AQAC", DocError::KidTwice(1024)),
     ];
-    for (before, entry, wanted) in rows {
-        assert_eq!(rt;
-            append_refusal(alloc, before, entry)?,
-            Some(wanted),
-            "{entry}"
-        );
+    for (kid, n, wanted) in rows {
+        let refused = refusal(alloc, &full_and(alloc, kid, n)?)?;
+        assert_eq!(rt; refused, Some(wanted), "{kid} {n}");
+    }
+    Ok(())
+}
+
+/// The end of a document whose sequence is the greatest.
+const GREATEST: &str = ",\"spiffe_sequence\":18446744073709551615";
+
+/// A key id, a modulus, and why their entry is not appended.
+type Refused<'a> = (&'a str, &'a str, AppendError);
+
+/// The entries are not appended to the bundle.
+fn refuses(rt: &impl Abort, alloc: Global, before: &Bundle, rows: &[Refused]) -> Result<(), Fail> {
+    for (kid, n, wanted) in rows {
+        let refused = append_refusal(alloc, before, &jwt_rsa(alloc, kid, n)?)?;
+        assert_eq!(rt; refused, Some(*wanted), "{kid} {n}");
     }
     Ok(())
 }
 
 #[test]
+fn refused_appends_to_a_full_bundle_in_order(rt: HostRuntime) -> Result<(), Fail> {
+    let rows = [
+        ("k0", "AQAB", AppendError::Present),
+        ("k0", "AQAC", AppendError::KidTaken),
+        ("z", "AQAB", AppendError::TooMany),
+    ];
+    refuses(&rt, rt.alloc(), &full(rt.alloc(), GREATEST)?, &rows)
+}
+
+#[test]
+fn refused_appends_to_the_greatest_sequence_in_order(rt: HostRuntime) -> Result<(), Fail> {
+    let rows = [
+        ("k0", "AQAB", AppendError::Present),
+        ("k0", "AQAC", AppendError::KidTaken),
+        ("z", "AQAB", AppendError::SequenceFull),
+    ];
+    let first = jwt_rsa(rt.alloc(), "k0", "AQAB")?;
+    let some = many(rt.alloc(), 0, &first, GREATEST)?;
+    refuses(&rt, rt.alloc(), &bundle(rt.alloc(), &some)?, &rows)
+}
+
+#[test]
 fn refused_appends(rt: HostRuntime) -> Result<(), Fail> {
-    let alloc = rt.alloc();
-    let entry = jwt_rsa(alloc, "k", "AQAB")?;
-    let other = jwt_rsa(alloc, "k", "AQAC")?;
-    let nine = format!(in alloc; "{{\"keys\":[{entry}],\"spiffe_sequence\":9}}")?;
-    let before = bundle(alloc, &nine)?;
-    assert_eq!(rt;
-        append_refusal(alloc, &before, &entry)?,
-        Some(AppendError::Present)
-    );
-    assert_eq!(rt;
-        append_refusal(alloc, &before, &other)?,
-        Some(AppendError::KidTaken)
-    );
-    let greatest = bundle(
-        alloc,
-        "{\"keys\":[],\"spiffe_sequence\":18446744073709551615}",
-    )?;
-    assert_eq!(rt;
-        append_refusal(alloc, &greatest, &entry)?,
-        Some(AppendError::SequenceFull)
-    );
-    Ok(())
+    let entry = jwt_rsa(rt.alloc(), "k", "AQAB")?;
+    let nine = many(rt.alloc(), 0, &entry, ",\"spiffe_sequence\":9")?;
+    let rows = [
+        ("k", "AQAB", AppendError::Present),
+        ("k", "AQAC", AppendError::KidTaken),
+    ];
+    refuses(&rt, rt.alloc(), &bundle(rt.alloc(), &nine)?, &rows)
+}
+
+#[test]
+fn refused_appends_to_an_empty_bundle(rt: HostRuntime) -> Result<(), Fail> {
+    let greatest = many(rt.alloc(), 0, "", GREATEST)?;
+    let rows = [("k", "AQAB", AppendError::SequenceFull)];
+    refuses(&rt, rt.alloc(), &bundle(rt.alloc(), &greatest)?, &rows)
+}
+
+/// The bundle with the authority of an entry appended.
+fn bundle_and(alloc: Global, before: &Bundle, entry: &str) -> Result<Bundle, Fail> {
+    Ok(before.appended(alloc, &authority(alloc, entry)?)?)
 }
 
 /// The bundle of a document with the authority of an entry appended.
 fn appended(alloc: Global, document: &str, entry: &str) -> Result<Bundle, Fail> {
-    let authority = authority(alloc, entry)?;
-    Ok(bundle(alloc, document)?.appended(alloc, &authority)?)
+    bundle_and(alloc, &bundle(alloc, document)?, entry)
+}
+
+/// Whether the bundle is that of the document.
+fn is_of(alloc: Global, read: &Bundle, document: &str) -> Result<bool, DocError> {
+    Ok(*read == bundle(alloc, document)?)
+}
+
+/// The bundle is that of its canonical text.
+fn has_text(rt: &impl Abort, alloc: Global, read: &Bundle, wanted: &str) -> Result<(), Fail> {
+    assert_eq!(rt; read.text(), wanted.as_bytes());
+    assert!(rt; is_of(alloc, read, wanted)?, "{wanted}");
+    Ok(())
+}
+
+/// A copy of the bundle is that bundle, and not the one of another document.
+fn is_copied(rt: &impl Abort, alloc: Global, read: &Bundle, other: &str) -> Result<(), Fail> {
+    let copy: Bundle = read.copy()?;
+    assert!(rt; copy == *read, "{other}");
+    assert!(rt; !is_of(alloc, &copy, other)?, "{other}");
+    Ok(())
 }
 
 #[test]
@@ -162,11 +243,8 @@ fn appends(rt: HostRuntime) -> Result<(), Fail> {
     ];
     for (before, wanted) in rows {
         let after = appended(alloc, before, &jwt_rsa(alloc, "k", "AQAB")?)?;
-        assert_eq!(rt; after.text(), wanted.as_bytes());
-        assert!(rt; after == bundle(alloc, wanted)?, "{wanted}");
-        let copy: Bundle = after.copy()?;
-        assert!(rt; copy == after, "{wanted}");
-        assert!(rt; !(copy == bundle(alloc, before)?), "{wanted}");
+        has_text(&rt, alloc, &after, wanted)?;
+        is_copied(&rt, alloc, &after, before)?;
     }
     Ok(())
 }
@@ -199,43 +277,53 @@ fn the_longest_canonical_text_of_the_greatest_sequence(rt: HostRuntime) -> Resul
     Ok(())
 }
 
+/// Whether the authority and a copy of it are equal.
+fn is_its_copy(kept: &Authority) -> Result<bool, AllocError> {
+    Ok(kept.copy()? == *kept)
+}
+
+/// The first authority of the bundle is that of the entry.
+fn begins_with(rt: &impl Abort, alloc: Global, after: &Bundle, entry: &str) -> Result<(), Fail> {
+    let kept = after.authorities().first().ok_or("an authority")?;
+    assert!(rt; is_entry(alloc, kept, entry)?, "{entry}");
+    assert!(rt; is_its_copy(kept)?, "{entry}");
+    Ok(())
+}
+
+/// An empty bundle with the authority of the entry appended has it alone, and the text.
+fn is_appended(rt: &impl Abort, alloc: Global, entry: &str, wanted: &str) -> Result<(), Fail> {
+    let after = appended(alloc, "{\"keys\":[]}", entry)?;
+    has_text(rt, alloc, &after, wanted)?;
+    begins_with(rt, alloc, &after, entry)
+}
+
 #[test]
-fn appends_of_each_kind(rt: HostRuntime) -> Result<(), Fail> {
+fn appends_of_an_x509_point(rt: HostRuntime) -> Result<(), Fail> {
     let alloc = rt.alloc();
     let a43 = letters(alloc, 'A', 43)?;
-    let ec = format!(in alloc; "\"crv\":\"P-256\"")?;
-    let rows = [
-        (
-            x509_point(alloc, "P-256", &a43, &a43, "[\"MAA=\"]")?,
-            format!(in alloc;
-                "{{\"keys\":[{{{ec},\"kty\":\"EC\",\"use\":\"x509-svid\",\"x\":\"{a43}\",\"x5c\":[\"MAA=\"],\"y\":\"{a43}\"}}]}}"
-            )?,
-        ),
-        (
-            String::from_str(
-                alloc,
-                "{\"use\":\"x509-svid\",\"kty\":\"RSA\",\"n\":\"AAAB\",\"e\":\"AQAB\",\"x5c\":[\"MAA=\"]}",
-            )?,
-            String::from_str(
-                alloc,
-                "{\"keys\":[{\"e\":\"AQAB\",\"kty\":\"RSA\",\"n\":\"AAAB\",\"use\":\"x509-svid\",\"x5c\":[\"MAA=\"]}]}",
-            )?,
-        ),
-        (
-            jwt_point(alloc, "k", &a43)?,
-            format!(in alloc;
-                "{{\"keys\":[{{{ec},\"kid\":\"k\",\"kty\":\"EC\",\"use\":\"jwt-svid\",\"x\":\"{a43}\",\"y\":\"{a43}\"}}]}}"
-            )?,
-        ),
-    ];
-    for (entry, wanted) in &rows {
-        let after = appended(alloc, "{\"keys\":[]}", entry)?;
-        assert_eq!(rt; after.text(), wanted.as_bytes());
-        assert!(rt; after == bundle(alloc, wanted)?, "{wanted}");
-        let kept = after.authorities().first().ok_or("an authority")?;
-        assert!(rt; *kept == authority(alloc, entry)?, "{wanted}");
-        let copy: Authority = kept.copy()?;
-        assert!(rt; copy == *kept, "{wanted}");
-    }
-    Ok(())
+    let wanted = format!(in alloc;
+        "{{\"keys\":[{{\"crv\":\"P-256\",\"kty\":\"EC\",\"use\":\"x509-svid\",\"x\":\"{a43}\",\"x5c\":[\"MAA=\"],\"y\":\"{a43}\"}}]}}"
+    )?;
+    let entry = x509_point(alloc, "P-256", &a43, &a43, "[\"MAA=\"]")?;
+    is_appended(&rt, alloc, &entry, &wanted)
+}
+
+#[test]
+fn appends_of_an_x509_modulus(rt: HostRuntime) -> Result<(), Fail> {
+    is_appended(
+        &rt,
+        rt.alloc(),
+        "{\"use\":\"x509-svid\",\"kty\":\"RSA\",\"n\":\"AAAB\",\"e\":\"AQAB\",\"x5c\":[\"MAA=\"]}",
+        "{\"keys\":[{\"e\":\"AQAB\",\"kty\":\"RSA\",\"n\":\"AAAB\",\"use\":\"x509-svid\",\"x5c\":[\"MAA=\"]}]}",
+    )
+}
+
+#[test]
+fn appends_of_a_jwt_point(rt: HostRuntime) -> Result<(), Fail> {
+    let alloc = rt.alloc();
+    let a43 = letters(alloc, 'A', 43)?;
+    let wanted = format!(in alloc;
+        "{{\"keys\":[{{\"crv\":\"P-256\",\"kid\":\"k\",\"kty\":\"EC\",\"use\":\"jwt-svid\",\"x\":\"{a43}\",\"y\":\"{a43}\"}}]}}"
+    )?;
+    is_appended(&rt, alloc, &jwt_point(alloc, "k", &a43)?, &wanted)
 }

@@ -1,6 +1,7 @@
 use super::{bundle, jwt_point, keys, letters, refusal, refusal_of, x509_point};
-use spiffe_doc::{DocError, KeyMember, read_document, write_document};
+use spiffe_doc::{Bundle, DocError, KeyMember, read_document, write_document};
 use std::alloc::{AllocError, Global};
+use std::process::Abort;
 use std::test::Fail;
 
 #[test]
@@ -13,6 +14,17 @@ fn refused_documents(rt: HostRuntime) -> Result<(), Fail> {
         ("{\"spiffe_sequence\":1}", DocError::NoKeys),
         ("{\"keys\":null}", DocError::NoKeys),
         ("{\"spiffe_sequence\":-1,\"keys\":{}}", DocError::NoKeys),
+    ];
+    for (document, wanted) in rows {
+        assert_eq!(rt; refusal(alloc, document)?, Some(wanted), "{document}");
+    }
+    Ok(())
+}
+
+#[test]
+fn refused_numbers(rt: HostRuntime) -> Result<(), Fail> {
+    let alloc = rt.alloc();
+    let rows = [
         (
             "{\"keys\":[],\"spiffe_sequence\":18446744073709551616}",
             DocError::BadSequence,
@@ -41,6 +53,17 @@ fn refused_documents(rt: HostRuntime) -> Result<(), Fail> {
             "{\"keys\":[5],\"spiffe_refresh_hint\":-1,\"spiffe_sequence\":-1}",
             DocError::BadSequence,
         ),
+    ];
+    for (document, wanted) in rows {
+        assert_eq!(rt; refusal(alloc, document)?, Some(wanted), "{document}");
+    }
+    Ok(())
+}
+
+#[test]
+fn refused_entries(rt: HostRuntime) -> Result<(), Fail> {
+    let alloc = rt.alloc();
+    let rows = [
         ("{\"keys\":[5]}", DocError::BadEntry(0)),
         (
             "{\"keys\":[{\"kty\":\"OKP\",\"use\":\"jwt-svid\"},5]}",
@@ -72,28 +95,64 @@ fn refused_documents(rt: HostRuntime) -> Result<(), Fail> {
     for (document, wanted) in rows {
         assert_eq!(rt; refusal(alloc, document)?, Some(wanted), "{document}");
     }
+    Ok(())
+}
+
+#[test]
+fn a_text_that_is_not_utf8_is_refused(rt: HostRuntime) -> Result<(), Fail> {
     assert_eq!(rt;
-        refusal_of(alloc, b"{\"keys\":[],\"z\":\"\xff\"}")?,
+        refusal_of(rt.alloc(), b"{\"keys\":[],\"z\":\"\xff\"}")?,
         Some(DocError::NotJson)
     );
     Ok(())
 }
 
+/// The bundle is written as the text, which reads back as the bundle.
+fn reads_back(rt: &impl Abort, alloc: Global, read: &Bundle, wanted: &str) -> Result<(), Fail> {
+    let written = write_document(alloc, read)?;
+    assert_eq!(rt; written.as_slice(), wanted.as_bytes());
+    assert!(rt; read_document(alloc, &written)? == *read, "{wanted}");
+    Ok(())
+}
+
+/// The document's canonical text, which has so many bytes.
+fn is_written(
+    rt: &impl Abort,
+    alloc: Global,
+    document: &str,
+    wanted: &str,
+    len: usize,
+) -> Result<(), Fail> {
+    let read = bundle(alloc, document)?;
+    assert_eq!(rt; read.text(), wanted.as_bytes(), "{document}");
+    assert_eq!(rt; read.text_len(), len, "{document}");
+    reads_back(rt, alloc, &read, wanted)
+}
+
 #[test]
-fn canonical_texts(rt: HostRuntime) -> Result<(), Fail> {
+fn canonical_text_of_an_x509_point(rt: HostRuntime) -> Result<(), Fail> {
     let alloc = rt.alloc();
     let a43 = letters(alloc, 'A', 43)?;
-    let point = keys(
-        alloc,
-        &x509_point(alloc, "P-256", &a43, &a43, "[\"MAA=\"]")?,
-    )?;
-    let point_text = format!(in alloc;
+    let wanted = format!(in alloc;
         "{{\"keys\":[{{\"crv\":\"P-256\",\"kty\":\"EC\",\"use\":\"x509-svid\",\"x\":\"{a43}\",\"x5c\":[\"MAA=\"],\"y\":\"{a43}\"}}]}}"
     )?;
-    let kid = keys(alloc, &jwt_point(alloc, "k\\u00e9", &a43)?)?;
-    let kid_text = format!(in alloc;
+    let entry = x509_point(alloc, "P-256", &a43, &a43, "[\"MAA=\"]")?;
+    is_written(&rt, alloc, &keys(alloc, &entry)?, &wanted, 170)
+}
+
+#[test]
+fn canonical_text_of_a_jwt_point(rt: HostRuntime) -> Result<(), Fail> {
+    let alloc = rt.alloc();
+    let a43 = letters(alloc, 'A', 43)?;
+    let wanted = format!(in alloc;
         "{{\"keys\":[{{\"crv\":\"P-256\",\"kid\":\"k\u{e9}\",\"kty\":\"EC\",\"use\":\"jwt-svid\",\"x\":\"{a43}\",\"y\":\"{a43}\"}}]}}"
     )?;
+    let entry = jwt_point(alloc, "k\\u00e9", &a43)?;
+    is_written(&rt, alloc, &keys(alloc, &entry)?, &wanted, 166)
+}
+
+#[test]
+fn canonical_texts(rt: HostRuntime) -> Result<(), Fail> {
     let rows = [
         ("{\"keys\":[]}", "{\"keys\":[]}", 11),
         (" {\"z\":{}, \"keys\" : [ ]\n}", "{\"keys\":[]}", 11),
@@ -107,8 +166,6 @@ fn canonical_texts(rt: HostRuntime) -> Result<(), Fail> {
             "{\"keys\":[],\"spiffe_sequence\":18446744073709551615}",
             50,
         ),
-        (point.as_str(), point_text.as_str(), 170),
-        (kid.as_str(), kid_text.as_str(), 166),
         (
             "{\"keys\":[{\"use\":\"x509-svid\",\"kty\":\"RSA\",\"n\":\"AQAB\",\"e\":\"AQAB\",\"x5c\":[\"MAA=\"]}],\"spiffe_sequence\":1,\"spiffe_refresh_hint\":60}",
             "{\"keys\":[{\"e\":\"AQAB\",\"kty\":\"RSA\",\"n\":\"AQAB\",\"use\":\"x509-svid\",\"x5c\":[\"MAA=\"]}],\"spiffe_refresh_hint\":60,\"spiffe_sequence\":1}",
@@ -121,12 +178,7 @@ fn canonical_texts(rt: HostRuntime) -> Result<(), Fail> {
         ),
     ];
     for (document, wanted, len) in rows {
-        let bundle = bundle(alloc, document)?;
-        assert_eq!(rt; bundle.text(), wanted.as_bytes(), "{document}");
-        assert_eq!(rt; bundle.text_len(), len, "{document}");
-        let written = write_document(alloc, &bundle)?;
-        assert_eq!(rt; written.as_slice(), wanted.as_bytes(), "{document}");
-        assert!(rt; read_document(alloc, &written)? == bundle, "{document}");
+        is_written(&rt, rt.alloc(), document, wanted, len)?;
     }
     Ok(())
 }
@@ -164,22 +216,22 @@ fn sequences_and_hints(rt: HostRuntime) -> Result<(), Fail> {
     Ok(())
 }
 
-#[test]
-fn truncated_documents(rt: HostRuntime) -> Result<(), Fail> {
-    let alloc = rt.alloc();
+/// A document of one point.
+fn one_point(alloc: Global) -> Result<String, AllocError> {
     let a43 = letters(alloc, 'A', 43)?;
-    let whole = keys(
+    keys(
         alloc,
         &x509_point(alloc, "P-256", &a43, &a43, "[\"MAA=\"]")?,
-    )?;
+    )
+}
+
+#[test]
+fn truncated_documents(rt: HostRuntime) -> Result<(), Fail> {
+    let whole = one_point(rt.alloc())?;
     assert_eq!(rt; whole.len(), 170usize);
     for len in 0..170 {
         let front = whole.as_bytes().get(..len).ok_or("a shorter document")?;
-        let refusal = read_document(alloc, front).err();
-        assert!(rt; refusal != None, "{len}");
-        if refusal == Some(DocError::Memory) {
-            return Err(AllocError)?;
-        }
+        let refusal = refusal_of(rt.alloc(), front)?;
         assert_eq!(rt; refusal, Some(DocError::NotJson), "{len}");
     }
     Ok(())
@@ -194,16 +246,25 @@ fn nested(alloc: Global, depth: usize) -> Result<String, AllocError> {
     )
 }
 
+/// An empty document and so many spaces after it: how long it is, and why it is refused.
+fn spaced_refusal(alloc: Global, count: usize) -> Result<(usize, Option<DocError>), DocError> {
+    let spaces = letters(alloc, ' ', count)?;
+    let document = format!(in alloc; "{{\"keys\":[]}}{spaces}")?;
+    Ok((document.len(), refusal(alloc, &document)?))
+}
+
 #[test]
-fn long_and_nested_documents(rt: HostRuntime) -> Result<(), Fail> {
+fn long_documents(rt: HostRuntime) -> Result<(), Fail> {
+    let longest = spaced_refusal(rt.alloc(), 1048565)?;
+    assert_eq!(rt; longest, (1048576, None));
+    let longer = spaced_refusal(rt.alloc(), 1048566)?;
+    assert_eq!(rt; longer, (1048577, Some(DocError::TooLong)));
+    Ok(())
+}
+
+#[test]
+fn nested_documents(rt: HostRuntime) -> Result<(), Fail> {
     let alloc = rt.alloc();
-    let longest = format!(in alloc; "{{\"keys\":[]}}{}", letters(alloc, ' ', 1048565)?)?;
-    assert_eq!(rt; longest.len(), 1048576usize);
-    assert_eq!(rt; refusal(alloc, &longest)?, None);
-    assert_eq!(rt;
-        refusal(alloc, &format!(in alloc; "{longest} ")?)?,
-        Some(DocError::TooLong)
-    );
     assert_eq!(rt; refusal(alloc, &nested(alloc, 126)?)?, None);
     assert_eq!(rt;
         refusal(alloc, &nested(alloc, 127)?)?,

@@ -1,6 +1,7 @@
 use super::letters;
 use spiffe_doc::{IdError, NameError, SpiffeId, TrustDomain};
-use std::alloc::Global;
+use std::alloc::{AllocError, Global};
+use std::process::Abort;
 use std::test::Fail;
 
 fn name_refusal(alloc: Global, name: &[u8]) -> Result<Option<NameError>, NameError> {
@@ -76,22 +77,41 @@ fn names_are_ordered_by_their_bytes(rt: HostRuntime) -> Result<(), Fail> {
     Ok(())
 }
 
+/// Judges a text of this form, with so many letters in it.
+fn long_id_refusal(
+    alloc: Global,
+    front: &str,
+    letter: char,
+    count: usize,
+    rest: &str,
+) -> Result<(usize, Option<IdError>), IdError> {
+    let middle = letters(alloc, letter, count)?;
+    let id = format!(in alloc; "{front}{middle}{rest}")?;
+    Ok((id.len(), id_refusal(alloc, &id)?))
+}
+
+#[test]
+fn long_ids(rt: HostRuntime) -> Result<(), Fail> {
+    let rows = [
+        ("spiffe://a/", 'b', 2037, "", (2048, None)),
+        ("spiffe://a/", 'b', 2038, "", (2049, Some(IdError::TooLong))),
+        ("spiffe://", 'a', 256, "/b", (267, Some(IdError::TooLong))),
+        ("", 'a', 2049, "", (2049, Some(IdError::TooLong))),
+    ];
+    for (front, letter, count, rest, wanted) in rows {
+        let found = long_id_refusal(rt.alloc(), front, letter, count, rest)?;
+        assert_eq!(rt; found, wanted, "{front} {count}");
+    }
+    Ok(())
+}
+
 #[test]
 fn ids(rt: HostRuntime) -> Result<(), Fail> {
     let alloc = rt.alloc();
-    let longest = format!(in alloc; "spiffe://a/{}", letters(alloc, 'b', 2037)?)?;
-    let too_long = format!(in alloc; "spiffe://a/{}", letters(alloc, 'b', 2038)?)?;
-    let long_domain = format!(in alloc; "spiffe://{}/b", letters(alloc, 'a', 256)?)?;
-    let too_long_text = letters(alloc, 'a', 2049)?;
-    assert_eq!(rt; longest.len(), 2048usize);
     let rows = [
         ("spiffe://a", None),
         ("spiffe://a/b", None),
         ("spiffe://a/B.c_d-0/...", None),
-        (longest.as_str(), None),
-        (too_long.as_str(), Some(IdError::TooLong)),
-        (long_domain.as_str(), Some(IdError::TooLong)),
-        (too_long_text.as_str(), Some(IdError::TooLong)),
         ("SPIFFE://a", Some(IdError::NotSpiffe)),
         ("https://a", Some(IdError::NotSpiffe)),
         ("", Some(IdError::NotSpiffe)),
@@ -115,15 +135,28 @@ fn ids(rt: HostRuntime) -> Result<(), Fail> {
     Ok(())
 }
 
+fn has_parts(rt: &impl Abort, id: &SpiffeId, domain: &str, path: &str) {
+    assert_eq!(rt; id.domain().as_str(), domain);
+    assert_eq!(rt; id.path(), path);
+}
+
+/// The ID has these parts, and so has its copy.
+fn is_of_parts(rt: &impl Abort, id: &SpiffeId, domain: &str, path: &str) -> Result<(), AllocError> {
+    has_parts(rt, id, domain, path);
+    has_parts(rt, &id.copy()?, domain, path);
+    Ok(())
+}
+
 #[test]
 fn the_parts_of_an_id(rt: HostRuntime) -> Result<(), Fail> {
-    let alloc = rt.alloc();
-    let id = SpiffeId::parse(alloc, "spiffe://example.org/ns/prod/sa/web")?;
-    assert_eq!(rt; id.domain().as_str(), "example.org");
-    assert_eq!(rt; id.path(), "/ns/prod/sa/web");
-    let copy = id.copy()?;
-    assert_eq!(rt; copy.domain().as_str(), "example.org");
-    assert_eq!(rt; copy.path(), "/ns/prod/sa/web");
-    assert_eq!(rt; SpiffeId::parse(alloc, "spiffe://example.org")?.path(), "");
+    let id = SpiffeId::parse(rt.alloc(), "spiffe://example.org/ns/prod/sa/web")?;
+    is_of_parts(&rt, &id, "example.org", "/ns/prod/sa/web")?;
+    Ok(())
+}
+
+#[test]
+fn an_id_may_have_no_path(rt: HostRuntime) -> Result<(), Fail> {
+    let id = SpiffeId::parse(rt.alloc(), "spiffe://example.org")?;
+    assert_eq!(rt; id.path(), "");
     Ok(())
 }

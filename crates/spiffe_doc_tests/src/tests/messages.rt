@@ -1,9 +1,24 @@
 use spiffe_doc::{AppendError, Curve, DocError, IdError, KeyMember, NameError};
+use std::alloc::{AllocError, Global};
+use std::process::Abort;
 use std::test::Fail;
+
+/// The refusal has this number and this text.
+fn is_told(
+    rt: &impl Abort,
+    alloc: Global,
+    error: DocError,
+    told: (u8, &str),
+) -> Result<(), AllocError> {
+    let (number, wanted) = told;
+    let text = error.to_string(alloc)?;
+    assert_eq!(rt; text.as_str(), wanted);
+    assert_eq!(rt; error.number(), number, "{wanted}");
+    Ok(())
+}
 
 #[test]
 fn messages_and_numbers_of_documents(rt: HostRuntime) -> Result<(), Fail> {
-    let alloc = rt.alloc();
     let rows = [
         (DocError::TooLong, 10, "the document has over 1048576 bytes"),
         (
@@ -27,7 +42,48 @@ fn messages_and_numbers_of_documents(rt: HostRuntime) -> Result<(), Fail> {
             15,
             "spiffe_refresh_hint is not a whole number from 0 to 18446744073709551615",
         ),
+        (
+            DocError::TooMany,
+            21,
+            "the document has over 1024 different keys",
+        ),
+        (DocError::Memory, 22, "out of memory"),
+    ];
+    for (error, number, wanted) in rows {
+        is_told(&rt, rt.alloc(), error, (number, wanted))?;
+    }
+    Ok(())
+}
+
+#[test]
+fn messages_and_numbers_of_entries(rt: HostRuntime) -> Result<(), Fail> {
+    let rows = [
         (DocError::BadEntry(2), 16, "key 2 is not a JSON object"),
+        (
+            DocError::BadX5c(4),
+            18,
+            "the x5c member of key 4 is not a list of one text of padded base64",
+        ),
+        (
+            DocError::BadKid(5),
+            19,
+            "the kid member of key 5 is not a text of 1 to 255 bytes",
+        ),
+        (
+            DocError::KidTwice(6),
+            20,
+            "key 6 has the kid of an earlier, different key",
+        ),
+    ];
+    for (error, number, wanted) in rows {
+        is_told(&rt, rt.alloc(), error, (number, wanted))?;
+    }
+    Ok(())
+}
+
+#[test]
+fn messages_and_numbers_of_keys(rt: HostRuntime) -> Result<(), Fail> {
+    let rows = [
         (
             DocError::BadKey {
                 place: 3,
@@ -60,32 +116,9 @@ fn messages_and_numbers_of_documents(rt: HostRuntime) -> Result<(), Fail> {
             17,
             "the n member of key 7 is not 1 to 1024 bytes of base64url",
         ),
-        (
-            DocError::BadX5c(4),
-            18,
-            "the x5c member of key 4 is not a list of one text of padded base64",
-        ),
-        (
-            DocError::BadKid(5),
-            19,
-            "the kid member of key 5 is not a text of 1 to 255 bytes",
-        ),
-        (
-            DocError::KidTwice(6),
-            20,
-            "key 6 has the kid of an earlier, different key",
-        ),
-        (
-            DocError::TooMany,
-            21,
-            "the document has over 1024 different keys",
-        ),
-        (DocError::Memory, 22, "out of memory"),
     ];
     for (error, number, wanted) in rows {
-        let text = error.to_string(alloc)?;
-        assert_eq!(rt; text.as_str(), wanted);
-        assert_eq!(rt; error.number(), number, "{wanted}");
+        is_told(&rt, rt.alloc(), error, (number, wanted))?;
     }
     Ok(())
 }
@@ -112,6 +145,12 @@ fn messages_and_numbers_of_names(rt: HostRuntime) -> Result<(), Fail> {
         assert_eq!(rt; text.as_str(), wanted);
         assert_eq!(rt; error.number(), number, "{wanted}");
     }
+    Ok(())
+}
+
+#[test]
+fn messages_and_numbers_of_ids(rt: HostRuntime) -> Result<(), Fail> {
+    let alloc = rt.alloc();
     let ids = [
         (IdError::Empty, 1, "the trust domain name is empty"),
         (
@@ -186,9 +225,9 @@ fn messages_of_each_member_of_a_key(rt: HostRuntime) -> Result<(), Fail> {
         (KeyMember::E, "e", "1 to 1024 bytes of base64url"),
     ];
     for (member, name, form) in rows {
-        let text = DocError::BadKey { place: 9, member }.to_string(alloc)?;
+        let error = DocError::BadKey { place: 9, member };
         let wanted = format!(in alloc; "the {name} member of key 9 is not {form}")?;
-        assert_eq!(rt; text.as_str(), wanted.as_str());
+        is_told(&rt, alloc, error, (17, wanted.as_str()))?;
     }
     Ok(())
 }

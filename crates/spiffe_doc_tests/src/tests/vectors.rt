@@ -2,6 +2,7 @@
 use super::bundle;
 use spiffe_doc::{Bundle, write_document, write_entry};
 use std::alloc::{AllocError, Global};
+use std::process::Abort;
 use std::test::Fail;
 
 /// A domain that has withdrawn what it published.
@@ -58,32 +59,63 @@ fn front_of(text: &str) -> &str {
     }
 }
 
+/// What a document holds besides its authorities, and how many those are.
+type Numbers = (Option<u64>, Option<u64>, usize);
+
+/// The bundle has the canonical text and the numbers.
+fn is_read(
+    rt: &impl Abort,
+    alloc: Global,
+    read: &Bundle,
+    text: &str,
+    numbers: Numbers,
+) -> Result<(), AllocError> {
+    let (sequence, refresh_hint, count) = numbers;
+    assert_eq!(rt; read.text(), text.as_bytes());
+    assert_eq!(rt; read.sequence(), sequence);
+    assert_eq!(rt; read.refresh_hint(), refresh_hint);
+    assert_eq!(rt; read.authorities().len(), count);
+    let list = listed(alloc, read)?;
+    assert_eq!(rt; list.as_slice(), front_of(text).as_bytes());
+    Ok(())
+}
+
+/// The canonical text is that of the bundle, and is written again.
+fn reads_back(rt: &impl Abort, alloc: Global, read: &Bundle, text: &str) -> Result<(), Fail> {
+    let again = bundle(alloc, text)?;
+    assert!(rt; again == *read);
+    let written = write_document(alloc, &again)?;
+    assert_eq!(rt; written.as_slice(), text.as_bytes());
+    Ok(())
+}
+
+fn is_real(
+    rt: &impl Abort,
+    alloc: Global,
+    document: &str,
+    text: &str,
+    numbers: Numbers,
+) -> Result<(), Fail> {
+    let read = bundle(alloc, document)?;
+    is_read(rt, alloc, &read, text, numbers)?;
+    reads_back(rt, alloc, &read, text)
+}
+
 #[test]
 fn real_bundles(rt: HostRuntime) -> Result<(), Fail> {
-    let alloc = rt.alloc();
     let rows = [
-        (WITHDRAWN, WITHDRAWN_TEXT, Some(12u64), None, 0),
-        (DEFAULT, DEFAULT_TEXT, Some(1u64), Some(2419200u64), 2),
-        (MIXED, MIXED_TEXT, Some(3u64), None, 2),
-        (ROTATION, ROTATION_TEXT, Some(7u64), Some(300u64), 4),
+        (WITHDRAWN, WITHDRAWN_TEXT, (Some(12u64), None, 0)),
+        (DEFAULT, DEFAULT_TEXT, (Some(1u64), Some(2419200u64), 2)),
+        (MIXED, MIXED_TEXT, (Some(3u64), None, 2)),
+        (ROTATION, ROTATION_TEXT, (Some(7u64), Some(300u64), 4)),
         (
             LARGE_CURVE,
             LARGE_CURVE_TEXT,
-            Some(18446744073709551615u64),
-            None,
-            2,
+            (Some(18446744073709551615u64), None, 2),
         ),
     ];
-    for (document, text, sequence, refresh_hint, count) in rows {
-        let read = bundle(alloc, document)?;
-        assert_eq!(rt; read.text(), text.as_bytes());
-        assert_eq!(rt; read.sequence(), sequence);
-        assert_eq!(rt; read.refresh_hint(), refresh_hint);
-        assert_eq!(rt; read.authorities().len(), count);
-        assert_eq!(rt; listed(alloc, &read)?.as_slice(), front_of(text).as_bytes());
-        let again = bundle(alloc, text)?;
-        assert!(rt; again == read);
-        assert_eq!(rt; write_document(alloc, &again)?.as_slice(), text.as_bytes());
+    for (document, text, numbers) in rows {
+        is_real(&rt, rt.alloc(), document, text, numbers)?;
     }
     Ok(())
 }

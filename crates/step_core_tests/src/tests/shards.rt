@@ -1,10 +1,10 @@
 //! Shards of one caller answer alike, however many they are.
 use super::{answer_text, operation};
-use map_core::{Ask, Op};
-use spiffe_doc::{TrustDomain, read_document};
+use map_core::{Ask, AskError, Op, Reply};
 use std::alloc::Global;
+use std::process::Abort;
 use std::test::Fail;
-use step_core::{Event, Shards, run_events};
+use step_core::{Event, Shards, Trace, run_events};
 
 /// What is asked, and what is answered.
 const ROWS: &[(&str, &str)] = &[
@@ -35,13 +35,19 @@ const ROWS: &[(&str, &str)] = &[
     ),
 ];
 
+/// The answer is that of the row.
+fn judge(alloc: Global, row: (&str, &str), answer: &Result<Reply, AskError>) -> Result<(), Fail> {
+    let (line, expected) = row;
+    let text = answer_text(alloc, answer)?;
+    if text.as_str() != expected {
+        return Err(Fail::from(format!(in alloc; "{line}: {text}, and not {expected}")?));
+    }
+    Ok(())
+}
+
 fn play<A: Ask>(alloc: Global, map: &mut A) -> Result<(), Fail> {
     for (line, expected) in ROWS {
-        let answer = map.ask(operation(alloc, line)?);
-        let text = answer_text(alloc, &answer)?;
-        if text.as_str() != *expected {
-            return Err(Fail::from(format!(in alloc; "{line}: {text}, and not {expected}")?));
-        }
+        judge(alloc, (line, expected), &map.ask(operation(alloc, line)?))?;
     }
     Ok(())
 }
@@ -64,33 +70,48 @@ fn all_shards(rt: HostRuntime) -> Result<(), Fail> {
     play(rt.alloc(), &mut shards)
 }
 
-/// Caller 1 fetches all bundles again and again, and caller 2 stores one between each two steps of it.
+fn set_operation(alloc: Global, sequence: u64) -> Result<Op, Fail> {
+    let line = format!(in alloc; "set a {{\"keys\":[],\"spiffe_sequence\":{sequence}}}")?;
+    operation(alloc, line.as_str())
+}
+
+/// Caller 2 stores a bundle of this sequence.
+fn push_set(alloc: Global, events: &mut Vec<Event>, sequence: u64) -> Result<(), Fail> {
+    events.push(Event::Begin(2, set_operation(alloc, sequence)?))?;
+    events.push(Event::Step(2))?;
+    Ok(events.push(Event::End(2))?)
+}
+
+/// Caller 1 fetches all bundles, and caller 2 stores one between the two steps of it.
+fn push_round(alloc: Global, events: &mut Vec<Event>, sequence: u64) -> Result<(), Fail> {
+    events.push(Event::Begin(1, Op::FetchAll))?;
+    events.push(Event::Step(1))?;
+    push_set(alloc, events, sequence)?;
+    events.push(Event::Step(1))?;
+    Ok(events.push(Event::End(1))?)
+}
+
+/// So many such rounds.
 fn restless(alloc: Global, count: u64) -> Result<Vec<Event>, Fail> {
     let mut events = Vec::new(alloc);
     for sequence in 0..count {
-        events.push(Event::Begin(1, Op::FetchAll))?;
-        events.push(Event::Step(1))?;
-        let document = format!(in alloc; "{{\"keys\":[],\"spiffe_sequence\":{sequence}}}")?;
-        let bundle = read_document(alloc, document.as_bytes())?;
-        let domain = TrustDomain::parse(alloc, "a")?;
-        events.push(Event::Begin(2, Op::Set(domain, bundle)))?;
-        events.push(Event::Step(2))?;
-        events.push(Event::End(2))?;
-        events.push(Event::Step(1))?;
-        events.push(Event::End(1))?;
+        push_round(alloc, &mut events, sequence)?;
     }
     Ok(events)
+}
+
+/// The order of 14,286 rounds holds the writers alone.
+fn holds_writers(rt: &impl Abort, trace: &Trace) {
+    assert_eq!(rt; (trace.ops.len(), trace.order.len()), (28_572, 14_286));
+    for (place, number) in trace.order.iter().enumerate() {
+        assert_eq!(rt; *number, 2 * place + 1);
+    }
 }
 
 /// 100,002 events, of seven four a fetch-all's. Each round is thrown away, so the order holds the writers alone.
 #[test]
 fn many_rounds_are_thrown_away(rt: HostRuntime) -> Result<(), Fail> {
-    let alloc = rt.alloc();
-    let events = restless(alloc, 14_286)?;
-    let trace = run_events(alloc, 1, 1, &events)?;
-    assert_eq!(rt; (trace.ops.len(), trace.order.len()), (28_572, 14_286));
-    for (place, number) in trace.order.iter().enumerate() {
-        assert_eq!(rt; *number, 2 * place + 1);
-    }
+    let events = restless(rt.alloc(), 14_286)?;
+    holds_writers(&rt, &run_events(rt.alloc(), 1, 1, &events)?);
     Ok(())
 }

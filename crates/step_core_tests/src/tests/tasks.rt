@@ -3,6 +3,8 @@ use super::{answer_text, contents_text, operation};
 use map_core::{AskError, Contents, Op, Reply};
 use spiffe_doc::TrustDomain;
 use std::alloc::Global;
+use std::process::Abort;
+use std::sync::Arc;
 use std::test::Fail;
 use step_core::home::home;
 use step_core::{Answer, Shard, Task, Want};
@@ -30,23 +32,42 @@ fn names_have_homes(rt: HostRuntime) -> Result<(), Fail> {
 /// What a shard is asked, what it answers, and its revision then.
 type Row<'a> = (&'a str, &'a str, u64);
 
-/// The shard answers a row, and share gives what look gives.
-fn play_row(alloc: Global, shard: &mut Shard, row: &Row) -> Result<(), Fail> {
+/// What the shard answers to the operation of a line.
+fn step_text(alloc: Global, shard: &mut Shard, line: &str) -> Result<String, Fail> {
+    answer_text(alloc, &shard.step(operation(alloc, line)?))
+}
+
+/// The shard answers a row.
+fn play_step(alloc: Global, shard: &mut Shard, row: &Row) -> Result<(), Fail> {
     let (line, expected, revision) = *row;
-    let answer = shard.step(operation(alloc, line)?);
-    let text = answer_text(alloc, &answer)?;
-    let (looked, contents) = shard.look();
-    let (shared, version) = shard.share()?;
+    let text = step_text(alloc, shard, line)?;
+    let (looked, _) = shard.look();
     if text.as_str() != expected || looked != revision {
         return Err(Fail::from(format!(in alloc;
             "{line}: {text} at {looked}, and not {expected} at {revision}"
         )?));
     }
-    let (looked_at, given) = (
-        contents_text(alloc, contents)?,
-        contents_text(alloc, &version)?,
-    );
-    if shared != looked || given.as_str() != looked_at.as_str() {
+    Ok(())
+}
+
+fn same_contents(alloc: Global, first: &Contents, second: &Contents) -> Result<bool, Fail> {
+    let first = contents_text(alloc, first)?;
+    let second = contents_text(alloc, second)?;
+    Ok(first.as_str() == second.as_str())
+}
+
+/// Share gives what look gives.
+fn shares_its_look(alloc: Global, shard: &Shard) -> Result<bool, Fail> {
+    let (looked, contents) = shard.look();
+    let (shared, version) = shard.share()?;
+    Ok(same_contents(alloc, contents, &version)? && shared == looked)
+}
+
+/// The shard answers a row, and share gives what look gives.
+fn play_row(alloc: Global, shard: &mut Shard, row: &Row) -> Result<(), Fail> {
+    play_step(alloc, shard, row)?;
+    if !shares_its_look(alloc, shard)? {
+        let (line, _, _) = *row;
         return Err(Fail::from(format!(in alloc; "{line}: share is not look")?));
     }
     Ok(())
@@ -59,23 +80,39 @@ fn play(alloc: Global, shard: &mut Shard, rows: &[Row]) -> Result<(), Fail> {
     Ok(())
 }
 
-/// The same, while the version before each step is kept by another, for whom it stays as it was.
-fn play_shared(alloc: Global, shard: &mut Shard, rows: &[Row]) -> Result<(), Fail> {
-    for row in rows {
-        let (_, version) = shard.share()?;
-        let before = contents_text(alloc, &version)?;
-        play_row(alloc, shard, row)?;
-        if contents_text(alloc, &version)?.as_str() != before.as_str() {
-            let (line, _, _) = *row;
-            return Err(Fail::from(format!(in alloc; "{line}: a shared version has changed")?));
-        }
+/// Plays a row beside a version of another, for whom it stays as it was.
+fn play_beside(
+    alloc: Global,
+    version: &Contents,
+    shard: &mut Shard,
+    row: &Row,
+) -> Result<(), Fail> {
+    let before = contents_text(alloc, version)?;
+    play_row(alloc, shard, row)?;
+    let after = contents_text(alloc, version)?;
+    if after.as_str() != before.as_str() {
+        let (line, _, _) = *row;
+        return Err(Fail::from(format!(in alloc; "{line}: a shared version has changed")?));
     }
     Ok(())
 }
 
+/// Plays the rows, while the version before each step is kept by another.
+fn play_shared(alloc: Global, shard: &mut Shard, rows: &[Row]) -> Result<(), Fail> {
+    for row in rows {
+        let (_, version) = shard.share()?;
+        play_beside(alloc, &version, shard, row)?;
+    }
+    Ok(())
+}
+
+fn play_alone(alloc: Global, rows: &[Row]) -> Result<(), Fail> {
+    play(alloc, &mut Shard::new(alloc)?, rows)
+}
+
 /// Plays the rows on a new shard that nobody shares, and on one whose versions are shared.
 fn play_new(alloc: Global, rows: &[Row]) -> Result<(), Fail> {
-    play(alloc, &mut Shard::new(alloc)?, rows)?;
+    play_alone(alloc, rows)?;
     play_shared(alloc, &mut Shard::new(alloc)?, rows)
 }
 
@@ -135,68 +172,86 @@ fn a_mark_lets_few_changes_through(rt: HostRuntime) -> Result<(), Fail> {
 }
 
 /// Each operation on one name, with an authority of either kind.
+const OPERATIONS: &[Row<'static>] = &[
+    ("setif a 3 {\"keys\":[]}", "refused 36 absent", 0),
+    (
+        "setif a absent {\"keys\":[],\"spiffe_sequence\":9}",
+        "stored",
+        1,
+    ),
+    (
+        "append a {\"kty\":\"RSA\",\"use\":\"jwt-svid\",\"kid\":\"k\",\"n\":\"AQAB\",\"e\":\"AQAB\"}",
+        "appended 10",
+        2,
+    ),
+    (
+        "append a {\"kty\":\"RSA\",\"use\":\"jwt-svid\",\"kid\":\"k\",\"n\":\"AQAB\",\"e\":\"AQAB\"}",
+        "unchanged",
+        2,
+    ),
+    (
+        "append a {\"kty\":\"RSA\",\"use\":\"jwt-svid\",\"kid\":\"k\",\"n\":\"AQAC\",\"e\":\"AQAB\"}",
+        "refused 32",
+        2,
+    ),
+    (
+        "append a {\"kty\":\"EC\",\"use\":\"x509-svid\",\"crv\":\"P-256\",\"x\":\"AAAAAAAAAAAAAAAAAAAAAAAAAAAAAAAAAAAAAAAAAAA\",\"y\":\"AAAAAAAAAAAAAAAAAAAAAAAAAAAAAAAAAAAAAAAAAAA\",\"x5c\":[\"MAA=\"]}",
+        "appended 11",
+        3,
+    ),
+    (
+        "get a",
+        "found {\"keys\":[{\"e\":\"AQAB\",\"kid\":\"k\",\"kty\":\"RSA\",\"n\":\"AQAB\",\"use\":\"jwt-svid\"},{\"crv\":\"P-256\",\"kty\":\"EC\",\"use\":\"x509-svid\",\"x\":\"AAAAAAAAAAAAAAAAAAAAAAAAAAAAAAAAAAAAAAAAAAA\",\"x5c\":[\"MAA=\"],\"y\":\"AAAAAAAAAAAAAAAAAAAAAAAAAAAAAAAAAAAAAAAAAAA\"}],\"spiffe_sequence\":11}",
+        3,
+    ),
+    ("remove a", "removed", 4),
+    ("setif a absent {\"keys\":[]}", "stored", 5),
+    (
+        "append a {\"kty\":\"RSA\",\"use\":\"jwt-svid\",\"kid\":\"k\",\"n\":\"AQAB\",\"e\":\"AQAB\"}",
+        "appended -",
+        6,
+    ),
+];
+
 #[test]
 fn each_operation_is_a_step(rt: HostRuntime) -> Result<(), Fail> {
-    let rows = [
-        ("setif a 3 {\"keys\":[]}", "refused 36 absent", 0),
-        (
-            "setif a absent {\"keys\":[],\"spiffe_sequence\":9}",
-            "stored",
-            1,
-        ),
-        (
-            "append a {\"kty\":\"RSA\",\"use\":\"jwt-svid\",\"kid\":\"k\",\"n\":\"AQAB\",\"e\":\"AQAB\"}",
-            "appended 10",
-            2,
-        ),
-        (
-            "append a {\"kty\":\"RSA\",\"use\":\"jwt-svid\",\"kid\":\"k\",\"n\":\"AQAB\",\"e\":\"AQAB\"}",
-            "unchanged",
-            2,
-        ),
-        (
-            "append a {\"kty\":\"RSA\",\"use\":\"jwt-svid\",\"kid\":\"k\",\"n\":\"AQAC\",\"e\":\"AQAB\"}",
-            "refused 32",
-            2,
-        ),
-        (
-            "append a {\"kty\":\"EC\",\"use\":\"x509-svid\",\"crv\":\"P-256\",\"x\":\"AAAAAAAAAAAAAAAAAAAAAAAAAAAAAAAAAAAAAAAAAAA\",\"y\":\"AAAAAAAAAAAAAAAAAAAAAAAAAAAAAAAAAAAAAAAAAAA\",\"x5c\":[\"MAA=\"]}",
-            "appended 11",
-            3,
-        ),
-        (
-            "get a",
-            "found {\"keys\":[{\"e\":\"AQAB\",\"kid\":\"k\",\"kty\":\"RSA\",\"n\":\"AQAB\",\"use\":\"jwt-svid\"},{\"crv\":\"P-256\",\"kty\":\"EC\",\"use\":\"x509-svid\",\"x\":\"AAAAAAAAAAAAAAAAAAAAAAAAAAAAAAAAAAAAAAAAAAA\",\"x5c\":[\"MAA=\"],\"y\":\"AAAAAAAAAAAAAAAAAAAAAAAAAAAAAAAAAAAAAAAAAAA\"}],\"spiffe_sequence\":11}",
-            3,
-        ),
-        ("remove a", "removed", 4),
-        ("setif a absent {\"keys\":[]}", "stored", 5),
-        (
-            "append a {\"kty\":\"RSA\",\"use\":\"jwt-svid\",\"kid\":\"k\",\"n\":\"AQAB\",\"e\":\"AQAB\"}",
-            "appended -",
-            6,
-        ),
-    ];
-    play_new(rt.alloc(), &rows)
+    play_new(rt.alloc(), OPERATIONS)
+}
+
+/// Plays the rows on an empty shard of this revision.
+fn play_worn(alloc: Global, revision: u64, rows: &[Row]) -> Result<(), Fail> {
+    if revision > 4611686018427387904 {
+        return Err(Fail::from("no shard has this revision"));
+    }
+    let mut shard = Shard::with(alloc, revision, Contents::new(alloc))?;
+    play(alloc, &mut shard, rows)
 }
 
 #[test]
 fn a_worn_shard_changes_no_more(rt: HostRuntime) -> Result<(), Fail> {
-    let alloc = rt.alloc();
-    let mut worn = Shard::with(alloc, 4611686018427387904, Contents::new(alloc))?;
     let rows = [
         ("set a {\"keys\":[]}", "worn 0", 4611686018427387904),
         ("get a", "refused 30", 4611686018427387904),
     ];
-    play(alloc, &mut worn, &rows)?;
-    let mut last = Shard::with(alloc, 4611686018427387903, Contents::new(alloc))?;
+    play_worn(rt.alloc(), 4611686018427387904, &rows)
+}
+
+#[test]
+fn a_shard_with_one_revision_left_changes_once(rt: HostRuntime) -> Result<(), Fail> {
     let rows = [
         ("set a {\"keys\":[]}", "stored", 4611686018427387904),
         ("set a {\"keys\":[]}", "unchanged", 4611686018427387904),
         ("remove a", "worn 0", 4611686018427387904),
         ("get a", "found {\"keys\":[]}", 4611686018427387904),
     ];
-    play(alloc, &mut last, &rows)
+    play_worn(rt.alloc(), 4611686018427387903, &rows)
+}
+
+/// The version of the shard after a row.
+fn version_after(alloc: Global, shard: &mut Shard, row: &Row) -> Result<Arc<Contents>, Fail> {
+    play_row(alloc, shard, row)?;
+    let (_, version) = shard.share()?;
+    Ok(version)
 }
 
 /// A version that was shared stays as it was, and a shard that nobody shares goes on from the last one.
@@ -204,12 +259,13 @@ fn a_worn_shard_changes_no_more(rt: HostRuntime) -> Result<(), Fail> {
 fn a_shared_version_stays(rt: HostRuntime) -> Result<(), Fail> {
     let alloc = rt.alloc();
     let mut shard = Shard::new(alloc)?;
-    play(alloc, &mut shard, &[("set a {\"keys\":[]}", "stored", 1)])?;
-    let (_, first) = shard.share()?;
-    play(alloc, &mut shard, &[("set b {\"keys\":[]}", "stored", 2)])?;
-    let (_, second) = shard.share()?;
-    play(alloc, &mut shard, &[("get b", "found {\"keys\":[]}", 2)])?;
-    play(alloc, &mut shard, &[("remove a", "removed", 3)])?;
+    let first = version_after(alloc, &mut shard, &("set a {\"keys\":[]}", "stored", 1))?;
+    let second = version_after(alloc, &mut shard, &("set b {\"keys\":[]}", "stored", 2))?;
+    let rows = [
+        ("get b", "found {\"keys\":[]}", 2),
+        ("remove a", "removed", 3),
+    ];
+    play(alloc, &mut shard, &rows)?;
     assert_eq!(rt;
         (first.len(), second.len(), shard.look().1.len()),
         (1, 2, 1)
@@ -222,57 +278,78 @@ fn seen(alloc: Global, revision: u64) -> Result<Answer, Fail> {
     Ok(Answer::Seen { revision, contents })
 }
 
-/// A fetch-all over two shards: the second round reads both again, though the first shard had not moved.
-#[test]
-fn a_fetch_all_wants_all_again(rt: HostRuntime) -> Result<(), Fail> {
-    let alloc = rt.alloc();
-    let mut task = Task::begin(alloc, &Op::FetchAll, 2, 2)?;
-    for revisions in [(3, 4, 5), (3, 5, 5)] {
-        let (first, second, now) = revisions;
-        assert_eq!(rt; task.wants(), Want::Collect(0));
-        task.give(seen(alloc, first)?);
-        assert_eq!(rt; task.wants(), Want::Collect(1));
-        task.give(seen(alloc, second)?);
-        assert_eq!(rt; task.wants(), Want::Confirm(0));
-        task.give(Answer::Revision(first));
-        assert_eq!(rt; task.wants(), Want::Confirm(1));
-        task.give(Answer::Revision(now));
-    }
+fn give_seen(alloc: Global, task: &mut Task, revision: u64) -> Result<(), Fail> {
+    task.give(seen(alloc, revision)?);
+    Ok(())
+}
+
+/// The text of the reply of a task that is done.
+fn reply_of(alloc: Global, task: Task) -> Result<String, Fail> {
     if task.wants() != Want::Done {
         return Err(Fail::from("the task is not done"));
     }
-    assert_eq!(rt; answer_text(alloc, &task.reply())?.as_str(), "all 0");
+    answer_text(alloc, &task.reply())
+}
+
+/// A round over two shards, of these revisions, the second of which is at another when it is confirmed.
+fn give_round(
+    rt: &impl Abort,
+    alloc: Global,
+    task: &mut Task,
+    revisions: (u64, u64, u64),
+) -> Result<(), Fail> {
+    let (first, second, now) = revisions;
+    assert_eq!(rt; task.wants(), Want::Collect(0));
+    give_seen(alloc, task, first)?;
+    assert_eq!(rt; task.wants(), Want::Collect(1));
+    give_seen(alloc, task, second)?;
+    assert_eq!(rt; task.wants(), Want::Confirm(0));
+    task.give(Answer::Revision(first));
+    assert_eq!(rt; task.wants(), Want::Confirm(1));
+    task.give(Answer::Revision(now));
+    Ok(())
+}
+
+/// A fetch-all over two shards: the second round reads both again, though the first shard had not moved.
+#[test]
+fn a_fetch_all_wants_all_again(rt: HostRuntime) -> Result<(), Fail> {
+    let mut task = Task::begin(rt.alloc(), &Op::FetchAll, 2, 2)?;
+    for revisions in [(3, 4, 5), (3, 5, 5)] {
+        give_round(&rt, rt.alloc(), &mut task, revisions)?;
+    }
+    let text = reply_of(rt.alloc(), task)?;
+    assert_eq!(rt; text.as_str(), "all 0");
     Ok(())
 }
 
 #[test]
 fn a_fetch_all_names_the_last_shard_that_moved(rt: HostRuntime) -> Result<(), Fail> {
-    let alloc = rt.alloc();
-    let mut task = Task::begin(alloc, &Op::FetchAll, 1, 2)?;
+    let mut task = Task::begin(rt.alloc(), &Op::FetchAll, 1, 2)?;
     for (first, second) in [(0, 1), (7, 9)] {
-        task.give(seen(alloc, first)?);
+        give_seen(rt.alloc(), &mut task, first)?;
         task.give(Answer::Revision(second));
     }
-    if task.wants() != Want::Done {
-        return Err(Fail::from("the task is not done"));
-    }
-    assert_eq!(rt; answer_text(alloc, &task.reply())?.as_str(), "moved 0 7 9");
+    let text = reply_of(rt.alloc(), task)?;
+    assert_eq!(rt; text.as_str(), "moved 0 7 9");
+    Ok(())
+}
+
+/// Gives what the task does not want first, and then twice what it wants.
+fn give_replies(rt: &impl Abort, alloc: Global, task: &mut Task) -> Result<(), Fail> {
+    task.give(Answer::Revision(0));
+    give_seen(alloc, task, 0)?;
+    assert_eq!(rt; task.wants(), Want::Do(1));
+    task.give(Answer::Replied(Ok(Reply::Unchanged)));
+    task.give(Answer::Replied(Err(AskError::Memory)));
     Ok(())
 }
 
 /// One on a name is a step of its shard; what it does not want changes nothing.
 #[test]
 fn an_operation_on_a_name_is_one_step(rt: HostRuntime) -> Result<(), Fail> {
-    let alloc = rt.alloc();
-    let mut task = Task::begin(alloc, &operation(alloc, "get a")?, 2, 1)?;
-    task.give(Answer::Revision(0));
-    task.give(seen(alloc, 0)?);
-    assert_eq!(rt; task.wants(), Want::Do(1));
-    task.give(Answer::Replied(Ok(Reply::Unchanged)));
-    task.give(Answer::Replied(Err(AskError::Memory)));
-    if task.wants() != Want::Done {
-        return Err(Fail::from("the task is not done"));
-    }
-    assert_eq!(rt; answer_text(alloc, &task.reply())?.as_str(), "unchanged");
+    let mut task = Task::begin(rt.alloc(), &operation(rt.alloc(), "get a")?, 2, 1)?;
+    give_replies(&rt, rt.alloc(), &mut task)?;
+    let text = reply_of(rt.alloc(), task)?;
+    assert_eq!(rt; text.as_str(), "unchanged");
     Ok(())
 }
