@@ -148,14 +148,17 @@ pub record Listens (store : StoreView) (passes : List PassView) (port status : �
 abbrev pub EndsEarly : Fault → ℕ → End → End → End → End → Type 0
 EndsEarly fault status out_old out_new err_old err_new = (status ≡ 1) × (out_new ≡ out_old) × Tells err_old err_new (fault_line fault)
 
--- The listener has a port, the store is filled, and connections are served; or there is no port, or the store is not filled for
--- want of memory.
-abbrev pub ServeRun : Settings → List ℕ → ℕ → End → End → End → End → Type 0
-ServeRun settings requests status out_old out_new err_old err_new =
+-- A listener is had, and connections are served; or there is none, and that is told.
+abbrev pub ServeRun : StoreView → List PassView → ℕ → End → End → End → End → Type 0
+ServeRun store passes status out_old out_new err_old err_new =
     EndsEarly ListenFault status out_old out_new err_old err_new
-    ⊎ (((error : FrontError) × EndsEarly (Front error) status out_old out_new err_old err_new)
-    ⊎ ((port : ℕ) × (store : StoreView) × (passes : List PassView) × IsSetUp settings requests store passes
-    × Listens store passes port status out_old out_new err_old err_new))
+    ⊎ ((port : ℕ) × Listens store passes port status out_old out_new err_old err_new)
+
+-- The store is set up, and serves; or it is not, and why is told.
+abbrev pub SetUpRun : Settings → List ℕ → ℕ → End → End → End → End → Type 0
+SetUpRun settings requests status out_old out_new err_old err_new =
+    ((error : FrontError) × EndsEarly (Front error) status out_old out_new err_old err_new)
+    ⊎ ((store : StoreView) × (passes : List PassView) × IsSetUp settings requests store passes × ServeRun store passes status out_old out_new err_old err_new)
 
 -- What is to fill the store is no dump, or can't be read.
 abbrev pub LoadFails : {A : Type 0} → Option A → ℕ → End → End → End → End → Type 0
@@ -166,4 +169,4 @@ LoadFails (Some file) status out_old out_new err_old err_new = (fault : Fault) �
 abbrev pub ServeCommand : {A : Type 0} → Option A → Settings → ℕ → End → End → End → End → Type 0
 ServeCommand load settings status out_old out_new err_old err_new =
     LoadFails load status out_old out_new err_old err_new
-    ⊎ ((requests : List ℕ) × IsLoad load requests × ServeRun settings requests status out_old out_new err_old err_new)
+    ⊎ ((requests : List ℕ) × IsLoad load requests × SetUpRun settings requests status out_old out_new err_old err_new)

@@ -4,7 +4,7 @@ ghost use Rattle.std.specs.List.{All, flat_map};
 ghost use Rattle.shard_store.specs.Pass.{IsOf};
 ghost use Rattle.workers.specs.Workers.{AllWorked};
 ghost use Rattle.workers.specs.Closing.{AreAll, ranges_of};
-ghost use Rattle.bundled.specs.Serve.{always_open, Listens, Reports, ServeCommand, ServeRun};
+ghost use Rattle.bundled.specs.Serve.{always_open, Reports, ServeCommand, ServeRun, SetUpRun};
 ghost use Rattle.commands.specs.Streams.{end_of};
 
 use crate::serving::connections::Connections;
@@ -143,11 +143,54 @@ fn report<W: Write, E: Write>(
     }
 }
 
-/// Listens and serves: `listening PORT` goes to the output first, and nothing is accepted if it is not taken.
-fn listen<R: Threads + Clock + Net<Stream = TcpStream> + Sync, I: Read, W: Write, E: Write>(
+/// Serves over a store that is set up: `listening PORT` goes to the output first, and nothing is accepted if it is not
+/// taken.
+fn serve_with<R: Threads + Clock + Net<Stream = TcpStream> + Sync, I: Read, W: Write, E: Write>(
     rt: &R,
     alloc: Global,
     listener: &TcpListener,
+    settings: Settings,
+    set_up: SetUp,
+    input: &mut Counted<I>,
+    out: &mut Counted<W>,
+    err: &mut Counted<E>,
+) -> u8
+    requires count { err.old.faults < 2 ^ 64 - 1 }
+    requires workers { vec_len set_up.passes ≡ settings.workers }
+    requires own { All (λ pass. IsOf pass set_up.store) set_up.passes.items }
+    requires all { AreAll (ranges_of set_up.passes.items) }
+    ensures run { ServeRun set_up.store set_up.passes.items result (end_of W.contents out.old) (end_of W.contents out.new)
+        (end_of E.contents err.old) (end_of E.contents err.new) }
+    ensures read { settings.until_eof ≡ false → input.new ≡ input.old }
+{
+    let before = err.faults();
+    let SetUp { store, passes } = set_up;
+    let Ok(address) = listener.local_addr() else {
+        return Fault::Listen.tell(err);
+    };
+    let port = address.port();
+    if !say(out, err, before, Said::Listening(port)) {
+        return 1;
+    }
+    match serve_all(rt, alloc, listener, port, settings, &store, passes, input) {
+        Ok(worked) => report(store, worked, out, err, before),
+        Err(_) => {
+            Fault::Front(FrontError::Memory).tell_unless_failed(err, before);
+            1
+        }
+    }
+}
+
+/// Serves over a store that is set up, at the port of 127.0.0.1, or at one that is free if it is 0. A port that can't be had
+/// is a fault.
+fn serve_at<
+    H: Threads + Clock + Net<Listener = TcpListener, Stream = TcpStream> + Sync,
+    I: Read,
+    W: Write,
+    E: Write,
+>(
+    host: &H,
+    alloc: Global,
     port: u16,
     settings: Settings,
     set_up: SetUp,
@@ -159,21 +202,13 @@ fn listen<R: Threads + Clock + Net<Stream = TcpStream> + Sync, I: Read, W: Write
     requires workers { vec_len set_up.passes ≡ settings.workers }
     requires own { All (λ pass. IsOf pass set_up.store) set_up.passes.items }
     requires all { AreAll (ranges_of set_up.passes.items) }
-    ensures run { Listens set_up.store set_up.passes.items port result (end_of W.contents out.old) (end_of W.contents out.new)
+    ensures run { ServeRun set_up.store set_up.passes.items result (end_of W.contents out.old) (end_of W.contents out.new)
         (end_of E.contents err.old) (end_of E.contents err.new) }
     ensures read { settings.until_eof ≡ false → input.new ≡ input.old }
 {
-    let before = err.faults();
-    let SetUp { store, passes } = set_up;
-    if !say(out, err, before, Said::Listening(port)) {
-        return 1;
-    }
-    match serve_all(rt, alloc, listener, port, settings, &store, passes, input) {
-        Ok(worked) => report(store, worked, out, err, before),
-        Err(_) => {
-            Fault::Front(FrontError::Memory).tell_unless_failed(err, before);
-            1
-        }
+    match TcpListener::bind(host, (Ipv4Addr::LOCALHOST, port)) {
+        Ok(listener) => serve_with(host, alloc, &listener, settings, set_up, input, out, err),
+        Err(_) => Fault::Listen.tell(err),
     }
 }
 
@@ -200,23 +235,18 @@ pub fn serve_on<
     err: &mut Counted<E>,
 ) -> u8
     requires { err.old.faults < 2 ^ 64 - 1 }
-    ensures run { ServeRun settings requests.now result (end_of W.contents out.old) (end_of W.contents out.new)
+    ensures run { SetUpRun settings requests.now result (end_of W.contents out.old) (end_of W.contents out.new)
         (end_of E.contents err.old) (end_of E.contents err.new) }
     ensures read { settings.until_eof ≡ false → input.new ≡ input.old }
 {
-    let Ok(address) = listener.local_addr() else {
-        return Fault::Listen.tell(err);
-    };
-    let port = address.port();
     match SetUp::new(alloc, settings, requests) {
-        Ok(set_up) => listen(rt, alloc, listener, port, settings, set_up, input, out, err),
+        Ok(set_up) => serve_with(rt, alloc, listener, settings, set_up, input, out, err),
         Err(error) => Fault::Front(error).tell(err),
     }
 }
 
-/// Listens at the port of 127.0.0.1, or at one that is free if it is 0, and serves; answers the exit status. The dump of the
-/// file, if one is named, fills the store before. A port that can't be had is a fault, and so is a file that can't be read or
-/// has no dump.
+/// Serves at the port of 127.0.0.1, or at one that is free if it is 0; answers the exit status. The dump of the file, if one
+/// is named, fills the store before. A port that can't be had is a fault, and so is a file that can't be read or has no dump.
 pub fn serve_over<
     H: Files + Threads + Clock + Net<Listener = TcpListener, Stream = TcpStream> + Sync,
     I: Read,
@@ -241,9 +271,8 @@ pub fn serve_over<
         Ok(requests) => requests,
         Err(fault) => return fault.tell(err),
     };
-    let requests = requests.as_slice();
-    match TcpListener::bind(host, (Ipv4Addr::LOCALHOST, port)) {
-        Ok(listener) => serve_on(host, alloc, &listener, settings, requests, input, out, err),
-        Err(_) => Fault::Listen.tell(err),
+    match SetUp::new(alloc, settings, requests.as_slice()) {
+        Ok(set_up) => serve_at(host, alloc, port, settings, set_up, input, out, err),
+        Err(error) => Fault::Front(error).tell(err),
     }
 }

@@ -1,0 +1,13 @@
+use Rattle.std.proofs.Common.{ℕ, List, inr, subst}
+use Rattle.bundled.specs.Serve.{IsSetUp}
+use Rattle.bundled.proofs.serving.server.serve_over.Goals as goal
+
+pub returns-in-Ok-new-clause-run : goal.returns-in-Ok-new-clause-run
+returns-in-Ok-new-clause-run g c =
+    let set_up = c.in-Ok-new.set_up in
+    let made = subst (λ (requests : List ℕ). IsSetUp c.args.settings requests set_up.store set_up.passes.items) c.as_slice.ensures.value c.in-Ok-new.ensures.set_up in
+    inr (
+      c.in-Ok.requests.items,
+      c.in-Ok.ensures.ok,
+      inr (set_up.store, set_up.passes.items, made, c.serve_at.ensures.run),
+    )
