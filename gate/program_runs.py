@@ -109,6 +109,8 @@ def program_runs():
     race, lines = ["trace", "--shards", "2", "--rounds", "2"], file("race.trace")
     yield command(race, file("race.events"), lambda it: it == Ended(0, lines, b""))
     yield refresh()
+    no_dump = ["serve", "--port", "0", "--load", f"{ROOT}/gate/bundles/relationships"]
+    yield command(no_dump, b"", lambda it: it == Ended(1, b"", b"fault 63 0\n"))
     for words in (["--help"], *([it, "--help"] for it in ("run", "trace", "migrate", "refresh")), ["--version"]):
         yield command(words, b"", lambda it: it.status == 0 and it.out and not it.err)
     for words in (["run", "--shards", "0"], ["frames"], []):

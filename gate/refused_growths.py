@@ -22,7 +22,8 @@ from refusals import MOST_GROWTHS, Run, build_shim, run_once, sweep, tests_of  #
 ALL = ["spiffe_doc", "map_core", "step_core"]
 # Of others those with such a word in their names: the rest starts threads, which take memory in any order, or asks
 # whether an answer is a certain one, which 22 is not.
-SOME = {"frame_front": ["a_refused_growth"], "shard_store": ["a_refused_growth", "removed_sequences", "a_front_asks"],
+SOME = {"frame_front": ["a_refused_growth"], "frame_client": ["a_refused_growth"],
+        "shard_store": ["a_refused_growth", "removed_sequences", "a_front_asks"],
         "refresh": ["a_refused_growth", "parts_of"]}
 WANT_OF_MEMORY = re.compile(r'error: (Memory|AllocError|AllocFailed \{ \.\. \}|"out of memory")', re.I)
 ANSWERED_MEMORY = re.compile(r'error: ".*: memory\b.*, and not .*"')
