@@ -3,8 +3,8 @@
 //!
 //! `serve` reads frames from any reader and writes replies to any writer, over whatever can be asked:
 //! one map, or shards of it. `Decoder` takes frames out of a stream by itself, and `migrate` turns the
-//! reply to a fetch-all into requests that store it again. `wire` is what the other end of a session is made
-//! of too, which crate `frame_client` is.
+//! reply to a fetch-all into requests that store it again. `wire` has what both ends of a stream share: the
+//! other end is the client of crate `frame_client`.
 #![tactic(auto)]
 
 mod counted;
