@@ -21,6 +21,7 @@ from refusals import program  # noqa: E402
 
 SECONDS = 60
 EMPTY = b'{"keys":[]}'
+ENTRY = b'{"use":"jwt-svid","kty":"RSA","kid":"k","n":"AQAB","e":"AQAB"}'
 SET_A = frame(b"S\x01a" + EMPTY)
 GET_A = frame(b"G\x01a")
 FIRST = frame(b"s") + frame(b"f" + EMPTY)
@@ -210,8 +211,29 @@ def stops_at_the_end_of_input():
     assert server.ended() == (0, "served 12\ndomains 1\n", ""), "ended otherwise"
 
 
+def told_changes():
+    """With --log each change and each end of a connection is a line on standard error, and nothing else is."""
+    server = Server("--workers", "1", "--connections", "2", "--log")
+    numbered = b'{"keys":[],"spiffe_sequence":7}'
+    turns = [
+        (b"S\x01a" + numbered, b"s"),
+        (b"S\x01a" + numbered, b"u"),
+        (b"G\x01a", b"f" + numbered),
+        (b"A\x01a" + ENTRY, b"p\1" + (8).to_bytes(8, "big")),
+        (b"S\x01b" + EMPTY, b"s"),
+        (b"R\x01b", b"d"),
+        (b"R\x01b", b"\x1e"),
+    ]
+    assert server.ask(b"".join(frame(request) for request, _ in turns)) == b"".join(frame(reply) for _, reply in turns)
+    assert server.ask(GET_A[:-1]) == b""
+    told = ["set a none to 7", "appended a 7 to 8", "set b none to unnumbered", "removed b unnumbered to none",
+            "session ended after 7 replies", "session fault 52"]
+    log = "".join(f"worker 0 {line}\n" for line in told)
+    assert server.ended() == (0, "served 2\ndomains 1\n", f"{log}fault 52\n"), "ended otherwise"
+
+
 CHECKS = [two_workers, side_by_side, real_bundles, filled_stores, clients_that_fail, many_workers, ports_and_outputs, silent_clients,
-          client_that_never_reads, replies_before_a_bad_length, stops_at_the_end_of_input]
+          client_that_never_reads, replies_before_a_bad_length, stops_at_the_end_of_input, told_changes]
 
 
 def main():

@@ -21,7 +21,7 @@ Does (Run shards turns) status old new = Runs turns status old new
 Does (Trace shards rounds) status old new = Tracing status old new
 Does Migrate status old new = Migration status old new
 Does (Refresh wanted) status old new = RefreshRun status old new
-Does (Serve port load settings) status old new =
+Does (Serve port load log settings) status old new =
     (settings.until_eof ≡ false → new.input ≡ old.input) × ServeCommand load settings status old.output new.output old.error new.error
 
 -- some text is written; a front of it if the writer failed; nothing if memory ran out

@@ -4,8 +4,9 @@ use Rattle.std.specs.List.{All, flat_map}
 use Rattle.std.specs.Io.KnownBytes.{Appends}
 use Rattle.frame_front.specs.Counted.{next_count}
 use Rattle.frame_front.specs.Outbox.{WritesFront}
-use Rattle.frame_front.specs.Dump.{Domains as AllDomains, IsDump, AreLawful, requests_for}
+use Rattle.frame_front.specs.Dump.{Domains as AllDomains, IsDump, AreLawful, FaultOfDump, requests_for}
 use Rattle.frame_front.specs.Frame.{stream_of}
+use Rattle.frame_front.specs.declared.dump.DumpError.{DumpError}
 use Rattle.frame_front.specs.declared.error.FrontError.{FrontError}
 use Rattle.frame_front.specs.declared.error.FrontError.TheVariants.{Memory, WriteFault}
 use Rattle.map_core.specs.PlainMap.{PlainMap, bundles}
@@ -13,16 +14,18 @@ use Rattle.shard_store.specs.declared.change.Seen.{Seen}
 use Rattle.shard_store.specs.Pass.{StoreView, PassView}
 use Rattle.shard_store.specs.declared.close.CloseError.{CloseError}
 use Rattle.commands.specs.declared.fault.Fault.{Fault}
-use Rattle.commands.specs.declared.fault.Fault.TheVariants.{Front, Listen as ListenFault, Close}
+use Rattle.commands.specs.declared.fault.Fault.TheVariants.{Front, Dump, Listen as ListenFault, Close}
 use Rattle.bundled.specs.declared.serving.report.Said.{Said}
 use Rattle.bundled.specs.declared.serving.report.Said.TheVariants.{Listening, Served, Domains}
 use Rattle.workers.specs.declared.sessions.SessionFault.{SessionFault}
 use Rattle.workers.specs.declared.sessions.SessionFault.TheVariants as session
 use Rattle.workers.specs.declared.run.Worked.{Worked}
 use Rattle.commands.specs.Fault.{fault_line}
+use Rattle.commands.specs.Input.{InputFault}
 use Rattle.commands.specs.Streams.{End, Tells, TellsUnlessFailed}
 use Rattle.bundled.specs.declared.serving.settings.Settings.{Settings}
-use Rattle.workers.specs.Filling.{Fills}
+use Rattle.workers.specs.Filling.{Fills, NotFills}
+use Rattle.workers.specs.declared.filling.FillError.TheVariants as fill
 use Rattle.workers.specs.Workers.{AllWorked}
 use Rattle.workers.specs.Closing.{ranges_of, AreAll, ClosesAs}
 
@@ -105,10 +108,21 @@ abbrev pub IsLoad : {A : Type 0} → Option A → List ℕ → Type 0
 IsLoad None requests = requests ≡ []
 IsLoad (Some file) requests = (dump : List ℕ) × (items : AllDomains) × IsDump dump items × AreLawful items × (requests ≡ stream_of (requests_for items) [])
 
+-- why a file loads nothing: it is not read, since memory ran out or for a fault of an input, or what it holds is not a dump
+abbrev pub IsLoadFault : Fault → Type 0
+IsLoadFault fault =
+    ((left_old : Option (List ℕ)) × (left_new : Option (List ℕ)) × InputFault fault left_old left_new)
+    ⊎ ((dump : List ℕ) × (error : DumpError) × FaultOfDump error dump × (fault ≡ Dump error))
+
 -- The first pass has stored what the requests hold, if there are any, and has its numbers still.
 abbrev pub Filled : List ℕ → StoreView → Seen → Seen → Type 0
 Filled [] store old new = new ≡ old
 Filled (byte ∷ more) store old new = Fills (byte ∷ more) store old new
+
+-- why it has not: memory ran out, or the session of the requests failed
+abbrev pub NotFilled : List ℕ → StoreView → Seen → FrontError → Type 0
+NotFilled [] store old error = ⊥
+NotFilled (byte ∷ more) store old error = (error ≡ Memory) ⊎ NotFills (byte ∷ more) store old (fill.Front error)
 
 -- the store and the passes with which the workers begin: each has seen with what the store was filled, and together they have
 -- all numbers
@@ -123,6 +137,10 @@ pub record IsSetUp (settings : Settings) (requests : List ℕ) (store : StoreVie
   pub first : Seen
   pub filled : Filled requests store fresh first
   pub seen : All (λ pass. pass.seen.log ≡ first.log) passes
+
+-- why there is no store: memory ran out, or an empty store was not filled
+abbrev pub NotSetUp : List ℕ → FrontError → Type 0
+NotSetUp requests error = (error ≡ Memory) ⊎ ((store : StoreView) × (fresh : Seen) × (fresh.log ≡ []) × NotFilled requests store fresh error)
 
 -- Each worker serves its connections over a pass of its own, and the end is reported; or memory runs out, and that is told.
 abbrev pub Serves : StoreView → List PassView → ℕ → ℕ → End → End → End → End → Type 0
@@ -148,7 +166,7 @@ pub record Listens (store : StoreView) (passes : List PassView) (port status : �
 abbrev pub EndsEarly : Fault → ℕ → End → End → End → End → Type 0
 EndsEarly fault status out_old out_new err_old err_new = (status ≡ 1) × (out_new ≡ out_old) × Tells err_old err_new (fault_line fault)
 
--- A listener is had, and connections are served; or there is none, and that is told.
+-- There is a listener, and connections are served; or it can't be had, and that is told.
 abbrev pub ServeRun : StoreView → List PassView → ℕ → End → End → End → End → Type 0
 ServeRun store passes status out_old out_new err_old err_new =
     EndsEarly ListenFault status out_old out_new err_old err_new
@@ -157,13 +175,13 @@ ServeRun store passes status out_old out_new err_old err_new =
 -- The store is set up, and serves; or it is not, and why is told.
 abbrev pub SetUpRun : Settings → List ℕ → ℕ → End → End → End → End → Type 0
 SetUpRun settings requests status out_old out_new err_old err_new =
-    ((error : FrontError) × EndsEarly (Front error) status out_old out_new err_old err_new)
+    ((error : FrontError) × NotSetUp requests error × EndsEarly (Front error) status out_old out_new err_old err_new)
     ⊎ ((store : StoreView) × (passes : List PassView) × IsSetUp settings requests store passes × ServeRun store passes status out_old out_new err_old err_new)
 
--- What is to fill the store is no dump, or can't be read.
+-- What is to fill the store is not a dump, or can't be read.
 abbrev pub LoadFails : {A : Type 0} → Option A → ℕ → End → End → End → End → Type 0
 LoadFails None status out_old out_new err_old err_new = ⊥
-LoadFails (Some file) status out_old out_new err_old err_new = (fault : Fault) × EndsEarly fault status out_old out_new err_old err_new
+LoadFails (Some file) status out_old out_new err_old err_new = (fault : Fault) × IsLoadFault fault × EndsEarly fault status out_old out_new err_old err_new
 
 -- The whole command: what is to fill the store is judged before it listens.
 abbrev pub ServeCommand : {A : Type 0} → Option A → Settings → ℕ → End → End → End → End → Type 0

@@ -22,11 +22,7 @@ pub record SenderState : Type 0 where
 
 abbrev pub is_set : Op → Bool
 is_set (Set d b) = true
-is_set (SetIf d expect b) = false
-is_set (Append d a) = false
-is_set (Remove d) = false
-is_set (Get d) = false
-is_set FetchAll = false
+is_set op = false
 
 -- nothing is written, since the writer has failed before or the operation is not a Set
 abbrev pub SendsNothing : SenderState → Op → SenderState → Type 0
@@ -45,11 +41,7 @@ Sends old op (Err error) new = (error ≡ GateShut) × (SendsNothing old op new 
 -- before a bundle is set, the one that stands there is asked for
 abbrev pub LooksUp : ClientState → Op → Result Reply AskError → ClientState → Type 0
 LooksUp old (Set d b) found new = Asks old (Get d) found new
-LooksUp old (SetIf d expect b) found new = ⊥
-LooksUp old (Append d a) found new = ⊥
-LooksUp old (Remove d) found new = ⊥
-LooksUp old (Get d) found new = ⊥
-LooksUp old FetchAll found new = ⊥
+LooksUp old op found new = ⊥
 
 -- Perhaps the bundle that stands there is asked for; the error is that of this question, or there is no memory for it.
 abbrev pub Looks : ClientState → Op → Result Bool AskError → ClientState → Type 0

@@ -5,7 +5,7 @@ ghost use Rattle.commands.specs.Streams.{End, Streams, Tells, end_of, streams};
 
 use crate::command_line::{Wanted, wanted_by};
 use crate::refreshing::refresh_over;
-use crate::serving::serve_over;
+use crate::serving::{LineLog, serve_over};
 use clap::error::ErrorKind;
 use commands::{Fault, migrate_over, run_over, tell, trace_over, write_flushed};
 use frame_front::{Counted, FrontError};
@@ -21,13 +21,14 @@ use std::{env, io};
 const NOT_TEXT: &[u8] = b"error: an argument is not UTF-8\n\nFor more information, try '--help'.\n";
 
 /// Does what the arguments want, and answers the exit status: 0 if all went well, 1 after a fault, 2 if the arguments
-/// are refused.
+/// are refused. `notes` is an end of standard error that workers share: a server's log goes there.
 pub fn command_over<
     V: Env,
     H: Files + Clock + Threads + Net<Listener = TcpListener, Stream = TcpStream> + Sync,
     R: Read,
     W: Write,
     E: Write,
+    N: Write + Copy + Sync,
 >(
     alloc: Global,
     args: &V,
@@ -35,6 +36,7 @@ pub fn command_over<
     reader: &mut Counted<R>,
     out: &mut Counted<W>,
     err: &mut Counted<E>,
+    notes: N,
 ) -> u8
     requires reader_count { reader.old.faults < 2 ^ 64 - 1 }
     requires out_count { out.old.faults < 2 ^ 64 - 1 }
@@ -62,9 +64,13 @@ pub fn command_over<
             Wanted::Serve {
                 port,
                 load,
+                log: is_on,
                 settings,
             },
-        ) => serve_over(alloc, host, reader, out, err, port, load, settings),
+        ) => {
+            let log = LineLog { end: notes, is_on };
+            serve_over(alloc, host, reader, out, err, &log, port, load, settings)
+        }
         Err(error) => show(alloc, &error, out, err),
     }
 }

@@ -42,6 +42,13 @@ how many connections were served, and `domains M`, how many domains have a bundl
 standard error then, in order of the workers. The status is 1 after a fault of the server itself, such
 as a port that is taken, and 0 otherwise.
 
+With --log each change of a bundle is a line on standard error, with the sequence before and after it, and so is each
+end of a connection:
+
+  worker 0 set a.example none to 7
+  worker 1 appended a.example 7 to 8
+  worker 1 session ended after 3 replies
+
   bundled serve --port 8443 --connections 10
   bundled refresh --relationships list --documents documents --port 8443";
 
@@ -136,6 +143,7 @@ pub enum Wanted<'a> {
     Serve {
         port: u16,
         load: Option<&'a str>,
+        log: bool,
         settings: Settings,
     },
 }
@@ -162,6 +170,7 @@ pub fn wanted_by<'a>(alloc: Global, words: &'a [String]) -> Result<Wanted<'a>, E
             Ok(connections) => Ok(Wanted::Serve {
                 port: serve.get_one::<u16>("port").unwrap_or(0),
                 load: serve.get_str("load"),
+                log: serve.get_flag("log"),
                 settings: settings_of(serve, connections),
             }),
             Err(NoCount) => Err(bad_connections(alloc)?),
@@ -232,7 +241,7 @@ fn settings_of(serve: &ArgMatches<'_>, connections: Option<u64>) -> Settings
     }
 }
 
-/// The text is no number of connections.
+/// The text is not a number of connections.
 struct NoCount;
 
 /// How many connections each worker serves; without a number there is no end of them.
@@ -385,6 +394,10 @@ fn serve_command<'a>(alloc: Global) -> Result<Command<'a>, AllocError> {
     let load = Arg::new(alloc, "load").long("load").value_name("FILE").help(
         "A dump with which the store is filled: the reply to a fetch-all, as migrate takes it",
     );
+    let log = Arg::new(alloc, "log")
+        .long("log")
+        .action(ArgAction::SetTrue)
+        .help("Tell of each change and of each end of a connection on standard error");
     let tries = Arg::new(alloc, "tries")
         .long("tries")
         .value_name("COUNT")
@@ -413,6 +426,7 @@ fn serve_command<'a>(alloc: Global) -> Result<Command<'a>, AllocError> {
         .arg(connections)?
         .arg(until_eof)?
         .arg(load)?
+        .arg(log)?
         .arg(shards_argument(alloc))?
         .arg(rounds_argument(alloc))?
         .arg(tries)?

@@ -16,5 +16,6 @@ fn main(rt: HostRuntime) -> ExitCode {
     let mut reader = Counted::new(rt.stdin());
     let mut out = Counted::new(rt.stdout());
     let mut err = Counted::new(rt.stderr());
-    ExitCode::from(command_over(rt.alloc(), &rt, &rt, &mut reader, &mut out, &mut err))
+    let notes = rt.stderr();
+    ExitCode::from(command_over(rt.alloc(), &rt, &rt, &mut reader, &mut out, &mut err, notes))
 }

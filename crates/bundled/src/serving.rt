@@ -2,6 +2,7 @@
 mod connections;
 mod incoming;
 mod load;
+mod log;
 mod report;
 mod server;
 mod set_up;
@@ -10,5 +11,6 @@ mod stop;
 #[cfg(test)]
 mod tests;
 
+pub use log::LineLog;
 pub use server::serve_over;
 pub use settings::Settings;

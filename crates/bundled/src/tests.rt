@@ -7,6 +7,7 @@ use frame_front::Counted;
 use std::alloc::Global;
 use std::env::{Env, FillError};
 use std::fs::Files;
+use std::io;
 use std::io::{Read, Write};
 use std::net::{Net, TcpListener, TcpStream};
 use std::process::Abort;
@@ -76,6 +77,7 @@ fn program<
         &mut reader,
         &mut out,
         &mut err,
+        io::sink(),
     );
     (status, out.end, err.end)
 }

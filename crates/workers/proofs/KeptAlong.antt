@@ -36,7 +36,7 @@ module _ {S : Type 0} (answers : S → Op → Result Reply AskError → S → Ty
   all_keep old [] (text ∷ texts) new a = absurd a
   all_keep old (payload ∷ payloads) [] new a = absurd a
 
-  served_keeps : (result : Result ℕ FrontError) (old new : S) → Served answers result old new → Keeps old new
+  pub served_keeps : (result : Result ℕ FrontError) (old new : S) → Served answers result old new → Keeps old new
   served_keeps result old new s =
       let session = s.transcript.session in
       all_keep _ session.payloads session.texts _ session.serves.answered

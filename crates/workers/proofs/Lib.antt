@@ -7,3 +7,4 @@ mod Retries
 mod ServedLists
 mod Simulated
 mod Fillings
+mod LoggedLaws

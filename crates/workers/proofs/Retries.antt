@@ -1,5 +1,5 @@
 -- What a store answers after transient answers it answers from the start.
-use Rattle.std.proofs.Common.{◌≡◌, ℕ, zero, suc, Bool, true, false, refl, sym, ap, subst, ◌∙◌}
+use Rattle.std.proofs.Common.{◌≡◌, ℕ, zero, suc, Bool, true, false, refl, sym, subst, ◌∙◌}
 use Rattle.std.specs.Prelude.{Result, Ok, Err}
 use Rattle.map_core.specs.declared.op.Op.{Op}
 use Rattle.map_core.specs.declared.reply.Reply.{Reply}
@@ -11,7 +11,6 @@ use Rattle.shard_store.specs.Promise.{IsLater, StoreAnswer}
 use Rattle.shard_store.specs.Seated.{SeatedAnswer}
 use Rattle.shard_store.proofs.Changes.{extends_none}
 use Rattle.shard_store.proofs.Continue.{refused_later, answers_continue}
-use Rattle.workers.specs.Gate.{AnsweredBehind, GatedAnswer}
 use Rattle.workers.specs.Retrying.{is_transient, LastAnswer, AskedAgain}
 
 -- a transient answer has done nothing
@@ -37,13 +36,3 @@ seated_since (suc n) has_room old op answer new asked =
       answers_continue old.store op old.seen mid.seen new.seen answer later
           (subst (λ (store : StoreView). StoreAnswer store op mid.seen answer new.seen) same last.1),
     )
-
--- what is seen of the answers is seen of them through a gate
-pub seen_behind : {S T : Type 0} (answers : S → Op → Result Reply AskError → S → Type 0) (answers_seen : T → Op → Result Reply AskError → T → Type 0) (seen : S → T)
-    → ((s : S) (op : Op) (answer : Result Reply AskError) (t : S) → answers s op answer t → answers_seen (seen s) op answer (seen t))
-    → (opens : Bool → Type 0) (s : S) (op : Op) (answer : Result Reply AskError) (t : S) → GatedAnswer answers opens s op answer t → GatedAnswer answers_seen opens (seen s) op answer (seen t)
-seen_behind answers answers_seen seen each opens s op answer t gated = (gated.0, gated.1, behind gated.0 gated.2)
-  where
-    behind : (is_open : Bool) → AnsweredBehind answers is_open s op answer t → AnsweredBehind answers_seen is_open (seen s) op answer (seen t)
-    behind true a = each s op answer t a
-    behind false a = (a.0, ap seen a.1)

@@ -20,7 +20,7 @@ AreAll ranges = (k : ℕ) → k < 4294967296 → HasNumber ranges k
 abbrev pub BeginsWith : List Change → List Change → Type 0
 BeginsWith list log = (more : List Change) × (list ≡ log ++ more)
 
--- The map after a list of changes that begins with what each worker had seen at its end; or want of memory. No pass holds
+-- The map after a list of changes that begins with what each worker had seen at its end; or out of memory. No pass holds
 -- a shard any more.
 abbrev pub ClosesAs : List Worked → Result PlainMap CloseError → Type 0
 ClosesAs worked (Ok contents) =

@@ -1,12 +1,15 @@
 -- A store that is filled before its workers begin.
-use Rattle.std.specs.Prelude.{◌≡◌, ◌≢◌, ℕ, zero, suc, List, [], ◌++◌, Option, Some, Ok, Err}
+use Rattle.std.specs.Prelude.{◌≡◌, ◌≢◌, ℕ, zero, suc, List, [], ◌++◌, Option, Some, Result, Ok, Err}
 use Rattle.map_core.specs.declared.reply.Reply.TheVariants.{Stored}
 use Rattle.frame_front.specs.Reply.{coded_reply, version_frame}
 use Rattle.frame_front.specs.Transcript.{Transcript}
+use Rattle.frame_front.specs.declared.error.FrontError.{FrontError}
 use Rattle.frame_front.specs.declared.request.Version.TheVariants.{Two}
 use Rattle.shard_store.specs.declared.change.Seen.{Seen}
 use Rattle.shard_store.specs.Pass.{StoreView, SeatedView}
 use Rattle.shard_store.specs.Seated.{SeatedAnswer}
+use Rattle.workers.specs.declared.filling.FillError.{FillError}
+use Rattle.workers.specs.declared.filling.FillError.TheVariants.{Front, NotStored}
 
 -- the replies to the request for version 2 and to so many requests of which each stored a bundle
 abbrev pub stored_replies : ℕ → List ℕ
@@ -16,9 +19,27 @@ stored_replies (suc count) = stored_replies count ++ coded_reply Stored
 abbrev pub seated : StoreView → Seen → SeatedView
 seated store seen = record { store = store; seen = seen }
 
+-- the most reads that the requests may take
+abbrev pub most_reads : ℕ
+most_reads = 1000000
+
 -- A session over memory took all the requests: the first was the one for version 2, and each other one stored a bundle.
 pub record Fills (requests : List ℕ) (store : StoreView) (old new : Seen) : Type 0 where
   pub count : ℕ
-  pub turns : ℕ
   pub left : Option (List ℕ)
-  pub session : Transcript SeatedAnswer (Ok (suc count)) turns (Some requests) left (Some []) (Some (stored_replies count)) (seated store old) (seated store new)
+  pub session : Transcript SeatedAnswer (Ok (suc count)) most_reads (Some requests) left (Some []) (Some (stored_replies count)) (seated store old) (seated store new)
+
+-- what a session's end and its replies say of a store that is not filled: the session failed; or it answered nothing, or not so
+abbrev pub IsNotFilled : Result ℕ FrontError → List ℕ → FillError → Type 0
+IsNotFilled (Ok zero) replies error = error ≡ NotStored
+IsNotFilled (Ok (suc count)) replies error = (replies ≢ stored_replies count) × (error ≡ NotStored)
+IsNotFilled (Err fault) replies error = error ≡ Front fault
+
+-- A session over memory was given all the requests, and did not fill the store.
+pub record NotFills (requests : List ℕ) (store : StoreView) (old : Seen) (error : FillError) : Type 0 where
+  pub result : Result ℕ FrontError
+  pub left : Option (List ℕ)
+  pub replies : List ℕ
+  pub new : Seen
+  pub session : Transcript SeatedAnswer result most_reads (Some requests) left (Some []) (Some replies) (seated store old) (seated store new)
+  pub why : IsNotFilled result replies error

@@ -10,12 +10,9 @@ use Rattle.map_core.specs.Ask.{PlainAnswer}
 
 -- nothing was done, and the answer may be another soon: another caller held or changed a shard
 abbrev pub is_transient : Result Reply AskError → Bool
-is_transient (Ok reply) = false
-is_transient (Err Memory) = false
-is_transient (Err (Worn shard)) = false
 is_transient (Err (Moved shard first second)) = true
 is_transient (Err (Held shard revision)) = true
-is_transient (Err GateShut) = false
+is_transient answer = false
 
 module _ {S : Type 0} (answers : S → Op → Result Reply AskError → S → Type 0) where
   -- If there is room for a copy of the operation, it is asked; else nothing is, and nothing is done.

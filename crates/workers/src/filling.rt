@@ -1,7 +1,7 @@
 //! A store that is filled before its workers begin.
-ghost use Rattle.std.specs.Prelude.{◌≡◌, ◌++◌, true, IfOk, IfSome};
+ghost use Rattle.std.specs.Prelude.{◌≡◌, ◌≢◌, ◌++◌, List, ℕ, true, false, None, IfOk, IfErr, IfSome};
 ghost use Rattle.shard_store.specs.Pass.{IsOf};
-ghost use Rattle.workers.specs.Filling.{Fills, stored_replies};
+ghost use Rattle.workers.specs.Filling.{Fills, NotFills, stored_replies};
 ghost use Rattle.workers.specs.Workers.{IsFurther};
 
 use frame_front::{Counted, FrontError, serve};
@@ -31,7 +31,8 @@ pub enum FillError {
 
 /// What follows these bytes, if they come first.
 fn after<'a>(bytes: &'a [u8], first: &[u8]) -> Option<&'a [u8]>
-    ensures { IfSome result (λ rest. bytes.now ≡ first.now ++ rest.now) }
+    ensures some { IfSome result (λ rest. bytes.now ≡ first.now ++ rest.now) }
+    ensures none { result ≡ None → (rest : List ℕ) → bytes.now ≢ first.now ++ rest }
 {
     if bytes.len() < first.len() {
         return None;
@@ -45,7 +46,8 @@ fn after<'a>(bytes: &'a [u8], first: &[u8]) -> Option<&'a [u8]>
 
 /// Whether these are the replies to the request for version 2 and to so many requests of which each stored a bundle.
 fn are_stored(replies: &[u8], count: u64) -> bool
-    ensures { result ≡ true → replies.now ≡ stored_replies count }
+    ensures yes { result ≡ true → replies.now ≡ stored_replies count }
+    ensures no { result ≡ false → replies.now ≢ stored_replies count }
 {
     let Some(mut rest) = after(replies, VERSION_TWO) else {
         return false;
@@ -72,6 +74,7 @@ pub fn fill_store(
     ensures own { IfOk result (λ pass. IsOf pass store.now) }
     ensures further { IfOk result (λ pass. IsFurther pass.seen first.seen) }
     ensures stored { IfOk result (λ pass. Fills requests.now store.now first.seen pass.seen) }
+    ensures refused { IfErr result (λ error. NotFills requests.now store.now first.seen error) }
 {
     let mut seated = Seated::new(store, first);
     let mut reader = Counted::new(requests);

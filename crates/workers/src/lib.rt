@@ -2,13 +2,15 @@
 //!
 //! `run_workers` gives each pass of a store a thread and the sessions of a `Sessions`, which may be a list in memory or
 //! a listener: no word of this crate speaks of sockets. `passes_of` makes the passes, and `close_store` joins them
-//! again, when no worker is left, and gives the map at the end.
+//! again, when no worker is left, and gives the map at the end. A `Log` is told of changes and of the ends of sessions.
 #![tactic(auto)]
 
 mod closing;
 mod filling;
 mod gate;
 mod gated;
+mod log;
+mod logged;
 mod passes;
 mod retrying;
 mod run;
@@ -18,6 +20,7 @@ pub use closing::close_store;
 pub use filling::{FillError, fill_store};
 pub use gate::{Gate, Open};
 pub use gated::Gated;
+pub use log::{Changed, How, Log, Quiet};
 pub use passes::passes_of;
 pub use retrying::Retrying;
 pub use run::{Worked, run_workers};

@@ -48,7 +48,7 @@ impl<'a, A: Ask, C: Clock> Ask for Retrying<'a, A, C> {
 
     ghost answers_plainly = { λ old op answer new m shown answered. retried_answers_plainly A.answers A.shows A.answers_plainly old.retries old.ask op answer new.ask m shown answered.1 };
 
-    /// Asks, and asks again while the answer may change. The last answer counts; it is want of memory if there is no room
+    /// Asks, and asks again while the answer may change. The last answer counts; it is out of memory if there is no room
     /// for a copy of the operation.
     fn ask(&mut self, op: Op) -> Result<Reply, AskError> {
         for _ in 0..self.retries {

@@ -6,9 +6,10 @@ ghost use Rattle.workers.specs.Workers.{AllWorked, AreNumbered, HasWorked};
 
 use crate::gate::Gate;
 use crate::gated::Gated;
-use crate::retrying::Retrying;
+use crate::log::Log;
+use crate::logged::Logged;
 use crate::sessions::{SessionFault, Sessions, serve_sessions};
-use shard_store::{Pass, Seated, Store};
+use shard_store::{Pass, Store};
 use std::alloc::{AllocError, Global};
 use std::thread;
 use std::thread::Threads;
@@ -30,12 +31,13 @@ pub struct Worked {
 }
 
 /// Serves the sessions of one worker.
-fn work<C: Clock, S: Sessions + Drop, G: Gate>(
+fn work<C: Clock, S: Sessions + Drop, G: Gate, L: Log>(
     clock: &C,
     alloc: Global,
     store: &Store,
     gate: &G,
     retries: u64,
+    log: &L,
     worker: Worker<S>,
 ) -> Result<Worked, AllocError>
     requires own { IsOf worker.pass store.now }
@@ -46,22 +48,17 @@ fn work<C: Clock, S: Sessions + Drop, G: Gate>(
         pass,
         mut sessions,
     } = worker;
-    let patient = Retrying::new(Seated::new(store, pass), clock, retries);
-    let mut ask = Gated::new(patient, gate, number);
-    let results = serve_sessions(alloc, &mut sessions, &mut ask)?;
+    let logged = Logged::new(store, pass, clock, retries, log, number);
+    let mut ask = Gated::new(logged, gate, number);
+    let results = serve_sessions(alloc, &mut sessions, &mut ask, log, number)?;
     let Gated {
-        ask: patient,
+        ask: logged,
         gate: _,
         worker: _,
         calls: _,
     } = ask;
-    let Retrying {
-        ask: seated,
-        clock: _,
-        retries: _,
-    } = patient;
     Ok(Worked {
-        pass: seated.into_pass(),
+        pass: logged.into_pass(),
         results,
     })
 }
@@ -123,9 +120,14 @@ fn all_worked(
 
 /// Runs a worker for each pass, in a thread of its own if one can be made, and joins them. Each serves its sessions
 /// through the gate, one after the other; what the store answers while others are in the way is asked again, at most
-/// `retries` times. What they give back stands in the order of the passes. If memory runs out, the passes are gone, and
-/// sessions may have been served.
-pub fn run_workers<R: Threads + Clock + Sync, S: Sessions + Send + Drop, G: Gate + Sync>(
+/// `retries` times. The log is told of changes and of the ends of sessions. What the workers give back stands in the order
+/// of the passes. If memory runs out, the passes are gone, and sessions may have been served.
+pub fn run_workers<
+    R: Threads + Clock + Sync,
+    S: Sessions + Send + Drop,
+    G: Gate + Sync,
+    L: Log + Sync,
+>(
     rt: &R,
     alloc: Global,
     store: &Store,
@@ -133,6 +135,7 @@ pub fn run_workers<R: Threads + Clock + Sync, S: Sessions + Send + Drop, G: Gate
     sessions: Vec<S>,
     gate: &G,
     retries: u64,
+    log: &L,
 ) -> Result<Vec<Worked>, AllocError>
     requires same { vec_len passes ≡ vec_len sessions }
     requires own { All (λ pass. IsOf pass store.now) passes.items }
@@ -142,7 +145,7 @@ pub fn run_workers<R: Threads + Clock + Sync, S: Sessions + Send + Drop, G: Gate
     let run = |worker: Worker<S>| -> Result<Worked, AllocError>
         requires { IsOf worker.pass store.now }
         ensures { IfOk result (λ worked. HasWorked (G.opens gate.entry.now) store.entry.now worker.number worker.pass worked) }
-    { work(rt, alloc, store, gate, retries, worker) };
+    { work(rt, alloc, store, gate, retries, log, worker) };
     let given = thread::map_vec(rt, workers, &run)?;
     all_worked(alloc, given)
 }

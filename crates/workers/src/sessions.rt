@@ -2,6 +2,7 @@
 ghost use Rattle.std.specs.Prelude.{◌≡◌, ◌≤◌, ◌<◌, [], ◌∷◌, IfOk, IfSome};
 ghost use Rattle.workers.specs.Sessions.{AllCame, ServedAll, ServedOver};
 
+use crate::log::Log;
 use frame_front::{Counted, FrontError, serve};
 use map_core::Ask;
 use std::alloc::{AllocError, Global};
@@ -43,7 +44,7 @@ impl SessionFault {
     }
 }
 
-/// Where the sessions of a worker come from.
+/// The source of a worker's sessions.
 pub trait Sessions {
     ghost use Rattle.std.specs.Prelude.{ℕ};
 
@@ -82,22 +83,31 @@ fn serve_session<R: Read + Drop, W: Write + Drop, A: Ask>(
     }
 }
 
-/// Serves sessions, one after the other, and answers how each ended. No other follows if the listener fails.
+/// Serves sessions, one after the other, and answers how each ended. No other follows if the listener fails. The log is told
+/// of each end.
 #[tactic(auto, using(crate::proofs::ServedLists::came_more, crate::proofs::ServedLists::served_more))]
-pub fn serve_sessions<S: Sessions, A: Ask>(
+pub fn serve_sessions<S: Sessions, A: Ask, L: Log>(
     alloc: Global,
     sessions: &mut S,
     ask: &mut A,
+    log: &L,
+    worker: u64,
 ) -> Result<Vec<Result<u64, SessionFault>>, AllocError>
     ensures { IfOk result (λ results. ServedAll A.answers results.items ask.old ask.new) }
 {
     let mut results = Vec::new(alloc);
     loop {
         match sessions.next() {
-            Ok(Some(session)) => results.push(serve_session(alloc, session, ask))?,
+            Ok(Some(session)) => {
+                let ended = serve_session(alloc, session, ask);
+                log.ended(worker, &ended);
+                results.push(ended)?;
+            }
             Ok(None) => return Ok(results),
             Err(ListenFault) => {
-                results.push(Err(SessionFault::Listen))?;
+                let none_came = Err(SessionFault::Listen);
+                log.ended(worker, &none_came);
+                results.push(none_came)?;
                 return Ok(results);
             }
         }

@@ -22,7 +22,7 @@ const LAST_WAIT: u64 = 250;
 /// How many such reads there are.
 const LAST_READS: usize = 16;
 
-/// Where a stream of frames stands: in a length, of which so many bytes have come, or in a payload, of which so many
+/// How far a stream of frames is: in a length, of which so many bytes have come, or in a payload, of which so many
 /// bytes are left.
 #[derive(Clone, Copy, Debug)]
 pub struct Place {

@@ -1,6 +1,6 @@
 //! What fills the store of a server before anything is accepted.
 ghost use Rattle.std.specs.Prelude.{◌≢◌, None, IfOk, IfErr};
-ghost use Rattle.bundled.specs.Serve.{IsLoad};
+ghost use Rattle.bundled.specs.Serve.{IsLoad, IsLoadFault};
 
 use commands::{Fault, read_input};
 use frame_front::{Counted, FrontError, migrate};
@@ -10,7 +10,8 @@ use std::fs::{File, Files};
 /// The requests that store again what the dump of the file holds; none without a file.
 pub fn requests_of<H: Files>(alloc: Global, host: &H, load: Option<&str>) -> Result<Vec<u8>, Fault>
     ensures ok { IfOk result (λ requests. IsLoad load.entry requests.items) }
-    ensures err { IfErr result (λ _. load.entry ≢ None) }
+    ensures none { IfErr result (λ _. load.entry ≢ None) }
+    ensures err { IfErr result (λ fault. IsLoadFault fault) }
 {
     let Some(path) = load else {
         return Ok(Vec::new(alloc));

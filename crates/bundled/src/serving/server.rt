@@ -24,7 +24,7 @@ use std::net::{Ipv4Addr, Net, TcpListener, TcpStream};
 use std::thread;
 use std::thread::Threads;
 use std::time::Clock;
-use workers::{Open, Worked, close_store, run_workers};
+use workers::{Log, Open, Worked, close_store, run_workers};
 
 /// The same listener for each worker.
 fn connections_of<'a>(
@@ -49,7 +49,7 @@ fn connections_of<'a>(
 }
 
 /// Runs the workers, and beside them waits for the end of the input: then they are to stop.
-fn run_until_end<R: Threads + Clock + Net<Stream = TcpStream> + Sync, I: Read>(
+fn run_until_end<R: Threads + Clock + Net<Stream = TcpStream> + Sync, I: Read, L: Log + Sync>(
     rt: &R,
     alloc: Global,
     store: &Store,
@@ -57,6 +57,7 @@ fn run_until_end<R: Threads + Clock + Net<Stream = TcpStream> + Sync, I: Read>(
     connections: Vec<Connections<'_>>,
     settings: Settings,
     end: &mut Watch<'_, I>,
+    log: &L,
 ) -> Result<Vec<Worked>, AllocError>
     requires same { vec_len passes ≡ vec_len connections }
     requires own { All (λ pass. IsOf pass store.now) passes.items }
@@ -67,14 +68,14 @@ fn run_until_end<R: Threads + Clock + Net<Stream = TcpStream> + Sync, I: Read>(
         requires same { vec_len passes ≡ vec_len connections }
         requires own { All (λ pass. IsOf pass store.now) passes.items }
         ensures { IfOk result (λ all. AllWorked always_open store.entry.now 0 passes.items all.items) }
-    { run_workers(rt, alloc, store, passes, connections, &Open, retries) };
+    { run_workers(rt, alloc, store, passes, connections, &Open, retries, log) };
     let (worked, ()) = thread::join(rt, run, || end.stop_at_end(rt, settings.workers));
     worked
 }
 
 /// Serves connections until each worker has had as many as it may accept, or the server is to stop; answers what the
 /// workers gave back.
-fn serve_all<R: Threads + Clock + Net<Stream = TcpStream> + Sync, I: Read>(
+fn serve_all<R: Threads + Clock + Net<Stream = TcpStream> + Sync, I: Read, L: Log + Sync>(
     rt: &R,
     alloc: Global,
     listener: &TcpListener,
@@ -83,6 +84,7 @@ fn serve_all<R: Threads + Clock + Net<Stream = TcpStream> + Sync, I: Read>(
     store: &Store,
     passes: Vec<Pass>,
     input: &mut Counted<I>,
+    log: &L,
 ) -> Result<Vec<Worked>, AllocError>
     requires workers { vec_len passes ≡ settings.workers }
     requires own { All (λ pass. IsOf pass store.now) passes.items }
@@ -93,14 +95,23 @@ fn serve_all<R: Threads + Clock + Net<Stream = TcpStream> + Sync, I: Read>(
     let connections = connections_of(alloc, listener, &stop, settings)?;
     if !settings.until_eof {
         let retries = settings.retries;
-        return run_workers(rt, alloc, store, passes, connections, &Open, retries);
+        return run_workers(rt, alloc, store, passes, connections, &Open, retries, log);
     }
     let mut end = Watch {
         input,
         stop: &stop,
         port,
     };
-    run_until_end(rt, alloc, store, passes, connections, settings, &mut end)
+    run_until_end(
+        rt,
+        alloc,
+        store,
+        passes,
+        connections,
+        settings,
+        &mut end,
+        log,
+    )
 }
 
 fn status_of(all_went_well: bool) -> u8
@@ -145,7 +156,13 @@ fn report<W: Write, E: Write>(
 
 /// Serves over a store that is set up: `listening PORT` goes to the output first, and nothing is accepted if it is not
 /// taken.
-fn serve_with<R: Threads + Clock + Net<Stream = TcpStream> + Sync, I: Read, W: Write, E: Write>(
+fn serve_with<
+    R: Threads + Clock + Net<Stream = TcpStream> + Sync,
+    I: Read,
+    W: Write,
+    E: Write,
+    L: Log + Sync,
+>(
     rt: &R,
     alloc: Global,
     listener: &TcpListener,
@@ -154,6 +171,7 @@ fn serve_with<R: Threads + Clock + Net<Stream = TcpStream> + Sync, I: Read, W: W
     input: &mut Counted<I>,
     out: &mut Counted<W>,
     err: &mut Counted<E>,
+    log: &L,
 ) -> u8
     requires count { err.old.faults < 2 ^ 64 - 1 }
     requires workers { vec_len set_up.passes ≡ settings.workers }
@@ -172,7 +190,9 @@ fn serve_with<R: Threads + Clock + Net<Stream = TcpStream> + Sync, I: Read, W: W
     if !say(out, err, before, Said::Listening(port)) {
         return 1;
     }
-    match serve_all(rt, alloc, listener, port, settings, &store, passes, input) {
+    match serve_all(
+        rt, alloc, listener, port, settings, &store, passes, input, log,
+    ) {
         Ok(worked) => report(store, worked, out, err, before),
         Err(_) => {
             Fault::Front(FrontError::Memory).tell_unless_failed(err, before);
@@ -188,6 +208,7 @@ fn serve_at<
     I: Read,
     W: Write,
     E: Write,
+    L: Log + Sync,
 >(
     host: &H,
     alloc: Global,
@@ -197,6 +218,7 @@ fn serve_at<
     input: &mut Counted<I>,
     out: &mut Counted<W>,
     err: &mut Counted<E>,
+    log: &L,
 ) -> u8
     requires count { err.old.faults < 2 ^ 64 - 1 }
     requires workers { vec_len set_up.passes ≡ settings.workers }
@@ -207,7 +229,9 @@ fn serve_at<
     ensures read { settings.until_eof ≡ false → input.new ≡ input.old }
 {
     match TcpListener::bind(host, (Ipv4Addr::LOCALHOST, port)) {
-        Ok(listener) => serve_with(host, alloc, &listener, settings, set_up, input, out, err),
+        Ok(listener) => serve_with(
+            host, alloc, &listener, settings, set_up, input, out, err, log,
+        ),
         Err(_) => Fault::Listen.tell(err),
     }
 }
@@ -218,12 +242,14 @@ fn serve_at<
 ///
 /// `listening PORT` goes to the output first; nothing is accepted if it is not taken. At the end come `served N`, how many
 /// sessions were begun, and `domains M`, how many domains have a bundle then. The faults of sessions are told in between,
-/// in order of the workers; they don't change the status, except that a worker to which no connection came does.
+/// in order of the workers; they don't change the status, except that a worker to which no connection came does. The log is
+/// told of changes and of the ends of sessions while it serves.
 pub fn serve_on<
     R: Threads + Clock + Net<Listener = TcpListener, Stream = TcpStream> + Sync,
     I: Read,
     W: Write,
     E: Write,
+    L: Log + Sync,
 >(
     rt: &R,
     alloc: Global,
@@ -233,6 +259,7 @@ pub fn serve_on<
     input: &mut Counted<I>,
     out: &mut Counted<W>,
     err: &mut Counted<E>,
+    log: &L,
 ) -> u8
     requires { err.old.faults < 2 ^ 64 - 1 }
     ensures run { SetUpRun settings requests.now result (end_of W.contents out.old) (end_of W.contents out.new)
@@ -240,24 +267,26 @@ pub fn serve_on<
     ensures read { settings.until_eof ≡ false → input.new ≡ input.old }
 {
     match SetUp::new(alloc, settings, requests) {
-        Ok(set_up) => serve_with(rt, alloc, listener, settings, set_up, input, out, err),
+        Ok(set_up) => serve_with(rt, alloc, listener, settings, set_up, input, out, err, log),
         Err(error) => Fault::Front(error).tell(err),
     }
 }
 
 /// Serves at the port of 127.0.0.1, or at one that is free if it is 0; answers the exit status. The dump of the file, if one
-/// is named, fills the store before. A port that can't be had is a fault, and so is a file that can't be read or has no dump.
+/// is named, fills the store before. A port that can't be had is a fault, and so is a file that can't be read or is not a dump.
 pub fn serve_over<
     H: Files + Threads + Clock + Net<Listener = TcpListener, Stream = TcpStream> + Sync,
     I: Read,
     W: Write,
     E: Write,
+    L: Log + Sync,
 >(
     alloc: Global,
     host: &H,
     input: &mut Counted<I>,
     out: &mut Counted<W>,
     err: &mut Counted<E>,
+    log: &L,
     port: u16,
     load: Option<&str>,
     settings: Settings,
@@ -272,7 +301,7 @@ pub fn serve_over<
         Err(fault) => return fault.tell(err),
     };
     match SetUp::new(alloc, settings, requests.as_slice()) {
-        Ok(set_up) => serve_at(host, alloc, port, settings, set_up, input, out, err),
+        Ok(set_up) => serve_at(host, alloc, port, settings, set_up, input, out, err, log),
         Err(error) => Fault::Front(error).tell(err),
     }
 }

@@ -1,9 +1,9 @@
 //! The store of a server and the passes of its workers, before anything is accepted.
-ghost use Rattle.std.specs.Prelude.{◌≡◌, vec_len, IfOk};
+ghost use Rattle.std.specs.Prelude.{◌≡◌, vec_len, IfOk, IfErr};
 ghost use Rattle.std.specs.List.{All};
 ghost use Rattle.shard_store.specs.Pass.{IsOf};
 ghost use Rattle.workers.specs.Workers.{IsFurther};
-ghost use Rattle.bundled.specs.Serve.{Filled, IsSetUp};
+ghost use Rattle.bundled.specs.Serve.{Filled, IsSetUp, NotFilled, NotSetUp};
 
 use crate::serving::settings::Settings;
 use frame_front::FrontError;
@@ -24,6 +24,7 @@ fn filled(alloc: Global, store: &Store, first: Pass, requests: &[u8]) -> Result<
     ensures own { IfOk result (λ pass. IsOf pass store.now) }
     ensures further { IfOk result (λ pass. IsFurther pass.seen first.seen) }
     ensures filled { IfOk result (λ pass. Filled requests.now store.now first.seen pass.seen) }
+    ensures refused { IfErr result (λ error. NotFilled requests.now store.now first.seen error) }
 {
     if requests.is_empty() {
         return Ok(first);
@@ -41,6 +42,7 @@ impl SetUp {
     pub fn new(alloc: Global, settings: Settings, requests: &[u8]) -> Result<SetUp, FrontError>
         ensures set_up { IfOk result (λ made. IsSetUp settings requests.now made.store made.passes.items) }
         ensures own { IfOk result (λ made. All (λ pass. IsOf pass made.store) made.passes.items) }
+        ensures refused { IfErr result (λ error. NotSetUp requests.now error) }
     {
         let (shards, rounds, tries) = (settings.shards, settings.rounds, settings.tries);
         let Ok((store, first)) = Store::new(alloc, shards, rounds, tries) else {

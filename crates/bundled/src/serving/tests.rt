@@ -9,6 +9,7 @@ use std::test::Fail;
 use std::thread::Threads;
 use std::time::{Clock, Duration};
 use std::{io, thread};
+use workers::Quiet;
 
 const SET_AND_GET_A: &[u8] = b"\x00\x00\x00\x0eS\x01a{\"keys\":[]}\x00\x00\x00\x03G\x01a";
 
@@ -108,6 +109,7 @@ fn serve_and_ask<H: Threads + Clock + Net<Listener = TcpListener, Stream = TcpSt
                 &mut Counted::new(b"".as_slice()),
                 &mut out,
                 &mut err,
+                &Quiet,
             );
             (status, out.end, err.end)
         },
@@ -199,6 +201,7 @@ fn a_port_that_is_taken(rt: HostRuntime) -> Result<(), Fail> {
         &mut Counted::new(b"".as_slice()),
         &mut out,
         &mut err,
+        &Quiet,
         port,
         None,
         settings,
@@ -223,6 +226,7 @@ fn a_dump_that_is_not_there(rt: HostRuntime) -> Result<(), Fail> {
         &mut Counted::new(b"".as_slice()),
         &mut out,
         &mut err,
+        &Quiet,
         0,
         Some("no folder/no file"),
         settings,
@@ -248,6 +252,7 @@ fn an_output_that_takes_nothing(rt: HostRuntime) -> Result<(), Fail> {
         &mut Counted::new(b"".as_slice()),
         &mut out,
         &mut err,
+        &Quiet,
         0,
         None,
         settings,

@@ -209,6 +209,7 @@ fn wanted(alloc: Global, words: &[&str]) -> Result<String, AllocError> {
             Wanted::Serve {
                 port,
                 load,
+                log,
                 settings,
             },
         ) => {
@@ -218,7 +219,7 @@ fn wanted(alloc: Global, words: &[&str]) -> Result<String, AllocError> {
             let (tries, turns) = (settings.tries, settings.turns);
             let (retries, idle) = (settings.retries, settings.idle);
             format!(in alloc;
-                "serve {port} {load:?} {workers} {connections} {stops} {shards} {rounds} {tries} {retries} {idle} {turns}"
+                "serve {port} {load:?} {log} {workers} {connections} {stops} {shards} {rounds} {tries} {retries} {idle} {turns}"
             )
         }
         Err(error) => format!(in alloc; "{error}"),
@@ -271,7 +272,7 @@ fn reads_the_command_line(rt: HostRuntime) -> Result<(), AllocError> {
         (&["bundled", "migrate"], "migrate"),
         (
             &["bundled", "serve", "--port", "0"],
-            "serve 0 None 2 1 false 4 3 1000 1000 60 1000000",
+            "serve 0 None false 2 1 false 4 3 1000 1000 60 1000000",
         ),
         (
             &[
@@ -286,9 +287,10 @@ fn reads_the_command_line(rt: HostRuntime) -> Result<(), AllocError> {
                 "--retries=1000000",
                 "--idle=86400",
                 "--load=dumps/a",
+                "--log",
                 "--turns=1000000000",
             ],
-            "serve 65535 Some(\"dumps/a\") 64 1000 false 256 16 1000000 1000000 86400 1000000000",
+            "serve 65535 Some(\"dumps/a\") true 64 1000 false 256 16 1000000 1000000 86400 1000000000",
         ),
         (
             &["bundled", "serve", "--port", "1", "--workers", "65"],
@@ -302,7 +304,7 @@ fn reads_the_command_line(rt: HostRuntime) -> Result<(), AllocError> {
                 "--connections=unlimited",
                 "--until-eof",
             ],
-            "serve 1 None 2 0 true 4 3 1000 1000 60 1000000",
+            "serve 1 None false 2 0 true 4 3 1000 1000 60 1000000",
         ),
         (
             &["bundled", "serve", "--port", "1", "--connections", "0"],

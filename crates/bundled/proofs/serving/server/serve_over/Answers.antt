@@ -1,6 +1,19 @@
-use Rattle.std.proofs.Common.{ℕ, List, inr, subst}
-use Rattle.bundled.specs.Serve.{IsSetUp}
+use Rattle.std.proofs.Common.{ℕ, List, inl, inr, refl, subst}
+use Rattle.bundled.specs.Serve.{IsSetUp, NotSetUp}
 use Rattle.bundled.proofs.serving.server.serve_over.Goals as goal
+
+pub returns-clause-run : goal.returns-clause-run
+returns-clause-run g c =
+    let error = c.in-Err-new.error in
+    inr (
+      c.in-Ok.requests.items,
+      c.in-Ok.ensures.ok,
+      inl (
+        error,
+        subst (λ (requests : List ℕ). NotSetUp requests error) c.as_slice.ensures.value c.in-Err-new.ensures.refused,
+        (c.tell-in-Err-new.ensures.status, refl, c.tell-in-Err-new.ensures.told),
+      ),
+    )
 
 pub returns-in-Ok-new-clause-run : goal.returns-in-Ok-new-clause-run
 returns-in-Ok-new-clause-run g c =
