@@ -58,7 +58,7 @@ def command(words, given, is_plain):
 
 
 def file(name):
-    with open(f"{ROOT}/gate/{name}", "rb") as it:
+    with open(f"{ROOT}/{name}", "rb") as it:
         return it.read()
 
 
@@ -74,7 +74,7 @@ def refresh():
         said, sent, missed = lines[: len(lines) - is_fault], b"", 0
         for name, line in zip(names, said):
             if line == f"0 {name} sent{' empty' if name == 'withdrawn' else ''} due 300":
-                text = file(f"bundles/{name}.canonical").rstrip()
+                text = file(f"gate/bundles/{name}.canonical").rstrip()
                 sent += frame(b"S" + bytes([len(name)]) + name.encode() + text)
             elif line == f"0 {name} no answer due 300 (out of memory)":
                 missed += 1
@@ -88,7 +88,7 @@ def refresh():
 
 
 def program_runs():
-    empty, real, text = b'{"keys":[]}', file("bundles/rotation.json"), file("bundles/rotation.canonical").rstrip()
+    empty, real, text = b'{"keys":[]}', file("gate/bundles/rotation.json"), file("gate/bundles/rotation.canonical").rstrip()
     entry = b'{"use":"jwt-svid","kty":"RSA","kid":"k","n":"AQAB","e":"AQAB"}'
     one_key = b'{"keys":[{"e":"AQAB","kid":"k","kty":"RSA","n":"AQAB","use":"jwt-svid"}]}'
     of_one = b"a" + (1).to_bytes(8, "big")
@@ -106,8 +106,8 @@ def program_runs():
     dump = [b"a" + (2).to_bytes(8, "big"), b"i\x01a" + real, b"i\x01b" + empty]
     stream = b"".join(map(frame, [b"V\x02", b"C\x01a\x00" + text, b"C\x01b\x00" + empty]))
     yield command(["migrate"], b"".join(map(frame, dump)), lambda it: it == Ended(0, stream, b""))
-    race, lines = ["trace", "--shards", "2", "--rounds", "2"], file("race.trace")
-    yield command(race, file("race.events"), lambda it: it == Ended(0, lines, b""))
+    race, lines = ["trace", "--shards", "2", "--rounds", "2"], file("examples/race.trace")
+    yield command(race, file("examples/race.events"), lambda it: it == Ended(0, lines, b""))
     yield refresh()
     no_dump = ["serve", "--port", "0", "--load", f"{ROOT}/gate/bundles/relationships"]
     yield command(no_dump, b"", lambda it: it == Ended(1, b"", b"fault 63 0\n"))

@@ -9,11 +9,11 @@ use Rattle.std.specs.BTreeMap.{BTreeMap, is_at}
 use Rattle.std.specs.BTreeMap as tree
 use Rattle.step_core.specs.Phase.{Phase, is_idle, has_point}
 use Rattle.step_core.specs.Run.{Run}
-use Rattle.step_core.specs.Shown.{IsCaller}
+use Rattle.step_core.specs.Private.Shown.{IsCaller}
 use Rattle.step_core.specs.declared.driver.Running.{Running}
 use Rattle.step_core.proofs.Points.{same_number, other_number, number_itself, numbers_apart}
 use Rattle.step_core.proofs.Book.{cases_number}
-use Rattle.step_core.specs.Driver.{IsPlaced}
+use Rattle.step_core.specs.Private.Driver.{IsPlaced}
 
 -- ---- the callers' map
 -- the map with this under the caller c

@@ -11,7 +11,7 @@ use Rattle.step_core.specs.Shard.{Version, reading}
 use Rattle.step_core.specs.Phase.{Phase, Idle, Waiting, Collecting, Confirming, Done, fetched, is_written, has_point}
 use Rattle.step_core.proofs.Points.{same_number, other_number}
 
--- the reading v of a shard that stands at s: its revision has not gone back since, and where it is the same, v has this part
+-- the reading v of a shard that stands at s: its revision has not gone back since, and if it is the same, v has this part
 pub record Fresh (v s : Version) (q : PlainMap) : Type 0 where
   pub grown : v.revision ≤ s.revision
   pub same : v.revision ≡ s.revision → v.part ≡ q

@@ -9,7 +9,7 @@ use Rattle.step_core.specs.World.{with_at, Turn}
 use Rattle.step_core.specs.Shard.{Version}
 use Rattle.step_core.specs.Phase.{Phase, has_point}
 use Rattle.step_core.specs.Run.{Point, repointed, numbers}
-use Rattle.step_core.specs.Legal.{times}
+use Rattle.step_core.proofs.Legal.{times}
 use Rattle.step_core.proofs.Points.{same_number, other_number, with_at_same, with_at_other, Along, along_map, along_push, along_without, times-push, times-filter}
 use Rattle.step_core.proofs.Claims.{Claim, IsPhaseOf, Shows, claim_on, phase_on, no_claim}
 use Rattle.step_core.proofs.Moves.{Move, PointMove}

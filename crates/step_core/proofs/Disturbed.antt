@@ -26,7 +26,7 @@ use Rattle.step_core.proofs.Runs.{inv_next, inv_fresh, open_busy, phase_here, st
 use Rattle.step_core.proofs.Book.{inv_pass}
 use Rattle.step_core.proofs.Moves.{give_up_moves}
 
--- of a reading in a round that began after `base` disturbances, where there are now `count`: what the shard's revision has risen by
+-- of a reading in a round that began after `base` disturbances, when there are now `count`: what the shard's revision has risen by
 -- since it was read is no more than the disturbances since the round began
 pub record Bounded (base count : ℕ) (read now : ℕ) : Type 0 where
   pub grown : read ≤ now
@@ -154,7 +154,7 @@ scan_turn n rounds s op count (Collecting round readings) some h = scan_collects
 scan_turn n rounds s op count (Confirming round readings k) some h = scan_confirm n rounds s count round readings k h.1 h.0 h.2
 scan_turn n rounds s op count (Done reply) some h = h
 
--- ---- a step raises a revision by one at most, and only where it writes
+-- ---- a step raises a revision by one at most, and only if it writes
 abbrev Rises : (ℕ → Version) → Turn → Type 0
 Rises s t = (j : ℕ) → ((s j).revision ≤ (t.shards j).revision) × ((t.shards j).revision ≤ (s j).revision + cond (is_written t.phase) 1 0)
 

@@ -13,10 +13,11 @@ use Rattle.step_core.specs.declared.event.Event.{Event}
 use Rattle.step_core.specs.Shard.{fresh_shard, reading}
 use Rattle.step_core.specs.declared.trace.OpRecord.{OpRecord}
 use Rattle.step_core.specs.Run.{Point, Run, numbers, act, tick, fresh_run, run_from, run_of, order_of}
-use Rattle.step_core.specs.Legal.{no_record, stands, times}
+use Rattle.step_core.specs.Records.{no_record, took_effect}
+use Rattle.step_core.proofs.Legal.{times}
 use Rattle.step_core.specs.Trace.{records_of}
-use Rattle.step_core.specs.Driver.{taken, holds}
-use Rattle.step_core.specs.Shown.{IsCaller, IsShown}
+use Rattle.step_core.specs.Private.Driver.{taken, holds}
+use Rattle.step_core.specs.Private.Shown.{IsCaller, IsShown}
 use Rattle.step_core.specs.declared.driver.Running.{Running}
 use Rattle.step_core.specs.declared.driver.Driver.{Driver}
 use Rattle.step_core.proofs.Points.{number_itself}
@@ -77,9 +78,9 @@ pub shown_records : (n rounds : ℕ) (driver : Driver) (events : List Event) →
 shown_records n rounds driver events h =
     let run = run_of n rounds events in
     let list = driver.ops.items in
-    let size : length list ≡ length (records_of run) = h.records.size ∙ sym (first_length run.records run.count) in
+    let size : length list ≡ length (records_of run) = h.records.size ∙ sym (first_length run) in
     same_lists list (records_of run) size
-    (λ k d l. let below : k < run.count = subst (λ (x : ℕ). k < x) h.records.size l in any_default list k d l ∙ h.records.each k below ∙ sym (first_at run.records run.count k below) ∙ sym (any_default (records_of run) k d (subst (λ (x : ℕ). k < x) size l)))
+    (λ k d l. let below : k < run.count = subst (λ (x : ℕ). k < x) h.records.size l in any_default list k d l ∙ h.records.each k below ∙ sym (first_at run k below) ∙ sym (any_default (records_of run) k d (subst (λ (x : ℕ). k < x) size l)))
   where
     any_default : (xs : List OpRecord) (k : ℕ) (d : OpRecord) → k < length xs → get_or xs k d ≡ get_or xs k no_record
     any_default xs k d l = grind (arith, elements)
@@ -91,24 +92,24 @@ filter_same f g (x ∷ xs) h =
     let rest : filter f xs ≡ filter g xs = filter_same f g xs (λ q l. h q (omega (arith, l))) in
     λ i. cond (here i) (x ∷ rest i) (rest i)
 
-standing_numbers : (test : ℕ → Bool) (ps : List Point) → numbers (filter (λ p. test p.number) ps) ≡ filter test (numbers ps)
-standing_numbers test [] = refl
-standing_numbers test (p ∷ ps) =
+effective_numbers : (test : ℕ → Bool) (ps : List Point) → numbers (filter (λ p. test p.number) ps) ≡ filter test (numbers ps)
+effective_numbers test [] = refl
+effective_numbers test (p ∷ ps) =
     elim (test p.number) as (λ b. numbers (cond b (p ∷ filter (λ (x : Point). test x.number) ps) (filter (λ (x : Point). test x.number) ps)) ≡ cond b (p.number ∷ filter test (numbers ps)) (filter test (numbers ps))) [
-      | true ↦ ap (λ (r : List ℕ). p.number ∷ r) (standing_numbers test ps)
-      | false ↦ standing_numbers test ps
+      | true ↦ ap (λ (r : List ℕ). p.number ∷ r) (effective_numbers test ps)
+      | false ↦ effective_numbers test ps
     ]
 
 counted_below : (t q count : ℕ) (h : Bool) → t ≡ cond (nat_lt q count && h) 1 0 → 0 < t → q < count
 counted_below t q count h is l = grind (arith, nat_tests)
 
 pub shown_order : (n rounds : ℕ) (driver : Driver) (events : List Event) → 0 < n → IsShown n rounds driver (run_of n rounds events)
-    → filter (λ q. stands (get_or driver.ops.items q no_record)) (taken driver.points.items) ≡ order_of (run_of n rounds events)
+    → filter (λ q. took_effect (get_or driver.ops.items q no_record)) (taken driver.points.items) ≡ order_of (run_of n rounds events)
 shown_order n rounds driver events some h =
     let run = run_of n rounds events in
     let list = driver.ops.items in
     let inv = inv_run n rounds some events in
-    let test : ℕ → Bool = (λ q. stands (get_or list q no_record)) in
+    let test : ℕ → Bool = (λ q. took_effect (get_or list q no_record)) in
     ap (filter test) h.points
-    ∙ filter_same test (λ q. stands (run.records q)) (numbers run.points) (λ q l. ap stands (h.records.each q (counted_below _ q run.count _ (inv.core.once q) l)))
-    ∙ sym (standing_numbers (λ q. stands (run.records q)) run.points)
+    ∙ filter_same test (λ q. took_effect (run.records q)) (numbers run.points) (λ q l. ap took_effect (h.records.each q (counted_below _ q run.count _ (inv.core.once q) l)))
+    ∙ sym (effective_numbers (λ q. took_effect (run.records q)) run.points)

@@ -16,18 +16,18 @@ use Rattle.step_core.specs.Phase.{confirmed, disturbed, fetched, Phase, Idle, Wa
 use Rattle.step_core.specs.declared.trace.OpRecord.{OpRecord}
 use Rattle.step_core.specs.Run.{Run, repointed, numbers, act}
 use Rattle.step_core.proofs.Acts.{begin, pass, finish, give_up, end_at, act_is}
-use Rattle.step_core.specs.Legal.{no_record}
+use Rattle.step_core.specs.Records.{no_record}
 use Rattle.step_core.specs.TaskView.{TaskView}
 use Rattle.step_core.specs.Task.{IsWantOf, out_of_memory}
-use Rattle.step_core.specs.Driver.{told_by, left_by, repointed_list, marked, ended}
-use Rattle.step_core.specs.Shown.{ShowsShards, ShowsRecords, ShowsCaller, IsCaller, IsShown}
+use Rattle.step_core.specs.Private.Driver.{told_by, left_by, repointed_list, marked, ended}
+use Rattle.step_core.specs.Private.Shown.{ShowsShards, ShowsRecords, ShowsCaller, IsCaller, IsShown}
 use Rattle.step_core.specs.declared.driver.Running.{Running}
 use Rattle.step_core.specs.declared.driver.Driver.{Driver}
 use Rattle.step_core.proofs.Points.{with_at_same, with_at_other, with_at_keep}
 use Rattle.step_core.proofs.Callers.{AtCaller, KeepsCaller, KeepsPlaces, other_running, callers_after}
 use Rattle.step_core.proofs.Lists.{records_push, records_set, told_alike, left_alike}
 use Rattle.step_core.proofs.Places.{AreKnown, repointed_numbers, own_placed, other_placed, still_known, new_unplaced}
-use Rattle.step_core.specs.Driver.{taken, IsPlaced, place_after}
+use Rattle.step_core.specs.Private.Driver.{taken, IsPlaced, place_after}
 
 -- ---- the events
 -- a driver that shows the run after one caller has gone on, whose operation has this number

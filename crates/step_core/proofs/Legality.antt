@@ -11,7 +11,8 @@ use Rattle.step_core.specs.Phase.{Phase, Idle, Waiting, Collecting, Confirming, 
 use Rattle.step_core.specs.declared.event.Event.{Event}
 use Rattle.step_core.specs.declared.trace.OpRecord.{OpRecord}
 use Rattle.step_core.specs.Run.{Point, Run, numbers, run_of, order_of}
-use Rattle.step_core.specs.Legal.{stands_by, stands, times, Rises, Replies, IsLegal}
+use Rattle.step_core.specs.Records.{took_effect_by, took_effect}
+use Rattle.step_core.proofs.Legal.{times, Rises, Replies, IsLegal}
 use Rattle.std.specs.Prelude.{filter}
 use Rattle.step_core.proofs.Claims.{Claim, IsPhaseOf, claim_keeps}
 use Rattle.step_core.proofs.Core.{IsPoint, AtEnd}
@@ -27,10 +28,10 @@ written_point (Confirming round readings k) h = refl
 written_point (Done (Ok reply)) h = refl
 written_point (Done (Err why)) h = cc
 
-standing_point : (reply : Option (Result Reply AskError)) (wrote : Bool) (phase : Phase) → wrote ≡ is_written (phase_by reply phase) → stands_by reply wrote ≡ true → has_point (phase_by reply phase) ≡ true
-standing_point (Some (Ok reply)) wrote phase w h = refl
-standing_point (Some (Err why)) wrote phase w h = cc
-standing_point None wrote phase w h = written_point phase (sym w ∙ h)
+effective_point : (reply : Option (Result Reply AskError)) (wrote : Bool) (phase : Phase) → wrote ≡ is_written (phase_by reply phase) → took_effect_by reply wrote ≡ true → has_point (phase_by reply phase) ≡ true
+effective_point (Some (Ok reply)) wrote phase w h = refl
+effective_point (Some (Err why)) wrote phase w h = cc
+effective_point None wrote phase w h = written_point phase (sym w ∙ h)
 
 member : (a s h : Bool) (x y : ℕ) → x ≡ cond s y 0 → y ≡ cond (a && h) 1 0 → (a ≡ true → s ≡ true → h ≡ true) → x ≡ cond (a && s) 1 0
 member a s h x y e f g = grind arith
@@ -47,7 +48,7 @@ answered n s m op (Some (Ok reply)) phase h = ap Ok h
 answered n s m op (Some (Err why)) phase h = absurd h
 answered n s m op None phase h = tt
 
-unwritten : (n : ℕ) (s : ℕ → Version) (m : PlainMap) (op : Op) (reply : Option (Result Reply AskError)) (wrote : Bool) (phase : Phase) → wrote ≡ is_written (phase_by reply phase) → stands_by reply wrote ≡ false → Claim n s m op (phase_by reply phase) → is_written (phase_by reply phase) ≡ false
+unwritten : (n : ℕ) (s : ℕ → Version) (m : PlainMap) (op : Op) (reply : Option (Result Reply AskError)) (wrote : Bool) (phase : Phase) → wrote ≡ is_written (phase_by reply phase) → took_effect_by reply wrote ≡ false → Claim n s m op (phase_by reply phase) → is_written (phase_by reply phase) ≡ false
 unwritten n s m op (Some (Ok reply)) wrote phase w down h = cc
 unwritten n s m op (Some (Err why)) wrote phase w down h = absurd h
 unwritten n s m op None wrote phase w down h = sym w ∙ down
@@ -56,43 +57,43 @@ module _ (n : ℕ) (run : Run) (inv : Inv n run.events run) where
   abbrev IsPointHere : Point → PlainMap → Type 0
   IsPointHere = IsPoint n run.events run.count run.world.shards (λ q. (run.records q).op) (λ q. (run.records q).first) (λ q. (run.records q).last) (states run)
 
-  abbrev standing : List Point → List ℕ
-  standing ps = numbers (filter (λ p. stands (run.records p.number)) ps)
+  abbrev effective : List Point → List ℕ
+  effective ps = numbers (filter (λ p. took_effect (run.records p.number)) ps)
 
   -- an operation that does not stand leaves the map
-  leaves : (p : Point) (m : PlainMap) → IsPointHere p m → stands (run.records p.number) ≡ false → (ask m p.op).map ≡ m
+  leaves : (p : Point) (m : PlainMap) → IsPointHere p m → took_effect (run.records p.number) ≡ false → (ask m p.op).map ≡ m
   leaves p m h down =
       claim_keeps n run.world.shards m p.op (states run p.number)
       (subst (λ (x : Op). IsPhaseOf n run.world.shards x (states run p.number)) h.op_is (inv.core.ok p.number h.known)) h.claim
       (unwritten n run.world.shards m p.op (run.records p.number).reply (run.records p.number).wrote (run.world.phases (run.records p.number).caller) (inv.wrote p.number h.known) down h.claim)
 
-  rises_along : (from : ℕ) (m : PlainMap) (ps : List Point) → Along IsPointHere (AtEnd n run.events run.world.shards) from m ps → Rises run.events run.records from (standing ps)
+  rises_along : (from : ℕ) (m : PlainMap) (ps : List Point) → Along IsPointHere (AtEnd n run.events run.world.shards) from m ps → Rises run.events run.records from (effective ps)
   rises_along from m [] h = tt
   rises_along from m (p ∷ ps) h =
       let rest = rises_along (p.event + 1) (ask m p.op).map ps h.2 in
-      elim (stands (run.records p.number)) as (λ b. Rises run.events run.records from (numbers (cond b (p ∷ filter (λ x. stands (run.records x.number)) ps) (filter (λ x. stands (run.records x.number)) ps)))) [
+      elim (took_effect (run.records p.number)) as (λ b. Rises run.events run.records from (numbers (cond b (p ∷ filter (λ x. took_effect (run.records x.number)) ps) (filter (λ x. took_effect (run.records x.number)) ps)))) [
         | true ↦ (p.event, h.0, (h.1.after_first, h.1.in_time, h.1.before_last), rest)
-        | false ↦ rises_lower run.events run.records from (p.event + 1) (standing ps) (let l : from ≤ p.event + 1 = omega (arith, h.0) in l) rest
+        | false ↦ rises_lower run.events run.records from (p.event + 1) (effective ps) (let l : from ≤ p.event + 1 = omega (arith, h.0) in l) rest
       ]
 
-  replies_along : (from : ℕ) (m : PlainMap) (ps : List Point) → Along IsPointHere (AtEnd n run.events run.world.shards) from m ps → Replies run.records m (standing ps)
+  replies_along : (from : ℕ) (m : PlainMap) (ps : List Point) → Along IsPointHere (AtEnd n run.events run.world.shards) from m ps → Replies run.records m (effective ps)
   replies_along from m [] h = tt
   replies_along from m (p ∷ ps) h =
       let rest = replies_along (p.event + 1) (ask m p.op).map ps h.2 in
-      elim (stands (run.records p.number)) as (λ b. stands (run.records p.number) ≡ b → Replies run.records m (numbers (cond b (p ∷ filter (λ x. stands (run.records x.number)) ps) (filter (λ x. stands (run.records x.number)) ps)))) [
+      elim (took_effect (run.records p.number)) as (λ b. took_effect (run.records p.number) ≡ b → Replies run.records m (numbers (cond b (p ∷ filter (λ x. took_effect (run.records x.number)) ps) (filter (λ x. took_effect (run.records x.number)) ps)))) [
         | true ↦ λ e. (
           subst (λ (x : Op). IfSome (run.records p.number).reply (λ reply. reply ≡ Ok (ask m x).reply)) (sym h.1.op_is)
               (answered n run.world.shards m p.op (run.records p.number).reply (run.world.phases (run.records p.number).caller) h.1.claim),
-          subst (λ (x : Op). Replies run.records (ask m x).map (standing ps)) (sym h.1.op_is) rest,
+          subst (λ (x : Op). Replies run.records (ask m x).map (effective ps)) (sym h.1.op_is) rest,
         )
-        | false ↦ λ e. subst (λ (x : PlainMap). Replies run.records x (standing ps)) (leaves p m h.1 e) rest
+        | false ↦ λ e. subst (λ (x : PlainMap). Replies run.records x (effective ps)) (leaves p m h.1 e) rest
       ] refl
 
   pub legal : IsLegal run.events run.count run.records (order_of run)
   legal =
       record {
-        members = λ r. member (nat_lt r run.count) (stands (run.records r)) (has_point (states run r)) _ (times r (numbers run.points)) (times-filter (λ q. stands (run.records q)) r run.points) (inv.core.once r)
-            (λ e standing. standing_point (run.records r).reply (run.records r).wrote (run.world.phases (run.records r).caller) (inv.wrote r (under r run.count e)) standing);
+        members = λ r. member (nat_lt r run.count) (took_effect (run.records r)) (has_point (states run r)) _ (times r (numbers run.points)) (times-filter (λ q. took_effect (run.records q)) r run.points) (inv.core.once r)
+            (λ e effective. effective_point (run.records r).reply (run.records r).wrote (run.world.phases (run.records r).caller) (inv.wrote r (under r run.count e)) effective);
         rises = rises_along 0 finite.empty run.points inv.core.fits;
         replies = replies_along 0 finite.empty run.points inv.core.fits;
       }

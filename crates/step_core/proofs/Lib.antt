@@ -1,3 +1,4 @@
+pub mod Legal
 pub mod Points
 pub mod Claims
 pub mod Moves
@@ -10,6 +11,7 @@ pub mod Machine
 pub mod Disturbed
 pub mod Between
 pub mod Traces
+pub mod Linearized
 pub mod Stood
 pub mod Callers
 pub mod Lists

@@ -6,10 +6,10 @@ use Rattle.step_core.specs.World.{with_at, turn}
 use Rattle.step_core.specs.Shard.{Version, fresh_shard, reading, step_on}
 use Rattle.step_core.specs.Phase.{confirmed, disturbed, fetched, Phase, Idle, Waiting, Collecting, Confirming, Done, wants, give, begun, begun_at, is_idle, is_open, is_done, is_written, Told, has_point}
 use Rattle.step_core.specs.declared.trace.OpRecord.{OpRecord}
-use Rattle.step_core.specs.Legal.{no_record}
+use Rattle.step_core.specs.Records.{no_record}
 use Rattle.step_core.specs.Task.{IsWantOf}
-use Rattle.step_core.specs.Driver.{told_by, left_by}
-use Rattle.step_core.specs.Shown.{ShowsShards, ShowsRecords}
+use Rattle.step_core.specs.Private.Driver.{told_by, left_by}
+use Rattle.step_core.specs.Private.Shown.{ShowsShards, ShowsRecords}
 use Rattle.step_core.proofs.Points.{same_number, other_number}
 
 -- ---- the records

@@ -1,5 +1,5 @@
--- What follows from the one order: each kind of operation by itself, and what a fetch-all shows.
-use Rattle.std.proofs.Common.{◌≡◌, ℕ, not, ◌+◌, ◌<◌, ◌==◌, nat_lt, ◌&&◌, Bool, true, false, cond, List, [], ◌∷◌, ◌++◌, Some, IfSome, Ok, arith, refl, ap, subst, ◌∙◌}
+-- What follows from the one order: what a fetch-all shows.
+use Rattle.std.proofs.Common.{◌≡◌, ℕ, ◌+◌, ◌<◌, ◌==◌, nat_lt, ◌&&◌, Bool, true, false, cond, List, [], ◌∷◌, ◌++◌, Some, IfSome, Ok, arith, refl, ap, subst, ◌∙◌}
 use Rattle.std.proofs.lemmas.Bool.Decides.{nat_tests}
 use Rattle.std.specs.FinMap as finite
 use Rattle.map_core.specs.declared.op.Op.{Op}
@@ -10,23 +10,11 @@ use Rattle.map_core.specs.Table.{meaning}
 use Rattle.map_core.specs.PlainMap.{PlainMap, ask, bundles}
 use Rattle.step_core.specs.declared.trace.OpRecord.{OpRecord}
 use Rattle.step_core.specs.Run.{run_of, order_of}
-use Rattle.step_core.specs.Legal.{stands_by, stands, times, Replies}
-use Rattle.step_core.specs.Laws.{HasPlaces, is_fetch_all, RepliesOf, NamesAreAnswered, FetchesAreAnswered, map_after, ShowsOneMoment}
+use Rattle.step_core.specs.Records.{took_effect_by, took_effect}
+use Rattle.step_core.proofs.Legal.{times, Replies}
+use Rattle.step_core.specs.Laws.{map_after, ShowsOneMoment}
 use Rattle.step_core.proofs.Points.{same_number}
 use Rattle.step_core.proofs.Legality.{one_order}
-
-pub has_places : HasPlaces
-has_places n rounds events some = let legal = one_order n rounds events some in (legal.members, legal.rises)
-
-replies_of : (kind : Op → Bool) (records : ℕ → OpRecord) (m : PlainMap) (rs : List ℕ) → Replies records m rs → RepliesOf kind records m rs
-replies_of kind records m [] h = tt
-replies_of kind records m (r ∷ rs) h = (λ _. h.0, replies_of kind records (ask m (records r).op).map rs h.1)
-
-pub names_are_answered : NamesAreAnswered
-names_are_answered n rounds events some = let run = run_of n rounds events in replies_of (λ op. not (is_fetch_all op)) run.records finite.empty (order_of run) (one_order n rounds events some).replies
-
-pub fetches_are_answered : FetchesAreAnswered
-fetches_are_answered n rounds events some = let run = run_of n rounds events in replies_of is_fetch_all run.records finite.empty (order_of run) (one_order n rounds events some).replies
 
 -- where an answered operation stands, and what the plain map says there
 abbrev Stands : (ℕ → OpRecord) → ℕ → Reply → PlainMap → List ℕ → Type 0
@@ -59,6 +47,6 @@ pub shows_one_moment : ShowsOneMoment
 shows_one_moment n rounds events some q reply known op is =
     let run = run_of n rounds events in
     let legal = one_order n rounds events some in
-    let answered : stands (run.records q) ≡ true = ap (λ o. stands_by o (run.records q).wrote) is in
+    let answered : took_effect (run.records q) ≡ true = ap (λ o. took_effect_by o (run.records q).wrote) is in
     let place = found run.records q reply is finite.empty (order_of run) (once q run.count _ _ known answered (legal.members q)) legal.replies in
     (place.0, place.1, place.2, place.3 ∙ fetch_all_reply (map_after run.records finite.empty place.0) (run.records q).op op)

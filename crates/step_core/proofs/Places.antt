@@ -4,7 +4,7 @@ use Rattle.std.proofs.lemmas.Bool.Decides.{nat_tests}
 use Rattle.std.proofs.lemmas.Grind.{elements}
 use Rattle.std.specs.Prelude.{filter}
 use Rattle.step_core.specs.Run.{Point, repointed, numbers, without}
-use Rattle.step_core.specs.Driver.{taken, holds, IsPlaced, repointed_list, place_after}
+use Rattle.step_core.specs.Private.Driver.{taken, holds, IsPlaced, repointed_list, place_after}
 use Rattle.step_core.proofs.Points.{same_number, other_number, number_itself, numbers_apart}
 
 -- ---- the points of the run, as numbers

@@ -5,7 +5,7 @@ use Rattle.std.proofs.lemmas.Bool.Decides.{nat_tests}
 use Rattle.map_core.specs.PlainMap.{PlainMap, ask}
 use Rattle.step_core.specs.World.{with_at}
 use Rattle.step_core.specs.Run.{Point, without, numbers}
-use Rattle.step_core.specs.Legal.{times}
+use Rattle.step_core.proofs.Legal.{times}
 
 pub same_number : (a b : ℕ) → (a == b) ≡ true → a ≡ b
 same_number a b h = grind (arith, nat_tests)

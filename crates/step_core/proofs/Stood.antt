@@ -17,7 +17,7 @@ use Rattle.step_core.proofs.Between.{holds_between}
 abbrev In : ℕ → ℕ → Type 0 → Type 0
 In round now P = (round < now) ⊎ ((now ≡ round) × P)
 
--- in this round the reading of shard k is v; or a later round has begun, or there is none
+-- in this round the reading of shard k is v; or a later round has begun, or the operation is over
 abbrev Kept : ℕ → ℕ → Version → Phase → Type 0
 Kept round k v Idle = Unit {0}
 Kept round k v (Waiting i) = Unit {0}

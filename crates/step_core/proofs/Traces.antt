@@ -1,33 +1,22 @@
 -- The records handed out are those of the run, so the order is legal for them.
-use Rattle.std.proofs.Common.{◌≡◌, ℕ, zero, suc, ◌+◌, ◌<◌, nat_lt, ◌&&◌, Bool, cond, List, [], ◌∷◌, ◌++◌, length, get_or, IfSome, Ok, ◌⊎◌, ⊎_elim, arith, length-append, refl, sym, ap, subst, ◌∙◌}
+use Rattle.std.proofs.Common.{◌≡◌, ℕ, ◌+◌, ◌<◌, nat_lt, ◌&&◌, Bool, cond, List, [], ◌∷◌, length, get_or, IfSome, Ok, arith, sym, ap, subst}
 use Rattle.std.proofs.lemmas.Bool.Decides.{nat_tests}
-use Rattle.std.proofs.lemmas.Grind.{elements}
+use Rattle.std.proofs.lemmas.List.FromFn.{length-map-range_with_len, get_or-map-range_with_len}
 use Rattle.map_core.specs.PlainMap.{PlainMap, ask}
 use Rattle.step_core.specs.declared.event.Event.{Event}
 use Rattle.step_core.specs.declared.trace.OpRecord.{OpRecord}
-use Rattle.step_core.specs.Run.{run_of, order_of}
-use Rattle.step_core.specs.Legal.{no_record, stands, times, IsDuring, Rises, Replies, IsLegal, IsLegalTrace}
-use Rattle.step_core.specs.Trace.{first_records, records_of}
+use Rattle.step_core.specs.Run.{Run, run_of, order_of}
+use Rattle.step_core.specs.Records.{no_record, took_effect}
+use Rattle.step_core.proofs.Legal.{times, IsDuring, Rises, Replies, IsLegal}
+use Rattle.step_core.specs.Trace.{records_of}
 use Rattle.step_core.proofs.Points.{number_itself}
 use Rattle.step_core.proofs.Legality.{one_order}
 
-pub first_length : (records : ℕ → OpRecord) (count : ℕ) → length (first_records records count) ≡ count
-first_length records zero = refl
-first_length records (suc count) = let ih = first_length records count in omega (arith, length-append {A = OpRecord}, ih)
+pub first_length : (run : Run) → length (records_of run) ≡ run.count
+first_length run = length-map-range_with_len run.records 0 run.count
 
-old_at : (rs : List OpRecord) (r : OpRecord) (q : ℕ) → q < length rs → get_or (rs ++ r ∷ []) q no_record ≡ get_or rs q no_record
-old_at rs r q l = grind (arith, elements)
-
-new_at : (rs : List OpRecord) (r : OpRecord) (q : ℕ) → q ≡ length rs → get_or (rs ++ r ∷ []) q no_record ≡ r
-new_at rs r q is = grind (arith, elements)
-
-pub first_at : (records : ℕ → OpRecord) (count q : ℕ) → q < count → get_or (first_records records count) q no_record ≡ records q
-first_at records zero q l = let never : ⊥ = omega (arith, l) in absurd never
-first_at records (suc count) q l =
-    let size = first_length records count in
-    let cases : (q < count) ⊎ (q ≡ count) = grind (arith, l) in
-    ⊎_elim (λ (before : q < count). old_at (first_records records count) (records count) q (let k : q < length (first_records records count) = omega (arith, before, size) in k) ∙ first_at records count q before)
-    (λ (at : q ≡ count). new_at (first_records records count) (records count) q (at ∙ sym size) ∙ ap records (sym at)) cases
+pub first_at : (run : Run) (q : ℕ) → q < run.count → get_or (records_of run) q no_record ≡ run.records q
+first_at run q l = get_or-map-range_with_len run.records 0 run.count q q no_record l (omega arith)
 
 -- an order speaks of the records below the count alone
 abbrev Below : ℕ → List ℕ → Type 0
@@ -61,19 +50,17 @@ module _ (events count : ℕ) (records records' : ℕ → OpRecord) (same : (q :
 
   pub legal_same : (order : List ℕ) → IsLegal events count records order → IsLegal events count records' order
   legal_same order h =
-      let b : Below count order = λ r l. member_below r (times r order) (stands (records r)) (h.members r) l in
+      let b : Below count order = λ r l. member_below r (times r order) (took_effect (records r)) (h.members r) l in
       record {
-        members = λ r. member_same r (times r order) (stands (records r)) (stands (records' r)) (h.members r) (λ l. ap stands (same r l));
+        members = λ r. member_same r (times r order) (took_effect (records r)) (took_effect (records' r)) (h.members r) (λ l. ap took_effect (same r l));
         rises = rises_same 0 order b h.rises;
         replies = replies_same _ order b h.replies;
       }
 
--- what is handed out is legal
-pub trace_legal : (n rounds : ℕ) (events : List Event) (ops : List OpRecord) (order : List ℕ) → 0 < n → ops ≡ records_of (run_of n rounds events) → order ≡ order_of (run_of n rounds events) → IsLegalTrace (length events) ops order
-trace_legal n rounds events ops order some ops_are order_is =
+-- the order is legal for the records that are handed out
+pub one_order_of_records : (n rounds : ℕ) (events : List Event) → 0 < n → let run = run_of n rounds events in
+    IsLegal (length events) (length (records_of run)) (λ q. get_or (records_of run) q no_record) (order_of run)
+one_order_of_records n rounds events some =
     let run = run_of n rounds events in
-    let size = first_length run.records run.count in
-    let legal = legal_same (length events) run.count run.records (λ q. get_or (records_of run) q no_record) (λ q l. first_at run.records run.count q l) (order_of run) (one_order n rounds events some) in
-    subst (λ (x : List OpRecord). IsLegalTrace (length events) x order) (sym ops_are)
-    (subst (λ (x : List ℕ). IsLegalTrace (length events) (records_of run) x) (sym order_is)
-    (subst (λ (k : ℕ). IsLegal (length events) k (λ q. get_or (records_of run) q no_record) (order_of run)) (sym size) legal))
+    subst (λ (k : ℕ). IsLegal (length events) k (λ q. get_or (records_of run) q no_record) (order_of run)) (sym (first_length run))
+    (legal_same (length events) run.count run.records (λ q. get_or (records_of run) q no_record) (first_at run) (order_of run) (one_order n rounds events some))

@@ -2,17 +2,15 @@
 use Rattle.std.specs.Prelude.{◌≡◌, ℕ, ◌+◌, ◌<◌, ◌≤◌, ◌==◌, nat_lt, not, ◌&&◌, Bool, false, cond, List, [], ◌∷◌, Some, Err, is_none}
 use Rattle.map_core.specs.declared.reply.AskError.TheVariants.{Moved}
 use Rattle.step_core.specs.declared.event.Event.{Event}
-use Rattle.step_core.specs.declared.event.Event.TheVariants.{Begin, Step, Quit, End}
+use Rattle.step_core.specs.declared.event.Event.TheVariants.{Step}
 use Rattle.step_core.specs.Phase.{is_open, is_written}
 use Rattle.step_core.specs.World.{turn}
 use Rattle.step_core.specs.Run.{Run, act, tick, fresh_run, run_of}
 
 -- whether the event is a step by which a caller other than this one changes a shard
 abbrev pub is_write_by_other : ℕ → ℕ → Run → Event → ℕ → Bool
-is_write_by_other n rounds run (Begin c op) caller = false
 is_write_by_other n rounds run (Step c) caller = (is_open (run.world.phases c) && is_written (turn n rounds run.world.shards (run.world.ops c) (run.world.phases c)).phase) && not (c == caller)
-is_write_by_other n rounds run (Quit c reason) caller = false
-is_write_by_other n rounds run (End c) caller = false
+is_write_by_other n rounds run event caller = false
 
 -- whether an operation was begun and is not finished
 abbrev pub is_running : Run → ℕ → Bool

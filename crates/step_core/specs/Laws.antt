@@ -1,5 +1,5 @@
--- The laws of the machine, over the definitions alone and for every list of events.
-use Rattle.std.specs.Prelude.{◌≡◌, ◌≢◌, ℕ, ◌<◌, ◌≤◌, nat_lt, not, ◌&&◌, Bool, true, false, cond, List, [], ◌∷◌, ◌++◌, length, Some, IfSome, Ok}
+-- The laws of the machine, for every list of events.
+use Rattle.std.specs.Prelude.{◌≡◌, ◌≢◌, ℕ, ◌<◌, ◌≤◌, not, Bool, true, false, cond, List, [], ◌∷◌, ◌++◌, map, filter, length, Some, None, Ok, IsPermutation}
 use Rattle.std.specs.FinMap as finite
 use Rattle.map_core.specs.declared.op.Op.{Op}
 use Rattle.map_core.specs.declared.op.Op.TheVariants.{FetchAll}
@@ -13,43 +13,47 @@ use Rattle.step_core.specs.World.{World, next, fresh_world, world_from}
 use Rattle.step_core.specs.Shard.{Version, reading}
 use Rattle.step_core.specs.Phase.{Collecting, Confirming}
 use Rattle.step_core.specs.Run.{run_of, order_of}
-use Rattle.step_core.specs.Legal.{stands, times, Rises, IsLegal}
+use Rattle.step_core.specs.Trace.{records_of}
+use Rattle.step_core.specs.Linearization.{Operation, HavePoints, GiveReplies}
+use Rattle.step_core.specs.Records.{operations, all_operations, apply, IsLinearized}
 
--- The order by points holds, each once, the answered operations and the unfinished ones that have written, and no other; and each of
--- them has an event between its first and its last, and these events rise along the order.
+-- The order by points holds each operation that took effect, once, and no other; and each has a linearization point, in this order.
 abbrev pub HasPlaces : Type 0
 HasPlaces =
     (n rounds : ℕ) (events : List Event) → 0 < n →
     let run = run_of n rounds events in
-    let order = order_of run in
-    ((r : ℕ) → times r order ≡ cond (nat_lt r run.count && stands (run.records r)) 1 0) × Rises (length events) run.records 0 order
+    let records = records_of run in
+    let order = operations records (order_of run) in
+    IsPermutation (filter (λ o. o.took_effect) (all_operations records)) order × HavePoints (length events) 0 order
 
 abbrev pub is_fetch_all : Op → Bool
 is_fetch_all FetchAll = true
 is_fetch_all op = false
 
--- the plain map, asked in this order, gives each finished operation of this kind its reply
-abbrev pub RepliesOf : (Op → Bool) → (ℕ → OpRecord) → PlainMap → List ℕ → Type 0
-RepliesOf kind records m [] = Unit {0}
-RepliesOf kind records m (r ∷ rs) =
-    let asked = ask m (records r).op in
-    (kind (records r).op ≡ true → IfSome (records r).reply (λ reply. reply ≡ Ok asked.reply)) × RepliesOf kind records asked.map rs
+-- the operation, with its reply if it is of this kind
+abbrev pub only : (Op → Bool) → Operation Op Reply → Operation Op Reply
+only kind o = record { id = o.id; op = o.op; invoked = o.invoked; responded = o.responded; reply = cond (kind o.op) o.reply None; took_effect = o.took_effect }
 
--- The plain map, asked along the order by points, gives each finished operation on one name its reply.
+-- The plain map, asked in the order by points, gives each operation of this kind its reply.
+abbrev pub AreAnswered : (Op → Bool) → Type 0
+AreAnswered kind =
+    (n rounds : ℕ) (events : List Event) → 0 < n → let run = run_of n rounds events in
+    GiveReplies apply finite.empty (map (only kind) (operations (records_of run) (order_of run)))
+
+-- Each operation on one name is answered as the plain map does in this order.
 abbrev pub NamesAreAnswered : Type 0
-NamesAreAnswered =
-    (n rounds : ℕ) (events : List Event) → 0 < n → let run = run_of n rounds events in RepliesOf (λ op. not (is_fetch_all op)) run.records finite.empty (order_of run)
+NamesAreAnswered = AreAnswered (λ op. not (is_fetch_all op))
 
--- The plain map, asked along the order by points, gives each fetch-all that was answered its reply.
+-- So is each fetch-all.
 abbrev pub FetchesAreAnswered : Type 0
-FetchesAreAnswered = (n rounds : ℕ) (events : List Event) → 0 < n → let run = run_of n rounds events in RepliesOf is_fetch_all run.records finite.empty (order_of run)
+FetchesAreAnswered = AreAnswered is_fetch_all
 
 -- the map after these operations, in this order
 abbrev pub map_after : (ℕ → OpRecord) → PlainMap → List ℕ → PlainMap
 map_after records m [] = m
 map_after records m (r ∷ rs) = map_after records (ask m (records r).op).map rs
 
--- A fetch-all that is answered shows all bundles of the map at the moment where it stands in the order.
+-- A fetch-all that is answered shows all bundles of the map as it is at its place in the order.
 abbrev pub ShowsOneMoment : Type 0
 ShowsOneMoment =
     (n rounds : ℕ) (events : List Event) → 0 < n →
@@ -57,9 +61,9 @@ ShowsOneMoment =
     (q : ℕ) (reply : Reply) → q < run.count → (run.records q).op ≡ FetchAll → (run.records q).reply ≡ Some (Ok reply)
     → (before after : List ℕ) × (order_of run ≡ before ++ q ∷ after) × (reply ≡ All (bundles (map_after run.records finite.empty before)))
 
--- The order by points is legal.
+-- The order by points is a linearization of the run.
 abbrev pub HasOneOrder : Type 0
-HasOneOrder = (n rounds : ℕ) (events : List Event) → 0 < n → let run = run_of n rounds events in IsLegal (length events) run.count run.records (order_of run)
+HasOneOrder = (n rounds : ℕ) (events : List Event) → 0 < n → let run = run_of n rounds events in IsLinearized (length events) (records_of run) (order_of run)
 
 -- The run of a list of events is a run of the machine.
 abbrev pub RunsMachine : Type 0
@@ -78,9 +82,7 @@ HoldsBetween =
 abbrev pub BeginsNothing : ℕ → List Event → Type 0
 BeginsNothing c [] = Unit {0}
 BeginsNothing c (Begin other op ∷ events) = (other ≢ c) × BeginsNothing c events
-BeginsNothing c (Step other ∷ events) = BeginsNothing c events
-BeginsNothing c (Quit other reason ∷ events) = BeginsNothing c events
-BeginsNothing c (End other ∷ events) = BeginsNothing c events
+BeginsNothing c (event ∷ events) = BeginsNothing c events
 
 -- Where a caller reads a shard, and later in that round comes to confirm it and finds the revision that it read, the shard has held the
 -- part that was read at every moment between.

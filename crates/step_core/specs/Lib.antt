@@ -4,12 +4,12 @@ pub mod Phase
 pub mod TaskView
 pub mod Task
 pub mod World
+pub mod Linearization
+pub mod Records
 pub mod Run
-pub mod Legal
 pub mod Trace
 pub mod Laws
 pub mod Disturbance
 pub mod Shards
 pub mod ShardsPlain
-pub mod Driver
-pub mod Shown
+pub mod Private

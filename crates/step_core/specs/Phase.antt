@@ -28,7 +28,7 @@ pub data Told : Type 0 where
   Seen : Version → Told
   Revision : ℕ → Told
 
--- where an operation begins: one on a name at its shard, a fetch-all in the first round
+-- how an operation begins: one on a name at its shard, a fetch-all in the first round
 abbrev pub begun_at : Option ℕ → Phase
 begun_at (Some i) = Waiting i
 begun_at None = Collecting 1 []
@@ -38,11 +38,10 @@ begun n op = begun_at (shard_of n op)
 
 -- what it wants to be told next
 abbrev pub wants : Phase → Want
-wants Idle = want.Done
 wants (Waiting i) = want.Do i
 wants (Collecting round readings) = want.Collect (length readings)
 wants (Confirming round readings k) = want.Confirm k
-wants (Done reply) = want.Done
+wants phase = want.Done
 
 -- after one more reading: with n readings all are to be confirmed
 abbrev pub collected : ℕ → ℕ → List Version → Phase
@@ -73,41 +72,26 @@ give n rounds phase told = phase
 
 abbrev pub is_idle : Phase → Bool
 is_idle Idle = true
-is_idle (Waiting i) = false
-is_idle (Collecting round readings) = false
-is_idle (Confirming round readings k) = false
-is_idle (Done reply) = false
+is_idle phase = false
 
 -- whether it has begun and is not done
 abbrev pub is_open : Phase → Bool
 is_open Idle = false
-is_open (Waiting i) = true
-is_open (Collecting round readings) = true
-is_open (Confirming round readings k) = true
 is_open (Done reply) = false
+is_open phase = true
 
 abbrev pub is_done : Phase → Bool
-is_done Idle = false
-is_done (Waiting i) = false
-is_done (Collecting round readings) = false
-is_done (Confirming round readings k) = false
 is_done (Done reply) = true
+is_done phase = false
 
 -- whether it has changed its shard
 abbrev pub is_written : Phase → Bool
-is_written Idle = false
-is_written (Waiting i) = false
-is_written (Collecting round readings) = false
-is_written (Confirming round readings k) = false
 is_written (Done (Ok reply)) = is_change reply
-is_written (Done (Err why)) = false
+is_written phase = false
 
--- whether it has its point, its place among all operations: one on a name from its step on, a fetch-all from the last reading of a
--- round on, unless that round is thrown away
+-- whether it has its linearization point: an operation on a name from its step on, a fetch-all from the last reading of a round on, unless
+-- that round is thrown away
 abbrev pub has_point : Phase → Bool
-has_point Idle = false
-has_point (Waiting i) = false
-has_point (Collecting round readings) = false
 has_point (Confirming round readings k) = true
 has_point (Done (Ok reply)) = true
-has_point (Done (Err why)) = false
+has_point phase = false

@@ -6,11 +6,11 @@ use Rattle.map_core.specs.declared.reply.Reply.{Reply}
 use Rattle.step_core.specs.declared.event.Event.{Event}
 use Rattle.step_core.specs.declared.event.Event.TheVariants.{Begin, Step, Quit, End}
 use Rattle.step_core.specs.World.{with_at, World, turn, refusal, fresh_world, next}
-use Rattle.step_core.specs.Phase.{Phase, Idle, Waiting, Collecting, Confirming, Done, has_point, is_idle, is_open, is_written}
+use Rattle.step_core.specs.Phase.{Phase, Done, has_point, is_idle, is_open, is_written}
 use Rattle.step_core.specs.declared.trace.OpRecord.{OpRecord}
-use Rattle.step_core.specs.Legal.{no_record, stands}
+use Rattle.step_core.specs.Records.{no_record, took_effect}
 
--- where an operation stands in the order: its number, what it asks, and the event
+-- a linearization point: the operation's number, what it asks, and the event
 pub record Point : Type 0 where
   pub number : ℕ
   pub op : Op
@@ -31,61 +31,40 @@ without number points = filter (λ p. not (p.number == number)) points
 
 -- the points after an operation has gone from one phase to another
 abbrev pub repointed : Bool → Bool → Point → List Point → List Point
-repointed false false p points = points
 repointed false true p points = points ++ p ∷ []
 repointed true false p points = without p.number points
-repointed true true p points = points
+repointed before after p points = points
 
 -- ---- what is noted of an event; the world is left to the machine
 -- a caller begins
 abbrev pub begin : Run → ℕ → Op → Run
 begin run c op =
-    record {
-      world = run.world;
-      records = with_at run.records run.count (record { caller = c; op = op; first = run.events; last = None; reply = None; wrote = false });
-      count = suc run.count;
-      current = with_at run.current c run.count;
-      points = run.points;
-      events = run.events;
-    }
+    let begun : OpRecord = record { caller = c; op = op; first = run.events; last = None; reply = None; wrote = false } in
+    record run { records = with_at run.records run.count begun; count = suc run.count; current = with_at run.current c run.count }
 
 -- the caller's operation goes on to this phase
 abbrev pub pass : Run → ℕ → Phase → Run
 pass run c phase =
     let number = run.current c in
     let old = run.records number in
-    record {
-      world = run.world;
-      records = with_at run.records number (record { caller = old.caller; op = old.op; first = old.first; last = old.last; reply = old.reply; wrote = is_written phase });
-      count = run.count;
-      current = run.current;
-      points = repointed (has_point (run.world.phases c)) (has_point phase) (record { number = number; op = old.op; event = run.events }) run.points;
-      events = run.events;
+    let point : Point = record { number = number; op = old.op; event = run.events } in
+    record run {
+      records = with_at run.records number (record old { wrote = is_written phase });
+      points = repointed (has_point (run.world.phases c)) (has_point phase) point run.points;
     }
 
 -- the caller's operation ends
 abbrev pub finish : Run → ℕ → Result Reply AskError → Run
 finish run c reply =
     let number = run.current c in
-    let old = run.records number in
-    record {
-      world = run.world;
-      records = with_at run.records number (record { caller = old.caller; op = old.op; first = old.first; last = Some run.events; reply = Some reply; wrote = old.wrote });
-      count = run.count;
-      current = run.current;
-      points = run.points;
-      events = run.events;
-    }
+    record run { records = with_at run.records number (record (run.records number) { last = Some run.events; reply = Some reply }) }
 
 abbrev pub give_up : Run → ℕ → AskError → Run
 give_up run c why = finish (pass run c (Done (Err why))) c (Err why)
 
 abbrev pub end_at : Run → ℕ → Phase → Run
-end_at run c Idle = run
-end_at run c (Waiting i) = run
-end_at run c (Collecting round readings) = run
-end_at run c (Confirming round readings k) = run
 end_at run c (Done reply) = finish run c reply
+end_at run c phase = run
 
 -- what is noted of an event; one that does not fit leaves everything
 abbrev pub note : ℕ → ℕ → Run → Event → Run
@@ -96,7 +75,7 @@ note n rounds run (End c) = end_at run c (run.world.phases c)
 
 -- the run, in this world
 abbrev pub in_world : World → Run → Run
-in_world world run = record { world = world; records = run.records; count = run.count; current = run.current; points = run.points; events = run.events }
+in_world world run = record run { world = world }
 
 -- the machine goes on to its next world, and the event is noted
 abbrev pub act : ℕ → ℕ → Run → Event → Run
@@ -104,7 +83,7 @@ act n rounds run event = in_world (next n rounds run.world event) (note n rounds
 
 -- the event is over
 abbrev pub tick : Run → Run
-tick run = record { world = run.world; records = run.records; count = run.count; current = run.current; points = run.points; events = suc run.events }
+tick run = record run { events = suc run.events }
 
 abbrev pub fresh_run : Run
 fresh_run = record { world = fresh_world; records = λ q. no_record; count = 0; current = λ c. 0; points = []; events = 0 }
@@ -122,4 +101,4 @@ numbers points = map (λ p. p.number) points
 
 -- the order by points
 abbrev pub order_of : Run → List ℕ
-order_of run = numbers (filter (λ p. stands (run.records p.number)) run.points)
+order_of run = numbers (filter (λ p. took_effect (run.records p.number)) run.points)

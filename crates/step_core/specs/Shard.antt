@@ -30,7 +30,7 @@ pub record Stepped : Type 0 where
   pub answer : Result Reply AskError
   pub shard : Version
 
--- the revision rises by one where the part changes, and nothing changes at the largest one
+-- the revision rises by one if the part changes, and nothing changes at the largest one
 abbrev pub stepped_by : Version → Asked → Stepped
 stepped_by v asked =
     cond (is_change asked.reply)

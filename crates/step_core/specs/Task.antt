@@ -1,10 +1,10 @@
 -- How far one operation is, by the task that drives it.
-use Rattle.std.specs.Prelude.{◌≡◌, ℕ, ◌+◌, ◌<◌, ◌≤◌, ◌==◌, ◌&&◌, Bool, true, false, length, vec_capacity, Ok, Err}
+use Rattle.std.specs.Prelude.{◌≡◌, ℕ, ◌+◌, ◌<◌, ◌≤◌, ◌==◌, ◌&&◌, Bool, true, false, length, vec_capacity, Err}
 use Rattle.std.specs.Arc.{arc_value}
 use Rattle.map_core.specs.declared.reply.AskError.{AskError}
 use Rattle.map_core.specs.declared.reply.AskError.TheVariants.{Memory}
 use Rattle.step_core.specs.Shard.{reading}
-use Rattle.step_core.specs.Phase.{Phase, Idle, Waiting, Collecting, Confirming, Done, Told, Replied, Seen, Revision}
+use Rattle.step_core.specs.Phase.{Phase, Waiting, Collecting, Confirming, Done, Told, Replied, Seen, Revision}
 use Rattle.step_core.specs.declared.task.State.{State}
 use Rattle.step_core.specs.declared.task.State.TheVariants as state
 use Rattle.step_core.specs.declared.task.Want.{Want}
@@ -27,11 +27,10 @@ told_of (answer.Revision revision) = Revision revision
 
 -- its shard, its readings and its round are among those there are
 abbrev pub IsInside : ℕ → ℕ → Phase → Type 0
-IsInside n rounds Idle = Unit {0}
 IsInside n rounds (Waiting i) = i < n
 IsInside n rounds (Collecting round readings) = (length readings < n) × (round ≤ rounds)
 IsInside n rounds (Confirming round readings k) = (length readings ≡ n) × (k < n) × (round ≤ rounds)
-IsInside n rounds (Done reply) = Unit {0}
+IsInside n rounds phase = Unit {0}
 
 -- whether it is the last confirm, with which the reply is put together
 abbrev pub is_last_confirm : ℕ → Phase → Told → Bool
@@ -56,16 +55,12 @@ IsWantOf n want.Done = Unit {0}
 abbrev pub out_of_memory : Phase
 out_of_memory = Done (Err Memory)
 
--- whether the error is want of memory
+-- whether the error is out of memory
 abbrev pub is_memory : AskError → Bool
 is_memory Memory = true
 is_memory e = false
 
 -- whether there was no memory
 abbrev pub is_out_of_memory : Phase → Bool
-is_out_of_memory Idle = false
-is_out_of_memory (Waiting i) = false
-is_out_of_memory (Collecting round readings) = false
-is_out_of_memory (Confirming round readings k) = false
-is_out_of_memory (Done (Ok reply)) = false
 is_out_of_memory (Done (Err e)) = is_memory e
+is_out_of_memory phase = false

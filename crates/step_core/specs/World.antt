@@ -49,12 +49,13 @@ refusal why.Memory = Memory
 abbrev pub fresh_world : World
 fresh_world = record { shards = λ i. fresh_shard; ops = λ c. FetchAll; phases = λ c. Idle }
 
+-- the caller has made a step
 abbrev pub moved : World → ℕ → Turn → World
-moved w c t = record { shards = t.shards; ops = w.ops; phases = with_at w.phases c t.phase }
+moved w c t = record w { shards = t.shards; phases = with_at w.phases c t.phase }
 
 -- a caller begins
 abbrev pub started : World → ℕ → Op → Phase → World
-started w c op phase = record { shards = w.shards; ops = with_at w.ops c op; phases = with_at w.phases c phase }
+started w c op phase = record w { ops = with_at w.ops c op; phases = with_at w.phases c phase }
 
 abbrev pub to_phase : World → Phase → Turn
 to_phase w phase = record { shards = w.shards; phase = phase }

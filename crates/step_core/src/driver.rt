@@ -3,10 +3,10 @@ ghost use Rattle.std.specs.Prelude.{◌≡◌, ◌<◌, ℕ, IfOk, OnOk, None, l
 ghost use Rattle.step_core.specs.World.{refusal};
 ghost use Rattle.step_core.specs.Shard.{of_shard, step_on, reading, fresh_shard};
 ghost use Rattle.step_core.specs.Run.{Run, act, fresh_run};
-ghost use Rattle.step_core.specs.Legal.{no_record};
+ghost use Rattle.step_core.specs.Records.{no_record};
 ghost use Rattle.step_core.specs.Task.{told_of, IsWantOf};
-ghost use Rattle.step_core.specs.Driver.{told_by, left_by, repointed_list, place_after, marked, ended};
-ghost use Rattle.step_core.specs.Shown.{IsShown};
+ghost use Rattle.step_core.specs.Private.Driver.{told_by, left_by, repointed_list, place_after, marked, ended};
+ghost use Rattle.step_core.specs.Private.Shown.{IsShown};
 ghost use Rattle.step_core.specs.declared.event.Event.TheVariants.{Begin, Step, Quit, End};
 
 use crate::event::{Event, Why};

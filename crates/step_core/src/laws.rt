@@ -7,8 +7,8 @@ pub fn runs_machine()
     ensures { RunsMachine }
 {}
 
-/// The order by points holds each answered operation and each unfinished one that has written, once, and no other;
-/// each has an event of its own between its first and its last, and these rise.
+/// The order by points holds each operation that took effect, once, and no other; each has a linearization point between
+/// its first event and its last, and these rise.
 pub fn has_places()
     ensures { HasPlaces }
 {}
@@ -38,8 +38,8 @@ pub fn moved_was_disturbed()
     ensures { MovedWasDisturbed }
 {}
 
-/// The answered operations, and the unfinished ones that have written, stand in one order, each at an event between
-/// its first and its last, in which the plain map gives every reply.
+/// The order by points is a linearization: each operation that took effect has a moment between its first event and its
+/// last, and the plain map, asked in the order of these moments, gives every reply.
 pub fn one_order()
     ensures { HasOneOrder }
 {}

@@ -1,4 +1,8 @@
 //! Shards of the map of trust bundles, operations on them step by step, and the machine of those steps.
+//!
+//! `run_events` gives the records of a run and a linearization of them, for every number of shards and callers and every
+//! list of events: so a fetch-all that is answered shows all bundles as they stood at one moment. The machine is made of
+//! `Shard` and `Task`.
 #![tactic(auto)]
 
 mod driver;

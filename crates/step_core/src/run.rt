@@ -1,8 +1,8 @@
 //! A run of the machine over a list of events.
 ghost use Rattle.std.specs.Prelude.{◌≡◌, ◌<◌, IfOk, length, filter, get_or};
 ghost use Rattle.step_core.specs.Run.{run_of, order_of};
-ghost use Rattle.step_core.specs.Legal.{no_record, stands, IsLegalTrace};
-ghost use Rattle.step_core.specs.Driver.{taken};
+ghost use Rattle.step_core.specs.Records.{no_record, took_effect, IsLinearized};
+ghost use Rattle.step_core.specs.Private.Driver.{taken};
 ghost use Rattle.step_core.specs.Trace.{records_of};
 
 use crate::driver::Driver;
@@ -11,7 +11,8 @@ use crate::trace::{OpRecord, Trace};
 use std::alloc::{AllocError, Global};
 
 /// Runs the events over this many empty shards; a fetch-all has this many rounds. The order that comes with the
-/// records explains what all callers saw: the plain map, asked along it, gives every reply.
+/// records is a linearization: each operation that took effect has a moment of its own between its first event and its
+/// last, and the plain map, asked in the order of these moments, gives every reply.
 pub fn run_events(
     alloc: Global,
     shards: usize,
@@ -22,7 +23,7 @@ pub fn run_events(
     requires rounds { 0 < rounds }
     ensures ops { IfOk result (λ trace. trace.ops.items ≡ records_of (run_of shards rounds events.now)) }
     ensures order { IfOk result (λ trace. trace.order.items ≡ order_of (run_of shards rounds events.now)) }
-    ensures legal { IfOk result (λ trace. IsLegalTrace (length events.now) trace.ops.items trace.order.items) }
+    ensures linearized { IfOk result (λ trace. IsLinearized (length events.now) trace.ops.items trace.order.items) }
 {
     let trace = traced(alloc, shards, rounds, events)?;
     Ok(trace)
@@ -44,14 +45,14 @@ fn traced(
         driver.act(event, now as u64)?;
     }
     let numbers = numbers(alloc, &driver.points)?;
-    let order = standing(alloc, &driver.ops, &numbers)?;
+    let order = effective(alloc, &driver.ops, &numbers)?;
     Ok(Trace {
         ops: driver.ops,
         order,
     })
 }
 
-// The numbers that stand at the points.
+// The numbers at the points.
 fn numbers(alloc: Global, points: &[Option<usize>]) -> Result<Vec<usize>, AllocError>
     ensures { IfOk result (λ numbers. numbers.items ≡ taken points.now) }
 {
@@ -64,31 +65,31 @@ fn numbers(alloc: Global, points: &[Option<usize>]) -> Result<Vec<usize>, AllocE
     Ok(numbers)
 }
 
-// The numbers whose operations stand in the order.
-fn standing(alloc: Global, ops: &[OpRecord], numbers: &[usize]) -> Result<Vec<usize>, AllocError>
-    ensures { IfOk result (λ order. order.items ≡ filter (λ q. stands (get_or ops.now q no_record)) numbers.now) }
+// The numbers whose operations took effect.
+fn effective(alloc: Global, ops: &[OpRecord], numbers: &[usize]) -> Result<Vec<usize>, AllocError>
+    ensures { IfOk result (λ order. order.items ≡ filter (λ q. took_effect (get_or ops.now q no_record)) numbers.now) }
 {
     let mut order = Vec::new(alloc);
     for number in numbers {
-        if stands_at(ops, *number) {
+        if took_effect_at(ops, *number) {
             order.push(*number)?;
         }
     }
     Ok(order)
 }
 
-fn stands_at(ops: &[OpRecord], number: usize) -> bool
-    ensures { result ≡ stands (get_or ops.now number no_record) }
+fn took_effect_at(ops: &[OpRecord], number: usize) -> bool
+    ensures { result ≡ took_effect (get_or ops.now number no_record) }
 {
     match ops.get(number) {
-        Some(entry) => stands(entry),
+        Some(entry) => took_effect(entry),
         None => false,
     }
 }
 
-// An operation stands in the order that was answered, or is not finished and has written.
-fn stands(entry: &OpRecord) -> bool
-    ensures { result ≡ stands entry.now }
+// An operation that was answered took effect, and so did one that is under way and has written.
+fn took_effect(entry: &OpRecord) -> bool
+    ensures { result ≡ took_effect entry.now }
 {
     match &entry.reply {
         Some(Ok(_)) => true,

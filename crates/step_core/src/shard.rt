@@ -43,7 +43,7 @@ impl Shard {
         Shard::with(alloc, 0, Contents::new(alloc))
     }
 
-    /// A shard of this revision and these contents. Where memory runs out the contents are gone.
+    /// A shard of this revision and these contents. If memory runs out the contents are gone.
     pub fn with(alloc: Global, revision: u64, contents: Contents) -> Result<Shard, AllocError>
         requires { revision ≤ last_revision }
         ensures { IfOk result (λ shard. shard ≡ record { revision = revision; part = contents }) }
@@ -73,7 +73,7 @@ impl Shard {
         Ok((self.revision, Arc::try_clone(&self.version)?))
     }
 
-    /// Answers an operation on one name. The revision rises by one exactly where the contents change; at the last
+    /// Answers an operation on one name. The revision rises by one if and only if the contents change; at the last
     /// revision such a step is refused as worn, of shard 0. A refusal changes nothing.
     pub fn step(&mut self, op: Op) -> Result<Reply, AskError>
         ensures answer { IfOk result (λ r. (step_on self.old op).answer ≡ Ok r) }
@@ -106,7 +106,7 @@ fn ask_version(alloc: Global, version: &mut Arc<Contents>, op: Op) -> Result<Rep
     ask_shared(alloc, version, &op)
 }
 
-// Asks a version that others share too: it stays, and where the operation would change it, another one takes its place.
+// Asks a version that others share too: it stays, and if the operation would change it, another one takes its place.
 fn ask_shared(alloc: Global, version: &mut Arc<Contents>, op: &Op) -> Result<Reply, AskError>
     ensures reply { IfOk result (λ r. r ≡ (ask (arc_value version.old) op.now).reply) }
     ensures left { OnOk result (arc_value version.new ≡ (ask (arc_value version.old) op.now).map) }

@@ -47,7 +47,7 @@ pub(crate) enum State {
 }
 
 /// An operation that is under way over some shards. One on a name is one step of its shard. A fetch-all collects all
-/// shards in order and then confirms that each still has the revision that was collected; where one has not, all
+/// shards in order and then confirms that each still has the revision that was collected; if one has not, all
 /// readings are thrown away and a new round begins, or the rounds are used up.
 #[derive(Drop)]
 pub struct Task {

@@ -1,4 +1,4 @@
-use Rattle.step_core.proofs.OneMoment.{fetches_are_answered}
+use Rattle.step_core.proofs.Linearized.{fetches_are_answered}
 use Rattle.step_core.proofs.laws.fetches_are_answered.Goals as goal
 
 pub returns : goal.returns

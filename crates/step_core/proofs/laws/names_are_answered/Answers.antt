@@ -1,4 +1,4 @@
-use Rattle.step_core.proofs.OneMoment.{names_are_answered}
+use Rattle.step_core.proofs.Linearized.{names_are_answered}
 use Rattle.step_core.proofs.laws.names_are_answered.Goals as goal
 
 pub returns : goal.returns

@@ -1,7 +1,7 @@
 use Rattle.std.proofs.Common.{◌≡◌, ◌+◌, ◌<◌, ◌≤◌, ℕ, List, [], ◌∷◌, ◌++◌, length, get_or, take, Option, Some, None, arith, sym, ap, ◌∙◌}
 use Rattle.std.proofs.lemmas.Grind.{elements}
 use Rattle.std.proofs.lemmas.List.{take_more}
-use Rattle.step_core.specs.Driver.{taken}
+use Rattle.step_core.specs.Private.Driver.{taken}
 use Rattle.step_core.proofs.Places.{taken-push, taken-skip}
 use Rattle.step_core.proofs.run.numbers.Goals as goal
 use Rattle.step_core.proofs.run.numbers.Goals.{in-Some+in_ok-push, in_default}

@@ -1,5 +1,5 @@
 use Rattle.std.proofs.Common.{◌≡◌, take}
-use Rattle.step_core.specs.Driver.{taken}
+use Rattle.step_core.specs.Private.Driver.{taken}
 use Rattle.step_core.proofs.run.numbers.Given as goal
 
 abbrev pub invariant-loop-point : goal.invariant-loop-point

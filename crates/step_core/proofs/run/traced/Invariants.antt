@@ -1,6 +1,6 @@
 use Rattle.std.proofs.Common.{take}
 use Rattle.step_core.specs.Run.{run_of}
-use Rattle.step_core.specs.Shown.{IsShown}
+use Rattle.step_core.specs.Private.Shown.{IsShown}
 use Rattle.step_core.proofs.run.traced.Given as goal
 
 abbrev pub invariant-loop-now : goal.invariant-loop-now

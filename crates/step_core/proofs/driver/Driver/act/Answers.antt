@@ -3,7 +3,7 @@ use Rattle.std.specs.declared.alloc.AllocError.{AllocError}
 use Rattle.step_core.specs.declared.event.Event.{Event}
 use Rattle.step_core.specs.declared.driver.Driver.{Driver}
 use Rattle.step_core.specs.Run.{Run, act}
-use Rattle.step_core.specs.Shown.{IsShown}
+use Rattle.step_core.specs.Private.Shown.{IsShown}
 use Rattle.step_core.proofs.driver.Driver.act.Goals as goal
 
 same_event : (r : Result (Unit {0}) AllocError) (old new : Driver) (now : ℕ) (a b : Event) → a ≡ b → OnOk r ((n rounds : ℕ) (run : Run) → run.events ≡ now → IsShown n rounds old run → IsShown n rounds new (act n rounds run b)) → OnOk r ((n rounds : ℕ) (run : Run) → run.events ≡ now → IsShown n rounds old run → IsShown n rounds new (act n rounds run a))

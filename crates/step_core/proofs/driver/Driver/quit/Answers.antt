@@ -3,8 +3,8 @@ use Rattle.std.specs.Vec.{with_items}
 use Rattle.std.proofs.lemmas.List.{with_items_is}
 use Rattle.step_core.specs.declared.driver.Running.{Running}
 use Rattle.step_core.specs.declared.driver.Driver.{Driver}
-use Rattle.step_core.specs.Legal.{no_record}
-use Rattle.step_core.specs.Driver.{marked, ended, repointed_list}
+use Rattle.step_core.specs.Records.{no_record}
+use Rattle.step_core.specs.Private.Driver.{marked, ended, repointed_list}
 use Rattle.step_core.proofs.Callers.{at_caller}
 use Rattle.step_core.proofs.Driving.{quit_shown}
 use Rattle.step_core.proofs.driver.Driver.quit.Goals as goal

@@ -4,9 +4,9 @@ use Rattle.std.proofs.lemmas.List.{with_items_is}
 use Rattle.step_core.specs.declared.driver.Running.{Running}
 use Rattle.step_core.specs.declared.driver.Driver.{Driver}
 use Rattle.step_core.specs.Phase.{wants}
-use Rattle.step_core.specs.Legal.{no_record}
+use Rattle.step_core.specs.Records.{no_record}
 use Rattle.step_core.specs.Task.{IsWantOf, is_out_of_memory}
-use Rattle.step_core.specs.Driver.{left_by, told_by, marked, repointed_list, place_after}
+use Rattle.step_core.specs.Private.Driver.{left_by, told_by, marked, repointed_list, place_after}
 use Rattle.step_core.specs.declared.task.Want.{Want}
 use Rattle.step_core.proofs.Callers.{at_caller, at_caller_twice}
 use Rattle.step_core.proofs.Driving.{stepped_shown, given_task, running_caller, op_at, known_record}

@@ -6,8 +6,8 @@ use Rattle.step_core.specs.Shard.{Version, reading}
 use Rattle.step_core.specs.Phase.{Idle, has_point, is_idle}
 use Rattle.step_core.specs.declared.trace.OpRecord.{OpRecord}
 use Rattle.step_core.specs.Run.{Run, numbers}
-use Rattle.step_core.specs.Legal.{no_record}
-use Rattle.step_core.specs.Driver.{taken, holds, IsPlaced}
+use Rattle.step_core.specs.Records.{no_record}
+use Rattle.step_core.specs.Private.Driver.{taken, holds, IsPlaced}
 use Rattle.step_core.specs.declared.driver.Running.{Running}
 use Rattle.step_core.specs.declared.driver.Driver.{Driver}
 
@@ -21,7 +21,7 @@ pub record ShowsRecords (list : List OpRecord) (count : ℕ) (records : ℕ → 
   pub size : length list ≡ count
   pub each : (q : ℕ) → q < count → get_or list q no_record ≡ records q
 
--- the caller's operation: its number, how far it is, and where its point stands
+-- the caller's operation: its number, how far it is, and the place of its point
 pub record ShowsCaller (n rounds : ℕ) (run : Run) (points : List (Option ℕ)) (c : ℕ) (running : Running) : Type 0 where
   pub number : running.number ≡ run.current c
   pub known : running.number < run.count

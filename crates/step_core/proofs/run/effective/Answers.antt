@@ -1,9 +1,9 @@
 use Rattle.std.proofs.Common.{◌≡◌, ◌+◌, ◌<◌, ◌≤◌, ℕ, Bool, true, false, cond, List, [], ◌∷◌, ◌++◌, length, get_or, take, arith, refl, sym, ap, ◌∙◌, append-nil}
 use Rattle.std.specs.Prelude.{filter}
 use Rattle.std.proofs.lemmas.Grind.{elements}
-use Rattle.step_core.specs.Legal.{stands, no_record}
-use Rattle.step_core.proofs.run.standing.Goals as goal
-use Rattle.step_core.proofs.run.standing.Goals.{then-stands_at+in_ok-push, else-stands_at}
+use Rattle.step_core.specs.Records.{took_effect, no_record}
+use Rattle.step_core.proofs.run.effective.Goals as goal
+use Rattle.step_core.proofs.run.effective.Goals.{then-took_effect_at+in_ok-push, else-took_effect_at}
 
 filter-push : (f : ℕ → Bool) (xs : List ℕ) (x : ℕ) → filter f (xs ++ x ∷ []) ≡ filter f xs ++ cond (f x) (x ∷ []) []
 filter-push f [] x = refl
@@ -25,13 +25,13 @@ loop-number-init c = c.new-order.ensures.items
 
 pub loop-number-preserved : goal.loop-number-preserved
 loop-number-preserved c =
-    let f : ℕ → Bool = (λ q. stands (get_or c.args.ops.now q no_record)) in
+    let f : ℕ → Bool = (λ q. took_effect (get_or c.args.ops.now q no_record)) in
     let xs = c.args.numbers.now in
     let k = c.loop-number.number-index in
-    elim c.if-stands_at.branch [
-      | then-stands_at+in_ok-push w ↦ taken f xs c.loop-number.order.items c.if-stands_at.order.items k true (sym w.if-stands_at.true ∙ c.stands_at.ensures) c.loop-number-test.true c.loop-number.invariant (ap (λ v. v.items) w.order-is ∙ w.in_ok-push.ensures.items)
-      | else-stands_at w ↦ taken f xs c.loop-number.order.items c.if-stands_at.order.items k false (sym w.if-stands_at.false ∙ c.stands_at.ensures) c.loop-number-test.true c.loop-number.invariant (ap (λ v. v.items) w.order-is ∙ sym (append-nil c.loop-number.order.items))
+    elim c.if-took_effect_at.branch [
+      | then-took_effect_at+in_ok-push w ↦ taken f xs c.loop-number.order.items c.if-took_effect_at.order.items k true (sym w.if-took_effect_at.true ∙ c.took_effect_at.ensures) c.loop-number-test.true c.loop-number.invariant (ap (λ v. v.items) w.order-is ∙ w.in_ok-push.ensures.items)
+      | else-took_effect_at w ↦ taken f xs c.loop-number.order.items c.if-took_effect_at.order.items k false (sym w.if-took_effect_at.false ∙ c.took_effect_at.ensures) c.loop-number-test.true c.loop-number.invariant (ap (λ v. v.items) w.order-is ∙ sym (append-nil c.loop-number.order.items))
     ]
 
 pub returns : goal.returns
-returns c = c.loop-number.invariant ∙ ap (filter (λ q. stands (get_or c.args.ops.now q no_record))) (all_taken c.args.numbers.now c.loop-number.number-index c.loop-number-test.false)
+returns c = c.loop-number.invariant ∙ ap (filter (λ q. took_effect (get_or c.args.ops.now q no_record))) (all_taken c.args.numbers.now c.loop-number.number-index c.loop-number-test.false)
