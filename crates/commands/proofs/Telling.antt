@@ -1,4 +1,4 @@
--- What is told where no call failed, and whose fault is told.
+-- What is told if no call failed, and whose fault is told.
 use Rattle.std.proofs.Common.{◌≡◌, ℕ, ◌<◌, ◌-◌, ◌^◌, List, [], ◌++◌, Result, Ok, Err, OnOk, OnErr, refl, sym, ap, subst, ◌∙◌, inl, inr, arith}
 use Rattle.std.specs.Prelude.{nat_eq}
 use Rattle.std.proofs.lemmas.Bool.{cases_Bool}
@@ -49,7 +49,7 @@ tells_more start old new lines text told (inr failed) =
       whole = λ same. absurd (failed.0 same);
     }
 
--- and the same where the writer may have failed before
+-- and the same if the writer may have failed before
 pub told_more : (before : ℕ) (start old new : End) (lines text : List ℕ) → TellsUnlessFailed before start old lines → TellsUnlessFailed before old new text
     → TellsUnlessFailed before start new (lines ++ text)
 told_more before start old new lines text (inl told) follows =

@@ -20,9 +20,7 @@ refresh_number NoClock = 72
 
 abbrev pub refresh_place : RefreshFault → Option ℕ
 refresh_place (BadRelationship error line) = Some line
-refresh_place (Client error) = None
-refresh_place NoConnection = None
-refresh_place NoClock = None
+refresh_place fault = None
 
 abbrev pub fault_number : Fault → ℕ
 fault_number (Front error) = front_number error
@@ -33,17 +31,13 @@ fault_number (Refresh fault) = refresh_number fault
 fault_number Listen = 57
 fault_number (Close error) = close_number error
 
--- the number that says where, if there is one: a frame of a dump, a line, or a shard
+-- the place of the fault, if it has one: a frame of a dump, a line, or a shard
 abbrev pub fault_place : Fault → Option ℕ
-fault_place (Front error) = None
 fault_place (Dump (dumps.BadDump frame)) = Some frame
-fault_place (Dump dumps.Memory) = None
 fault_place (BadLine line) = Some line
-fault_place InputTooLong = None
 fault_place (Refresh fault) = refresh_place fault
-fault_place Listen = None
 fault_place (Close (closing.HeldAtEnd shard)) = Some shard
-fault_place (Close closing.Memory) = None
+fault_place fault = None
 
 -- a space and the number
 abbrev pub place_text : Option ℕ → List ℕ

@@ -25,11 +25,4 @@ InputFault (Front TurnsUsed) left_old left_new =
     (read : List ℕ) × Consumes left_old left_new read × (most_reads ≤ length read) × (length read ≤ most_input)
 InputFault (Front ReadFault) left_old left_new = Unit {0}
 InputFault (Front Memory) left_old left_new = Unit {0}
-InputFault (Front BadLength) left_old left_new = ⊥
-InputFault (Front Truncated) left_old left_new = ⊥
-InputFault (Front WriteFault) left_old left_new = ⊥
-InputFault (Dump error) left_old left_new = ⊥
-InputFault (BadLine line) left_old left_new = ⊥
-InputFault (Refresh fault) left_old left_new = ⊥
-InputFault Listen left_old left_new = ⊥
-InputFault (Close error) left_old left_new = ⊥
+InputFault fault left_old left_new = ⊥

@@ -29,12 +29,7 @@ Migrates (Err (Front ReadFault)) left_old left_new held_old held_new = held_new 
 Migrates (Err (Front Memory)) left_old left_new held_old held_new = held_new ≡ held_old
 Migrates (Err (Front WriteFault)) left_old left_new held_old held_new =
     (input : List ℕ) × (items : Domains) × IsInput input left_old left_new × IsDump input items × WritesFront held_old held_new (migrated items)
-Migrates (Err (Front BadLength)) left_old left_new held_old held_new = ⊥
-Migrates (Err (Front Truncated)) left_old left_new held_old held_new = ⊥
-Migrates (Err (BadLine line)) left_old left_new held_old held_new = ⊥
-Migrates (Err (Refresh fault)) left_old left_new held_old held_new = ⊥
-Migrates (Err Listen) left_old left_new held_old held_new = ⊥
-Migrates (Err (Close error)) left_old left_new held_old held_new = ⊥
+Migrates ended left_old left_new held_old held_new = ⊥
 
 -- The whole command.
 pub record Migration (status : ℕ) (old new : Streams) : Type 0 where

@@ -39,16 +39,7 @@ TellsUnlessFailed before old new text = ((old.faults ≡ before) × Tells old ne
 abbrev pub Blames : Fault → Streams → Streams → Type 0
 Blames (Front ReadFault) old new = old.input.faults < new.input.faults
 Blames (Front WriteFault) old new = old.output.faults < new.output.faults
-Blames (Front BadLength) old new = Unit {0}
-Blames (Front Truncated) old new = Unit {0}
-Blames (Front TurnsUsed) old new = Unit {0}
-Blames (Front Memory) old new = Unit {0}
-Blames (Dump error) old new = Unit {0}
-Blames (BadLine line) old new = Unit {0}
-Blames InputTooLong old new = Unit {0}
-Blames (Refresh fault) old new = Unit {0}
-Blames Listen old new = Unit {0}
-Blames (Close error) old new = Unit {0}
+Blames fault old new = Unit {0}
 
 -- A command ends so, with this exit status: 0 if all went well, and nothing is written to standard error; 1 after a
 -- fault, whose line is written there.

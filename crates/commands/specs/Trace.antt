@@ -16,12 +16,7 @@ Traces (Err (Front TurnsUsed)) left_old left_new held_old held_new = InputFault 
 Traces (Err (Front ReadFault)) left_old left_new held_old held_new = held_new ≡ held_old
 Traces (Err (Front WriteFault)) left_old left_new held_old held_new = (input : List ℕ) × IsInput input left_old left_new
 Traces (Err (Front Memory)) left_old left_new held_old held_new = held_new ≡ held_old
-Traces (Err (Front BadLength)) left_old left_new held_old held_new = ⊥
-Traces (Err (Front Truncated)) left_old left_new held_old held_new = ⊥
-Traces (Err (Dump error)) left_old left_new held_old held_new = ⊥
-Traces (Err (Refresh fault)) left_old left_new held_old held_new = ⊥
-Traces (Err Listen) left_old left_new held_old held_new = ⊥
-Traces (Err (Close error)) left_old left_new held_old held_new = ⊥
+Traces ended left_old left_new held_old held_new = ⊥
 
 -- The whole command.
 pub record Tracing (status : ℕ) (old new : Streams) : Type 0 where

@@ -85,7 +85,7 @@ impl Fault {
         }
     }
 
-    /// The frame of a dump, from 0, or the line, from 1, where the fault is.
+    /// The place of the fault: a frame of a dump, from 0, or a line, from 1.
     fn place(&self) -> Option<u64>
         ensures { result ≡ fault_place self.now }
     {

@@ -1,4 +1,4 @@
-//! The commands of the program that work over streams alone, and how each command tells its faults.
+//! The commands of the program that need only streams, and how each command tells its faults.
 //!
 //! `run_over` serves a session, `trace_over` runs the machine over a list of events, and `migrate_over` turns a dump
 //! into requests. Each reads from a reader, writes to a writer, tells its fault to another, and answers the exit

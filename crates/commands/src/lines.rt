@@ -8,7 +8,7 @@ use std::io::{ErrorKind, Write};
 /// The bytes that are gathered for one write.
 const ROOM: usize = 4096;
 
-/// Lines, gathered for few writes. It takes no memory, and a write that was interrupted has failed, where std's
+/// Lines, gathered for few writes. It takes no memory, and a write that was interrupted has failed, while std's
 /// `BufWriter` would make it again.
 #[derive(Drop)]
 pub struct Lines<'a, W> {

@@ -100,7 +100,7 @@ fn write_lines<W: Write>(out: &mut Counted<W>, trace: &Trace) -> Result<(), Faul
 {
     let before = out.faults();
     let mut lines = Lines::new(&mut *out);
-    // It fails only where a call of `out` does, and such a call is counted.
+    // It fails only if a call of `out` does, and such a call is counted.
     if write_trace(&mut lines, trace).is_ok() {
         let _ = lines.flush();
     }

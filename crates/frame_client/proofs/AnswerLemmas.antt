@@ -178,7 +178,7 @@ not_all : (op : Op) (items : List (Name × BundleValue)) → is_of_one op ≡ tr
 not_all op items of_one may =
     not_all_code op of_one (ap (is_code_for op) (sym (code_first (first_payload (Ok (All items))) (frames_behind (Ok (All items))) (omega arith, omega arith))) ∙ may)
 
--- ---- what is no reply
+-- ---- what is not a reply
 
 module _ (op : Op) (of_one : is_of_one op ≡ true) where
   answer_read : (a : Answer) → IsLawfulAnswer a → MayAnswer op a → answer_of (first_payload a) ≡ None → ⊥
@@ -200,7 +200,7 @@ module _ (op : Op) (of_one : is_of_one op ≡ true) where
       let first = frame_first (first_payload a) payload (frames_behind a) rest (first_is_payload a lawful) good (sym (coded_first a) ∙ same) in
       answer_read a lawful may (ap answer_of first.0 ∙ none)
 
--- bytes that are no whole frame
+-- bytes that are not a whole frame
 pub unfinished_reply : (op : Op) (read : List ℕ) → IsUnfinished read → NoReply op coded read
 unfinished_reply op read cut a may lawful same =
     none_at_end (first_payload a) (frames_behind a) read (first_is_payload a lawful) (sym same ∙ coded_first a) (inl cut)

@@ -20,7 +20,7 @@ use Rattle.frame_client.specs.declared.client_error.ClientError.TheVariants.{Mem
 use Rattle.frame_front.proofs.FrameLemmas.{frame_first, none_at_end}
 use Rattle.frame_client.proofs.AnswerLemmas.{unfinished_reply}
 
--- where no frame was read, no reply was
+-- if no frame was read, no reply was
 pub frame_breaks : (op : Op) (why : ClientError) (read : List ℕ) (left : Option (List ℕ)) → NoFrame why read left → Breaks op coded why read left
 frame_breaks op Truncated read left none = (unfinished_reply op read none.0, none.1)
 frame_breaks op ReadFault read left none = unfinished_reply op read none
@@ -67,7 +67,7 @@ breaks_behind op WriteFault read left breaks = absurd breaks
 breaks_behind op Memory read left breaks = tt
 
 module _ (d : Name) (expect : Expect) (b : BundleValue) where
-  -- where the reply to the version was not read
+  -- if the reply to the version was not read
   pub version_breaks : (why : ClientError) (read : List ℕ) (left : Option (List ℕ)) → NoFrame why read left
       → Breaks (SetIf d expect b) (reply_bytes (SetIf d expect b)) why read left
   version_breaks Truncated read left none =

@@ -25,7 +25,7 @@ use Rattle.frame_front.specs.Dump.{Domains, AreValid, IsAfter, Ascends, item_of,
 use Rattle.frame_client.specs.Reading.{NoFrame}
 use Rattle.frame_client.specs.Answer.{Answer, MayAnswer, IsLawfulAnswer, is_code_for, number_of}
 use Rattle.frame_client.specs.Client.{Breaks, BeginsNoReply}
-use Rattle.frame_client.specs.Listing.{NoListing, BreaksListing, head_of}
+use Rattle.frame_client.specs.Private.Listing.{NoListing, BreaksListing, head_of}
 use Rattle.frame_client.specs.declared.client_error.ClientError.{ClientError}
 use Rattle.frame_client.specs.declared.client_error.ClientError.TheVariants.{Memory, BadLength, BadReply, Truncated, ReadFault, WriteFault}
 use Rattle.frame_front.proofs.FrameLemmas.{frame_first, none_at_end}
@@ -38,7 +38,7 @@ use Rattle.frame_client.proofs.MapAnswers.{one_code, first_code}
 
 -- ---- domains that were read
 
--- where more domains begin with the frames of fewer, the next one stands there
+-- if more domains begin with the frames of fewer, the next one stands there
 items_front : (xs ys : Domains) (rest : List ℕ) → AreValid xs → AreValid ys → length xs < length ys → flat_map item_frame ys ≡ flat_map item_frame xs ++ rest
     → (y : Name × BundleValue) × (more : Domains) × (ys ≡ xs ++ y ∷ more) × (rest ≡ frame (item_payload y) ++ flat_map item_frame more)
 items_front [] [] rest vx vy less same = absurd (omega (arith, less))
@@ -74,7 +74,7 @@ module _ (count : ℕ) (items : Domains) (valid : AreValid items) (fewer : lengt
       let next = valid_at items front.0 front.1 (subst AreValid front.2 lawful) in
       none_at_end (item_payload front.0) (flat_map item_frame front.1) cut (IsPayload-item front.0 next.0 next.1) front.3 (inl unfinished)
 
-  -- where no frame was read, the next domain was not
+  -- if no frame was read, the next domain was not
   pub listing_breaks : (why : ClientError) (cut : List ℕ) (left : Option (List ℕ)) → NoFrame why cut left → BreaksListing why count (flat_map item_frame items ++ cut) left
   listing_breaks Truncated cut left none = (listing_cut cut none.0, none.1)
   listing_breaks ReadFault cut left none = listing_cut cut none
@@ -112,11 +112,11 @@ item_of-payload : (y : Name × BundleValue) → IsName y.0 → IsBundle y.1 → 
 unfolding item_of
 item_of-payload y name lawful = ap unless_refused (named_bundle-item y.0 y.1 name lawful)
 
--- where no domain is read, none stands
+-- if no domain is read, none stands
 pub no_item_read : (payload : List ℕ) → item_of payload ≡ None → (y : Name × BundleValue) → IsName y.0 → IsBundle y.1 → payload ≢ item_payload y
 no_item_read payload none y name lawful same = none_item y (sym none ∙ ap item_of same ∙ item_of-payload y name lawful)
 
--- where another text of a domain is read, none stands
+-- if another text of a domain is read, none stands
 pub same_read : (payload : List ℕ) (x : Name × BundleValue) → item_of payload ≡ Some x → (y : Name × BundleValue) → IsName y.0 → IsBundle y.1 → payload ≡ item_payload y → y ≡ x
 same_read payload x read y name lawful same = some_item y x (sym (item_of-payload y name lawful) ∙ sym (ap item_of same) ∙ read)
 

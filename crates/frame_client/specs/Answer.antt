@@ -43,16 +43,11 @@ is_code_for op code = is_error_code code || is_reply_code_for op code
 abbrev pub MayAnswer : Op → Answer → Type 0
 MayAnswer op answer = is_code_for op (code_of (coded answer)) ≡ true
 
--- The bundle that is found is lawful. Of all, each name is one and each bundle lawful, and they are in order of their names.
+-- The bundle that is found is valid. Of all, each name and each bundle is valid, and they are in order of their names.
 abbrev pub IsLawfulAnswer : Answer → Type 0
-IsLawfulAnswer (Ok Stored) = Unit {0}
-IsLawfulAnswer (Ok Unchanged) = Unit {0}
-IsLawfulAnswer (Ok (Appended sequence)) = Unit {0}
-IsLawfulAnswer (Ok Removed) = Unit {0}
 IsLawfulAnswer (Ok (Found bundle)) = IsBundle bundle
 IsLawfulAnswer (Ok (All items)) = AreValid items × Ascends None items × (length items < 2 ^ 64)
-IsLawfulAnswer (Ok (Refused why)) = Unit {0}
-IsLawfulAnswer (Err error) = Unit {0}
+IsLawfulAnswer answer = Unit {0}
 
 -- ---- reading an answer
 

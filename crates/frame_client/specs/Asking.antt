@@ -18,9 +18,7 @@ abbrev pub document_part : Op → List ℕ
 document_part (Set d b) = text_of b
 document_part (SetIf d expect b) = text_of b
 document_part (Append d a) = entry_text a
-document_part (Remove d) = []
-document_part (Get d) = []
-document_part FetchAll = []
+document_part op = []
 
 -- the letter, the length of the name and the name, the expectation, and the document
 abbrev pub request_payload : Op → List ℕ
@@ -33,12 +31,8 @@ request_payload FetchAll = 70 ∷ []
 
 -- C is of version 2, so the request that sets this version comes before it
 abbrev pub request_preface : Op → List ℕ
-request_preface (Set d b) = []
 request_preface (SetIf d expect b) = frame (86 ∷ 2 ∷ [])
-request_preface (Append d a) = []
-request_preface (Remove d) = []
-request_preface (Get d) = []
-request_preface FetchAll = []
+request_preface op = []
 
 -- what is written of an operation
 abbrev pub request_bytes : Op → List ℕ
@@ -56,20 +50,12 @@ request_payloads FetchAll = request_payload FetchAll ∷ []
 -- Whether the request of an operation is written: each but an append of an authority whose text is over the limit of
 -- documents.
 abbrev pub is_written : Op → Bool
-is_written (Set d b) = true
-is_written (SetIf d expect b) = true
 is_written (Append d a) = nat_le (length (entry_text a)) 1048576
-is_written (Remove d) = true
-is_written (Get d) = true
-is_written FetchAll = true
+is_written op = true
 
 abbrev pub is_append : Op → Bool
-is_append (Set d b) = false
-is_append (SetIf d expect b) = false
 is_append (Append d a) = true
-is_append (Remove d) = false
-is_append (Get d) = false
-is_append FetchAll = false
+is_append op = false
 
 -- why nothing of a request is written: it is too long, or there was no memory for the text that it appends
 abbrev pub IsUnwritable : Op → RequestError → Type 0
@@ -83,7 +69,7 @@ IsExpect Absent = Unit {0}
 IsExpect (Sequence sequence) = sequence < 2 ^ 64
 IsExpect Unnumbered = Unit {0}
 
--- an operation on a trust domain name, whose numbers and whose bundle are lawful
+-- an operation on a trust domain name, whose numbers and whose bundle are valid
 abbrev pub IsLawfulOp : Op → Type 0
 IsLawfulOp (Set d b) = IsName d × IsBundle b
 IsLawfulOp (SetIf d expect b) = IsName d × IsExpect expect × IsBundle b

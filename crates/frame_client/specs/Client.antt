@@ -1,4 +1,4 @@
--- What a client writes and reads where it is asked.
+-- What a client writes and reads when it is asked.
 use Rattle.std.specs.Prelude.{◌≡◌, ◌≢◌, ◌⊎◌, ℕ, ◌<◌, List, [], ◌++◌, Bool, true, false, Option, Some, None, Result, Ok, Err}
 use Rattle.std.specs.Io.KnownBytes.{Appends, Consumes, IsAtEnd}
 use Rattle.map_core.specs.declared.op.Op.{Op}
@@ -16,27 +16,19 @@ use Rattle.frame_client.specs.Answer.{Answer, MayAnswer, IsLawfulAnswer}
 
 -- whether the reply to the operation is one frame: to all but a fetch-all
 abbrev pub is_of_one : Op → Bool
-is_of_one (Set d b) = true
-is_of_one (SetIf d expect b) = true
-is_of_one (Append d a) = true
-is_of_one (Remove d) = true
-is_of_one (Get d) = true
 is_of_one FetchAll = false
+is_of_one op = true
 
 -- the reply to the request that sets version 2
 abbrev pub reply_preface : Op → List ℕ
-reply_preface (Set d b) = []
 reply_preface (SetIf d expect b) = version_frame Two
-reply_preface (Append d a) = []
-reply_preface (Remove d) = []
-reply_preface (Get d) = []
-reply_preface FetchAll = []
+reply_preface op = []
 
--- what is read where the answer is this
+-- what is read if this is the answer
 abbrev pub reply_bytes : Op → Answer → List ℕ
 reply_bytes op answer = reply_preface op ++ coded answer
 
--- ---- what was read is no reply
+-- ---- what was read is not a reply
 
 module _ (op : Op) (spelled : Answer → List ℕ) where
   -- no answer that the operation may have is spelled so
@@ -47,7 +39,7 @@ module _ (op : Op) (spelled : Answer → List ℕ) where
   abbrev pub BeginsNoReply : List ℕ → Type 0
   BeginsNoReply read = (rest : List ℕ) → NoReply (read ++ rest)
 
-  -- What was read, where a client ends for this reason, and what its reader has left then.
+  -- What was read if a client ends for this reason, and what its reader has left then.
   abbrev pub Breaks : ClientError → List ℕ → Option (List ℕ) → Type 0
   Breaks Truncated read left = NoReply read × IsAtEnd left
   Breaks ReadFault read left = NoReply read
@@ -58,7 +50,7 @@ module _ (op : Op) (spelled : Answer → List ℕ) where
 
 -- ---- an exchange
 
--- The ends of a client: what its reader has left and its writer holds, where that is known, and how often each failed.
+-- The ends of a client: what its reader has left and its writer holds, if that is known, and how often each failed.
 pub record Ends : Type 0 where
   pub left : Option (List ℕ)
   pub held : Option (List ℕ)
@@ -84,7 +76,7 @@ pub record IsUnsent (op : Op) (old new : Ends) : Type 0 where
   pub quiet_reader : new.read_faults ≡ old.read_faults
   pub fault : old.write_faults < new.write_faults
 
--- The request is written, and what was read is no reply.
+-- The request is written, and what was read is not a reply.
 pub record IsBroken (op : Op) (why : ClientError) (old new : Ends) : Type 0 where
   pub read : List ℕ
   pub written : Appends old.held new.held (request_bytes op)

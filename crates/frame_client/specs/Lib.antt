@@ -4,4 +4,4 @@ pub mod Reading
 pub mod Answer
 pub mod Client
 pub mod ClientLaws
-pub mod Listing
+pub mod Private

@@ -9,25 +9,16 @@ use Rattle.frame_client.specs.declared.client_error.ClientError.TheVariants.{Mem
 abbrev pub StopsShort : ClientError → Option (List ℕ) → Type 0
 StopsShort Truncated left = IsAtEnd left
 StopsShort ReadFault left = Unit {0}
-StopsShort BadLength left = ⊥
-StopsShort BadReply left = ⊥
-StopsShort WriteFault left = ⊥
-StopsShort Memory left = ⊥
+StopsShort error left = ⊥
 
 -- Why no frame was read, what was read instead, and what the reader has left then.
 abbrev pub NoFrame : ClientError → List ℕ → Option (List ℕ) → Type 0
 NoFrame Truncated read left = IsUnfinished read × IsAtEnd left
 NoFrame ReadFault read left = IsUnfinished read
 NoFrame BadLength read left = IsBadLength read × (length read ≡ 4)
-NoFrame BadReply read left = ⊥
-NoFrame WriteFault read left = ⊥
-NoFrame Memory read left = ⊥
+NoFrame error read left = ⊥
 
 -- The reader's faults are counted, and it has no others.
 abbrev pub CountsFault : ClientError → ℕ → ℕ → Type 0
 CountsFault ReadFault old new = old < new
-CountsFault Truncated old new = new ≡ old
-CountsFault BadLength old new = new ≡ old
-CountsFault BadReply old new = new ≡ old
-CountsFault WriteFault old new = new ≡ old
-CountsFault Memory old new = new ≡ old
+CountsFault error old new = new ≡ old

@@ -36,7 +36,7 @@ pub enum RequestError {
 const MAX_DOCUMENT: usize = 1_048_576;
 
 /// Writes the request for an operation, and sees that the writer keeps nothing back. Before a request to
-/// set where it is as expected comes the one that sets version 2 of the session.
+/// conditional set comes the one that sets version 2 of the session.
 ///
 /// Nothing is written of an append whose authority has a text of over 1,048,576 bytes, or for whose text
 /// there is no memory. If the writer fails, a front of the request may be written.

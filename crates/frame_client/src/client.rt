@@ -26,7 +26,7 @@ use std::marker::Model;
 /// that the gate is shut, and goes on.
 ///
 /// Room for replies, 1,049,000 bytes, is taken before the first request is begun, and room for the text of
-/// an authority before each append. If there is none, the client says so, has done nothing, and goes on.
+/// an authority before each append. If memory runs out, the client says so, has done nothing, and goes on.
 ///
 /// Once an exchange fails, the client has ended: it asks nothing more, and answers that the gate is shut.
 /// Whether the request that failed took effect is not known.
@@ -164,7 +164,7 @@ fn is_version_two(payload: &[u8]) -> bool
     matches!(payload, [b'v', 2])
 }
 
-/// Reads the reply to the request that sets version 2, where that request comes before the operation's.
+/// Reads the reply to the request that sets version 2, if that request comes before the operation's.
 fn read_preface<R: Read>(
     reader: &mut Counted<R>,
     buffer: &mut [u8],
@@ -191,7 +191,7 @@ fn read_preface<R: Read>(
     }
 }
 
-/// Reads the reply to the operation's own request, where it is one frame.
+/// Reads the reply to the operation's own request, if it is one frame.
 fn read_one<R: Read>(
     alloc: Global,
     reader: &mut Counted<R>,

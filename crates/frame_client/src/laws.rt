@@ -1,4 +1,4 @@
-//! Laws of what a client writes and reads, over the definitions alone.
+//! Laws of what a client writes and reads, over the definitions.
 ghost use Rattle.std.specs.Prelude.{◌≡◌, [], ◌∷◌, Ok, true};
 ghost use Rattle.std.specs.List.{concat};
 ghost use Rattle.map_core.specs.PlainMap.{PlainMap, ask};

@@ -1,7 +1,7 @@
 //! The other end of a session over a map of trust bundles: a client.
 //!
 //! `Client` writes requests to any writer and reads their replies from any reader, and can be asked as a map
-//! itself; `write_request` writes requests alone. The stream is the one that crate `frame_front` serves.
+//! itself; `write_request` only writes requests. The stream is the one that crate `frame_front` serves.
 #![tactic(auto)]
 
 mod answer;

@@ -16,7 +16,7 @@ ghost use Rattle.frame_front.specs.Reply.{coded, error_detail, item_frame};
 ghost use Rattle.frame_front.specs.Dump.{IsAfter, AreValid, Ascends};
 ghost use Rattle.frame_client.specs.Answer.{MayAnswer, IsLawfulAnswer};
 ghost use Rattle.frame_client.specs.Client.{Breaks};
-ghost use Rattle.frame_client.specs.Listing.{head_of, BreaksListing};
+ghost use Rattle.frame_client.specs.Private.Listing.{head_of, BreaksListing};
 
 use crate::ClientError;
 use crate::answer::{read_error, read_number};
@@ -30,7 +30,7 @@ use std::alloc::{AllocError, Global};
 use std::io::Read;
 
 /// The number of domains that a payload tells, or an error of whoever was asked.
-#[tactic(auto, unfolding(crate::specs::Listing::head_of))]
+#[tactic(auto, unfolding(crate::specs::Private::Listing::head_of))]
 fn read_head(payload: &[u8]) -> Option<Result<u64, AskError>>
     ensures value { result ≡ head_of payload.now }
     ensures count { IfSome result (λ head. IfOk head (λ count. (payload.now ≡ 97 ∷ to_be_bytes w64 count) × (count < 2 ^ 64))) }

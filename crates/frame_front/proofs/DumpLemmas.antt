@@ -30,7 +30,7 @@ pub record Migrated (dump : List ℕ) (count : ℕ) (rest : List ℕ) (last : Op
   pub placed : place ≡ length items
   pub written : stream ≡ stream_of (requests_for items) []
 
--- what follows the domains read is one more, where the payloads are read further
+-- what follows the domains read is one more, if the payloads are read further
 next_read : (ps : List (List ℕ)) (items others : Domains) (p : List ℕ) (more : List (List ℕ)) (last : Option Name)
     → ReadsItems ps items → ReadsItems (ps ++ p ∷ more) others → Ascends last others
     → (item : Name × BundleValue) × (item_of p ≡ Some item) × IsAfter (last_of last items) item.0
@@ -72,7 +72,7 @@ module _ (dump : List ℕ) (count : ℕ) (rest : List ℕ) (last : Option Name) 
       let tails : other.payloads ≡ so_far.payloads ++ ps = cons_tail other.head so_far.head _ _ same.0 in
       (some_count (length items) count (sym other.counted ∙ ap count_of heads ∙ so_far.counted), sym same.1, subst (λ qs. ReadsItems qs items) tails other.read)
 
-  -- no further domain is read where none stands
+  -- no further domain is read if none stands
   none_further : NoItem last rest → (p : List ℕ) (more : List (List ℕ)) (r : List ℕ) (others : Domains) → HasFrames rest (p ∷ more) r
       → ReadsItems (so_far.payloads ++ p ∷ []) others ⊎ ReadsItems (so_far.payloads ++ p ∷ more) others → Ascends None others → ⊥
   none_further wrong p more r others framed further ascending =

@@ -23,7 +23,7 @@ shorter_front (head ∷ ps) qs good =
     let first = first_items ps qs None good.1 good.3 good.4 in
     (good.0, first.0, good.2, first.1, first.2, omega (arith, first.3, good.5))
 
--- where two fronts of one list are not as long, the longer one has the first element that the shorter one leaves
+-- if two fronts of one list are not as long, the longer one has the first element that the shorter one leaves
 longer_front : {X : Type 0} (xs us ys vs : List X) → xs ++ us ≡ ys ++ vs → length xs < length ys
     → (x : X) × (more : List X) × (tail : List X) × (us ≡ x ∷ more) × (ys ≡ (xs ++ x ∷ []) ++ tail)
 longer_front [] us [] vs same less = absurd (omega (arith, less))

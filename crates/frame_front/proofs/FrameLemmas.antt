@@ -59,7 +59,7 @@ frame_first p q x y good_p good_q same =
     let payloads : p ≡ q = sym (take_at p x (length p) refl) ∙ ap (take (length p)) tails ∙ take_at q y (length p) (sym lengths) in
     (payloads, append_cancel_left p x y (tails ∙ ap (λ z. z ++ y) (sym payloads)))
 
--- where frames end, none stands
+-- if frames end, none stands
 pub none_at_end : (p x rest : List ℕ) → IsPayload p → rest ≡ frame p ++ x → IsUnfinished rest ⊎ IsBadLength rest → ⊥
 none_at_end p x rest good same (inl partial) =
     let spelled : spelled_length rest ≡ length p = ap spelled_length same ∙ spelled_length-frame p x good in

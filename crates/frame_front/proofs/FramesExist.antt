@@ -9,7 +9,7 @@ use Rattle.frame_front.proofs.FrameLemmas.{frame_cut_off}
 stands_there : (bytes : List ℕ) → begins_with_frame bytes ≡ true → (4 + spelled_length bytes ≤ length bytes) × (0 < spelled_length bytes) × (spelled_length bytes ≤ most_payload)
 stands_there bytes some = (grind (arith, nat_tests), grind (arith, nat_tests), grind (arith, nat_tests))
 
--- where no whole frame stands, the frames end
+-- if no whole frame stands, the frames end
 module _ (bytes : List ℕ) (none : begins_with_frame bytes ≡ false) where
   long_rest : 4 ≤ length bytes → 0 < spelled_length bytes → spelled_length bytes ≤ most_payload → length bytes < 4 + spelled_length bytes
   long_rest four some few = grind (arith, nat_tests)

@@ -72,7 +72,7 @@ module _ {S : Type 0} (answers : S → Op → Result Reply AskError → S → Ty
   errors_change_nothing payload old new text m shown (inr want) tells = (ap (λ (s : SessionState S). shows s.1) want.1 ∙ shown, ap (λ (s : SessionState S). s.0) want.1)
   errors_change_nothing payload old new text m shown (inl request) tells = error_request (request_of old.0 payload) old new text m shown request tells
 
-  -- where no text that is begun tells an error, none of their codes says so
+  -- if no text that is begun tells an error, none of their codes says so
   begun_answer : (payloads texts : List (List ℕ)) (old new : SessionState S) (n : ℕ) → AnswersAll answers old payloads texts new
       → AllByRecursion (λ text. ¬ (TellsError answers text)) (begun n texts) → NoErrors (begun n texts)
   begun_answer payloads texts old new zero answered none = tt

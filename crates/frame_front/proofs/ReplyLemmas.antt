@@ -71,7 +71,7 @@ error_tells (error.Moved shard first second) = one_frame_tells 41 _
 error_tells (error.Held shard revision) = one_frame_tells 42 _
 error_tells error.GateShut = one_frame_tells 56 _
 
--- what is shown after a plain answer; where the text that goes out tells no error, it is the plain map's reply
+-- what is shown after a plain answer; if the text that goes out tells no error, it is the plain map's reply
 pub plain_goes_out : (answer : Result Reply AskError) (m : PlainMap) (shown : Option PlainMap) (op : Op) (text : List ℕ) → PlainAnswer m op answer shown → GoesOut answer text
     → (n : PlainMap) × (shown ≡ Some n) × (is_error_reply text ≡ false → (text ≡ coded_reply (ask m op).reply) × (n ≡ (ask m op).map))
 plain_goes_out (Ok reply) m shown op text plain (inl same) = ((ask m op).map, plain.1, λ none. (same ∙ ap coded_reply plain.0, refl))
@@ -81,7 +81,7 @@ plain_goes_out (Err e) m shown op text plain (inl same) =
     (m, plain, λ none. absurd (not_both (is_error_reply text) (ap is_error_reply same ∙ error_tells e) none))
 plain_goes_out (Err e) m shown op text plain (inr want) = absurd want.0
 
--- where it tells an error, the map shown is as it was
+-- if it tells an error, the map shown is as it was
 pub errors_keep : (answer : Result Reply AskError) (m : PlainMap) (shown : Option PlainMap) (op : Op) (text : List ℕ) → PlainAnswer m op answer shown → GoesOut answer text
     → is_error_reply text ≡ true → shown ≡ Some m
 errors_keep (Ok reply) m shown op text plain (inl same) tells = absurd (not_both (is_error_reply text) tells (ap is_error_reply same ∙ reply_answers reply))
@@ -137,7 +137,7 @@ module _ {S : Type 0} (answers : S → Op → Result Reply AskError → S → Ty
   one_answers payload old new text (inl request) none = request_answers (request_of old.0 payload) old new text request none
   one_answers payload old new text (inr want) none = absurd (none (inl want.0))
 
--- over one map want of memory is the only error
+-- over one map out of memory is the only error
 pub one_map_tells : (text : List ℕ) → TellsError ContentsAnswer text → text ≡ memory_frame
 one_map_tells text (inl same) = same
 one_map_tells text (inr told) = told.2 ∙ ap (λ (e : AskError). coded (Err e)) told.1.3.0

@@ -8,11 +8,8 @@ use Rattle.frame_front.specs.declared.error.FrontError.TheVariants.{BadLength, T
 abbrev pub BeginsWithFrame : List ℕ → Type 0
 BeginsWithFrame bytes = (payload : List ℕ) × (rest : List ℕ) × IsPayload payload × (bytes ≡ frame payload ++ rest)
 
--- Taking out the next frame fails so only where the bytes begin so.
+-- Taking out the next frame fails so only if the bytes begin so.
 abbrev pub FailsAt : FrontError → List ℕ → Type 0
 FailsAt BadLength bytes = IsBadLength bytes
 FailsAt Memory bytes = BeginsWithFrame bytes
-FailsAt Truncated bytes = ⊥
-FailsAt ReadFault bytes = ⊥
-FailsAt WriteFault bytes = ⊥
-FailsAt TurnsUsed bytes = ⊥
+FailsAt error bytes = ⊥

@@ -85,11 +85,11 @@ abbrev pub FaultOfDump : DumpError → List ℕ → Type 0
 FaultOfDump (BadDump place) dump = IsBadDump dump place
 FaultOfDump Memory dump = Unit {0}
 
--- all bundles are lawful
+-- all bundles are valid
 abbrev pub AreLawful : Domains → Type 0
 AreLawful items = AllByRecursion (λ item. IsBundle item.1) items
 
--- each name is a trust domain name, and each bundle is lawful
+-- each name is a trust domain name, and each bundle is valid
 abbrev pub AreValid : Domains → Type 0
 AreValid items = AllByRecursion (λ item. IsName item.0 × IsBundle item.1) items
 
@@ -97,7 +97,7 @@ AreValid items = AllByRecursion (λ item. IsName item.0 × IsBundle item.1) item
 abbrev pub dump_of : PlainMap → List ℕ
 dump_of m = coded_reply (All (bundles m))
 
--- the request that sets a domain where it is absent: C, the name, the expectation, and the canonical text
+-- the request that sets a domain if it is absent: C, the name, the expectation, and the canonical text
 abbrev pub request_for : Name × BundleValue → List ℕ
 request_for item = 67 ∷ length item.0 ∷ item.0 ++ 0 ∷ text_of item.1
 

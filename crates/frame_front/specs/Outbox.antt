@@ -11,7 +11,7 @@ pub record WritesFront (old new : Option (List ℕ)) (bytes : List ℕ) : Type 0
   pub appends : Appends old new front
 
 -- One more text is gathered, unless it says that whoever was asked gave an error. What was gathered before is written
--- first, where there is no room for both; the text too, where it is not gathered.
+-- first, if there is no room for both; the text too, if it is not gathered.
 abbrev pub Puts : Option (List ℕ) → Option (List ℕ) → List ℕ → List ℕ → List ℕ → Type 0
 Puts held_old held_new outbox text outbox_new =
     (Appends held_old held_new [] × (is_error_reply text ≡ false) × (outbox_new ≡ outbox ++ text))

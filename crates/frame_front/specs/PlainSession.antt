@@ -47,15 +47,10 @@ begun zero texts = []
 begun (suc n) [] = []
 begun (suc n) (text ∷ texts) = text ∷ begun (suc n - length text) texts
 
--- the texts are written whole; where the writer failed, a front of them
+-- the texts are written whole; if the writer failed, a front of them
 abbrev pub Stands : Result ℕ FrontError → List (List ℕ) → List ℕ → Type 0
 Stands (Err WriteFault) texts written = (missing : List ℕ) × (concat texts ≡ written ++ missing)
-Stands (Ok count) texts written = written ≡ concat texts
-Stands (Err BadLength) texts written = written ≡ concat texts
-Stands (Err Truncated) texts written = written ≡ concat texts
-Stands (Err ReadFault) texts written = written ≡ concat texts
-Stands (Err TurnsUsed) texts written = written ≡ concat texts
-Stands (Err Memory) texts written = written ≡ concat texts
+Stands ended texts written = written ≡ concat texts
 
 module _ {S : Type 0} (answers : S → Op → Result Reply AskError → S → Type 0) where
   -- whoever is asked may give this error

@@ -38,33 +38,22 @@ refusal_number (BadDocument fault) = doc_number fault
 refusal_number PassedOver = 23
 refusal_number Memory = 22
 
--- where a name is at fault
+-- the place of a name's fault
 abbrev pub name_place : NameError → Option ℕ
-name_place name.Empty = None
-name_place name.TooLong = None
 name_place (name.BadChar at) = Some at
-name_place name.Memory = None
+name_place fault = None
 
--- the entry at which a document is at fault
+-- the entry at which a document is malformed
 abbrev pub document_place : DocError → Option ℕ
-document_place doc.TooLong = None
-document_place doc.NotJson = None
-document_place doc.NotObject = None
-document_place doc.NoKeys = None
-document_place doc.BadSequence = None
-document_place doc.BadHint = None
 document_place (doc.BadEntry place) = Some place
 document_place (doc.BadKey place member) = Some place
 document_place (doc.BadX5c place) = Some place
 document_place (doc.BadKid place) = Some place
 document_place (doc.KidTwice place) = Some place
-document_place doc.TooMany = None
-document_place doc.Memory = None
+document_place fault = None
 
 -- the place that a refusal names, if it names one
 abbrev pub refusal_place : Refusal → Option ℕ
-refusal_place BadRequest = None
 refusal_place (BadName fault) = name_place fault
 refusal_place (BadDocument fault) = document_place fault
-refusal_place PassedOver = None
-refusal_place Memory = None
+refusal_place refusal = None

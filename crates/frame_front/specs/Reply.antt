@@ -37,13 +37,9 @@ expect_bytes Unnumbered = 2 ∷ []
 
 -- what follows the number of a refusal of the map
 abbrev pub map_detail : MapRefusal → List ℕ
-map_detail NoDomain = []
 map_detail (Stale sequence) = to_be_bytes w64 sequence
-map_detail KidTaken = []
-map_detail TooMany = []
-map_detail TooLong = []
-map_detail SequenceFull = []
 map_detail (NotExpected found) = expect_bytes found
+map_detail refusal = []
 
 -- what follows the number of an error of whoever is asked
 abbrev pub error_detail : AskError → List ℕ
@@ -91,18 +87,12 @@ version_number Two = 2
 abbrev pub version_frame : Version → List ℕ
 version_frame version = frame (118 ∷ version_number version ∷ [])
 
--- All alone takes memory to code
+-- only All takes memory to code
 abbrev pub TakesMemory : Result Reply AskError → Type 0
-TakesMemory (Ok Stored) = ⊥
-TakesMemory (Ok Unchanged) = ⊥
-TakesMemory (Ok (Appended sequence)) = ⊥
-TakesMemory (Ok Removed) = ⊥
-TakesMemory (Ok (Found bundle)) = ⊥
 TakesMemory (Ok (All items)) = Unit {0}
-TakesMemory (Ok (Refused why)) = ⊥
-TakesMemory (Err error) = ⊥
+TakesMemory answer = ⊥
 
--- An answer goes out coded, or, where that takes memory and there is none, as want of memory.
+-- An answer goes out coded; or as out of memory, if coding it takes memory that is refused.
 abbrev pub GoesOut : Result Reply AskError → List ℕ → Type 0
 GoesOut answer text = (text ≡ coded answer) ⊎ (TakesMemory answer × (text ≡ memory_frame))
 

@@ -124,7 +124,7 @@ version_of [] = Err BadRequest
 version_of (number ∷ []) = if number == 1 then Ok (Speak One) else if number == 2 then Ok (Speak Two) else Err BadRequest
 version_of (number ∷ byte ∷ bytes) = Err BadRequest
 
--- C, in version 2 alone
+-- C, only in version 2
 abbrev pub later_letter : Version → ℕ → List ℕ → Result Request Refusal
 later_letter One letter bytes = Err BadRequest
 later_letter Two letter bytes = if letter == 67 then set_if_of bytes else Err BadRequest

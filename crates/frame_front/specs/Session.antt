@@ -48,7 +48,7 @@ module _ {S : Type 0} (answers : S → Op → Result Reply AskError → S → Ty
     pub each : AllByRecursion IsPayload payloads
     pub answered : AnswersAll old payloads texts new
 
--- where a session stands, after so many answered frames, as it ends
+-- how far a session is when it ends, after so many answered frames
 abbrev pub EndsAt : Result ℕ FrontError → ℕ → List ℕ → Type 0
 EndsAt (Ok count) answered rest = (count ≡ answered) × (rest ≡ [])
 EndsAt (Err BadLength) answered rest = IsBadLength rest
@@ -72,15 +72,10 @@ pub record WritesCut (texts : List (List ℕ)) (written : List ℕ) : Type 0 whe
   pub no_errors : AllByRecursion (λ text. is_error_reply text ≡ false) gathered
   pub one : length alone ≤ 1
 
--- the texts are written whole; where the writer failed, a front of them
+-- the texts are written whole; if the writer failed, a front of them
 abbrev pub Writes : Result ℕ FrontError → List (List ℕ) → List ℕ → Type 0
 Writes (Err WriteFault) texts written = WritesCut texts written
-Writes (Ok count) texts written = written ≡ concat texts
-Writes (Err BadLength) texts written = written ≡ concat texts
-Writes (Err Truncated) texts written = written ≡ concat texts
-Writes (Err ReadFault) texts written = written ≡ concat texts
-Writes (Err TurnsUsed) texts written = written ≡ concat texts
-Writes (Err Memory) texts written = written ≡ concat texts
+Writes ended texts written = written ≡ concat texts
 
 -- A session that ended so has read and written these bytes.
 pub record Session {S : Type 0} (answers : S → Op → Result Reply AskError → S → Type 0) (result : Result ℕ FrontError)
@@ -92,15 +87,13 @@ pub record Session {S : Type 0} (answers : S → Op → Result Reply AskError �
   pub ends : EndsAt result (length payloads) rest
   pub writes : Writes result texts written
 
--- where the answering of the frames that are kept stands, with these bytes kept after it
+-- how far the answering of the frames that are kept is, with these bytes kept after it
 abbrev pub RoundEndsAt : Result ℕ FrontError → ℕ → List ℕ → List ℕ → Type 0
 RoundEndsAt (Ok count) answered rest kept = (count ≡ answered) × (rest ≡ kept) × IsUnfinished rest
 RoundEndsAt (Err BadLength) answered rest kept = IsBadLength rest
 RoundEndsAt (Err WriteFault) answered rest kept = Unit {0}
 RoundEndsAt (Err Memory) answered rest kept = Unit {0}
-RoundEndsAt (Err Truncated) answered rest kept = ⊥
-RoundEndsAt (Err ReadFault) answered rest kept = ⊥
-RoundEndsAt (Err TurnsUsed) answered rest kept = ⊥
+RoundEndsAt ended answered rest kept = ⊥
 
 -- The whole frames among the kept bytes were answered, and these bytes written.
 pub record Round {S : Type 0} (answers : S → Op → Result Reply AskError → S → Type 0) (result : Result ℕ FrontError)

@@ -14,21 +14,12 @@ use Rattle.frame_front.specs.Session.{Session}
 abbrev pub EndsInput : Result ℕ FrontError → Option (List ℕ) → Type 0
 EndsInput (Ok count) left = IsAtEnd left
 EndsInput (Err Truncated) left = IsAtEnd left
-EndsInput (Err BadLength) left = Unit {0}
-EndsInput (Err ReadFault) left = Unit {0}
-EndsInput (Err WriteFault) left = Unit {0}
-EndsInput (Err TurnsUsed) left = Unit {0}
-EndsInput (Err Memory) left = Unit {0}
+EndsInput ended left = Unit {0}
 
--- where the turns are used up, each of them read at least one byte
+-- if the turns are used up, each of them read at least one byte
 abbrev pub UsesTurns : Result ℕ FrontError → ℕ → ℕ → Type 0
-UsesTurns (Ok count) turns bytes = Unit {0}
 UsesTurns (Err TurnsUsed) turns bytes = turns ≤ bytes
-UsesTurns (Err BadLength) turns bytes = Unit {0}
-UsesTurns (Err Truncated) turns bytes = Unit {0}
-UsesTurns (Err ReadFault) turns bytes = Unit {0}
-UsesTurns (Err WriteFault) turns bytes = Unit {0}
-UsesTurns (Err Memory) turns bytes = Unit {0}
+UsesTurns ended turns bytes = Unit {0}
 
 -- at most so many reads, each of at most 4096 bytes
 abbrev pub IsReadIn : ℕ → List ℕ → Type 0

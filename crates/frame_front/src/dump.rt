@@ -190,7 +190,7 @@ fn next_item<'a>(
     }))
 }
 
-/// Adds the request that sets the domain where it is absent.
+/// Adds the request that sets the domain if it is absent.
 fn put_request(
     stream: &mut Vec<u8>,
     domain: &TrustDomain,

@@ -1,4 +1,4 @@
-//! Readers and writers that fail where a test wants it.
+//! Readers and writers that fail when a test wants it.
 ghost use Rattle.std.specs.Prelude.{◌≡◌, ◌+◌, ◌-◌, ◌<◌, ◌≤◌, ◌++◌, [], take, drop, length, min, Some, IsOk, OnOk, OnErr, IfOk, IfErr, ◌⊎◌};
 ghost use Rattle.std.specs.IoError.{error_kind};
 ghost use Rattle.std.specs.declared.io.ErrorKind.TheVariants.{OutOfMemory};

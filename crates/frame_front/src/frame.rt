@@ -1,4 +1,4 @@
-//! Frames: a length of 4 bytes, the greatest first, and a payload of that many bytes.
+//! Frames: a length of 4 bytes, big-endian, and a payload of that many bytes.
 ghost use Rattle.std.specs.Prelude.{◌≡◌, ◌≤◌, ◌<◌, ◌^◌, ◌++◌, ◌+◌, length, take, drop, IfOk, IfErr, IfSome, IfNone, OnOk};
 ghost use Rattle.std.specs.Int.{w32, to_be_bytes};
 ghost use Rattle.frame_front.specs.Frame.{IsPayload, IsUnfinished, IsBadLength, frame, spelled_length as length_spelled};

@@ -1,4 +1,4 @@
-//! What holds of the definitions alone.
+//! What follows from the definitions.
 ghost use Rattle.std.specs.Prelude.{◌≡◌, ◌↔◌, ℕ, List, [], ◌∷◌, ◌++◌, ◌<◌, map, slice_index, Ok, Err, Some, true};
 ghost use Rattle.map_core.specs.Ask.{ContentsAnswer};
 ghost use Rattle.map_core.specs.PlainMap.{PlainMap, bundles, ask};
@@ -57,7 +57,7 @@ pub fn one_map_tells_want_of_memory_alone()
     ensures { (text : List ℕ) → TellsError ContentsAnswer text → text ≡ memory_frame }
 {}
 
-/// A dump that is none is wrong at one place alone.
+/// What is not a dump is wrong at exactly one place.
 pub fn bad_dumps_have_one_place()
     ensures { (dump : List ℕ) (place other : ℕ) → IsBadDump dump place → IsBadDump dump other → place ≡ other }
 {}

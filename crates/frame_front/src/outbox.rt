@@ -37,7 +37,7 @@ impl Outbox {
         }
     }
 
-    /// Gathers a reply, where there is room for it. A reply that says that whoever was asked gave an
+    /// Gathers a reply, if there is room for it. A reply that says that whoever was asked gave an
     /// error is not gathered: it is written at once, so that the replies that wait have all changed
     /// the map as they say.
     fn gather(&mut self, reply: &ReplyText) -> bool
@@ -57,7 +57,7 @@ impl Outbox {
         true
     }
 
-    /// Takes one more reply. Where there is no room for it, what is gathered is written first; a reply that
+    /// Takes one more reply. If there is no room for it, what is gathered is written first; a reply that
     /// is not gathered is written after it.
     pub(crate) fn put<W: Write>(
         &mut self,

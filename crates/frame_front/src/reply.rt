@@ -187,7 +187,7 @@ pub(crate) fn version_reply(version: Version) -> ReplyText
     ReplyText::short(b'v', &[version.number()])
 }
 
-/// The answer as it goes out. Where there is no memory for all bundles, it says so.
+/// The answer as it goes out. If there is no memory for all bundles, it says so.
 pub(crate) fn answer_reply(alloc: Global, answer: Result<Reply, AskError>) -> ReplyText
     ensures { GoesOut answer result }
 {

@@ -13,7 +13,7 @@ use std::alloc::Global;
 #[derive(Clone, Copy, Debug, PartialEq, Eq)]
 pub enum Version {
     One,
-    /// Adds the letter C: a document is set where what stands there is what is expected.
+    /// Adds the letter C: a document is set if what stands there is what is expected.
     Two,
 }
 

@@ -10,7 +10,7 @@ use Rattle.map_core.specs.declared.table.Outcome as program
 use Rattle.map_core.specs.declared.table.Outcome.TheVariants.{Kept, Put, Cleared}
 use Rattle.map_core.specs.Name.{Name}
 use Rattle.map_core.specs.Op.{domain_of}
-use Rattle.map_core.specs.Outcome.{reply_of, held_then, outcome_at, left_by}
+use Rattle.map_core.specs.Private.Outcome.{reply_of, held_then, outcome_at, left_by}
 use Rattle.map_core.specs.Reply.{is_change}
 use Rattle.map_core.specs.Table.{Outcome, OnName, On_name, meaning, get}
 use Rattle.map_core.specs.PlainMap.{PlainMap, put, bundles, ask_on, ask}
@@ -39,7 +39,7 @@ row_left m op d table o held named on is row =
     ap (λ (x : Option Name). left_by m x o) named ∙ left-put m d o
     ∙ ap (λ (x : Outcome). put m d x.held) (at_name m d table o held is row) ∙ ap (λ (w : OnName). (ask_on m w).map) (sym on)
 
--- the same of an outcome that may be want of memory
+-- the same of an outcome that may be out of memory
 pub IfOk-row_reply : {E : Type 0} (m : PlainMap) (op : Op) (d : Name) (table : Option Held → Outcome) (r : Result program.Outcome E) (held : Option Held)
     → meaning op ≡ On_name d table → held ≡ finite.get m d → IfOk r (λ o. outcome_at held o ≡ table held) → IfOk r (λ o. reply_of o ≡ (ask m op).reply)
 IfOk-row_reply m op d table (Ok o) held on is row = row_reply m op d table o held on is row

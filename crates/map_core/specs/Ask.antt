@@ -11,7 +11,7 @@ abbrev pub PlainAnswer : PlainMap → Op → Result Reply AskError → Option Pl
 PlainAnswer m op (Ok reply) shown = (reply ≡ (ask m op).reply) × (shown ≡ Some (ask m op).map)
 PlainAnswer m op (Err e) shown = shown ≡ Some m
 
--- The plain map's reply, and its map is left; or want of memory, and nothing has changed.
+-- The plain map's reply, and its map is left; or memory ran out, and nothing has changed.
 abbrev pub ContentsAnswer : PlainMap → Op → Result Reply AskError → PlainMap → Type 0
 ContentsAnswer m op (Ok reply) new = (reply ≡ (ask m op).reply) × (new ≡ (ask m op).map)
 ContentsAnswer m op (Err e) new = (e ≡ Memory) × (new ≡ m)

@@ -18,7 +18,7 @@ DependsOnName =
     ((ask m op).reply ≡ (ask n op).reply) × (finite.get (ask m op).map d ≡ finite.get (ask n op).map d)
     × ((other : Name) → other ≢ d → finite.get (ask m op).map other ≡ finite.get m other)
 
--- A reply tells of a change exactly where the map is another one then.
+-- A reply reports a change if and only if the map changed.
 abbrev pub TellsOfChange : Type 0
 TellsOfChange = (m : PlainMap) (op : Op) → ((ask m op).map ≢ m → is_change (ask m op).reply ≡ true) × (is_change (ask m op).reply ≡ true → (ask m op).map ≢ m)
 

@@ -1,12 +1,11 @@
 pub mod Name
 pub mod Op
-pub mod Held
 pub mod Reply
 pub mod Table
 pub mod PlainMap
 pub mod Union
-pub mod Outcome
 pub mod Codes
 pub mod Ask
 pub mod AskLaws
 pub mod Laws
+pub mod Private

@@ -17,21 +17,14 @@ domain_of FetchAll = None
 
 -- whether it carries neither a bundle nor an authority
 abbrev pub carries_nothing : Op → Bool
-carries_nothing (Set d b) = false
-carries_nothing (SetIf d expect b) = false
-carries_nothing (Append d a) = false
 carries_nothing (Remove d) = true
 carries_nothing (Get d) = true
 carries_nothing FetchAll = true
+carries_nothing op = false
 
 -- whether two expectations are the same
 abbrev pub expect_eq : Expect → Expect → Bool
 expect_eq Absent Absent = true
-expect_eq Absent (Sequence t) = false
-expect_eq Absent Unnumbered = false
-expect_eq (Sequence s) Absent = false
 expect_eq (Sequence s) (Sequence t) = s == t
-expect_eq (Sequence s) Unnumbered = false
-expect_eq Unnumbered Absent = false
-expect_eq Unnumbered (Sequence t) = false
 expect_eq Unnumbered Unnumbered = true
+expect_eq expect found = false

@@ -10,12 +10,9 @@ use Rattle.map_core.specs.declared.reply.AskError.TheVariants.{Memory, Worn, Mov
 -- whether a reply says that the map was changed
 abbrev pub is_change : Reply → Bool
 is_change Stored = true
-is_change Unchanged = false
 is_change (Appended s) = true
 is_change Removed = true
-is_change (Found b) = false
-is_change (All pairs) = false
-is_change (Refused why) = false
+is_change reply = false
 
 abbrev pub refusal_number : MapRefusal → ℕ
 refusal_number NoDomain = 30

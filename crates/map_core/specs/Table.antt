@@ -53,18 +53,18 @@ abbrev pub numbered : Option ℕ → Expect
 numbered (Some s) = Sequence s
 numbered None = Unnumbered
 
--- the expectation that fits what is held: a mark is no bundle
+-- the expectation that fits what is held: a mark is not a bundle
 abbrev pub expectation : Option Held → Expect
 expectation None = Absent
 expectation (Some (Mark s)) = Absent
 expectation (Some (Published b)) = numbered b.sequence
 
--- SetIf: as Set, where the expectation fits
+-- SetIf: as Set, if the expectation fits
 abbrev pub set_if : Expect → BundleValue → Option Held → Outcome
 set_if expect b held =
     if expect_eq expect (expectation held) then set b held else kept (Refused (NotExpected (expectation held))) held
 
--- what is answered where the bundle doesn't take the authority (`appended` never gives Memory)
+-- what is answered if the bundle doesn't take the authority (`appended` never gives Memory)
 abbrev pub not_appended : AppendError → Reply
 not_appended cannot.Present = Unchanged
 not_appended cannot.KidTaken = Refused KidTaken

@@ -22,7 +22,7 @@ pub trait Ask {
     fn ask(&mut self, op: Op) -> Result<Reply, AskError>
         ensures answered { answers self.old op result self.new };
 
-    // Where a map is shown, the answers are the plain map's.
+    // If a map is shown, the answers are the plain map's.
     ghost answers_plainly: { (old : Self) (op : Op) (result : Result Reply AskError) (new : Self) (m : PlainMap)
         → shows old ≡ Some m → answers old op result new → PlainAnswer m op result (shows new) };
 }

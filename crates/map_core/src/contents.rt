@@ -3,7 +3,7 @@ ghost use Rattle.std.specs.Prelude.{◌≡◌, IfOk, OnOk, IfErr, OnErr, MatchOp
 ghost use Rattle.std.specs.FinMap as finite;
 ghost use Rattle.map_core.specs.Op.{domain_of, carries_nothing};
 ghost use Rattle.map_core.specs.declared.op.Op.TheVariants.{Set};
-ghost use Rattle.map_core.specs.Outcome.{reply_of, left_by};
+ghost use Rattle.map_core.specs.Private.Outcome.{reply_of, left_by};
 ghost use Rattle.map_core.specs.PlainMap.{ask, join, bundles};
 ghost use Rattle.map_core.specs.Reply.{is_change};
 ghost use Rattle.map_core.specs.Union.{put_in_turn};
@@ -48,7 +48,7 @@ impl Contents {
         }
     }
 
-    /// Answers an operation as the plain map does. Where memory runs out, nothing has changed.
+    /// Answers an operation as the plain map does. If memory runs out, nothing has changed.
     pub fn ask(&mut self, op: Op) -> Result<Reply, AskError>
         ensures reply { IfOk result (λ reply. reply ≡ (ask self.old op).reply) }
         ensures left { OnOk result (self.new ≡ (ask self.old op).map) }
@@ -73,7 +73,7 @@ impl Contents {
         let Ok(entry) = self.held.entry(domain) else {
             return Err(AllocError);
         };
-        // A mark of 0 refuses nothing: it stands where no name was.
+        // A mark of 0 refuses nothing: it stands for a name that was not there.
         let there = entry.or_insert(Held::Mark(0));
         match table::set(Some(there), bundle) {
             Outcome::Put(reply, held) => {
@@ -85,7 +85,7 @@ impl Contents {
         }
     }
 
-    /// The reply to the operation and, where it tells of a change, the map after it. This map stays as it is.
+    /// The reply to the operation and, if it reports a change, the map after it. This map stays as it is.
     pub fn asked(&self, op: &Op) -> Result<(Reply, Option<Contents>), AllocError>
         ensures reply { IfOk result (λ asked. asked.0 ≡ (ask self.now op.now).reply) }
         ensures left { IfOk result (λ asked. MatchOption asked.1
@@ -106,7 +106,7 @@ impl Contents {
     }
 
     /// Whether the operation would change the map. A bundle is compared and an authority is appended to a copy, which
-    /// may want memory; an operation that carries neither is told without.
+    /// may be out of memory; an operation that carries neither is told without any.
     pub fn would_change(&self, op: &Op) -> Result<bool, AllocError>
         ensures told { IfOk result (λ changes. changes ≡ is_change (ask self.now op.now).reply) }
         ensures always { carries_nothing op.now ≡ true → result ≡ Ok (is_change (ask self.now op.now).reply) }

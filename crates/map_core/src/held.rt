@@ -1,6 +1,6 @@
 //! What a map holds under a name.
 ghost use Rattle.std.specs.Prelude.{◌≡◌, IfOk};
-ghost use Rattle.map_core.specs.Held.{is_published};
+ghost use Rattle.map_core.specs.Private.Held.{is_published};
 
 use spiffe_doc::Bundle;
 use std::alloc::AllocError;

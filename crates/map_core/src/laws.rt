@@ -7,7 +7,7 @@ pub fn depends_on_name()
     ensures { DependsOnName }
 {}
 
-/// A reply tells of a change exactly where the map is another one then.
+/// A reply reports a change if and only if the map changed.
 pub fn tells_of_change()
     ensures { TellsOfChange }
 {}

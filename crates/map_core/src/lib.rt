@@ -1,4 +1,7 @@
 //! Operations on a map of trust bundles, what they answer, and the map of one caller.
+//!
+//! `Contents` answers each operation as the plain map does, by a short row of a table for each; or memory ran out, and
+//! nothing has changed. Whatever implements `Ask` and shows a map answers so too.
 #![tactic(auto)]
 
 pub mod ask;

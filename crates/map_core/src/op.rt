@@ -34,7 +34,7 @@ pub enum Op {
     /// Stores the bundle, unless an equal one stands there or its sequence is lower than the one that stands
     /// there or was removed.
     Set(TrustDomain, Bundle),
-    /// As `Set`, where what stands there is what the caller expects.
+    /// As `Set`, if what stands there is what the caller expects.
     SetIf(TrustDomain, Expect, Bundle),
     /// Puts one more authority at the end of the bundle; a present sequence rises by one.
     Append(TrustDomain, Authority),

@@ -2,7 +2,7 @@
 ghost use Rattle.std.specs.Prelude.{◌≡◌, IfOk, Option, Some, option_copied};
 ghost use Rattle.spiffe_doc.specs.Append.{appended};
 ghost use Rattle.map_core.specs.Op.{expect_eq};
-ghost use Rattle.map_core.specs.Outcome.{reply_of, outcome_at};
+ghost use Rattle.map_core.specs.Private.Outcome.{reply_of, outcome_at};
 ghost use Rattle.map_core.specs.Reply.{is_change};
 ghost use Rattle.map_core.specs.Table as rows;
 ghost use Rattle.map_core.specs.declared.held.Held.{Held};

@@ -41,7 +41,7 @@ impl Union {
         }
     }
 
-    /// What the other holds, and under other names what these hold. The bundles are shared. Where memory runs out,
+    /// What the other holds, and under other names what these hold. The bundles are shared. If memory runs out,
     /// these are gone.
     pub fn join(mut self, other: &Contents) -> Result<Union, AllocError>
         ensures { IfOk result (λ joined. joined ≡ join self other.now) }

@@ -1,4 +1,4 @@
-//! Why a text is no federation relationship.
+//! Why texts are not a federation relationship.
 ghost use Rattle.std.specs.Prelude.{◌≡◌};
 ghost use Rattle.refresh.specs.Number.{relation_number};
 

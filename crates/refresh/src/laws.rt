@@ -1,4 +1,4 @@
-//! What holds of the definitions alone. Each law is the contract of a function that does nothing.
+//! What follows from the definitions. Each law is the contract of a function that does nothing.
 ghost use Rattle.refresh.specs.Laws.{DueIsLater, EqualIsUnchanged, OlderIsRefused, OnlyStoredChanges, OthersStay};
 
 /// A due time is never before now, and later unless now is the end of time.

@@ -94,7 +94,7 @@ fn read_domain(alloc: Global, text: &str) -> Result<TrustDomain, RelationError>
     }
 }
 
-/// The URL crate's answer that a URL has over 4 GB can't come for so short a text but for want of memory.
+/// The URL crate's answer that a URL has over 4 GB comes for so short a text only if memory runs out.
 fn read_url(alloc: Global, text: &str) -> Result<Url, RelationError>
     ensures value { Gives RelationError.Memory result (endpoint_of text.now) }
     ensures memory { result ≡ Err RelationError.Memory → length text.now ≤ 2048 }

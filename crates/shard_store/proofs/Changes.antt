@@ -1,4 +1,4 @@
--- Lists of changes: what is kept where one is added.
+-- Lists of changes: what is kept when one is added.
 use Rattle.std.proofs.Common.{◌≡◌, ◌≢◌, ◌⊎◌, ℕ, ◌+◌, ◌-◌, ◌<◌, ◌≤◌, Bool, true, false, true≢false, cond, List, [], ◌∷◌, ◌++◌, Some, None, eq-eqb, ne_eqb, sym, refl, ap, ◌∙◌, subst, inl, inr, ⊎_elim, append_assoc, arith}
 use Rattle.std.specs.Prelude.{nat_eq}
 use Rattle.std.specs.List.{fold, filter}
@@ -91,7 +91,7 @@ part_of_one n i log change here = ap (λ m. part n m i) (after_one log change) �
 pub is_part_of_change : (n i : ℕ) (log new : List Change) (change : Change) (contents : PlainMap) → home n change.name ≡ i → count n new i ≡ 0 → IsPart n i (log ++ change ∷ []) contents → IsPart n i ((log ++ new) ++ change ∷ []) contents
 is_part_of_change n i log new change contents here e p = p ∙ (part_of_one n i log change here ∙ (ap (λ m. put m change.name change.now) (sym (part_stays n i log new e)) ∙ sym (part_of_one n i (log ++ new) change here)))
 
--- an operation's change takes the map to where the operation takes it
+-- an operation's change leaves the map that the operation leaves
 pub after_change : (n i : ℕ) (op : Op) (log : List Change) (number : ℕ) → shard_of n op ≡ Some i → after (log ++ change_of op log number ∷ []) ≡ (ask (after log) op).map
 after_change n i op log number at = after_one log (change_of op log number) ∙ sym (asked_puts n i (after log) op at)
 

@@ -48,7 +48,7 @@ module _ (Z : Type 0) where
   abbrev pub M : Type 0
   M = Me (SlotValue Z) View
 
-  -- another seat's view, where it does not hold the shard of the step
+  -- another seat's view, if it does not hold the shard of the step
   pub other_view : (n : ℕ) (words : List ℕ) (list new : List Change) (holder : ℕ → ℕ) (i x id j : ℕ) (u : View) → (u.held ≡ Some i → ⊥) → AreOthers (numbers u) new
       → IsView n words list holder j u → IsView n (set words i x) (list ++ new) (put holder i id) j u
   other_view n words list new holder i x id j u free o r = record {
@@ -61,7 +61,7 @@ module _ (Z : Type 0) where
         (h.0 ∙ sym (put_else holder i id k other), h.1, ap (λ (z : ℕ). z % 2) w ∙ h.2, h.3 ∙ sym (ap (λ (z : ℕ). z / 2) w), h.4));
   }
 
-  -- who holds a shard still does, where the seat's new view does
+  -- who holds a shard still does, if the seat's new view does
   pub busy_stays : (views : List View) (id j holder : ℕ) (v w : View) → get_elem? views id ≡ some v → (v.held ≡ Some j → w.held ≡ Some j) → (u : View) → get_elem? views holder ≡ some u → u.held ≡ Some j
       → (u' : View) × (get_elem? (set views id w) holder ≡ some u') × (u'.held ≡ Some j)
   busy_stays views id j holder v w at keep u there is = dite (ℕ_discrete holder id)

@@ -83,7 +83,7 @@ even_unless n h = dite (ℕ_discrete (n % 2) 0) (λ e. e) (λ ne. absurd (h (ome
 pub free_or : (i : ℕ) (held : Option ℕ) → held ≡ None → held ≡ Some i → ⊥
 free_or i held e h = not_some i (sym e ∙ h)
 
--- a miss, where others made changes or have the shard
+-- a miss, if others made changes or have the shard
 pub missed : (n i word found : ℕ) (s t : Seen) → IsLater t s → found / 2 ≡ count n t.log i → word ≡ 2 * count n s.log i → found ≢ word
     → (IsAlone s → found % 2 ≡ 0) → Missed n i s found t
 missed n i word found s t l counted is miss even = (
@@ -91,7 +91,7 @@ missed n i word found s t l counted is miss even = (
   counted,
 )
 
--- an odd word, where another has the shard
+-- an odd word, if another has the shard
 pub missed_odd : (n i found : ℕ) (s t : Seen) → IsLater t s → found / 2 ≡ count n t.log i → (IsAlone s → found % 2 ≡ 0) → found % 2 ≡ 1 → Missed n i s found t
 missed_odd n i found s t l counted even odd = ((λ alone. let e : found % 2 ≡ 0 = even alone in let never : ⊥ = omega arith in never), counted)
 
@@ -118,7 +118,7 @@ bare c x e = ap rest e
 pub missed_then : (n i found : ℕ) (s t u : Seen) → IsLater t s → Missed n i t found u → Missed n i s found u
 missed_then n i found s t u l m = ((λ alone. m.0 (alone_later s t l alone)), m.1)
 
--- where the shard has no new change, what was the part is
+-- if the shard has no new change, what was the part is
 pub part_since : (n i : ℕ) (s : Seen) (list : List Change) (contents : PlainMap) → Extends list s → count n list i ≡ count n s.log i → IsPart n i s.log contents → IsPart n i list contents
 part_since n i s list contents g e p = subst (λ (l : List Change). IsPart n i l contents) (sym g.1) (is_part_stays n i s.log g.0 contents (none_between n i s list g e) p)
 
@@ -168,7 +168,7 @@ answered_by_read n i op s t old reply at l p is kept = (
   λ _. ([], sym (append-nil t.log), tt),
 )
 
--- what the contents' answer says where there is a new version
+-- what the contents' answer says if there is a new version
 pub with_new : (o : Option PlainMap) (new : PlainMap) (P : Type 0) (Q : PlainMap → Type 0) → o ≡ Some new → MatchOption o P Q → Q new
 with_new o new P Q e m = subst (λ (x : Option PlainMap). MatchOption x P Q) e m
 

@@ -19,7 +19,7 @@ use Rattle.shard_store.specs.declared.fetch.Movement.{Movement}
 use Rattle.shard_store.specs.Changes.{after, count, IsPart, Extends}
 use Rattle.shard_store.specs.Pass.{StoreView}
 use Rattle.shard_store.specs.Promise.{IsLater, IsAlone, HasMoved, Answered, IsRefused}
-use Rattle.shard_store.specs.Readings.{WasRead, WereRead, AreConfirmed, IsMovement, IsSnapshot}
+use Rattle.shard_store.specs.Private.Readings.{WasRead, WereRead, AreConfirmed, IsMovement, IsSnapshot}
 use Rattle.shard_store.proofs.Changes.{count_append, is_part_stays}
 use Rattle.shard_store.proofs.Promise.{counts_more, later_then, extends_then, extends_since, alone_same}
 
@@ -47,7 +47,7 @@ read_more {Z} n shard from t u rs rs' vs vs' r v l e f count_is before now = sub
       (subst (λ (k : ℕ). WasRead n k from u.log r v) (sym count_is) now),
 )
 
--- what was read is the part, where the shard has no more changes than its revision says
+-- what was read is the part, if the shard has no more changes than its revision says
 part_confirmed : {Z : Type 0} (n i : ℕ) (from log : List Change) (r : ℕ) (v : Arc PlainMap Z) → WasRead n i from log r v → count n log i ≤ r → IsPart n i log (arc_value v)
 part_confirmed n i from log r v was most = let first : count n was.0 i ≡ r = was.3 in let total : count n log i ≡ count n was.0 i + count n was.1 i = ap (λ (x : List Change). count n x i) was.2 ∙ count_append n was.0 was.1 i in
     subst (λ (x : List Change). IsPart n i x (arc_value v)) (sym was.2) (is_part_stays n i was.0 was.1 (arc_value v) (omega arith) was.4)
@@ -63,7 +63,7 @@ snapshot {Z} n s t u rs vs l m size were still = (
       part_confirmed n k s.log t.log (get_or rs k 0) (get_or vs k d) (were.1 k d inside) (still k (omega arith)) ∙ ap (λ (j : ℕ). part j (after t.log) k) (sym size),
 )
 
--- a reading of one shard, where there is one
+-- a reading of one shard, if there is one
 read_at : {Z : Type 0} (n : ℕ) (from log : List Change) (rs : List ℕ) (vs : List (Arc PlainMap Z)) (i : ℕ) → WereRead n from log rs vs → i < length vs → (v : Arc PlainMap Z) × WasRead n i from log (get_or rs i 0) v
 read_at n from log rs [] i were inside = absurd (omega arith)
 read_at n from log rs (v ∷ vs) i were inside = (get_or (v ∷ vs) i v, were.1 i v inside)

@@ -9,7 +9,7 @@ use Rattle.shard_store.specs.Changes.{after, Extends}
 use Rattle.shard_store.specs.Pass.{StoreView}
 use Rattle.shard_store.specs.Promise.{IsAlone}
 
--- The map after a list that extends what the pass has seen; or want of memory; or a shard that another pass holds.
+-- The map after a list that extends what the pass has seen; or out of memory; or a shard that another pass holds.
 abbrev pub CloseAnswer : StoreView → Seen → Result PlainMap CloseError → Type 0
 CloseAnswer store s (Ok contents) = (list : List Change) × Extends list s × (contents ≡ after list)
 CloseAnswer store s (Err Memory) = Unit {0}

@@ -28,7 +28,7 @@ AloneHasSeenAll = (list : List Change) (s : Seen) → IsAlone s → Extends list
 abbrev pub LaterIsLater : Type 0
 LaterIsLater = (s t u : Seen) → IsLater t s → IsLater u t → IsLater u s
 
--- The change of an operation takes the map to where the operation takes it.
+-- The change of an operation leaves the map that the operation leaves.
 abbrev pub ChangesAsAsked : Type 0
 ChangesAsAsked = (n i : ℕ) (op : Op) (list : List Change) (k : ℕ) → shard_of n op ≡ Some i → after (list ++ change_of op list k ∷ []) ≡ (ask (after list) op).map
 
@@ -43,7 +43,7 @@ UnchangedIsLater = (store : StoreView) (op : Op) (s t : Seen) (answer : Result R
     → StoreAnswer store op s answer t → TellsNoChange answer → IsLater t s
 
 -- What a pass is answered after it has seen more is also an answer to what it had seen before. So asking something
--- that changes nothing, and then the operation, is answered as the operation alone.
+-- that changes nothing, and then the operation, is answered as the operation by itself.
 abbrev pub AnswersContinue : Type 0
 AnswersContinue = (store : StoreView) (op : Op) (s t u : Seen) (answer : Result Reply AskError)
     → IsLater t s → StoreAnswer store op t answer u → StoreAnswer store op s answer u

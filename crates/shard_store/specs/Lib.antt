@@ -5,6 +5,6 @@ pub mod Close
 pub mod Rule
 pub mod Steps
 pub mod Seat
-pub mod Readings
 pub mod Seated
 pub mod Laws
+pub mod Private

@@ -11,7 +11,7 @@ use Rattle.shard_store.specs.declared.change.Seen.{Seen}
 use Rattle.shard_store.specs.Changes.{after, change_of, count, HasNumber, Extends, own_number}
 use Rattle.shard_store.specs.Pass.{StoreView, PassView, HeldPassView, IsOf}
 
--- t has seen all that s had and besides changes of others alone, and has its numbers
+-- t has seen all that s had and besides only changes of others, and has its numbers
 abbrev pub IsLater : Seen → Seen → Type 0
 IsLater t s = Extends t.log s × (t.ranges ≡ s.ranges)
 
@@ -34,7 +34,7 @@ Concerns n op shard = MatchOption (shard_of n op) (shard < n) (λ home. shard �
 abbrev pub HasMoved : ℕ → Seen → Seen → ℕ → ℕ → ℕ → Type 0
 HasMoved n s t shard first second = (count n s.log shard ≤ first) × (first < second) × (second ≡ count n t.log shard)
 
--- the operation would change the map after these changes, and the shard, of n, where it would has no revision left
+-- the operation would change the map after these changes, and its shard, of n, has no revision left
 abbrev pub IsWorn : ℕ → Op → List Change → ℕ → Type 0
 IsWorn n op log shard = (shard_of n op ≡ Some shard) × (count n log shard ≡ 2 ^ 62) × (is_change (ask (after log) op).reply ≡ true)
 

@@ -13,7 +13,7 @@ use Rattle.shard_store.specs.Rule.{SlotValue, numbers, ExtendsEach}
 abbrev pub updated : List Change → View → Option ℕ → View
 updated list v held = record { seen = record { log = list; ranges = numbers v }; joined = []; held = held }
 
--- the list was seen, which begins with all that was seen and joined before, and else has changes of others alone
+-- the list was seen, which begins with all that was seen and joined before, and else has only changes of others
 abbrev pub Sees : View → List Change → Type 0
 Sees v list = Extends list v.seen × ExtendsEach list v.joined × IsNumbered list
 
@@ -31,7 +31,7 @@ module _ {Z : Type 0} where
   abbrev pub HasTaken : Step (SlotValue Z) → List Change → Me (SlotValue Z) View → Me (SlotValue Z) View → Type 0
   HasTaken st list m m' = (version : Arc PlainMap Z) × (m' ≡ (updated list m.0 (Some st.word), (st.word, Some version) ∷ m.1)) × IsPart st.slots st.word list (arc_value version)
 
-  -- an exchange that takes the shard where the word is the one expected
+  -- an exchange that takes the shard if the word is the one expected
   abbrev pub took : Step (SlotValue Z) → Me (SlotValue Z) View → ℕ → Me (SlotValue Z) View → Type 0
   took st m found m' = (list : List Change) × Sees m.0 list × (found / 2 ≡ count st.slots list st.word) × (HasAllNumbers m.0 → found % 2 ≡ 0)
       × (found ≡ st.first → HasTaken st list m m') × (found ≢ st.first → m' ≡ (updated list m.0 None, m.1))

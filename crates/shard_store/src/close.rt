@@ -4,7 +4,7 @@ ghost use Rattle.std.specs.Mem.Slots.{slots_items, slots_len, IsFull};
 ghost use Rattle.map_core.specs.PlainMap.{PlainMap};
 ghost use Rattle.shard_store.specs.Close.{CloseAnswer};
 ghost use Rattle.shard_store.specs.Pass.{IsOf};
-ghost use Rattle.shard_store.specs.Readings.{HoldPartsOf};
+ghost use Rattle.shard_store.specs.Private.Readings.{HoldPartsOf};
 
 use crate::pass::Pass;
 use crate::rule::Slot;
@@ -85,7 +85,7 @@ fn first_held(closed: &Closed<Slot, Global>) -> Option<usize>
     None
 }
 
-// What stands in the slots, in order. All are taken out, also where there is no room for some.
+// What stands in the slots, in order. All are taken out, even if there is no room for some.
 fn take_all(alloc: Global, mut closed: Closed<Slot, Global>) -> Result<Vec<Slot>, AllocError>
     requires { IsFull closed.slots }
     ensures { IfOk result (λ slots. slots.items ≡ slots_items closed.slots) }

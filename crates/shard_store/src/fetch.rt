@@ -5,7 +5,7 @@ ghost use Rattle.map_core.specs.declared.op.Op.{Op};
 ghost use Rattle.shard_store.specs.Changes.{count, IsPart};
 ghost use Rattle.shard_store.specs.Promise.{IsLater, IsRefusedAt, IsRefused, Answered};
 ghost use Rattle.shard_store.specs.Seat.{IsAt, IsSameSeat, IsIdle};
-ghost use Rattle.shard_store.specs.Readings.{WereRead, AreConfirmed, IsMovement, IsSnapshot, IsRound};
+ghost use Rattle.shard_store.specs.Private.Readings.{WereRead, AreConfirmed, IsMovement, IsSnapshot, IsRound};
 
 use crate::holds::{look, try_hold};
 use crate::one_shard::{given_up, read_version};

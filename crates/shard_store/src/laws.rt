@@ -16,7 +16,7 @@ pub fn later_is_later()
     ensures { LaterIsLater }
 {}
 
-/// The change of an operation takes the map to where the operation takes it.
+/// The change of an operation leaves the map that the operation leaves.
 pub fn changes_as_asked()
     ensures { ChangesAsAsked }
 {}

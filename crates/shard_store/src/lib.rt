@@ -1,4 +1,7 @@
 //! A map of trust bundles, in shards that threads share. No call waits.
+//!
+//! Each thread has a `Pass` of a `Store`. A reply is the plain map's after some list of changes that begins with all that
+//! the pass had seen; after a refusal nothing has changed.
 #![tactic(auto)]
 
 mod calls;

@@ -2,7 +2,7 @@
 ghost use Rattle.std.specs.Prelude.{◌≡◌, ◌<◌, length, IfOk, IfErr};
 ghost use Rattle.map_core.specs.declared.op.Op.TheVariants.{FetchAll};
 ghost use Rattle.map_core.specs.PlainMap.{PlainMap, ask};
-ghost use Rattle.shard_store.specs.Readings.{ArePartsOf};
+ghost use Rattle.shard_store.specs.Private.Readings.{ArePartsOf};
 
 use map_core::{AskError, Contents, Reply, Union};
 use std::alloc::{AllocError, Global};

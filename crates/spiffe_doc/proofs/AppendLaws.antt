@@ -1,4 +1,4 @@
--- Appending to a lawful bundle gives a lawful bundle.
+-- Appending to a valid bundle gives a valid bundle.
 use Rattle.std.proofs.Common.{◌≡◌, ℕ, ◌+◌, ◌<◌, ◌^◌, ◌==◌, [], ◌∷◌, ◌++◌, length, nat_le, Option, Some, None, Ok, refl, inl, inr, arith}
 use Rattle.std.specs.Prelude.{IfSome}
 use Rattle.std.proofs.lemmas.Bool.{cases_Bool, leb-true}

@@ -1,4 +1,4 @@
--- Authorities that are admitted one after another are those of a lawful bundle.
+-- Authorities that are admitted one after another are those of a valid bundle.
 use Rattle.std.proofs.Common.{◌≡◌, ℕ, zero, suc, ◌<◌, ◌&&◌, List, [], ◌∷◌, ◌++◌, length, get_or, Bool, true, false, not, nat_le, Ok, refl, inl, inr, arith, length-append}
 use Rattle.std.specs.List.{list_any, AllByRecursion}
 use Rattle.std.proofs.lemmas.Bool.{cases_Bool, or_parts}
@@ -8,7 +8,7 @@ use Rattle.spiffe_doc.specs.declared.authority.Authority.{Authority}
 use Rattle.spiffe_doc.specs.Authority.{IsAuthority}
 use Rattle.spiffe_doc.specs.Equal.{authority_eq}
 use Rattle.spiffe_doc.specs.Bundle.{same_kid, is_among, is_kid_taken, AreApart, AreAuthorities}
-use Rattle.spiffe_doc.specs.AuthoritySet.{admitted}
+use Rattle.spiffe_doc.specs.Private.AuthoritySet.{admitted}
 
 any_false : (test : Authority → Bool) (xs : List Authority) → list_any test xs ≡ false → (k : ℕ) (d : Authority) → k < length xs → test (get_or xs k d) ≡ false
 any_false test [] h k d less = absurd (omega arith)

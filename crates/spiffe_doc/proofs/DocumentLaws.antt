@@ -1,4 +1,4 @@
--- What a document gives is a lawful bundle, and a refusal names a place within the document.
+-- What a document gives is a valid bundle, and a refusal names a place within the document.
 use Rattle.std.proofs.Common.{◌≡◌, ℕ, zero, suc, ◌<◌, ◌≤◌, ◌^◌, ◌&&◌, List, [], ◌∷◌, ◌++◌, length, false, not, codes, nat_lt, nat_le, Option, Some, None, Result, Ok, Err, refl, ap, ◌∙◌, inl, inr, arith}
 use Rattle.std.specs.Prelude.{IfSome, option_and_then, slice_index_or}
 use Rattle.std.specs.Option.{ok_or, option_or}

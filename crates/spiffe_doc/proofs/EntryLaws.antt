@@ -34,7 +34,7 @@ is_known place entry kind role is_object kty is_use passes = record {
   no_other_curve = λ other. passes (key_of-other_curve place entry kind kty other);
 }
 
--- an entry of a lawful key
+-- an entry of a valid key
 keyed_outcome : (place : ℕ) (entry : Data) (role : KeyUse) (key : PublicKey) → IsKnown entry → IsPublicKey key → HasKey entry key → HasText entry (codes "use") (use_text role)
     → IsOutcome place entry (with_key place role entry (Some key))
 unfolding authority_for

@@ -7,7 +7,7 @@ use Rattle.serde_json.specs.declared.value.Value.{Value}
 use Rattle.spiffe_doc.specs.Judgement.{judge}
 use Rattle.spiffe_doc.specs.Document.{elements, distinct, given_by, outcome, given_before, fault_after, least_fault, authorities_of}
 use Rattle.spiffe_doc.specs.Bundle.{is_among, is_kid_taken}
-use Rattle.spiffe_doc.specs.AuthoritySet.{taken}
+use Rattle.spiffe_doc.specs.Private.AuthoritySet.{taken}
 use Rattle.spiffe_doc.specs.declared.authority.Authority.{Authority}
 use Rattle.spiffe_doc.specs.declared.error.DocError.{DocError}
 use Rattle.spiffe_doc.proofs.FirstPlaces.{list_any-firsts, firsts_push}

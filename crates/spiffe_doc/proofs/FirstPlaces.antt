@@ -28,7 +28,7 @@ any_others test x (y ∷ ys) = elim (cases_Bool (authority_eq x y)) [
     through false true c d h = refl
     through false false c d h = h
 
--- some authority passes exactly where one at a first place does
+-- some authority passes if and only if one at a first place does
 pub list_any-firsts : (test : Authority → Bool) (xs : List Authority) → list_any test (distinct xs) ≡ list_any test xs
 unfolding distinct
 list_any-firsts test [] = refl

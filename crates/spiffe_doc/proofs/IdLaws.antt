@@ -1,4 +1,4 @@
--- A text reads as a SPIFFE ID exactly where it is one.
+-- A text reads as a SPIFFE ID if and only if it is one.
 use Rattle.std.proofs.Common.{◌≡◌, ℕ, ◌≤◌, List, [], ◌∷◌, ◌++◌, length, append-nil, drop, codes, true, false, nat_lt, Option, Some, None, Ok, refl, sym, ap, ◌∙◌, arith, inl, inr}
 use Rattle.std.specs.List.{AllByRecursion, All, slice_split, position_or_len, starts_with}
 use Rattle.std.specs.Prelude.{nat_eq, option_map}
@@ -80,7 +80,7 @@ IsId-from_no_fault text h = spiffe_id-IsId text (id_of (drop 9 text)) (rw h refl
 pub IsId-id_text : (text : List ℕ) (id : IdValue) → IsId text id → IsId (id_text id) id
 IsId-id_text text id h = record { spelled = refl; short = rw h.spelled at h.short; named = h.named; walked = h.walked }
 
--- the definition never wants memory
+-- the definition never runs out of memory
 pub id_fault-not_memory : (text : List ℕ) → id_fault text ≡ Some Memory → ⊥
 unfolding id_fault rest_fault
 id_fault-not_memory text h = elim (cases_Bool (nat_lt 2048 (length text))) [

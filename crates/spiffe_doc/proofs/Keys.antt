@@ -109,20 +109,20 @@ key_of-rsa place key entry h n e =
 
 -- ---- of either type
 
--- an entry with the members of a lawful key has this key
+-- an entry with the members of a valid key has this key
 pub key_of-HasKey : (place : ℕ) (entry : Data) (kind : KeyType) (key : PublicKey) → key_type entry ≡ Some kind → IsPublicKey key → HasKey entry key → key_of place kind entry ≡ Ok (Some key)
 key_of-HasKey place entry types.Ec (Ec key) kty lawful has = key_of-ec place key entry lawful has.0.1 has.1 has.2
 key_of-HasKey place entry types.Rsa (Rsa key) kty lawful has = key_of-rsa place key entry lawful has.1 has.2
 key_of-HasKey place entry types.Ec (Rsa key) kty lawful has = cc (sym kty ∙ of_type entry types.Rsa has.0)
 key_of-HasKey place entry types.Rsa (Ec key) kty lawful has = cc (sym kty ∙ of_type entry types.Ec has.0.0)
 
--- an entry of another curve has no key, and is not at fault
+-- an entry of another curve has no key, and is not malformed
 pub key_of-other_curve : (place : ℕ) (entry : Data) (kind : KeyType) → key_type entry ≡ Some kind → HasOtherCurve entry → key_of place kind entry ≡ Ok None
 unfolding key_of
 key_of-other_curve place entry types.Ec kty other = rw (other.1.1, other_curve other.1.0 other.1.2) refl
 key_of-other_curve place entry types.Rsa kty other = cc (sym kty ∙ of_type entry types.Ec other.0)
 
--- an entry that lacks a member is at fault
+-- an entry that lacks a member is malformed
 pub key_of-LacksMember : (place : ℕ) (entry : Data) (kind : KeyType) (member : KeyMember) → key_type entry ≡ Some kind → LacksMember entry member → key_of place kind entry ≡ Err (BadKey place member)
 unfolding key_of point_key rsa_key
 key_of-LacksMember place entry types.Ec Crv kty lacks = rw (no_text (member_text (codes "crv") entry) (λ text is. lacks.1 (text, is))) refl

@@ -223,7 +223,7 @@ pub of_use : (entry : Data) (role : KeyUse) → HasText entry (codes "use") (use
 of_use entry uses.X509 h = rw h refl
 of_use entry uses.Jwt h = rw h refl
 
--- a type is known exactly where it is one of the two, and so is a use
+-- a type is known if and only if it is one of the two, and so is a use
 pub known_type : (entry : Data) (kind : KeyType) → key_type entry ≡ Some kind → HasKnownType entry
 known_type entry types.Ec h = inl (type_of entry types.Ec h)
 known_type entry types.Rsa h = inr (type_of entry types.Rsa h)

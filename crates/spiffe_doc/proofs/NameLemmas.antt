@@ -68,7 +68,7 @@ trust_domain-IsName text name h = go (name_fault text) refl h
 pub IsName-trust_domain : (text name : List ℕ) → name ≡ text → IsName text → trust_domain text ≡ Ok name
 IsName-trust_domain text name same h = rw (no_fault-IsName text h) (ap Ok (sym same))
 
--- the definition never wants memory
+-- the definition never runs out of memory
 pub name_fault-not_memory : (text : List ℕ) → name_fault text ≡ Some Memory → ⊥
 name_fault-not_memory text h = elim (cases_Bool (length text == 0)) [
   | inl e ↦ cc (rw e at h)

@@ -1,4 +1,4 @@
--- Texts are in the order of their first bytes, read as one number, where these numbers differ.
+-- Texts are in the order of their first bytes, read as one number, if these numbers differ.
 use Rattle.std.proofs.Common.{◌≡◌, ℕ, zero, suc, ◌+◌, ◌*◌, ◌^◌, ◌<◌, List, [], ◌∷◌, slice_index, refl, sym, ap, ◌∙◌, arith, inl, inr}
 use Rattle.std.proofs.Math.Nat.{mul_assoc, mul-le-mul_right, one-le-pow, pow-le-pow_right}
 use Rattle.std.proofs.lemmas.Bool.{cases_lt}
@@ -75,7 +75,7 @@ prefix-greater k xs ys h below = nat_list_cmp_total.antisymm xs ys ∙ ap orderi
 are_bytes : (text : List ℕ) → IsName text → AreBytes text
 are_bytes text h i = omega (arith, IsAscii-IsName text h i)
 
--- where the numbers of two names differ, they order the names
+-- if the numbers of two names differ, they order the names
 pub names_by_prefix : (xs ys : List ℕ) (m n : ℕ) → IsName xs × (m ≡ prefix_number 8 xs) → IsName ys × (n ≡ prefix_number 8 ys)
     → (nat_cmp m n ≡ Equal → ⊥) → nat_cmp m n ≡ slice_cmp nat_cmp xs ys
 names_by_prefix xs ys m n (name, is) (other, stands) differ = elim (cases_lt m n) [

@@ -1,4 +1,4 @@
--- The canonical text of a lawful bundle is a document of that bundle.
+-- The canonical text of a valid bundle is a document of that bundle.
 use Rattle.std.proofs.Common.{◌≡◌, ℕ, zero, suc, ◌<◌, ◌≤◌, ◌&&◌, List, [], ◌∷◌, length, get_or, take, Bool, true, false, nat_lt, nat_le, Option, Some, None, Ok, refl, sym, ap, ◌∙◌, arith}
 use Rattle.std.specs.List.{list_any, AllPairs, AllByRecursion}
 use Rattle.std.specs.Str.{is_utf8}
@@ -86,13 +86,13 @@ entries_give xs d lawful apart few =
       once = rw (length-entry_list, whole.given, whole.once, all) refl;
     })
 
--- the entries of lawful authorities give them
+-- the entries of valid authorities give them
 pub authorities_of-entry_trees : (xs : List Authority) → AllByRecursion IsAuthority xs → AllPairs AreApart xs → length xs ≤ 1024 → authorities_of (elements (entry_trees xs)) ≡ Ok xs
 unfolding entry_list least_fault given_before distinct
 authorities_of-entry_trees [] lawful apart few = read_all [] [] (record { faultless = refl; once = refl })
 authorities_of-entry_trees (x ∷ xs) lawful apart few = entries_give (x ∷ xs) x lawful apart few
 
--- the tree of a lawful bundle has its parts
+-- the tree of a valid bundle has its parts
 bundle_of-document_tree : (p : BundleValue) → IsBundle p → bundle_of (document_tree p) ≡ Ok p
 unfolding bundle_of
 bundle_of-document_tree p h = go p.sequence p.refresh_hint

@@ -13,7 +13,7 @@ use Rattle.spiffe_doc.specs.Equal.{authority_eq}
 use Rattle.spiffe_doc.specs.Equality.{authority_decides}
 use Rattle.spiffe_doc.specs.Judgement.{judge}
 use Rattle.spiffe_doc.specs.Bundle.{same_kid, is_among, is_kid_taken, AreApart, AreAuthorities}
-use Rattle.spiffe_doc.specs.AuthoritySet.{admitted, has, has_some, is_some_of, has_kid, kid_of, AreIndexed}
+use Rattle.spiffe_doc.specs.Private.AuthoritySet.{admitted, has, has_some, is_some_of, has_kid, kid_of, AreIndexed}
 use Rattle.spiffe_doc.specs.Text.{entry_tree, entry_text}
 use Rattle.spiffe_doc.specs.declared.error.DocError.TheVariants.{KidTwice, TooMany}
 use Rattle.spiffe_doc.proofs.TextLemmas.{entry_reads, entry_numbers, entry_depth}
@@ -24,7 +24,7 @@ pub entry_text_reads : (a : Authority) → read (entry_text a) ≡ Some (entry_t
 unfolding entry_text
 entry_text_reads a = read-compact_text (entry_tree a) (entry_reads a) (entry_numbers a) (omega (arith, entry_depth a))
 
--- lawful authorities of one text are one
+-- valid authorities of one text are one
 entry_text-injective : (a b : Authority) → IsAuthority a → IsAuthority b → entry_text a ≡ entry_text b → a ≡ b
 entry_text-injective a b is_a is_b same =
     let trees : Some (entry_tree a) ≡ Some (entry_tree b) = sym (entry_text_reads a) ∙ ap read same ∙ entry_text_reads b in
@@ -43,7 +43,7 @@ same_text a b is_a is_b = elim (cases_Bool (authority_eq a b)) [
   ]
 ]
 
--- its text is among theirs exactly where it is among them
+-- its text is among theirs if and only if it is among them
 pub any_text : (xs : List Authority) (a : Authority) → AllByRecursion IsAuthority xs → IsAuthority a → list_any (λ x. bytes_eq (entry_text x) (entry_text a)) xs ≡ is_among xs a
 any_text [] a lawful is = refl
 any_text (x ∷ xs) a lawful is = rw (same_text x a lawful.0 is, any_text xs a lawful.1 is) refl
@@ -52,7 +52,7 @@ and_true : (b c : Bool) → (b || c) ≡ ((b && true) || c)
 and_true true c = refl
 and_true false c = refl
 
--- where it is not among them, its kid is taken exactly where it is among theirs
+-- if it is not among them, its kid is taken if and only if it is among theirs
 pub any_kid : (xs : List Authority) (kid : List ℕ) (key : _) → is_among xs (Jwt kid key) ≡ false → list_any (has_kid kid) xs ≡ is_kid_taken xs (Jwt kid key)
 any_kid [] kid key new = refl
 any_kid (x ∷ xs) kid key new = go x (any_kid xs kid key) (authority_eq x (Jwt kid key)) refl (is_among xs (Jwt kid key)) refl new

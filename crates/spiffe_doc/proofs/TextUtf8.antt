@@ -1,4 +1,4 @@
--- A compact text is UTF-8 where its tree's texts are.
+-- A compact text is UTF-8 if its tree's texts are.
 use Rattle.std.proofs.Common.{◌≡◌, ℕ, ◌<◌, ◌^◌, List, [], ◌∷◌, Bool, true, false, codes, Option, Some, None, refl}
 use Rattle.std.specs.Prelude.{IfSome}
 use Rattle.std.specs.List.{AllByRecursion}

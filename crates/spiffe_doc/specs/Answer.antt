@@ -1,7 +1,7 @@
--- What a call answers: what its definition gives, or want of memory.
+-- What a call answers: what its definition gives, or out of memory.
 use Rattle.std.specs.Prelude.{◌≡◌, ◌⊎◌, Option, Some, None, Result, Ok, Err}
 
--- the result is what is given, unless it is want of memory
+-- the result is what is given, unless memory ran out
 abbrev pub Gives : {A E : Type 0} → E → Result A E → Result A E → Type 0
 Gives memory (Ok value) given = given ≡ Ok value
 Gives memory (Err e) given = (e ≡ memory) ⊎ (given ≡ Err e)

@@ -9,7 +9,7 @@ use Rattle.spiffe_doc.specs.Authority.{BundleValue}
 use Rattle.spiffe_doc.specs.Bundle.{is_among, is_kid_taken}
 use Rattle.spiffe_doc.specs.Text.{text_of}
 
--- The sequence after a change: one more, where there is one. The greatest can't rise.
+-- The sequence after a change: one more, if there is one. The greatest can't rise.
 abbrev pub risen : Option ℕ → Option (Option ℕ)
 risen None = Some None
 risen (Some n) = if n == 18446744073709551615 then None else Some (Some (n + 1))

@@ -22,7 +22,7 @@ pub record IsKeyId (kid : List ℕ) : Type 0 where
   pub short : length kid ≤ 255
   pub text : IsUtf8 kid
 
--- a lawful authority
+-- a valid authority
 abbrev pub IsAuthority : Authority → Type 0
 IsAuthority (X509 key der) = IsPublicKey key × IsCertificate der
 IsAuthority (Jwt kid key) = IsKeyId kid × IsPublicKey key

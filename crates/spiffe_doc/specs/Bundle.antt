@@ -1,4 +1,4 @@
--- Which bundles are lawful.
+-- Which bundles are valid.
 use Rattle.std.specs.Prelude.{◌≡◌, ◌<◌, ◌≤◌, ◌^◌, ◌&&◌, List, length, bytes_eq, Bool, false, not, IfSome}
 use Rattle.std.specs.List.{list_any, AllPairs, AllByRecursion}
 use Rattle.spiffe_doc.specs.declared.authority.Authority.{Authority}
@@ -25,13 +25,13 @@ pub record AreApart (a b : Authority) : Type 0 where
   pub differ : authority_eq a b ≡ false
   pub kids_differ : same_kid a b ≡ false
 
--- the authorities of a lawful bundle
+-- the authorities of a valid bundle
 pub record AreAuthorities (authorities : List Authority) : Type 0 where
   pub lawful : AllByRecursion IsAuthority authorities
   pub apart : AllPairs AreApart authorities
   pub few : length authorities ≤ 1024
 
--- a lawful bundle
+-- a valid bundle
 pub record IsBundle (bundle : BundleValue) : Type 0 where
   pub sequence_fits : IfSome bundle.sequence (λ n. n < 2 ^ 64)
   pub hint_fits : IfSome bundle.refresh_hint (λ n. n < 2 ^ 64)

@@ -1,4 +1,4 @@
--- What bundle a document is, or why it is none (RFC 7517 section 5; SPIFFE Trust Domain and Bundle, section 4).
+-- What bundle a document is, or why it is not one (RFC 7517 section 5; SPIFFE Trust Domain and Bundle, section 4).
 use Rattle.std.specs.Prelude.{ℕ, zero, suc, ◌&&◌, List, [], ◌∷◌, ◌++◌, length, slice_index_or, filter, codes, not, nat_lt, nat_le, if◌then◌else◌, Option, Some, None, option_map, option_and_then, Result, Ok, Err}
 use Rattle.std.specs.Option.{ok_or, option_or}
 use Rattle.std.specs.Str.{is_utf8}
@@ -62,7 +62,7 @@ authorities_of entries = unless (least_fault entries (length entries)) (distinct
 
 -- ---- the document
 
--- the number of a member, none where it is absent or null; nothing where it is no such number
+-- the number of a member, none if it is absent or null; nothing if it is not such a number
 abbrev pub whole_number : Option Data → Option (Option ℕ)
 whole_number None = Some None
 whole_number (Some null) = Some None
@@ -85,7 +85,7 @@ bundle_of tree = do
   authorities ← authorities_of (elements keys)
   Ok (record { sequence = sequence; refresh_hint = hint; authorities = authorities })
 
--- the bundle that a document is, or the first reason why it is none
+-- the bundle that a document is, or the first reason why it is not one
 unfoldable pub document : List ℕ → Result BundleValue DocError
 document bytes = do
   input ← within 1048576 bytes
@@ -94,7 +94,7 @@ document bytes = do
   text ← within 1048576 (text_of bundle)
   Ok bundle
 
--- one entry by itself: its authority, none where it is passed over, or why it is neither
+-- one entry by itself: its authority, none if it is ignored, or its first fault
 unfoldable pub entry : List ℕ → Result (Option Authority) DocError
 entry bytes = do
   input ← within 1048576 bytes
@@ -104,16 +104,9 @@ entry bytes = do
 -- ---- the place in `keys` that a refusal names
 
 abbrev pub place_of : DocError → Option ℕ
-place_of TooLong = None
-place_of NotJson = None
-place_of NotObject = None
-place_of NoKeys = None
-place_of BadSequence = None
-place_of BadHint = None
 place_of (BadEntry place) = Some place
 place_of (BadKey place member) = Some place
 place_of (BadX5c place) = Some place
 place_of (BadKid place) = Some place
 place_of (KidTwice place) = Some place
-place_of TooMany = None
-place_of Memory = None
+place_of error = None

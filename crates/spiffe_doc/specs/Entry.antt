@@ -18,7 +18,7 @@ use Rattle.spiffe_doc.specs.Key.{curve_text, IsCoordinate, IsRsaMember}
 use Rattle.spiffe_doc.specs.Authority.{IsPublicKey, IsCertificate, IsKeyId, IsAuthority}
 use Rattle.spiffe_doc.specs.Text.{x5c_list}
 
--- the text of a member, where it has one
+-- the text of a member, if it is one
 abbrev pub member_text : List ℕ → Data → Option (List ℕ)
 member_text name entry = option_and_then as_str (get name entry)
 
@@ -45,11 +45,11 @@ abbrev pub HasMembers : Data → Authority → Type 0
 HasMembers entry (X509 key der) = HasText entry (codes "use") (codes "x509-svid") × HasKey entry key × HasCertificate entry der
 HasMembers entry (Jwt kid key) = HasText entry (codes "use") (codes "jwt-svid") × HasKey entry key × HasText entry (codes "kid") kid
 
--- the entry gives this lawful authority
+-- the entry gives this valid authority
 abbrev pub GivesAuthority : Data → Authority → Type 0
 GivesAuthority entry authority = IsAuthority authority × HasMembers entry authority
 
--- ---- passed over
+-- ---- ignored
 
 abbrev pub IsObject : Data → Type 0
 IsObject entry = IsSome (as_object entry)
@@ -69,9 +69,9 @@ HasOtherCurve entry =
 abbrev pub IsPassedOver : Data → Type 0
 IsPassedOver entry = IsObject entry × ((¬ (HasKnownType entry)) ⊎ ((¬ (HasKnownUse entry)) ⊎ HasOtherCurve entry))
 
--- ---- at fault
+-- ---- malformed
 
--- an object that is not passed over
+-- an object that is not ignored
 pub record IsKnown (entry : Data) : Type 0 where
   pub object : IsObject entry
   pub typed : HasKnownType entry
@@ -93,7 +93,7 @@ HasSomeCertificate entry = (der : List ℕ) × IsCertificate der × HasCertifica
 abbrev pub HasSomeKeyId : Data → Type 0
 HasSomeKeyId entry = (kid : List ℕ) × IsKeyId kid × HasText entry (codes "kid") kid
 
--- this is the first member of its key that is at fault
+-- this is the first member of its key that is malformed
 abbrev pub LacksMember : Data → KeyMember → Type 0
 LacksMember entry Crv = HasText entry (codes "kty") (codes "EC") × ¬ ((text : List ℕ) × HasText entry (codes "crv") text)
 LacksMember entry (X curve) = HasCurve entry curve × ¬ (HasCoordinate entry curve (codes "x"))
@@ -101,7 +101,7 @@ LacksMember entry (Y curve) = HasCurve entry curve × HasCoordinate entry curve 
 LacksMember entry N = HasText entry (codes "kty") (codes "RSA") × ¬ (HasRsaMember entry (codes "n"))
 LacksMember entry E = HasText entry (codes "kty") (codes "RSA") × HasRsaMember entry (codes "n") × ¬ (HasRsaMember entry (codes "e"))
 
--- the entry at this place is at fault, and this is its first fault
+-- the entry at this place is malformed, and this is its first fault
 abbrev pub IsAtFault : ℕ → Data → DocError → Type 0
 IsAtFault place entry (BadEntry at) = (at ≡ place) × ¬ (IsObject entry)
 IsAtFault place entry (BadKey at member) = (at ≡ place) × IsKnown entry × LacksMember entry member
@@ -111,7 +111,7 @@ IsAtFault place entry (BadKid at) =
     (at ≡ place) × IsKnown entry × HasSomeKey entry × HasText entry (codes "use") (codes "jwt-svid") × ¬ (HasSomeKeyId entry)
 IsAtFault place entry other = ⊥
 
--- what becomes of the entry at this place: its authority, nothing where it is passed over, or its first fault
+-- what becomes of the entry at this place: its authority, nothing if it is ignored, or its first fault
 abbrev pub IsOutcome : ℕ → Data → Result (Option Authority) DocError → Type 0
 IsOutcome place entry (Ok (Some authority)) = GivesAuthority entry authority
 IsOutcome place entry (Ok None) = IsPassedOver entry

@@ -43,7 +43,7 @@ pub record IsId (text : List ℕ) (id : IdValue) : Type 0 where
   pub named : IsName id.domain
   pub walked : IsPath id.path
 
--- ---- why a text is none
+-- ---- why a text is not a SPIFFE ID
 
 abbrev pub is_slash : ℕ → Bool
 is_slash byte = byte == 47
@@ -55,7 +55,7 @@ domain_of rest = before_first is_slash rest
 abbrev pub segments_of : List ℕ → List (List ℕ)
 segments_of rest = drop 1 (slice_split is_slash rest)
 
--- the first that is no segment, where the first of all is counted so
+-- the first that is not a segment, if the first of all is counted so
 abbrev pub first_bad : ℕ → List (List ℕ) → Option ℕ
 first_bad place segments = position_from (λ segment. not (is_segment segment)) place segments
 
@@ -65,7 +65,7 @@ of_name name.TooLong = TooLong
 of_name (name.BadChar at) = BadChar at
 of_name name.Memory = Memory
 
--- the first fault of the domain, or else the first segment that is none
+-- the first fault of the domain, or else the first that is not a segment
 unfoldable pub rest_fault : List ℕ → Option IdError
 rest_fault rest =
     option_or (option_map of_name (name_fault (domain_of rest))) (option_map BadPath (first_bad 0 (segments_of rest)))
@@ -79,6 +79,6 @@ id_fault text =
 abbrev pub id_of : List ℕ → IdValue
 id_of rest = record { domain = domain_of rest; path = drop (position_or_len is_slash rest) rest }
 
--- the SPIFFE ID that a text is, or the first reason why it is none
+-- the SPIFFE ID that a text is, or the first reason why it is not one
 abbrev pub spiffe_id : List ℕ → Result IdValue IdError
 spiffe_id text = unless (id_fault text) (id_of (drop 9 text))

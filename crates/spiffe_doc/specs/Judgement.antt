@@ -27,7 +27,7 @@ use Rattle.spiffe_doc.specs.Entry.{member_text}
 
 -- ---- members
 
--- the value, where it passes
+-- the value, if it passes
 abbrev pub filtered : {A : Type 0} → (A → Bool) → Option A → Option A
 filtered test value = option_and_then (λ x. if test x then Some x else None) value
 
@@ -106,7 +106,7 @@ rsa_key place entry = do
   e ← ok_or (rsa_member (codes "e") entry) (BadKey place E)
   Ok (Rsa (record { n = n; e = e }))
 
--- the key, or none where the curve is another
+-- the key, or none if the curve is unknown
 abbrev pub key_on : ℕ → Data → Option Curve → Result (Option PublicKey) DocError
 key_on place entry None = Ok None
 key_on place entry (Some curve) = point_key place curve entry >>= (λ key. Ok (Some key))
@@ -128,7 +128,7 @@ known_entry place entry None role = Ok None
 known_entry place entry (Some kind) None = Ok None
 known_entry place entry (Some kind) (Some role) = key_of place kind entry >>= with_key place role entry
 
--- the entry at this place of a document: its authority, none where it is passed over, or its first fault
+-- the entry at this place of a document: its authority, none if it is ignored, or its first fault
 unfoldable pub judge : ℕ → Data → Result (Option Authority) DocError
 judge place entry =
     if is_some (as_object entry) then known_entry place entry (key_type entry) (key_use entry)

@@ -15,5 +15,4 @@ pub mod Document
 pub mod Append
 pub mod Number
 pub mod Writing
-pub mod AuthoritySet
-pub mod WholeSet
+pub mod Private

@@ -16,13 +16,13 @@ pub record IsName (text : List ℕ) : Type 0 where
   pub short : length text ≤ 255
   pub allowed : AllPass is_name_byte text
 
--- why a text is none: the first reason in this order
+-- why a text is not a name: the first reason in this order
 abbrev pub name_fault : List ℕ → Option NameError
 name_fault text =
     if length text == 0 then Some Empty
     else if nat_lt 255 (length text) then Some TooLong
     else option_map BadChar (position (λ x. not (is_name_byte x)) text)
 
--- the name that a text is, or why it is none
+-- the name that a text is, or why it is not one
 abbrev pub trust_domain : List ℕ → Result (List ℕ) NameError
 trust_domain text = unless (name_fault text) text

@@ -1,4 +1,4 @@
--- A text that lies in the value itself where it is short.
+-- A text that lies in the value itself if it is short.
 use Rattle.std.specs.Prelude.{ℕ, ◌<◌, List, length, string_bytes}
 use Rattle.spiffe_doc.specs.declared.short_text.ShortText.{ShortText}
 use Rattle.spiffe_doc.specs.declared.short_text.ShortText.TheVariants.{Inline, Allocated}

@@ -42,7 +42,7 @@ entry_text authority = compact_text (entry_tree authority)
 abbrev pub entry_trees : List Authority → Items
 entry_trees authorities = items_of (map entry_tree authorities)
 
--- a number, where there is one, before more members
+-- a number, if there is one, before more members
 abbrev pub number_member : List ℕ → Option ℕ → Members → Members
 number_member name None more = more
 number_member name (Some n) more = member name (number (unsigned n)) more

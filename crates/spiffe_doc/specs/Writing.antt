@@ -6,7 +6,7 @@ use Rattle.spiffe_doc.specs.Authority.{BundleValue}
 use Rattle.spiffe_doc.specs.Text.{entry_text, text_of}
 use Rattle.spiffe_doc.specs.Bundle.{IsBundle}
 
--- their texts, a comma between each two, and one before where something stands there
+-- their texts, a comma between each two, and one before if something stands there
 abbrev pub entry_texts : Bool → List Authority → List ℕ
 entry_texts later [] = []
 entry_texts later (authority ∷ more) = comma_if later ++ (entry_text authority ++ entry_texts true more)
@@ -15,7 +15,7 @@ entry_texts later (authority ∷ more) = comma_if later ++ (entry_text authority
 unfoldable pub front_text : List Authority → List ℕ
 front_text authorities = codes "{\"keys\":[" ++ entry_texts false authorities
 
--- a member of a number behind others, where there is one
+-- a member of a number behind others, if there is one
 abbrev pub number_text : List ℕ → Option ℕ → List ℕ
 number_text label None = []
 number_text label (Some n) = label ++ decimal n

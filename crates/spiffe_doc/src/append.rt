@@ -12,9 +12,9 @@ use crate::text::{push_entry, write_entry};
 use std::alloc::{AllocError, Global};
 
 impl Bundle {
-    /// The bundle with one more authority at the end, and a present sequence one higher. Refused, in this order, where an
-    /// equal authority is there, where its key id is there with another key, where there are 1,024, where the sequence is
-    /// the greatest, and where the canonical text would have over 1,048,576 bytes. The first four take no memory.
+    /// The bundle with one more authority at the end, and a present sequence one higher. Refused, in this order, if an
+    /// equal authority is there, if its key id is there with another key, if there are 1,024, if the sequence is
+    /// the greatest, and if the canonical text would have over 1,048,576 bytes. The first four take no memory.
     #[tactic(auto, unfolding(crate::specs::Append::appended))]
     pub fn appended(&self, alloc: Global, authority: &Authority) -> Result<Bundle, AppendError>
         ensures value { Gives AppendError.Memory result (appended self.now authority.now) }
@@ -54,7 +54,7 @@ fn front_and(alloc: Global, bundle: &Bundle, last: &Authority) -> Result<Vec<u8>
     Ok(front)
 }
 
-/// The sequence after a change, none where it is the greatest.
+/// The sequence after a change, or `None` if it is the greatest.
 fn risen(sequence: Option<u64>) -> Option<Option<u64>>
     ensures { result ≡ risen_sequence sequence }
 {

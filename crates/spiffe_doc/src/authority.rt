@@ -113,7 +113,7 @@ impl KeyId {
 }
 
 /// What a trust domain vouches by: the key and certificate that sign its X.509-SVIDs, or a key that signs its JWT-SVIDs.
-/// Authorities are equal where all their parts are.
+/// Authorities are equal if all their parts are.
 #[derive(Drop)]
 pub enum Authority {
     X509 { key: PublicKey, der: Certificate },

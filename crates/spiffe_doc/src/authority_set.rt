@@ -3,7 +3,7 @@ ghost use Rattle.std.specs.Prelude.{◌≡◌, ◌⊎◌, ◌||◌, ◌++◌, �
 ghost use Rattle.spiffe_doc.specs.Authority.{IsAuthority};
 ghost use Rattle.spiffe_doc.specs.Text.{entry_text};
 ghost use Rattle.spiffe_doc.specs.Writing.{front_text};
-ghost use Rattle.spiffe_doc.specs.AuthoritySet.{AreIndexed, admitted, with_new, has, has_some as has_bytes, is_some_of, kid_of};
+ghost use Rattle.spiffe_doc.specs.Private.AuthoritySet.{AreIndexed, admitted, with_new, has, has_some as has_bytes, is_some_of, kid_of};
 
 use crate::authority::Authority;
 use crate::bundle::MAX_AUTHORITIES;
@@ -24,7 +24,7 @@ pub(crate) struct AuthoritySet {
 }
 
 impl AuthoritySet {
-    ghost use Rattle.spiffe_doc.specs.WholeSet.{IsWhole};
+    ghost use Rattle.spiffe_doc.specs.Private.WholeSet.{IsWhole};
 
     /// No authorities.
     pub(crate) fn new(alloc: Global) -> Result<AuthoritySet, AllocError>
@@ -60,7 +60,7 @@ impl AuthoritySet {
         Ok(())
     }
 
-    /// Whether an authority of this text and this key id is new; refused where the key id is another's, or the set full.
+    /// Whether an authority of this text and this key id is new; refused if another authority has the key id, or if the set is full.
     fn admits(
         &self,
         place: usize,
@@ -112,7 +112,7 @@ impl AuthoritySet {
     }
 }
 
-/// The bytes of the key id of an authority, where it has one.
+/// The bytes of the key id of an authority, if it has one.
 fn key_id_bytes(alloc: Global, authority: &Authority) -> Result<Option<Octets>, AllocError>
     ensures { IfOk result (λ kid. kid ≡ kid_of authority.now) }
 {

@@ -29,7 +29,7 @@ pub(crate) struct Published {
 
 /// What a trust domain publishes: a sequence number, a refresh hint in seconds, and its authorities. No two are equal,
 /// no two JWT authorities have one key id, there are at most 1,024, and the canonical text has at most 1,048,576 bytes.
-/// Copies share one allocation. Bundles are equal where the numbers are, and the authorities in order.
+/// Copies share one allocation. Bundles are equal if their numbers are, and their authorities in order.
 #[derive(Drop)]
 pub struct Bundle {
     pub(crate) published: Arc<Published>,
@@ -50,14 +50,14 @@ impl Model for Bundle {
 impl Bundle {
     ghost use Rattle.spiffe_doc.specs.Bundle.{IsBundle};
 
-    /// The sequence number, where the document had one.
+    /// The sequence number, if the document had one.
     pub fn sequence(&self) -> Option<u64>
         ensures { result ≡ self.now.sequence }
     {
         self.published.sequence
     }
 
-    /// The refresh hint in seconds, where the document had one.
+    /// The refresh hint in seconds, if the document had one.
     pub fn refresh_hint(&self) -> Option<u64>
         ensures { result ≡ self.now.refresh_hint }
     {
@@ -105,7 +105,7 @@ impl Bundle {
     }
 }
 
-/// The bundle of these parts, whose canonical text begins so; none where that text is too long.
+/// The bundle of these parts, whose canonical text begins so; `None` if that text is too long.
 pub(crate) fn bundle_from(
     alloc: Global,
     sequence: Option<u64>,

@@ -5,8 +5,8 @@ ghost use Rattle.serde_json.specs.View.{view, items_view};
 ghost use Rattle.spiffe_doc.specs.Answer.{Gives};
 ghost use Rattle.spiffe_doc.specs.Judgement.{judge as judgement};
 ghost use Rattle.spiffe_doc.specs.Document.{json_tree, whole_number, elements, authorities_of, bundle_of, document, entry};
-ghost use Rattle.spiffe_doc.specs.AuthoritySet.{taken};
-ghost use Rattle.spiffe_doc.specs.WholeSet.{IsWhole};
+ghost use Rattle.spiffe_doc.specs.Private.AuthoritySet.{taken};
+ghost use Rattle.spiffe_doc.specs.Private.WholeSet.{IsWhole};
 
 use crate::authority::Authority;
 use crate::authority_set::AuthoritySet;
@@ -16,11 +16,11 @@ use crate::error::DocError;
 use serde_json::Value;
 use std::alloc::Global;
 
-/// The bundle that a document is, or the first reason why it is none.
+/// Reads a bundle document, or reports its first fault.
 ///
 /// A document is a JWK set (RFC 7517, section 5) with the members `spiffe_sequence` and `spiffe_refresh_hint` (SPIFFE
 /// Trust Domain and Bundle, section 4), of at most 1,048,576 bytes. Entries of unknown `use` or `kty`, or of an unknown
-/// curve, are passed over; a known entry that is faulty refuses the document. A later entry that gives an equal authority
+/// curve, are ignored; a known entry that is malformed refuses the document. A later entry that gives an equal authority
 /// is dropped. Memory may be wanting only for a document that is not over that limit.
 #[tactic(auto, unfolding(crate::specs::Document::document))]
 pub fn read_document(alloc: Global, bytes: &[u8]) -> Result<Bundle, DocError>
@@ -38,7 +38,7 @@ pub fn read_document(alloc: Global, bytes: &[u8]) -> Result<Bundle, DocError>
     }
 }
 
-/// One JWK by itself (RFC 7517, section 4): its authority, or none where it is passed over. A fault names place 0.
+/// One JWK by itself (RFC 7517, section 4): its authority, or `None` if it is ignored. A fault names place 0.
 #[tactic(auto, unfolding(crate::specs::Document::entry))]
 pub fn read_entry(alloc: Global, bytes: &[u8]) -> Result<Option<Authority>, DocError>
     ensures value { Gives DocError.Memory result (entry bytes.now) }
@@ -76,7 +76,7 @@ fn keys(tree: &Value) -> Option<&Vec<Value>>
     tree.get("keys")?.as_array()
 }
 
-/// A number, none where it is absent or null.
+/// A number, or `None` if it is absent or null.
 fn number_member(tree: &Value, name: &str) -> Option<Option<u64>>
     ensures { result ≡ whole_number (get name.now (view tree.now)) }
 {

@@ -37,7 +37,7 @@ pub(crate) enum KeyUse {
     Jwt,
 }
 
-/// The text of a member, where it has one.
+/// The text of a member, if it is one.
 fn member_text<'e>(entry: &'e Value, name: &str) -> Option<&'e str>
     ensures { option_map (λ text. text.now) result ≡ text_of_member name.now (view entry.now) }
 {
@@ -189,7 +189,7 @@ fn bad_key(place: usize, member: KeyMember) -> DocError
     DocError::BadKey { place, member }
 }
 
-/// The key of an entry of this type, or none where its curve is another.
+/// The key of an entry of this type, or `None` if its curve is unknown.
 #[tactic(auto, unfolding(crate::specs::Judgement::key_of))]
 fn key_of(
     alloc: Global,
@@ -283,7 +283,7 @@ fn authority_for(
     }
 }
 
-/// The entry at this place of a document: its authority, or none where it is passed over.
+/// The entry at this place of a document: its authority, or `None` if it is ignored.
 #[tactic(auto, unfolding(crate::specs::Judgement::judge))]
 pub(crate) fn judge(
     alloc: Global,

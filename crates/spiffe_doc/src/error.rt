@@ -6,7 +6,7 @@ use crate::key::KeyMember;
 use std::alloc::AllocError;
 use thiserror::Error;
 
-/// Why a document is no bundle. Places are positions in `keys`, counted from 0 over all its elements.
+/// Why a document is not a bundle. Places are positions in `keys`, counted from 0 over all its elements.
 #[derive(Clone, Copy, Debug, PartialEq, Eq, Drop, Error)]
 pub enum DocError {
     #[error("the document has over 1048576 bytes")]

@@ -13,7 +13,7 @@ use thiserror::Error;
 /// The most bytes of a SPIFFE ID.
 const MAX_ID: usize = 2048;
 
-/// Why a text is no SPIFFE ID.
+/// Why a text is not a SPIFFE ID.
 #[derive(Clone, Copy, Debug, PartialEq, Eq, Drop, Error)]
 pub enum IdError {
     #[error("the trust domain name is empty")]
@@ -142,7 +142,7 @@ impl SpiffeId {
     }
 }
 
-/// Why the bytes are no SPIFFE ID.
+/// Why the bytes are not a SPIFFE ID.
 #[tactic(auto, unfolding(crate::specs::Id::id_fault))]
 fn id_fault(text: &[u8]) -> Option<IdError>
     ensures { result ≡ fault text.now }
@@ -164,7 +164,7 @@ fn after_scheme(text: &[u8]) -> &[u8]
     &text[9..]
 }
 
-/// Why what follows the scheme is no trust domain and path.
+/// Why what follows the scheme is not a trust domain and a path.
 #[tactic(auto, unfolding(crate::specs::Id::rest_fault))]
 fn rest_fault(rest: &[u8]) -> Option<IdError>
     requires { length rest.now ≤ 2048 }
@@ -208,7 +208,7 @@ fn from_slash(rest: &[u8]) -> &[u8]
     &rest[slash_or_end(rest)..]
 }
 
-/// What stands after the next slash, where there is one.
+/// What stands after the next slash, if there is one.
 #[tactic(auto, using(crate::proofs::IdLemmas::slash_inside))]
 fn after_slash(rest: &[u8]) -> Option<&[u8]>
     ensures { MatchOption result
@@ -222,7 +222,7 @@ fn after_slash(rest: &[u8]) -> Option<&[u8]>
     Some(&rest[at + 1..])
 }
 
-/// The first after the next slash that is no segment.
+/// The first after the next slash that is not a segment.
 #[tactic(auto, using(crate::proofs::IdLemmas::no_segments, crate::proofs::IdLemmas::segments_after))]
 fn first_bad_after(rest: &[u8]) -> Option<u32>
     requires { length rest.now ≤ 2048 }
@@ -234,7 +234,7 @@ fn first_bad_after(rest: &[u8]) -> Option<u32>
     }
 }
 
-/// The first that is no segment.
+/// The first that is not a segment.
 fn first_bad(path: &[u8]) -> Option<u32>
     requires { length path.now ≤ 2048 }
     ensures { result ≡ first_bad_from 0 (slice_split is_slash path.now) }

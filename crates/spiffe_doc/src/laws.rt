@@ -1,4 +1,4 @@
-//! What holds of the definitions alone. Each law is the contract of a function that does nothing.
+//! What follows from the definitions. Each law is the contract of a function that does nothing.
 ghost use Rattle.std.specs.Prelude.{◌≡◌, ◌↔◌, ◌<◌, ◌≤◌, length, List, ℕ, Ok, Err, Some, None, Option, Result, IfSome, true};
 ghost use Rattle.serde_json.specs.Data.{Data};
 ghost use Rattle.spiffe_doc.specs.declared.key.PublicKey.{PublicKey};
@@ -16,7 +16,7 @@ ghost use Rattle.spiffe_doc.specs.Bundle.{IsBundle};
 ghost use Rattle.spiffe_doc.specs.Document.{document, entry, place_of};
 ghost use Rattle.spiffe_doc.specs.Append.{appended};
 
-/// A text reads as a trust domain name exactly where it is one, and then as itself.
+/// A text reads as a trust domain name if and only if it is one, and then as itself.
 pub fn names_are_read_as_they_stand()
     ensures { (text name : List ℕ) → (trust_domain text ≡ Ok name) ↔ ((name ≡ text) × IsName text) }
 {}
@@ -30,51 +30,51 @@ pub fn equality_is_of_all_parts()
     ensures bundles { (a b : BundleValue) → (bundle_eq a b ≡ true) ↔ (a ≡ b) }
 {}
 
-/// The canonical text of a lawful bundle is a document of that bundle.
+/// The canonical text of a valid bundle is a document of that bundle.
 pub fn texts_are_read_back()
     ensures { (bundle : BundleValue) → IsBundle bundle → document (text_of bundle) ≡ Ok bundle }
 {}
 
-/// The canonical text of a lawful authority is an entry of that authority, unless it is over the limit of documents.
+/// The canonical text of a valid authority is an entry of that authority, unless it is over the limit of documents.
 pub fn entries_are_read_back()
     ensures { (authority : Authority) → IsAuthority authority → length (entry_text authority) ≤ 1048576
         → entry (entry_text authority) ≡ Ok (Some authority) }
 {}
 
-/// An entry is judged to give an authority exactly where its texts are the encodings of the authority's bytes.
+/// An entry is judged to give an authority if and only if its texts are the encodings of the authority's bytes.
 pub fn entries_give_what_they_encode()
     ensures { (place : ℕ) (entry : Data) (authority : Authority) →
         (judge place entry ≡ Ok (Some authority)) ↔ GivesAuthority entry authority }
 {}
 
-/// A text reads as a SPIFFE ID exactly where it is the one of that domain and that path.
+/// A text reads as a SPIFFE ID if and only if it is the one of that domain and that path.
 pub fn ids_are_read_as_they_are_spelled()
     ensures { (text : List ℕ) (id : IdValue) → (spiffe_id text ≡ Ok id) ↔ IsId text id }
 {}
 
-/// An entry is judged to give nothing exactly where it is passed over.
+/// An entry is judged to give nothing if and only if it is ignored.
 pub fn entries_are_passed_over()
     ensures { (place : ℕ) (entry : Data) → (judge place entry ≡ Ok None) ↔ IsPassedOver entry }
 {}
 
-/// An entry is judged to be at fault exactly where it is, with its first fault.
+/// An entry is judged to be malformed if and only if it is, with its first fault.
 pub fn entries_are_at_fault()
     ensures { (place : ℕ) (entry : Data) (fault : DocError) → (judge place entry ≡ Err fault) ↔ IsAtFault place entry fault }
 {}
 
-/// Exactly one of three holds of an entry: it gives one authority, it is passed over, or it is at fault with one first fault. It is judged so.
+/// Exactly one of three holds of an entry: it gives one authority, it is ignored, or it is malformed, with one first fault. It is judged so.
 pub fn entries_have_one_outcome()
     ensures one { (place : ℕ) (entry : Data) → HasOneOutcome place entry }
     ensures judged { (place : ℕ) (entry : Data) (outcome : Result (Option Authority) DocError) → (judge place entry ≡ outcome) ↔ IsOutcome place entry outcome }
 {}
 
-/// Appending a lawful authority to a lawful bundle gives a lawful bundle.
+/// Appending a valid authority to a valid bundle gives a valid bundle.
 pub fn appended_bundles_are_lawful()
     ensures { (bundle : BundleValue) (more : BundleValue) (authority : Authority) →
         IsBundle bundle → IsAuthority authority → appended bundle authority ≡ Ok more → IsBundle more }
 {}
 
-/// A document gives a lawful bundle.
+/// A document gives a valid bundle.
 pub fn documents_give_lawful_bundles()
     ensures { (text : List ℕ) (bundle : BundleValue) → document text ≡ Ok bundle → IsBundle bundle }
 {}

@@ -1,7 +1,7 @@
 //! Trust domain names, SPIFFE IDs and SPIFFE bundle documents: what a document is, decided exactly.
 //!
 //! `TrustDomain` and `SpiffeId` are the names of the SPIFFE-ID standard. `read_document` gives the `Bundle` that a
-//! document is, or the first reason why it is none; `write_document` gives a bundle's canonical text, which reads back
+//! document is, or its first fault; `write_document` gives a bundle's canonical text, which reads back
 //! as that bundle. `read_entry` and `write_entry` do this for one authority.
 #![tactic(auto)]
 

@@ -14,7 +14,7 @@ use thiserror::Error;
 /// The most bytes of a trust domain name.
 const MAX_NAME: usize = 255;
 
-/// Why a text is no trust domain name.
+/// Why a text is not a trust domain name.
 #[derive(Clone, Copy, Debug, PartialEq, Eq, Drop, Error)]
 pub enum NameError {
     #[error("the trust domain name is empty")]
@@ -100,7 +100,7 @@ impl TrustDomain {
         self.text.as_str()
     }
 
-    /// The same name. Errors only for want of memory, and only for a name of over 24 bytes.
+    /// The same name. Errors only if memory runs out, and only for a name of over 24 bytes.
     pub fn copy(&self) -> Result<TrustDomain, AllocError>
         ensures { MatchResult result (λ copy. copy ≡ self.now) (λ _. 24 < length self.now) }
     {
@@ -111,7 +111,7 @@ impl TrustDomain {
     }
 }
 
-/// Why the bytes are no name.
+/// Why the bytes are not a name.
 pub(crate) fn name_fault(bytes: &[u8]) -> Option<NameError>
     ensures { result ≡ fault bytes.now }
 {

@@ -52,7 +52,7 @@ impl Octets {
         let _bytes = &self.bytes;
     }
 
-    /// Whether there is none.
+    /// Whether there are no bytes.
     pub fn is_empty(&self) -> bool
         ensures { result ≡ (length self.now == 0) }
     {

@@ -1,4 +1,4 @@
-//! Texts that lie in the value itself where they are short.
+//! Texts that lie in the value itself if they are short.
 ghost use Rattle.std.specs.Prelude.{◌≡◌, ◌<◌, length, MatchResult};
 ghost use Rattle.spiffe_doc.specs.ShortText.{bytes_of, IsPlaced};
 
@@ -13,7 +13,7 @@ pub(crate) enum ShortText {
 }
 
 impl ShortText {
-    /// This text. Errors only for want of memory, and only for a text of over 24 bytes.
+    /// This text. Errors only if memory runs out, and only for a text of over 24 bytes.
     pub(crate) fn from_str(alloc: Global, text: &str) -> Result<ShortText, AllocError>
         ensures { MatchResult result
             (λ kept. (bytes_of kept ≡ text.now) × IsPlaced kept)
@@ -35,7 +35,7 @@ impl ShortText {
         }
     }
 
-    /// The same text. Errors only for want of memory, and only for a text of over 24 bytes.
+    /// The same text. Errors only if memory runs out, and only for a text of over 24 bytes.
     pub(crate) fn copy(&self) -> Result<ShortText, AllocError>
         requires { IsPlaced self.now }
         ensures { MatchResult result

@@ -17,7 +17,7 @@ use serde_json::{Value, json};
 use std::alloc::{AllocError, Global};
 
 /// The canonical text of a bundle: compact JSON of the members that are kept, in byte order of their names. Errors only
-/// for want of memory; `Bundle::text` lends the same bytes without it.
+/// if memory runs out; `Bundle::text` lends the same bytes without it.
 pub fn write_document(alloc: Global, bundle: &Bundle) -> Result<Vec<u8>, AllocError>
     ensures { IfOk result (λ text. text.items ≡ text_of bundle.now) }
 {
@@ -26,7 +26,7 @@ pub fn write_document(alloc: Global, bundle: &Bundle) -> Result<Vec<u8>, AllocEr
 
 /// The canonical text of an authority by itself: compact JSON of a JWK (RFC 7517, section 4), its members in byte order
 /// of their names, as it stands in the document of a bundle. One of at most 1,048,576 bytes reads back as the authority.
-/// Errors only for want of memory.
+/// Errors only if memory runs out.
 pub fn write_entry(alloc: Global, authority: &Authority) -> Result<Vec<u8>, AllocError>
     ensures { IfOk result (λ text. text.items ≡ entry_text authority.now) }
 {
@@ -59,7 +59,7 @@ pub(crate) fn push_rest(
     Ok(())
 }
 
-/// Adds a member of a number, where there is one.
+/// Adds a member of a number, if there is one.
 fn push_number(
     alloc: Global,
     text: &mut Vec<u8>,

@@ -46,7 +46,7 @@ fn bundle(alloc: Global, document: &str) -> Result<Bundle, DocError> {
     read_document(alloc, document.as_bytes())
 }
 
-/// The authority that an entry by itself gives; one that is passed over is an error here.
+/// The authority that an entry by itself gives; one that is ignored is an error here.
 fn authority(alloc: Global, entry: &str) -> Result<Authority, DocError> {
     match read_entry(alloc, entry.as_bytes())? {
         Some(authority) => Ok(authority),

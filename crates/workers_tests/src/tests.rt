@@ -4,7 +4,7 @@ ghost use Rattle.std.specs.List.{All};
 ghost use Rattle.shard_store.specs.Pass.{IsOf};
 
 use frame_front::FrontError;
-use map_core::{Ask, AskError, Op, Reply};
+use map_core::{Ask, AskError, Expect, Op, Reply};
 use shard_store::{Pass, Store};
 use spiffe_doc::TrustDomain;
 use std::alloc::{AllocError, Global};
@@ -12,7 +12,10 @@ use std::sync::{Mutex, Wait};
 use std::test::Fail;
 use std::thread::Threads;
 use std::time::Clock;
-use workers::{Gate, ListenFault, Open, Retrying, Session, SessionFault, Sessions, run_workers};
+use workers::{
+    Changed, Gate, How, ListenFault, Log, Open, Quiet, Retrying, Session, SessionFault, Sessions,
+    run_workers,
+};
 
 /// One session over memory.
 #[derive(Drop)]
@@ -143,6 +146,38 @@ impl<'a, R: Wait> Gate for Counting<'a, R> {
     }
 }
 
+/// What a log was told: how many changes, the last of them, and how many ends.
+#[derive(Drop)]
+struct Notes {
+    changes: u64,
+    last: Option<(How, Option<Expect>, Expect)>,
+    ends: u64,
+}
+
+/// A log that keeps notes.
+#[derive(Drop)]
+struct Noted<'a, R: Wait> {
+    rt: &'a R,
+    notes: Mutex<Notes>,
+}
+
+impl<'a, R: Wait> Log for Noted<'a, R> {
+    fn is_on(&self) -> bool {
+        true
+    }
+
+    fn changed(&self, _worker: u64, change: &Changed<'_>) {
+        let mut notes = self.notes.lock(self.rt);
+        notes.changes = notes.changes.saturating_add(1);
+        notes.last = Some((change.how, change.before, change.after));
+    }
+
+    fn ended(&self, _worker: u64, _end: &Result<u64, SessionFault>) {
+        let mut notes = self.notes.lock(self.rt);
+        notes.ends = notes.ends.saturating_add(1);
+    }
+}
+
 /// A store, and a pass for each of two workers.
 fn store_for_two(alloc: Global) -> Result<(Store, Vec<Pass>), AllocError>
     ensures count { IfOk result (λ made. vec_len made.1 ≡ 2) }
@@ -164,6 +199,18 @@ fn run_two<R: Threads + Clock + Sync, G: Gate + Sync>(
     left: u64,
     gate: &G,
 ) -> Result<Ended, AllocError> {
+    run_two_noted(rt, alloc, inputs, left, gate, &Quiet)
+}
+
+/// And if a log is told of them.
+fn run_two_noted<R: Threads + Clock + Sync, G: Gate + Sync, L: Log + Sync>(
+    rt: &R,
+    alloc: Global,
+    inputs: (&[u8], &[u8]),
+    left: u64,
+    gate: &G,
+    log: &L,
+) -> Result<Ended, AllocError> {
     let (store, passes) = store_for_two(alloc)?;
     let mut first = Vec::new(alloc);
     let mut second = Vec::new(alloc);
@@ -178,7 +225,7 @@ fn run_two<R: Threads + Clock + Sync, G: Gate + Sync>(
         output: Some(&mut second),
         left,
     })?;
-    let worked = run_workers(rt, alloc, &store, passes, sessions, gate, 1_000_000)?;
+    let worked = run_workers(rt, alloc, &store, passes, sessions, gate, 1_000_000, log)?;
     let mut results = Vec::new(alloc);
     for worker in worked.as_slice() {
         for result in worker.results.as_slice() {
@@ -271,6 +318,31 @@ fn a_listener_that_fails(rt: HostRuntime) -> Result<(), Fail> {
             .as_slice()
     );
     assert_eq!(rt; SessionFault::Listen.number(), 57);
+    Ok(())
+}
+
+// Of six requests three change a bundle: a set of what stands there, a get and a refused removal change none.
+#[test]
+fn a_log_is_told_of_changes_alone(rt: HostRuntime) -> Result<(), Fail> {
+    let log = Noted {
+        rt: &rt,
+        notes: Mutex::new(Notes {
+            changes: 0,
+            last: None,
+            ends: 0,
+        }),
+    };
+    let requests =
+        b"\x00\x00\x00\x22S\x01a{\"keys\":[],\"spiffe_sequence\":7}\x00\x00\x00\x22S\x01a{\"keys\":[],\"spiffe_sequence\":7}\x00\x00\x00\x03G\x01a\x00\x00\x00\x41A\x01a{\"use\":\"jwt-svid\",\"kty\":\"RSA\",\"kid\":\"k\",\"n\":\"AQAB\",\"e\":\"AQAB\"}\x00\x00\x00\x03R\x01b\x00\x00\x00\x03R\x01a".as_slice();
+    let ended = run_two_noted(&rt, rt.alloc(), (requests, GET_A), 1, &Open, &log)?;
+    assert_eq!(rt;
+        ended.first.as_slice(),
+        b"\x00\x00\x00\x01s\x00\x00\x00\x01u\x00\x00\x00\x20f{\"keys\":[],\"spiffe_sequence\":7}\x00\x00\x00\x0ap\x01\x00\x00\x00\x00\x00\x00\x00\x08\x00\x00\x00\x01\x1e\x00\x00\x00\x01d".as_slice()
+    );
+    let notes = log.notes.lock(&rt);
+    assert_eq!(rt; notes.changes, 3);
+    assert!(rt; notes.last == Some((How::Removed, Some(Expect::Sequence(8)), Expect::Absent,)));
+    assert_eq!(rt; notes.ends, 2);
     Ok(())
 }
 

@@ -4,10 +4,10 @@ use spiffe_doc::{Authority, Bundle, DocError, NameError, TrustDomain, read_docum
 use std::alloc::{AllocError, Global};
 use step_core::{Event, Why};
 
-/// Why lines are no events.
+/// Why lines are not events.
 #[derive(Clone, Copy, Debug, PartialEq, Eq, Drop)]
 pub enum LinesError {
-    /// The first line, from 1, that is no event.
+    /// The first line, from 1, that is not an event.
     BadLine(u64),
     Memory,
 }
@@ -18,7 +18,7 @@ impl From<AllocError> for LinesError {
     }
 }
 
-/// Why a line is no event.
+/// Why a line is not an event.
 #[derive(Drop)]
 enum LineError {
     NoEvent,

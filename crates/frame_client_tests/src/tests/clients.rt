@@ -295,7 +295,7 @@ fn asks_what_a_session_answers(rt: HostRuntime) -> Result<(), Fail> {
     Ok(())
 }
 
-// The request is flushed once, also where no reply comes.
+// The request is flushed once, even if no reply comes.
 #[test]
 fn a_request_is_flushed(rt: HostRuntime) -> Result<(), Fail> {
     let alloc = rt.alloc();
@@ -400,8 +400,8 @@ fn requests_one_after_the_other(rt: HostRuntime) -> Result<(), Fail> {
     Ok(())
 }
 
-/// To be run with each allocation refused in turn: where memory runs out before the request, the client
-/// says so and goes on; where it runs out at the reply, it has ended.
+/// To be run with each allocation refused in turn: if memory runs out before the request, the client
+/// says so and goes on; if it runs out at the reply, it has ended.
 fn without_memory(rt: &impl Abort, alloc: Global, ask: Asked, reply: &[u8]) -> Result<(), Fail> {
     let request = op(alloc, ask)?;
     // Room for the request, so that the writer has no growth of its own.

@@ -59,7 +59,7 @@ fn put_entries(out: &mut Vec<u8>, entry: &[u8], count: usize) -> Result<(), Allo
     Ok(())
 }
 
-/// Entry 66,051 is at fault: its place fills three of the four bytes.
+/// Entry 66,051 is malformed: its place fills three of the four bytes.
 #[test]
 fn a_place_is_big_endian(rt: HostRuntime) -> Result<(), AllocError> {
     let mut payload = Vec::from_slice(rt.alloc(), b"S\x01a{\"keys\":[")?;

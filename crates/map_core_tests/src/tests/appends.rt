@@ -129,7 +129,7 @@ fn takes_so_long_a_text(rt: HostRuntime) -> Result<(), Fail> {
     play(alloc, &mut map, &rows)
 }
 
-/// Where the sequence is the greatest and the text would be too long as well, the sequence is what is refused.
+/// If the sequence is the greatest and the text would be too long as well, the sequence is what is refused.
 #[test]
 fn a_full_sequence_comes_before_too_long(rt: HostRuntime) -> Result<(), Fail> {
     let alloc = rt.alloc();

@@ -64,7 +64,7 @@ fn set_in_turn(alloc: Global, store: &Store, p: &mut Pass, q: &mut Pass) -> Resu
     Ok(())
 }
 
-/// Closes the store and fails where it has another number of domains.
+/// Closes the store and fails if it has another number of domains.
 fn close_with(store: Store, pass: Pass, count: usize) -> Result<(), Fail>
     requires { IsOf pass store }
 {
@@ -346,7 +346,7 @@ fn a_front_asks_a_seated_pass(rt: HostRuntime) -> Result<(), Fail> {
     close_with(store, pass, 1)
 }
 
-/// Asks a line. Where no memory is left, a get shows what stood before, and the line is asked again.
+/// Asks a line. If no memory is left, a get shows what stood before, and the line is asked again.
 fn ask_short(
     alloc: Global,
     store: &Store,

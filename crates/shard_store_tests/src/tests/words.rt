@@ -153,7 +153,7 @@ fn answer_text(alloc: Global, answer: &Result<Reply, AskError>) -> Result<String
     }
 }
 
-/// Fails where the answer to the line is another one.
+/// Fails if the answer to the line is another one.
 pub(crate) fn compare(
     alloc: Global,
     line: &str,

@@ -181,7 +181,7 @@ fn faults_in_order(rt: HostRuntime) -> Result<(), Fail> {
     Ok(())
 }
 
-/// Whether the entry by itself is passed over.
+/// Whether the entry by itself is ignored.
 fn is_no_authority(alloc: Global, entry: &str) -> Result<bool, DocError> {
     Ok(read_entry(alloc, entry.as_bytes())?.is_none())
 }

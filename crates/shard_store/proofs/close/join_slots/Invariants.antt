@@ -1,6 +1,6 @@
 use Rattle.std.proofs.Common.{◌≡◌, length}
 use Rattle.map_core.specs.PlainMap.{PlainMap, part, together}
-use Rattle.shard_store.specs.Readings.{HoldPartsOf}
+use Rattle.shard_store.specs.Private.Readings.{HoldPartsOf}
 use Rattle.shard_store.proofs.close.join_slots.Given as goal
 
 abbrev pub invariant-loop-slot : goal.invariant-loop-slot

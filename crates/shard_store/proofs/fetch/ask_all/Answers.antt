@@ -3,7 +3,7 @@ use Rattle.std.specs.declared.sync.Arc.{Arc}
 use Rattle.map_core.specs.declared.reply.AskError.TheVariants.{Memory}
 use Rattle.map_core.specs.PlainMap.{PlainMap}
 use Rattle.shard_store.specs.Changes.{after}
-use Rattle.shard_store.specs.Readings.{ArePartsOf}
+use Rattle.shard_store.specs.Private.Readings.{ArePartsOf}
 use Rattle.shard_store.proofs.Promise.{error_passed}
 use Rattle.shard_store.proofs.Readings.{later_snapshot, snapshot_answers}
 use Rattle.shard_store.proofs.fetch.ask_all.Goals as goal

@@ -3,8 +3,8 @@ use Rattle.map_core.specs.declared.op.Op.TheVariants.{FetchAll}
 use Rattle.map_core.specs.declared.reply.AskError.TheVariants.{Moved}
 use Rattle.shard_store.specs.declared.fetch.Round.{Round}
 use Rattle.shard_store.specs.Promise.{IsLater, HasMoved, IsRefusedAt, IsRefused}
-use Rattle.shard_store.specs.Readings.{IsSnapshot}
-use Rattle.shard_store.specs.Readings.{IsRound}
+use Rattle.shard_store.specs.Private.Readings.{IsSnapshot}
+use Rattle.shard_store.specs.Private.Readings.{IsRound}
 use Rattle.shard_store.proofs.Promise.{later_then, fetch_has_no_home, error_is, refused_at, refused_since, at_slots, error_passed}
 use Rattle.shard_store.proofs.Readings.{snapshot_since, moved_since, moved_not_alone, longer}
 use Rattle.shard_store.proofs.fetch.fetch_parts.Goals as goal

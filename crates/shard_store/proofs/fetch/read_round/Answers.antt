@@ -1,5 +1,5 @@
 use Rattle.std.proofs.Common.{ℕ, List, sym, subst}
-use Rattle.shard_store.specs.Readings.{AreConfirmed, IsMovement}
+use Rattle.shard_store.specs.Private.Readings.{AreConfirmed, IsMovement}
 use Rattle.shard_store.proofs.Promise.{at_slots}
 use Rattle.shard_store.proofs.Readings.{snapshot, moved}
 use Rattle.shard_store.proofs.fetch.read_round.Goals as goal

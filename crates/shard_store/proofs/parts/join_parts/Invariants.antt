@@ -1,6 +1,6 @@
 use Rattle.std.proofs.Common.{◌≡◌, length}
 use Rattle.map_core.specs.PlainMap.{PlainMap, part, together}
-use Rattle.shard_store.specs.Readings.{ArePartsOf}
+use Rattle.shard_store.specs.Private.Readings.{ArePartsOf}
 use Rattle.shard_store.proofs.parts.join_parts.Given as goal
 
 abbrev pub invariant-loop-part : goal.invariant-loop-part

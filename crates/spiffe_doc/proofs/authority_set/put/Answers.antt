@@ -1,6 +1,6 @@
 use Rattle.std.proofs.Common.{◌≡◌, bytes_eq, ◌||◌, Bool, true, false, cond, refl, sym, ap, ◌∙◌}
 use Rattle.std.specs.Cmp.Lexicographic.{texts_ties}
-use Rattle.spiffe_doc.specs.AuthoritySet.{has}
+use Rattle.spiffe_doc.specs.Private.AuthoritySet.{has}
 use Rattle.spiffe_doc.proofs.authority_set.put.Goals as goal
 
 cond_or : (b c : Bool) → cond b true c ≡ (b || c)

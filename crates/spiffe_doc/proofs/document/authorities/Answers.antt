@@ -2,7 +2,7 @@ use Rattle.std.proofs.Common.{◌≡◌, ◌<◌, length, map, ◌∙◌, ap, in
 use Rattle.std.proofs.lemmas.Result.{err_from_is_err_and}
 use Rattle.std.proofs.lemmas.List.{length-map}
 use Rattle.serde_json.specs.View.{view}
-use Rattle.spiffe_doc.specs.AuthoritySet.{taken}
+use Rattle.spiffe_doc.specs.Private.AuthoritySet.{taken}
 use Rattle.spiffe_doc.proofs.EntryLists.{read_none, read_one_more, read_to_fault, read_all, outcome-view, elements_view}
 use Rattle.spiffe_doc.proofs.document.authorities.Goals as goal
 

@@ -1,6 +1,6 @@
 use Rattle.std.proofs.Common.{map}
 use Rattle.serde_json.specs.View.{view}
-use Rattle.spiffe_doc.specs.WholeSet.{IsWhole}
+use Rattle.spiffe_doc.specs.Private.WholeSet.{IsWhole}
 use Rattle.spiffe_doc.proofs.EntryLists.{IsReadTo}
 use Rattle.spiffe_doc.proofs.document.authorities.Given as goal
 

@@ -3,7 +3,7 @@ use Rattle.std.specs.Map.{values_of}
 use Rattle.std.proofs.lemmas.Iterator.Consumers.{count_from_yields_List, YieldsList-at, YieldsList-from_filter, YieldsList-from_rest}
 use Rattle.map_core.specs.declared.held.Held.{Held}
 use Rattle.map_core.specs.declared.held.Held.TheVariants.{Published, Mark}
-use Rattle.map_core.specs.Held.{is_published}
+use Rattle.map_core.specs.Private.Held.{is_published}
 use Rattle.map_core.specs.Name.{Name}
 use Rattle.map_core.specs.PlainMap.{published}
 use Rattle.map_core.proofs.Entries.{entries_sorted, sorted_entries}

@@ -8,7 +8,7 @@ use Rattle.map_core.specs.declared.held.Held.TheVariants.{Mark}
 use Rattle.map_core.specs.declared.op.Op.TheVariants.{Set}
 use Rattle.map_core.specs.declared.table.Outcome as program
 use Rattle.map_core.specs.Name.{Name, name_cmp}
-use Rattle.map_core.specs.Outcome.{reply_of, held_then, outcome_at}
+use Rattle.map_core.specs.Private.Outcome.{reply_of, held_then, outcome_at}
 use Rattle.map_core.specs.PlainMap.{PlainMap, ask, put}
 use Rattle.map_core.specs.Table.{Outcome, meaning}
 use Rattle.map_core.specs.Table as rows
@@ -17,7 +17,7 @@ use Rattle.map_core.proofs.Tables.{set_on_mark, set_leaves_some}
 use Rattle.map_core.proofs.contents.Contents.set.Goals.{in-Put, in-Kept, in-Cleared}
 use Rattle.map_core.proofs.contents.Contents.set.Goals as goal
 
--- what the row gives at the name, or at a mark of 0 where the name holds nothing
+-- what the row gives at the name, or at a mark of 0 if the name holds nothing
 row : (m : BTreeMap Name Held) (d : Name) (b : BundleValue) (there : Held) (outcome : program.Outcome) → there ≡ unwrap_or (tree.get name_cmp m d) (Mark 0)
     → outcome_at (Some there) outcome ≡ rows.set b (Some there) → outcome_at (Some there) outcome ≡ rows.set b (finite.get (shown m) d)
 row m d b there outcome at is =

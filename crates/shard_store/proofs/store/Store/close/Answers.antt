@@ -4,7 +4,7 @@ use Rattle.shard_store.specs.declared.change.Seen.{Seen}
 use Rattle.shard_store.specs.Rule.{SlotValue}
 use Rattle.shard_store.specs.Changes.{after, Extends}
 use Rattle.shard_store.specs.Promise.{IsAlone}
-use Rattle.shard_store.specs.Readings.{HoldPartsOf}
+use Rattle.shard_store.specs.Private.Readings.{HoldPartsOf}
 use Rattle.shard_store.proofs.KeptEnds.{closes}
 use Rattle.shard_store.proofs.Promise.{all_alone}
 use Rattle.shard_store.proofs.store.Store.close.Goals as goal

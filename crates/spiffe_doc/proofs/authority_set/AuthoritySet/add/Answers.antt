@@ -1,5 +1,5 @@
 use Rattle.std.proofs.Common.{bytes_eq, ◌||◌, length, ◌==◌, sym, ap, ◌∙◌}
-use Rattle.spiffe_doc.specs.AuthoritySet.{has, is_some_of}
+use Rattle.spiffe_doc.specs.Private.AuthoritySet.{has, is_some_of}
 use Rattle.spiffe_doc.proofs.SetLemmas.{indexed_push}
 use Rattle.spiffe_doc.proofs.TextLemmas.{front_text-push, pushed_same}
 use Rattle.spiffe_doc.proofs.authority_set.AuthoritySet.add.Goals as goal

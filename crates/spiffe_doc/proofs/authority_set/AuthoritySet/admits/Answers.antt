@@ -1,5 +1,5 @@
 use Rattle.std.proofs.Common.{◌≤◌, ◌<◌, length, sym, ap, ◌∙◌, arith}
-use Rattle.spiffe_doc.specs.AuthoritySet.{has, has_some}
+use Rattle.spiffe_doc.specs.Private.AuthoritySet.{has, has_some}
 use Rattle.spiffe_doc.proofs.SetLemmas.{admitted-there, admitted-taken, admitted-full, admitted-new}
 use Rattle.spiffe_doc.proofs.authority_set.AuthoritySet.admits.Goals as goal
 

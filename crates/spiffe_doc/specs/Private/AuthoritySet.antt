@@ -26,7 +26,7 @@ taken place before (Err e) = Err e
 taken place before (Ok None) = Ok before
 taken place before (Ok (Some authority)) = admitted place before authority
 
--- the list, with the authority at its end where it is new
+-- the list, with the authority at its end if it is new
 abbrev pub with_new : Bool → List Authority → Authority → List Authority
 with_new new before authority = if new then before ++ authority ∷ [] else before
 
@@ -39,7 +39,7 @@ abbrev pub has_some : BTreeSet (List ℕ) → Option (List ℕ) → Bool
 has_some set None = false
 has_some set (Some bytes) = has set bytes
 
--- whether these are the bytes, where there are any
+-- whether these are the bytes, if there are any
 abbrev pub is_some_of : List ℕ → Option (List ℕ) → Bool
 is_some_of bytes None = false
 is_some_of bytes (Some own) = bytes_eq own bytes
@@ -49,7 +49,7 @@ abbrev pub has_kid : List ℕ → Authority → Bool
 has_kid kid (X509 key der) = false
 has_kid kid (Jwt own key) = bytes_eq own kid
 
--- the key id of an authority, where it has one
+-- the key id of an authority, if it has one
 abbrev pub kid_of : Authority → Option (List ℕ)
 kid_of (X509 key der) = None
 kid_of (Jwt kid key) = Some kid

@@ -19,7 +19,7 @@ head_of (code ∷ bytes) = if code == 97 then option_map Ok (number_of bytes) el
 abbrev pub NoListing : ℕ → List ℕ → Type 0
 NoListing count read = (items : Domains) → AreValid items → Ascends None items → length items ≡ count → flat_map item_frame items ≢ read
 
--- What was read behind the number, where a client ends for this reason, and what its reader has left then.
+-- What was read after the number if a client ends for this reason, and what its reader has left then.
 abbrev pub BreaksListing : ClientError → ℕ → List ℕ → Option (List ℕ) → Type 0
 BreaksListing Truncated count read left = NoListing count read × IsAtEnd left
 BreaksListing ReadFault count read left = NoListing count read

@@ -3,7 +3,7 @@ use Rattle.std.specs.Prelude.{◌≡◌}
 use Rattle.spiffe_doc.specs.declared.authority_set.AuthoritySet.{AuthoritySet}
 use Rattle.spiffe_doc.specs.Bundle.{AreAuthorities}
 use Rattle.spiffe_doc.specs.Writing.{front_text}
-use Rattle.spiffe_doc.specs.AuthoritySet.{AreIndexed}
+use Rattle.spiffe_doc.specs.Private.AuthoritySet.{AreIndexed}
 
 pub record IsWhole (set : AuthoritySet) : Type 0 where
   pub lawful : AreAuthorities set.authorities.items
