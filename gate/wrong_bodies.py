@@ -1,0 +1,83 @@
+#!/usr/bin/env python3
+"""The wrong bodies that stand in crates/NAME/wrong-bodies: others of functions of which one is tried at each gate.
+
+usage: gate/wrong_bodies.py                fails unless each of them can be put into the code as it stands
+       gate/wrong_bodies.py try [NAME..]   wants the prover to refuse each, of all crates or of these: an hour on 4 cores
+
+rt ci tries those in must-fail/, with at least one of each function that a contract of its own has.
+"""
+import os
+import re
+import shutil
+import subprocess
+import sys
+import tempfile
+
+ROOT = os.path.dirname(os.path.dirname(os.path.abspath(__file__)))
+PAIR = re.compile(r"^(file|old|new): ?(.*)$", re.M)
+
+
+def edits_of(crate):
+    folder = f"{ROOT}/crates/{crate}/wrong-bodies"
+    return sorted(f"{folder}/{it}" for it in os.listdir(folder)) if os.path.isdir(folder) else []
+
+
+def applies(crate, edit):
+    """Whether each text that the edit replaces is once in the file that it names, one pair after the other."""
+    with open(edit, encoding="utf-8") as it:
+        lines = PAIR.findall(it.read())
+    texts, path, old, pairs = {}, "", None, 0
+    for word, said in lines:
+        if word == "file":
+            path = said
+            if path not in texts:
+                with open(f"{ROOT}/crates/{crate}/{path}", encoding="utf-8") as it:
+                    texts[path] = it.read()
+        elif word == "old":
+            old = said
+        elif texts.get(path, "").count(old) != 1:
+            return False
+        else:
+            texts[path], pairs = texts[path].replace(old, said), pairs + 1
+    return pairs > 0 and edit.endswith(".edit")
+
+
+def apply_all(crates):
+    bad = [it for crate in crates for it in edits_of(crate) if not applies(crate, it)]
+    for it in bad:
+        print(f"{os.path.relpath(it, ROOT)}: it cannot be applied")
+    return sum(len(edits_of(it)) for it in crates) - len(bad), len(bad)
+
+
+def try_all(crates):
+    """By rt must-fail, over a copy of the repository that has them in place of those in must-fail/."""
+    with tempfile.TemporaryDirectory(prefix="wrong-bodies-") as room:
+        shutil.copytree(f"{ROOT}/crates", f"{room}/crates", ignore=shutil.ignore_patterns("incremental"))
+        for name in ("crates.txt", "HANDLES"):
+            shutil.copy(f"{ROOT}/{name}", room)
+        for crate in os.listdir(f"{room}/crates"):
+            shutil.rmtree(f"{room}/crates/{crate}/must-fail", ignore_errors=True)
+            if os.path.isdir(f"{room}/crates/{crate}/wrong-bodies"):
+                os.rename(f"{room}/crates/{crate}/wrong-bodies", f"{room}/crates/{crate}/must-fail")
+        ran = subprocess.run(["rt", "must-fail", *crates], cwd=room, stdin=subprocess.DEVNULL, stdout=subprocess.PIPE)
+    said = ran.stdout.decode(errors="replace")
+    print(said, end="")
+    passed = len(re.findall(r": refused, as it must be", said))
+    return passed, sum(len(edits_of(it)) for it in crates) - passed
+
+
+def main(words):
+    crates = sorted(it for it in os.listdir(f"{ROOT}/crates") if edits_of(it))
+    if words[:1] == ["try"] and all(it in crates for it in words[1:]):
+        passed, failed = try_all(words[1:] or crates)
+    elif not words:
+        passed, failed = apply_all(crates)
+    else:
+        print(__doc__, end="", file=sys.stderr)
+        return 2
+    print(f"{passed} passed, {failed} failed")
+    return 1 if failed else 0
+
+
+if __name__ == "__main__":
+    sys.exit(main(sys.argv[1:]))
