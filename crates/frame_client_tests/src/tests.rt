@@ -3,8 +3,33 @@ mod clients;
 mod exchanges;
 mod numbers;
 
+use std::fmt::Debug;
 use std::io;
 use std::io::{Read, Write};
+use std::process::Abort;
+
+/// What was found is what is wanted.
+fn is_equal<T: PartialEq + Debug>(rt: &impl Abort, found: &T, wanted: &T) {
+    assert!(rt; *found == *wanted, "{found:?}, and not {wanted:?}");
+}
+
+/// What was found in this case is what is wanted.
+fn is_equal_at<T: PartialEq + Debug, C: Debug>(rt: &impl Abort, found: &T, wanted: &T, case: &C) {
+    assert!(rt;
+        *found == *wanted,
+        "{case:?}: {found:?}, and not {wanted:?}"
+    );
+}
+
+/// It is so.
+fn holds(rt: &impl Abort, is_so: bool) {
+    assert!(rt; is_so);
+}
+
+/// It is so in this case.
+fn holds_at<C: Debug>(rt: &impl Abort, is_so: bool, case: &C) {
+    assert!(rt; is_so, "{case:?}");
+}
 
 /// Set `a` to the empty document.
 const SET: &[u8] = b"\x00\x00\x00\x0eS\x01a{\"keys\":[]}";

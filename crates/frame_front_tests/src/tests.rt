@@ -13,9 +13,33 @@ mod sizes;
 use frame_front::{Counted, FrontError, serve};
 use map_core::Contents;
 use std::alloc::{AllocError, Global};
+use std::fmt::Debug;
 use std::io;
 use std::io::{Read, Write};
 use std::process::Abort;
+
+/// What was found is what is wanted.
+fn is_equal<T: PartialEq + Debug>(rt: &impl Abort, found: &T, wanted: &T) {
+    assert!(rt; *found == *wanted, "{found:?}, and not {wanted:?}");
+}
+
+/// What was found in this case is what is wanted.
+fn is_equal_at<T: PartialEq + Debug, C: Debug>(rt: &impl Abort, found: &T, wanted: &T, case: &C) {
+    assert!(rt;
+        *found == *wanted,
+        "{case:?}: {found:?}, and not {wanted:?}"
+    );
+}
+
+/// It is so.
+fn holds(rt: &impl Abort, is_so: bool) {
+    assert!(rt; is_so);
+}
+
+/// It is so in this case.
+fn holds_at<C: Debug>(rt: &impl Abort, is_so: bool, case: &C) {
+    assert!(rt; is_so, "{case:?}");
+}
 
 /// Set `a` to the empty document.
 const SET: &[u8] = b"\x00\x00\x00\x0eS\x01a{\"keys\":[]}";
@@ -106,28 +130,39 @@ struct Session<'a> {
     output: &'a [u8],
 }
 
+/// A session over an empty map, in pieces of this size, ends so and has this output.
+fn serves_so(
+    rt: &impl Abort,
+    alloc: Global,
+    name: &str,
+    (input, size): (&[u8], usize),
+    wanted: &Result<u64, FrontError>,
+    output: &[u8],
+) -> Result<(), AllocError> {
+    let reader = Pieces {
+        bytes: input,
+        first: size,
+        size,
+    };
+    let (ended, written) = answers_of(alloc, &mut Contents::new(alloc), reader)?;
+    holds_at(rt, ended == *wanted, &name);
+    holds_at(rt, written.as_slice() == output, &name);
+    Ok(())
+}
+
 /// Serves each session over an empty map: in pieces of 4,096 bytes and of one.
 fn serve_each(rt: &impl Abort, alloc: Global, sessions: &[Session<'_>]) -> Result<(), AllocError> {
     for session in sessions {
         for size in [4096, 1] {
-            let mut contents = Contents::new(alloc);
-            let reader = Pieces {
-                bytes: session.input,
-                first: size,
-                size,
-            };
-            let (ended, written) = answers_of(alloc, &mut contents, reader)?;
-            assert!(rt;
-                ended == session.ended,
-                "{} in pieces of {size}: {ended:?}",
-                session.name
-            );
-            assert!(rt;
-                written.as_slice() == session.output,
-                "{} in pieces of {size}: {:?}",
+            let given = (session.input, size);
+            serves_so(
+                rt,
+                alloc,
                 session.name,
-                written.as_slice()
-            );
+                given,
+                &session.ended,
+                session.output,
+            )?;
         }
     }
     Ok(())

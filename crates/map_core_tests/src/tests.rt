@@ -5,7 +5,14 @@ mod snapshots;
 use map_core::{Ask, AskError, Contents, Expect, MapRefusal, Op, Reply, Snapshot};
 use spiffe_doc::{Authority, Bundle, TrustDomain, read_document, read_entry};
 use std::alloc::{AllocError, Global};
+use std::fmt::Debug;
+use std::process::Abort;
 use std::test::Fail;
+
+/// What was found is what is wanted.
+fn is_equal<T: PartialEq + Debug>(rt: &impl Abort, found: &T, wanted: &T) {
+    assert!(rt; *found == *wanted, "{found:?}, and not {wanted:?}");
+}
 
 /// The X.509 authority with an EC key that the word `x509` stands for.
 const X509_ENTRY: &str =
@@ -335,7 +342,7 @@ fn shows_bundles_in_order(rt: HostRuntime) -> Result<(), Fail> {
     ];
     let mut map = Contents::new(rt.alloc());
     play(rt.alloc(), &mut map, &rows)?;
-    assert_eq!(rt; map.len(), 3);
+    is_equal(&rt, &map.len(), &3);
     Ok(())
 }
 
@@ -356,8 +363,8 @@ fn snapshot_of(alloc: Global, name: &str, word: &str) -> Result<Snapshot, Fail> 
 fn a_snapshot_is_of_its_pairs(rt: HostRuntime) -> Result<(), Fail> {
     let all = snapshot_of(rt.alloc(), "a", "5")?;
     let text = snapshot_text(rt.alloc(), &all)?;
-    assert_eq!(rt; text.as_str(), "all 1 a 5/0");
-    assert_eq!(rt; all.into_pairs().len(), 1);
+    is_equal(&rt, &text.as_str(), &"all 1 a 5/0");
+    is_equal(&rt, &all.into_pairs().len(), &1);
     Ok(())
 }
 
@@ -394,8 +401,8 @@ fn numbers_and_texts_of_refusals(rt: HostRuntime) -> Result<(), Fail> {
         ),
     ];
     for (refusal, number, text) in refusals {
-        assert_eq!(rt; refusal.number(), number);
-        assert_eq!(rt; format!(in alloc; "{refusal}")?.as_str(), text);
+        is_equal(&rt, &refusal.number(), &number);
+        is_equal(&rt, &format!(in alloc; "{refusal}")?.as_str(), &text);
     }
     Ok(())
 }
@@ -431,8 +438,8 @@ fn numbers_and_texts_of_errors(rt: HostRuntime) -> Result<(), Fail> {
         (AskError::GateShut, 56, "the gate is shut"),
     ];
     for (error, number, text) in errors {
-        assert_eq!(rt; error.number(), number);
-        assert_eq!(rt; format!(in alloc; "{error}")?.as_str(), text);
+        is_equal(&rt, &error.number(), &number);
+        is_equal(&rt, &format!(in alloc; "{error}")?.as_str(), &text);
     }
     Ok(())
 }

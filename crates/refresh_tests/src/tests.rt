@@ -8,7 +8,32 @@ use refresh::{
 };
 use spiffe_doc::{IdError, NameError, TrustDomain, read_document};
 use std::alloc::Global;
+use std::fmt::Debug;
+use std::process::Abort;
 use std::test::Fail;
+
+/// What was found is what is wanted.
+fn is_equal<T: PartialEq + Debug>(rt: &impl Abort, found: &T, wanted: &T) {
+    assert!(rt; *found == *wanted, "{found:?}, and not {wanted:?}");
+}
+
+/// What was found in this case is what is wanted.
+fn is_equal_at<T: PartialEq + Debug, C: Debug>(rt: &impl Abort, found: &T, wanted: &T, case: &C) {
+    assert!(rt;
+        *found == *wanted,
+        "{case:?}: {found:?}, and not {wanted:?}"
+    );
+}
+
+/// It is so.
+fn holds(rt: &impl Abort, is_so: bool) {
+    assert!(rt; is_so);
+}
+
+/// It is so in this case.
+fn holds_at<C: Debug>(rt: &impl Abort, is_so: bool, case: &C) {
+    assert!(rt; is_so, "{case:?}");
+}
 
 /// Gives the document that is kept for a trust domain, and counts its fetches.
 #[derive(Drop)]
@@ -80,7 +105,7 @@ fn due_times(rt: HostRuntime) {
         (1, Some(18446744073709551615), 18446744073709551615),
     ];
     for (now, hint, due) in rows {
-        assert_eq!(rt; next_due(now, hint), due, "now {now}");
+        is_equal_at(&rt, &next_due(now, hint), &due, &now);
     }
 }
 
@@ -199,10 +224,11 @@ fn faults_of_relationships(rt: HostRuntime) {
         ),
     ];
     for (domain, url, profile, endpoint_id, fault) in rows {
-        assert_eq!(rt;
-            fault_of(alloc, domain, url, profile, endpoint_id),
-            fault,
-            "{domain} {url} {profile}"
+        is_equal_at(
+            &rt,
+            &fault_of(alloc, domain, url, profile, endpoint_id),
+            &fault,
+            &domain,
         );
     }
 }
@@ -217,15 +243,15 @@ fn parts_of_relationships(rt: HostRuntime) -> Result<(), Fail> {
         "https_spiffe",
         Some("spiffe://b.example/spire/server"),
     )?;
-    assert_eq!(rt; read.domain().as_str(), "b.example");
-    assert_eq!(rt; read.url().as_str(), "https://b.example:8443/");
+    is_equal(&rt, &read.domain().as_str(), &"b.example");
+    is_equal(&rt, &read.url().as_str(), &"https://b.example:8443/");
     let Profile::HttpsSpiffe(id) = read.profile() else {
         return Err(Fail::from("the profile has an ID"));
     };
-    assert_eq!(rt; id.domain().as_str(), "b.example");
-    assert_eq!(rt; id.path(), "/spire/server");
+    is_equal(&rt, &id.domain().as_str(), &"b.example");
+    is_equal(&rt, &id.path(), &"/spire/server");
     let read = Relationship::read(alloc, "a", "https://b.example", "https_web", Some("x"))?;
-    assert!(rt; matches!(read.profile(), Profile::HttpsWeb));
+    holds(&rt, matches!(read.profile(), Profile::HttpsWeb));
     Ok(())
 }
 
@@ -236,12 +262,13 @@ fn urls_of_2048_bytes(rt: HostRuntime) -> Result<(), Fail> {
     for _ in 0..2024 {
         url.push('a')?;
     }
-    assert_eq!(rt; url.len(), 2048);
-    assert_eq!(rt; fault_of(alloc, "a", &url, "https_web", None), None);
+    is_equal(&rt, &url.len(), &2048);
+    is_equal(&rt, &fault_of(alloc, "a", &url, "https_web", None), &None);
     url.push('a')?;
-    assert_eq!(rt;
-        fault_of(alloc, "a", &url, "https_web", None),
-        Some(RelationError::BadUrl)
+    is_equal(
+        &rt,
+        &fault_of(alloc, "a", &url, "https_web", None),
+        &Some(RelationError::BadUrl),
     );
     Ok(())
 }
@@ -277,12 +304,13 @@ fn numbers_and_texts(rt: HostRuntime) -> Result<(), Fail> {
         (RelationError::Memory, 22, "out of memory"),
     ];
     for (error, number, text) in rows {
-        assert_eq!(rt; error.number(), number);
-        assert_eq!(rt; format!(in rt.alloc(); "{error}")?.as_str(), text);
+        is_equal(&rt, &error.number(), &number);
+        is_equal(&rt, &format!(in rt.alloc(); "{error}")?.as_str(), &text);
     }
-    assert_eq!(rt;
-        format!(in rt.alloc(); "{}", SourceFault)?.as_str(),
-        "the endpoint gave no document"
+    is_equal(
+        &rt,
+        &format!(in rt.alloc(); "{}", SourceFault)?.as_str(),
+        &"the endpoint gave no document",
     );
     Ok(())
 }
@@ -314,27 +342,31 @@ fn two_relationships(rt: HostRuntime) -> Result<(), Fail> {
     };
     let mut map = Contents::new(alloc);
     let mut schedule = Schedule::new(alloc, vec![in alloc; web(alloc, "a")?, web(alloc, "b")?]?)?;
-    assert_eq!(rt; schedule.len(), 2);
-    assert_eq!(rt; schedule.next(), Some((0, 0)));
+    is_equal(&rt, &schedule.len(), &2);
+    is_equal(&rt, &schedule.next(), &Some((0, 0)));
     let first = refresh_at(alloc, &mut source, &mut map, &mut schedule, 0, 1000)?;
-    assert_eq!(rt; outcome_text(alloc, &first)?.as_str(), "stored 1060");
-    assert_eq!(rt; schedule.next(), Some((1, 0)));
+    is_equal(&rt, &outcome_text(alloc, &first)?.as_str(), &"stored 1060");
+    is_equal(&rt, &schedule.next(), &Some((1, 0)));
     let second = refresh_at(alloc, &mut source, &mut map, &mut schedule, 1, 1000)?;
-    assert_eq!(rt; outcome_text(alloc, &second)?.as_str(), "none 1300");
-    assert_eq!(rt; schedule.next(), Some((0, 1060)));
+    is_equal(&rt, &outcome_text(alloc, &second)?.as_str(), &"none 1300");
+    is_equal(&rt, &schedule.next(), &Some((0, 1060)));
     let third = refresh_at(alloc, &mut source, &mut map, &mut schedule, 0, 1060)?;
-    assert_eq!(rt; outcome_text(alloc, &third)?.as_str(), "unchanged 1120");
+    is_equal(
+        &rt,
+        &outcome_text(alloc, &third)?.as_str(),
+        &"unchanged 1120",
+    );
     let mut array = Folder {
         alloc,
         documents: &[("a", "[]")],
         fetches: 0,
     };
     let fourth = refresh_at(alloc, &mut array, &mut map, &mut schedule, 0, 1060)?;
-    assert_eq!(rt; outcome_text(alloc, &fourth)?.as_str(), "bad 12 1360");
-    assert_eq!(rt; (schedule.due(0), schedule.due(1)), (1360, 1300));
-    assert_eq!(rt; schedule.relationship(1).domain().as_str(), "b");
-    assert_eq!(rt; (source.fetches, array.fetches), (3, 1));
-    assert_eq!(rt; map.len(), 1);
+    is_equal(&rt, &outcome_text(alloc, &fourth)?.as_str(), &"bad 12 1360");
+    is_equal(&rt, &(schedule.due(0), schedule.due(1)), &(1360, 1300));
+    is_equal(&rt, &schedule.relationship(1).domain().as_str(), &"b");
+    is_equal(&rt, &(source.fetches, array.fetches), &(3, 1));
+    is_equal(&rt, &map.len(), &1);
     Ok(())
 }
 
@@ -437,14 +469,14 @@ fn ten_thousand_refreshes(rt: HostRuntime) -> Result<(), Fail> {
             };
             now = due.max(now);
             let outcome = refresh_at(alloc, &mut source, &mut map, &mut schedule, place, now)?;
-            assert_eq!(rt; schedule.due(place), outcome.due);
+            is_equal(&rt, &schedule.due(place), &outcome.due);
             hash = hash_with(hash, place as u64);
             hash = hash_with(hash, outcome_number(&outcome));
             hash = hash_with(hash, outcome.due);
         }
-        assert_eq!(rt; hash, expected);
+        is_equal(&rt, &hash, &expected);
     }
-    assert_eq!(rt; source.fetches, 10_000);
+    is_equal(&rt, &source.fetches, &10_000);
     Ok(())
 }
 
@@ -463,10 +495,17 @@ fn maps_that_refuse(rt: HostRuntime) -> Result<(), Fail> {
         revision: 3,
     });
     let outcome = refresh_once(alloc, &mut source, &mut held, &relationship, 1000)?;
-    assert_eq!(rt; outcome_text(alloc, &outcome)?.as_str(), "asked 42 1060");
+    is_equal(
+        &rt,
+        &outcome_text(alloc, &outcome)?.as_str(),
+        &"asked 42 1060",
+    );
     let mut full = Refuses(AskError::Memory);
-    assert!(rt; refresh_once(alloc, &mut source, &mut full, &relationship, 1000).is_err());
-    assert_eq!(rt; source.fetches, 2);
+    holds(
+        &rt,
+        refresh_once(alloc, &mut source, &mut full, &relationship, 1000).is_err(),
+    );
+    is_equal(&rt, &source.fetches, &2);
     Ok(())
 }
 
@@ -482,7 +521,7 @@ fn older_documents(rt: HostRuntime) -> Result<(), Fail> {
         fetches: 0,
     };
     let newer = refresh_once(alloc, &mut source, &mut map, &relationship, 0)?;
-    assert_eq!(rt; outcome_text(alloc, &newer)?.as_str(), "stored 300");
+    is_equal(&rt, &outcome_text(alloc, &newer)?.as_str(), &"stored 300");
     let mut earlier = Folder {
         alloc,
         documents: &[(
@@ -492,12 +531,15 @@ fn older_documents(rt: HostRuntime) -> Result<(), Fail> {
         fetches: 0,
     };
     let older = refresh_once(alloc, &mut earlier, &mut map, &relationship, 300)?;
-    assert_eq!(rt; outcome_text(alloc, &older)?.as_str(), "stale 7 305");
+    is_equal(&rt, &outcome_text(alloc, &older)?.as_str(), &"stale 7 305");
     let get = Op::Get(TrustDomain::parse(alloc, "a")?);
     let Reply::Found(bundle) = map.ask(get)? else {
         return Err(Fail::from("the bundle is held"));
     };
-    assert!(rt; bundle == read_document(alloc, b"{\"keys\":[],\"spiffe_sequence\":7}")?);
+    holds(
+        &rt,
+        bundle == read_document(alloc, b"{\"keys\":[],\"spiffe_sequence\":7}")?,
+    );
     Ok(())
 }
 
@@ -521,22 +563,23 @@ fn a_refused_growth_changes_nothing(rt: HostRuntime) -> Result<(), Fail> {
         Ok(outcome) if matches!(outcome.what, What::Taken(Reply::Stored)) => {}
         // The source is refused memory too, and has no other word for it.
         Ok(outcome) => {
-            assert!(rt; matches!(outcome.what, What::NoAnswer));
-            assert_eq!(rt; (schedule.next(), map.len()), (Some((0, 1300)), 0));
+            holds(&rt, matches!(outcome.what, What::NoAnswer));
+            is_equal(&rt, &(schedule.next(), map.len()), &(Some((0, 1300)), 0));
             tries = 2;
         }
         Err(_) => {
-            assert_eq!(rt; (schedule.next(), map.len()), (Some((0, 0)), 0));
+            is_equal(&rt, &(schedule.next(), map.len()), &(Some((0, 0)), 0));
             tries = 2;
         }
     }
     if tries == 2 {
         let again = refresh_at(alloc, &mut source, &mut map, &mut schedule, 0, 1000)?;
-        assert!(rt; matches!(again.what, What::Taken(Reply::Stored)));
+        holds(&rt, matches!(again.what, What::Taken(Reply::Stored)));
     }
-    assert_eq!(rt;
-        (schedule.next(), map.len(), source.fetches),
-        (Some((0, 1300)), 1, tries)
+    is_equal(
+        &rt,
+        &(schedule.next(), map.len(), source.fetches),
+        &(Some((0, 1300)), 1, tries),
     );
     Ok(())
 }

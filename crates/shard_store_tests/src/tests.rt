@@ -2,3 +2,10 @@
 mod threads;
 mod turns;
 mod words;
+
+use std::process::Abort;
+
+/// It is so.
+fn holds(rt: &impl Abort, is_so: bool) {
+    assert!(rt; is_so);
+}

@@ -7,8 +7,15 @@ mod tasks;
 use map_core::{AskError, Contents, Expect, MapRefusal, Op, Reply, Snapshot};
 use spiffe_doc::{Authority, Bundle, TrustDomain, read_document, read_entry};
 use std::alloc::{AllocError, Global};
+use std::fmt::Debug;
+use std::process::Abort;
 use std::test::Fail;
 use step_core::{Event, OpRecord, Trace, Why, run_events};
+
+/// What was found is what is wanted.
+fn is_equal<T: PartialEq + Debug>(rt: &impl Abort, found: &T, wanted: &T) {
+    assert!(rt; *found == *wanted, "{found:?}, and not {wanted:?}");
+}
 
 /// The next word of a line, and the rest.
 fn cut(line: &str) -> (&str, &str) {

@@ -8,6 +8,8 @@ use map_core::{Ask, AskError, Expect, Op, Reply};
 use shard_store::{Pass, Store};
 use spiffe_doc::TrustDomain;
 use std::alloc::{AllocError, Global};
+use std::fmt::Debug;
+use std::process::Abort;
 use std::sync::{Mutex, Wait};
 use std::test::Fail;
 use std::thread::Threads;
@@ -16,6 +18,16 @@ use workers::{
     Changed, Gate, How, ListenFault, Log, Open, Quiet, Retrying, Session, SessionFault, Sessions,
     run_workers,
 };
+
+/// What was found is what is wanted.
+fn is_equal<T: PartialEq + Debug>(rt: &impl Abort, found: &T, wanted: &T) {
+    assert!(rt; *found == *wanted, "{found:?}, and not {wanted:?}");
+}
+
+/// It is so.
+fn holds(rt: &impl Abort, is_so: bool) {
+    assert!(rt; is_so);
+}
 
 /// One session over memory.
 #[derive(Drop)]
@@ -252,9 +264,17 @@ fn two_workers_meet(rt: HostRuntime) -> Result<(), Fail> {
         }),
     };
     let ended = run_two(&rt, rt.alloc(), (GET_A, GET_A), 1, &gate)?;
-    assert_eq!(rt; ended.first.as_slice(), b"\x00\x00\x00\x01\x1e".as_slice());
-    assert_eq!(rt; ended.second.as_slice(), b"\x00\x00\x00\x01\x1e".as_slice());
-    assert!(rt; ended.results.as_slice() == [Ok(1), Ok(1)].as_slice());
+    is_equal(
+        &rt,
+        &ended.first.as_slice(),
+        &b"\x00\x00\x00\x01\x1e".as_slice(),
+    );
+    is_equal(
+        &rt,
+        &ended.second.as_slice(),
+        &b"\x00\x00\x00\x01\x1e".as_slice(),
+    );
+    holds(&rt, ended.results.as_slice() == [Ok(1), Ok(1)].as_slice());
     Ok(())
 }
 
@@ -266,15 +286,17 @@ fn a_shut_gate_lets_nothing_through(rt: HostRuntime) -> Result<(), Fail> {
     let second =
         b"\x00\x00\x00\x0eS\x01b{\"keys\":[]}\x00\x00\x00\x03G\x01b\x00\x00\x00\x03G\x01a".as_slice();
     let ended = run_two(&rt, rt.alloc(), (first, second), 1, &ShutForFirst)?;
-    assert_eq!(rt;
-        ended.first.as_slice(),
-        b"\x00\x00\x00\x01\x38\x00\x00\x00\x01\x33\x00\x00\x00\x01\x38".as_slice()
+    is_equal(
+        &rt,
+        &ended.first.as_slice(),
+        &b"\x00\x00\x00\x01\x38\x00\x00\x00\x01\x33\x00\x00\x00\x01\x38".as_slice(),
     );
-    assert_eq!(rt;
-        ended.second.as_slice(),
-        b"\x00\x00\x00\x01s\x00\x00\x00\x0cf{\"keys\":[]}\x00\x00\x00\x01\x1e".as_slice()
+    is_equal(
+        &rt,
+        &ended.second.as_slice(),
+        &b"\x00\x00\x00\x01s\x00\x00\x00\x0cf{\"keys\":[]}\x00\x00\x00\x01\x1e".as_slice(),
     );
-    assert!(rt; ended.results.as_slice() == [Ok(3), Ok(3)].as_slice());
+    holds(&rt, ended.results.as_slice() == [Ok(3), Ok(3)].as_slice());
     Ok(())
 }
 
@@ -293,12 +315,12 @@ fn a_gate_is_told_of_each_call_that_was_made(rt: HostRuntime) -> Result<(), Fail
         b"\x00\x00\x00\x03G\x01a\x00\x00\x00\x03G\x01a\x00\x00\x00\x03G\x01a".as_slice();
     let replies = b"\x00\x00\x00\x01\x1e\x00\x00\x00\x01\x38\x00\x00\x00\x01\x1e".as_slice();
     let ended = run_two(&rt, rt.alloc(), (three_gets, three_gets), 1, &gate)?;
-    assert_eq!(rt; ended.first.as_slice(), replies);
-    assert_eq!(rt; ended.second.as_slice(), replies);
+    is_equal(&rt, &ended.first.as_slice(), &replies);
+    is_equal(&rt, &ended.second.as_slice(), &replies);
     let told = gate.told.lock(&rt);
-    assert_eq!(rt; told.came, 6);
-    assert_eq!(rt; told.made, 4);
-    assert_eq!(rt; told.made_though_shut, 0);
+    is_equal(&rt, &told.came, &6);
+    is_equal(&rt, &told.made, &4);
+    is_equal(&rt, &told.made_though_shut, &0);
     Ok(())
 }
 
@@ -307,7 +329,8 @@ fn a_gate_is_told_of_each_call_that_was_made(rt: HostRuntime) -> Result<(), Fail
 fn a_listener_that_fails(rt: HostRuntime) -> Result<(), Fail> {
     let cut = b"\x00\x00\x00\x03G\x01a\x00\x00".as_slice();
     let ended = run_two(&rt, rt.alloc(), (GET_A, cut), 5, &Open)?;
-    assert!(rt;
+    holds(
+        &rt,
         ended.results.as_slice()
             == [
                 Ok(1),
@@ -315,9 +338,9 @@ fn a_listener_that_fails(rt: HostRuntime) -> Result<(), Fail> {
                 Err(SessionFault::Front(FrontError::Truncated)),
                 Err(SessionFault::Listen),
             ]
-            .as_slice()
+            .as_slice(),
     );
-    assert_eq!(rt; SessionFault::Listen.number(), 57);
+    is_equal(&rt, &SessionFault::Listen.number(), &57);
     Ok(())
 }
 
@@ -335,14 +358,18 @@ fn a_log_is_told_of_changes_alone(rt: HostRuntime) -> Result<(), Fail> {
     let requests =
         b"\x00\x00\x00\x22S\x01a{\"keys\":[],\"spiffe_sequence\":7}\x00\x00\x00\x22S\x01a{\"keys\":[],\"spiffe_sequence\":7}\x00\x00\x00\x03G\x01a\x00\x00\x00\x41A\x01a{\"use\":\"jwt-svid\",\"kty\":\"RSA\",\"kid\":\"k\",\"n\":\"AQAB\",\"e\":\"AQAB\"}\x00\x00\x00\x03R\x01b\x00\x00\x00\x03R\x01a".as_slice();
     let ended = run_two_noted(&rt, rt.alloc(), (requests, GET_A), 1, &Open, &log)?;
-    assert_eq!(rt;
-        ended.first.as_slice(),
-        b"\x00\x00\x00\x01s\x00\x00\x00\x01u\x00\x00\x00\x20f{\"keys\":[],\"spiffe_sequence\":7}\x00\x00\x00\x0ap\x01\x00\x00\x00\x00\x00\x00\x00\x08\x00\x00\x00\x01\x1e\x00\x00\x00\x01d".as_slice()
+    is_equal(
+        &rt,
+        &ended.first.as_slice(),
+        &b"\x00\x00\x00\x01s\x00\x00\x00\x01u\x00\x00\x00\x20f{\"keys\":[],\"spiffe_sequence\":7}\x00\x00\x00\x0ap\x01\x00\x00\x00\x00\x00\x00\x00\x08\x00\x00\x00\x01\x1e\x00\x00\x00\x01d".as_slice(),
     );
     let notes = log.notes.lock(&rt);
-    assert_eq!(rt; notes.changes, 3);
-    assert!(rt; notes.last == Some((How::Removed, Some(Expect::Sequence(8)), Expect::Absent,)));
-    assert_eq!(rt; notes.ends, 2);
+    is_equal(&rt, &notes.changes, &3);
+    holds(
+        &rt,
+        notes.last == Some((How::Removed, Some(Expect::Sequence(8)), Expect::Absent)),
+    );
+    is_equal(&rt, &notes.ends, &2);
     Ok(())
 }
 
@@ -372,9 +399,12 @@ fn two_workers_beside_each_other(rt: HostRuntime) -> Result<(), Fail> {
     for _ in 0..100 {
         replies.extend_from_slice(b"\x00\x00\x00\x01s\x00\x00\x00\x0cf{\"keys\":[]}")?;
     }
-    assert!(rt; ended.first.as_slice() == replies.as_slice());
-    assert!(rt; ended.second.as_slice() == replies.as_slice());
-    assert!(rt; ended.results.as_slice() == [Ok(200), Ok(200)].as_slice());
+    holds(&rt, ended.first.as_slice() == replies.as_slice());
+    holds(&rt, ended.second.as_slice() == replies.as_slice());
+    holds(
+        &rt,
+        ended.results.as_slice() == [Ok(200), Ok(200)].as_slice(),
+    );
     Ok(())
 }
 
@@ -439,8 +469,8 @@ fn transient_answers_are_asked_again(rt: HostRuntime) -> Result<(), Fail> {
         let number = ask
             .ask(Op::Get(name))
             .map_or_else(|error| error.number(), |_| 0);
-        assert_eq!(rt; number, last);
-        assert_eq!(rt; ask.ask.asked, asked);
+        is_equal(&rt, &number, &last);
+        is_equal(&rt, &ask.ask.asked, &asked);
     }
     Ok(())
 }

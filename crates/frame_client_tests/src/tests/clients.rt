@@ -1,6 +1,6 @@
 //! Clients: what they write, and what they make of what they read.
 use super::exchanges::{Asked, EXCHANGES, Exchange, op, words};
-use super::{ALL_OF_ONE, Calls, FETCH_ALL, Pieces, SET};
+use super::{ALL_OF_ONE, Calls, FETCH_ALL, Pieces, SET, holds, holds_at, is_equal};
 use frame_client::{Client, ClientError, RequestError, write_request};
 use frame_front::{Counted, FaultyReader, FaultyWriter, serve};
 use map_core::{Ask, AskError, Contents, Expect, Op, Reply};
@@ -31,14 +31,14 @@ fn asks_and_is_answered(rt: HostRuntime) -> Result<(), Fail> {
             let writer = Counted::new(Vec::new(alloc));
             let mut client = Client::new(alloc, Counted::new(reader), writer);
             let answer = client.ask(op(alloc, exchange.ask)?);
-            assert_eq!(rt; words(alloc, &answer)?.as_str(), exchange.answer);
-            assert!(rt; client.ended().is_none(), "{}", exchange.answer);
+            is_equal(&rt, &words(alloc, &answer)?.as_str(), &exchange.answer);
+            holds_at(&rt, client.ended().is_none(), &exchange.answer);
             let (reader, writer) = client.into_ends();
-            assert!(rt; reader.end.bytes == b"x".as_slice(), "{}", exchange.answer);
-            assert!(rt;
+            holds_at(&rt, reader.end.bytes == b"x".as_slice(), &exchange.answer);
+            holds_at(
+                &rt,
                 writer.end.as_slice() == exchange.request,
-                "{}",
-                exchange.answer
+                &exchange.answer,
             );
         }
     }
@@ -56,17 +56,13 @@ fn ends_so(
 ) -> Result<(), Fail> {
     let mut client = Client::new(alloc, Counted::new(input), Counted::new(Vec::new(alloc)));
     let answer = client.ask(op(alloc, exchange.ask)?);
-    assert!(rt; matches!(answer, Err(AskError::GateShut)), "{input:?}");
-    assert!(rt;
-        client.ended() == Some(why),
-        "{input:?} {:?}",
-        client.ended()
-    );
+    holds_at(rt, matches!(answer, Err(AskError::GateShut)), &input);
+    holds_at(rt, client.ended() == Some(why), &input);
     let again = client.ask(op(alloc, exchange.ask)?);
-    assert!(rt; matches!(again, Err(AskError::GateShut)), "{input:?}");
-    assert!(rt; client.ended() == Some(why), "{input:?}");
+    holds_at(rt, matches!(again, Err(AskError::GateShut)), &input);
+    holds_at(rt, client.ended() == Some(why), &input);
     let (_, writer) = client.into_ends();
-    assert!(rt; writer.end.as_slice() == exchange.request, "{input:?}");
+    holds_at(rt, writer.end.as_slice() == exchange.request, &input);
     Ok(())
 }
 
@@ -90,16 +86,13 @@ fn a_reader_that_fails(rt: HostRuntime) -> Result<(), Fail> {
             let writer = Counted::new(Vec::new(alloc));
             let mut client = Client::new(alloc, Counted::new(reader), writer);
             let answer = client.ask(op(alloc, exchange.ask)?);
-            assert!(rt; matches!(answer, Err(AskError::GateShut)), "after {after}");
-            assert!(rt;
-                client.ended() == Some(ClientError::ReadFault),
-                "after {after}"
-            );
+            holds_at(&rt, matches!(answer, Err(AskError::GateShut)), &after);
+            holds_at(&rt, client.ended() == Some(ClientError::ReadFault), &after);
             let (reader, writer) = client.into_ends();
-            assert!(rt; reader.faults() == 1, "after {after}");
-            assert!(rt; writer.faults() == 0, "after {after}");
-            assert!(rt; reader.end.given == after, "after {after}");
-            assert!(rt; writer.end.as_slice() == exchange.request, "after {after}");
+            holds_at(&rt, reader.faults() == 1, &after);
+            holds_at(&rt, writer.faults() == 0, &after);
+            holds_at(&rt, reader.end.given == after, &after);
+            holds_at(&rt, writer.end.as_slice() == exchange.request, &after);
         }
     }
     Ok(())
@@ -114,18 +107,16 @@ fn a_writer_that_fails(rt: HostRuntime) -> Result<(), Fail> {
             let writer = Counted::new(FaultyWriter::new(alloc, room));
             let mut client = Client::new(alloc, Counted::new(exchange.reply), writer);
             let answer = client.ask(op(alloc, exchange.ask)?);
-            assert!(rt; matches!(answer, Err(AskError::GateShut)), "room {room}");
-            assert!(rt;
-                client.ended() == Some(ClientError::WriteFault),
-                "room {room}"
-            );
+            holds_at(&rt, matches!(answer, Err(AskError::GateShut)), &room);
+            holds_at(&rt, client.ended() == Some(ClientError::WriteFault), &room);
             let (reader, writer) = client.into_ends();
-            assert!(rt; reader.end == exchange.reply, "room {room}");
-            assert!(rt; writer.faults() == 1, "room {room}");
-            assert!(rt; writer.end.taken.len() == room, "room {room}");
-            assert!(rt;
+            holds_at(&rt, reader.end == exchange.reply, &room);
+            holds_at(&rt, writer.faults() == 1, &room);
+            holds_at(&rt, writer.end.taken.len() == room, &room);
+            holds_at(
+                &rt,
                 exchange.request.starts_with(writer.end.taken.as_slice()),
-                "room {room}"
+                &room,
             );
         }
     }
@@ -275,22 +266,23 @@ fn asks_what_a_session_answers(rt: HostRuntime) -> Result<(), Fail> {
     let reader = Counted::new(replies.as_slice());
     let mut client = Client::new(alloc, reader, Counted::new(Vec::new(alloc)));
     for (ask, _, answer) in steps {
-        assert_eq!(rt;
-            words(alloc, &client.ask(op(alloc, ask)?))?.as_str(),
-            answer
+        is_equal(
+            &rt,
+            &words(alloc, &client.ask(op(alloc, ask)?))?.as_str(),
+            &answer,
         );
     }
     let (reader, writer) = client.into_ends();
-    assert!(rt; reader.end.is_empty());
+    holds(&rt, reader.end.is_empty());
     let mut requests = Counted::new(writer.end.as_slice());
     let mut written = Counted::new(Vec::new(alloc));
     let mut contents = Contents::new(alloc);
     let ended = serve(alloc, &mut requests, &mut written, &mut contents, 1000);
-    assert!(rt; ended == Ok(17), "{ended:?}");
-    assert!(rt;
+    holds_at(&rt, ended == Ok(17), &ended);
+    holds_at(
+        &rt,
         written.end.as_slice() == replies.as_slice(),
-        "{:?}",
-        written.end.as_slice()
+        &written.end.as_slice(),
     );
     Ok(())
 }
@@ -308,7 +300,7 @@ fn a_request_is_flushed(rt: HostRuntime) -> Result<(), Fail> {
             let mut client = Client::new(alloc, Counted::new(input), Counted::new(writer));
             let _answer = client.ask(op(alloc, exchange.ask)?);
             let (_, writer) = client.into_ends();
-            assert!(rt; writer.end.flushes == 1, "{}", exchange.answer);
+            holds_at(&rt, writer.end.flushes == 1, &exchange.answer);
         }
     }
     Ok(())
@@ -347,18 +339,19 @@ fn the_longest_append(rt: HostRuntime) -> Result<(), Fail> {
     let reply: &[u8] = b"\x00\x00\x00\x01\x1e";
     let mut client = Client::new(alloc, Counted::new(reply), Counted::new(Vec::new(alloc)));
     let answer = client.ask(longest_append(alloc)?);
-    assert_eq!(rt;
-        words(alloc, &answer)?.as_str(),
-        "refused 30: no bundle stands under the name"
+    is_equal(
+        &rt,
+        &words(alloc, &answer)?.as_str(),
+        &"refused 30: no bundle stands under the name",
     );
     let (_, writer) = client.into_ends();
-    assert_eq!(rt; writer.end.len(), 1_048_583);
+    is_equal(&rt, &writer.end.len(), &1_048_583);
     let mut requests = Counted::new(writer.end.as_slice());
     let mut written = Counted::new(Vec::new(alloc));
     let mut contents = Contents::new(alloc);
     let ended = serve(alloc, &mut requests, &mut written, &mut contents, 1000);
-    assert!(rt; ended == Ok(1), "{ended:?}");
-    assert!(rt; written.end.as_slice() == reply);
+    holds_at(&rt, ended == Ok(1), &ended);
+    holds(&rt, written.end.as_slice() == reply);
     Ok(())
 }
 
@@ -369,15 +362,18 @@ fn what_is_not_asked(rt: HostRuntime) -> Result<(), Fail> {
     let reply: &[u8] = b"\x00\x00\x00\x01s";
     let mut client = Client::new(alloc, Counted::new(reply), Counted::new(Vec::new(alloc)));
     let answer = client.ask(longer_append(alloc)?);
-    assert!(rt; matches!(answer, Err(AskError::GateShut)));
-    assert!(rt; client.ended().is_none());
-    assert!(rt; matches!(client.ask(op(alloc, Asked::Set)?), Ok(Reply::Stored)));
+    holds(&rt, matches!(answer, Err(AskError::GateShut)));
+    holds(&rt, client.ended().is_none());
+    holds(
+        &rt,
+        matches!(client.ask(op(alloc, Asked::Set)?), Ok(Reply::Stored)),
+    );
     let (_, writer) = client.into_ends();
-    assert!(rt; writer.end.as_slice() == SET);
+    holds(&rt, writer.end.as_slice() == SET);
     let mut writer = Counted::new(Vec::new(alloc));
     let told = write_request(alloc, &mut writer, &longer_append(alloc)?);
-    assert!(rt; told == Err(RequestError::TooLong), "{told:?}");
-    assert!(rt; writer.end.is_empty());
+    holds_at(&rt, told == Err(RequestError::TooLong), &told);
+    holds(&rt, writer.end.is_empty());
     Ok(())
 }
 
@@ -388,15 +384,15 @@ fn requests_one_after_the_other(rt: HostRuntime) -> Result<(), Fail> {
     let mut want = Vec::new(alloc);
     for exchange in EXCHANGES {
         let request = op(alloc, exchange.ask)?;
-        assert!(rt; writer.faults() == 0, "{}", exchange.answer);
-        assert!(rt;
+        holds_at(&rt, writer.faults() == 0, &exchange.answer);
+        holds_at(
+            &rt,
             write_request(alloc, &mut writer, &request).is_ok(),
-            "{}",
-            exchange.answer
+            &exchange.answer,
         );
         want.extend_from_slice(exchange.request)?;
     }
-    assert!(rt; writer.end.as_slice() == want.as_slice());
+    holds(&rt, writer.end.as_slice() == want.as_slice());
     Ok(())
 }
 
@@ -416,7 +412,7 @@ fn without_memory(rt: &impl Abort, alloc: Global, ask: Asked, reply: &[u8]) -> R
         Err(AskError::GateShut) => ended == Some(ClientError::Memory) && reader.end.is_empty(),
         _ => false,
     };
-    assert!(rt; allowed, "{ended:?}");
+    holds_at(rt, allowed, &ended);
     Ok(())
 }
 

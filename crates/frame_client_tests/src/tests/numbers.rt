@@ -1,4 +1,5 @@
 //! The numbers and the messages of errors.
+use super::{is_equal, is_equal_at};
 use frame_client::ClientError;
 use std::test::Fail;
 
@@ -25,8 +26,8 @@ fn errors_that_end_a_client(rt: HostRuntime) -> Result<(), Fail> {
         (ClientError::WriteFault, 54, "the writer failed"),
     ];
     for (error, number, message) in rows {
-        assert_eq!(rt; error.number(), number, "{message}");
-        assert_eq!(rt; format!(in rt.alloc(); "{error}")?.as_str(), message);
+        is_equal_at(&rt, &error.number(), &number, &message);
+        is_equal(&rt, &format!(in rt.alloc(); "{error}")?.as_str(), &message);
     }
     Ok(())
 }

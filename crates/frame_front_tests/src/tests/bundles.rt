@@ -1,7 +1,6 @@
 //! Documents of a size that is usual: a real bundle, one of 10 kB, and 300 domains.
-use super::{FETCH_ALL, answers_of, put_frame};
+use super::{FETCH_ALL, holds, holds_at, put_frame, serves_so};
 use frame_front::migrate;
-use map_core::Contents;
 use std::alloc::{AllocError, Global};
 use std::process::Abort;
 use std::test::Fail;
@@ -30,11 +29,7 @@ fn keeps_a_document(
     put_frame(&mut output, &[b"f", text.as_bytes()])?;
     output.extend_from_slice(b"\x00\x00\x00\x09a\x00\x00\x00\x00\x00\x00\x00\x01")?;
     put_frame(&mut output, &[b"i\x02td", text.as_bytes()])?;
-    let mut contents = Contents::new(alloc);
-    let (ended, written) = answers_of(alloc, &mut contents, input.as_slice())?;
-    assert!(rt; ended == Ok(4), "{ended:?}");
-    assert!(rt; written == output, "{:?}", written.as_slice());
-    Ok(())
+    serves_so(rt, alloc, "a document", (&input, 4096), &Ok(4), &output)
 }
 
 #[test]
@@ -57,7 +52,7 @@ fn keeps_a_document_of_10_kb(rt: HostRuntime) -> Result<(), AllocError> {
         text.push_str(&entry)?;
     }
     text.push_str("]}")?;
-    assert!(rt; text.len() > 10_000, "{}", text.len());
+    holds_at(&rt, text.len() > 10_000, &text.len());
     keeps_a_document(&rt, alloc, &text, &text)
 }
 
@@ -102,27 +97,51 @@ impl Many {
 }
 
 /// 300 domains are set and fetched; the dump is migrated, and what it becomes is served and fetched.
+/// The requests, and one for all domains.
+fn and_fetch_all(alloc: Global, requests: &[u8]) -> Result<Vec<u8>, AllocError> {
+    let mut input = Vec::from_slice(alloc, requests)?;
+    input.extend_from_slice(FETCH_ALL)?;
+    Ok(input)
+}
+
+/// The first reply, 300 bundles that are stored, and the dump.
+fn replies(alloc: Global, first: &[u8], dump: &[u8]) -> Result<Vec<u8>, AllocError> {
+    let mut output = Vec::from_slice(alloc, first)?;
+    for _ in 0..300 {
+        output.extend_from_slice(b"\x00\x00\x00\x01s")?;
+    }
+    output.extend_from_slice(dump)?;
+    Ok(output)
+}
+
+/// A session of these requests and one for all domains answers so many, with these replies.
+fn moves(
+    rt: &impl Abort,
+    alloc: Global,
+    requests: &[u8],
+    count: u64,
+    output: &[u8],
+) -> Result<(), AllocError> {
+    let input = and_fetch_all(alloc, requests)?;
+    serves_so(rt, alloc, "300 domains", (&input, 4096), &Ok(count), output)
+}
+
 #[test]
 fn moves_300_domains(rt: HostRuntime) -> Result<(), Fail> {
     let alloc = rt.alloc();
     let many = Many::new(alloc)?;
-    let version: &[u8] = b"\x00\x00\x00\x02v\x02";
-    for (requests, first) in [
-        (many.sets.as_slice(), b"".as_slice()),
-        (many.migrated.as_slice(), version),
-    ] {
-        let mut input = Vec::from_slice(alloc, requests)?;
-        input.extend_from_slice(FETCH_ALL)?;
-        let mut output = Vec::from_slice(alloc, first)?;
-        for _ in 0..300 {
-            output.extend_from_slice(b"\x00\x00\x00\x01s")?;
-        }
-        output.extend_from_slice(many.dump.as_slice())?;
-        let mut contents = Contents::new(alloc);
-        let (ended, written) = answers_of(alloc, &mut contents, input.as_slice())?;
-        assert!(rt; ended.is_ok(), "{ended:?}");
-        assert!(rt; written == output);
-    }
-    assert!(rt; migrate(alloc, many.dump.as_slice())?.as_slice() == many.migrated.as_slice());
+    moves(
+        &rt,
+        alloc,
+        &many.sets,
+        301,
+        &replies(alloc, b"", &many.dump)?,
+    )?;
+    let replies = replies(alloc, b"\x00\x00\x00\x02v\x02", &many.dump)?;
+    moves(&rt, alloc, &many.migrated, 302, &replies)?;
+    holds(
+        &rt,
+        migrate(alloc, many.dump.as_slice())?.as_slice() == many.migrated.as_slice(),
+    );
     Ok(())
 }

@@ -1,4 +1,5 @@
 //! The decoder by itself.
+use super::holds;
 use frame_front::{Decoder, FrontError};
 use std::alloc::AllocError;
 use std::test::Fail;
@@ -6,18 +7,18 @@ use std::test::Fail;
 #[test]
 fn takes_frames_out(rt: HostRuntime) -> Result<(), Fail> {
     let mut decoder = Decoder::new(rt.alloc())?;
-    assert!(rt; decoder.next_frame()?.is_none());
-    assert!(rt; decoder.finish() == Ok(()));
+    holds(&rt, decoder.next_frame()?.is_none());
+    holds(&rt, decoder.finish() == Ok(()));
     decoder.feed(b"\x00\x00\x00\x02a")?;
-    assert!(rt; decoder.next_frame()?.is_none());
-    assert!(rt; decoder.finish() == Err(FrontError::Truncated));
+    holds(&rt, decoder.next_frame()?.is_none());
+    holds(&rt, decoder.finish() == Err(FrontError::Truncated));
     decoder.feed(b"b\x00\x00\x00\x01c\x00\x00\x00")?;
     for want in [b"ab".as_slice(), b"c".as_slice()] {
         let payload = decoder.next_frame()?.ok_or("a frame is there")?;
-        assert!(rt; payload.as_slice() == want);
+        holds(&rt, payload.as_slice() == want);
     }
-    assert!(rt; decoder.next_frame()?.is_none());
-    assert!(rt; decoder.finish() == Err(FrontError::Truncated));
+    holds(&rt, decoder.next_frame()?.is_none());
+    holds(&rt, decoder.finish() == Err(FrontError::Truncated));
     Ok(())
 }
 
@@ -26,10 +27,13 @@ fn takes_frames_out(rt: HostRuntime) -> Result<(), Fail> {
 fn stays_at_a_bad_length(rt: HostRuntime) -> Result<(), Fail> {
     let mut decoder = Decoder::new(rt.alloc())?;
     decoder.feed(b"\x00\x00\x00\x01c\x00\x10\x01\xa9")?;
-    assert!(rt; decoder.next_frame()?.is_some());
+    holds(&rt, decoder.next_frame()?.is_some());
     for _ in 0..2 {
-        assert!(rt; matches!(decoder.next_frame(), Err(FrontError::BadLength)));
-        assert!(rt; decoder.finish() == Err(FrontError::Truncated));
+        holds(
+            &rt,
+            matches!(decoder.next_frame(), Err(FrontError::BadLength)),
+        );
+        holds(&rt, decoder.finish() == Err(FrontError::Truncated));
         decoder.feed(b"\x00\x00\x00\x01c")?;
     }
     Ok(())
@@ -47,8 +51,8 @@ fn takes_a_million_frames_out_of_one_piece(rt: HostRuntime) -> Result<(), Fail> 
     decoder.feed(piece.as_slice())?;
     for _ in 0..1_000_000 {
         let payload = decoder.next_frame()?.ok_or("a frame is there")?;
-        assert!(rt; payload.as_slice() == b"F".as_slice());
+        holds(&rt, payload.as_slice() == b"F".as_slice());
     }
-    assert!(rt; decoder.finish() == Ok(()));
+    holds(&rt, decoder.finish() == Ok(()));
     Ok(())
 }

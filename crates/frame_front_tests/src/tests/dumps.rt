@@ -1,5 +1,5 @@
 //! Dumps and the requests that they become.
-use super::{ALL_OF_NONE, ALL_OF_ONE, answers_of};
+use super::{ALL_OF_NONE, ALL_OF_ONE, answers_of, holds, holds_at};
 use frame_front::{DumpError, migrate};
 use map_core::Contents;
 use std::test::Fail;
@@ -11,7 +11,7 @@ fn migrates_dumps(rt: HostRuntime) -> Result<(), Fail> {
     let spaced: &[u8] =
         b"\x00\x00\x00\x09a\x00\x00\x00\x00\x00\x00\x00\x01\x00\x00\x00\x0fi\x01a{\"keys\": []}";
     for (dump, stream) in [(ALL_OF_ONE, one), (ALL_OF_NONE, none), (spaced, one)] {
-        assert!(rt; migrate(rt.alloc(), dump)?.as_slice() == stream);
+        holds(&rt, migrate(rt.alloc(), dump)?.as_slice() == stream);
     }
     Ok(())
 }
@@ -21,11 +21,14 @@ fn serves_a_migrated_dump(rt: HostRuntime) -> Result<(), Fail> {
     let stream = migrate(rt.alloc(), ALL_OF_ONE)?;
     let mut contents = Contents::new(rt.alloc());
     let (ended, written) = answers_of(rt.alloc(), &mut contents, stream.as_slice())?;
-    assert!(rt; ended == Ok(2));
-    assert!(rt; written.as_slice() == b"\x00\x00\x00\x02v\x02\x00\x00\x00\x01s".as_slice());
+    holds(&rt, ended == Ok(2));
+    holds(
+        &rt,
+        written.as_slice() == b"\x00\x00\x00\x02v\x02\x00\x00\x00\x01s".as_slice(),
+    );
     let fetch_all: &[u8] = b"\x00\x00\x00\x01F";
     let (_, dump) = answers_of(rt.alloc(), &mut contents, fetch_all)?;
-    assert!(rt; dump.as_slice() == ALL_OF_ONE);
+    holds(&rt, dump.as_slice() == ALL_OF_ONE);
     Ok(())
 }
 
@@ -90,6 +93,6 @@ fn refuses_what_is_no_dump(rt: HostRuntime) {
             Err(DumpError::BadDump(place)) => place == frame,
             _ => false,
         };
-        assert!(rt; refused, "{name}");
+        holds_at(&rt, refused, &name);
     }
 }

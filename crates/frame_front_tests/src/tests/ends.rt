@@ -1,5 +1,5 @@
 //! Readers and writers that fail.
-use super::{ALL_OF_NONE, ALL_OF_ONE, Calls, FETCH_ALL, Pieces, SET};
+use super::{ALL_OF_NONE, ALL_OF_ONE, Calls, FETCH_ALL, Pieces, SET, holds, holds_at};
 use frame_front::{Counted, FaultyReader, FaultyWriter, FrontError, serve};
 use map_core::Contents;
 use std::alloc::AllocError;
@@ -17,18 +17,19 @@ fn a_reader_that_fails(rt: HostRuntime) -> Result<(), AllocError> {
         let mut writer = Counted::new(Vec::new(rt.alloc()));
         let mut map = Contents::new(rt.alloc());
         let ended = serve(rt.alloc(), &mut reader, &mut writer, &mut map, 100);
-        assert!(rt; ended == Err(FrontError::ReadFault), "after {after}");
+        holds_at(&rt, ended == Err(FrontError::ReadFault), &after);
         let written = match after {
             0..=17 => 0,
             18..=24 => 5,
             _ => 21,
         };
-        assert!(rt;
+        holds_at(
+            &rt,
             Some(writer.end.as_slice()) == OUTPUT.get(..written),
-            "after {after}"
+            &after,
         );
-        assert!(rt; reader.faults() == 1);
-        assert!(rt; writer.faults() == 0);
+        holds(&rt, reader.faults() == 1);
+        holds(&rt, writer.faults() == 0);
     }
     Ok(())
 }
@@ -46,13 +47,14 @@ fn a_writer_that_fails(rt: HostRuntime) -> Result<(), AllocError> {
         } else {
             (Ok(2), 0)
         };
-        assert!(rt; ended == want, "room {room}");
-        assert!(rt;
+        holds_at(&rt, ended == want, &room);
+        holds_at(
+            &rt,
             Some(writer.end.taken.as_slice()) == OUTPUT.get(..room),
-            "room {room}"
+            &room,
         );
-        assert!(rt; writer.faults() == faults, "room {room}");
-        assert!(rt; reader.faults() == 0);
+        holds_at(&rt, writer.faults() == faults, &room);
+        holds(&rt, reader.faults() == 0);
     }
     Ok(())
 }
@@ -85,7 +87,7 @@ fn a_refused_growth_is_answered(rt: HostRuntime) -> Result<(), AllocError> {
         Err(FrontError::Memory) => written.is_empty() || written == STORED || both,
         _ => false,
     };
-    assert!(rt; allowed, "{ended:?} {written:?}");
+    holds_at(&rt, allowed, &ended);
     Ok(())
 }
 
@@ -106,8 +108,8 @@ fn each_round_is_one_write(rt: HostRuntime) -> Result<(), AllocError> {
     });
     let mut map = Contents::new(alloc);
     let ended = serve(alloc, &mut reader, &mut writer, &mut map, 100);
-    assert!(rt; ended == Ok(3), "{ended:?}");
-    assert!(rt; writer.end.writes == 2, "{}", writer.end.writes);
-    assert!(rt; writer.end.flushes == 2, "{}", writer.end.flushes);
+    holds_at(&rt, ended == Ok(3), &ended);
+    holds_at(&rt, writer.end.writes == 2, &writer.end.writes);
+    holds_at(&rt, writer.end.flushes == 2, &writer.end.flushes);
     Ok(())
 }

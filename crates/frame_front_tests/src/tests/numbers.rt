@@ -1,7 +1,17 @@
 //! The numbers and the messages of errors.
+use super::{holds, holds_at, is_equal, is_equal_at};
 use frame_front::{DumpError, FrontError, Refusal};
 use spiffe_doc::{DocError, NameError};
+use std::alloc::Global;
+use std::fmt::Display;
+use std::process::Abort;
 use std::test::Fail;
+
+/// The error has this message.
+fn says(rt: &impl Abort, alloc: Global, error: &impl Display, message: &str) -> Result<(), Fail> {
+    is_equal(rt, &format!(in alloc; "{error}")?.as_str(), &message);
+    Ok(())
+}
 
 #[test]
 fn errors_that_end_a_session(rt: HostRuntime) -> Result<(), Fail> {
@@ -22,8 +32,8 @@ fn errors_that_end_a_session(rt: HostRuntime) -> Result<(), Fail> {
         ),
     ];
     for (error, number, message) in rows {
-        assert_eq!(rt; error.number(), number, "{message}");
-        assert_eq!(rt; format!(in rt.alloc(); "{error}")?.as_str(), message);
+        is_equal_at(&rt, &error.number(), &number, &message);
+        says(&rt, rt.alloc(), &error, message)?;
     }
     Ok(())
 }
@@ -39,8 +49,8 @@ fn errors_of_dumps(rt: HostRuntime) -> Result<(), Fail> {
         (DumpError::Memory, 22, "out of memory"),
     ];
     for (error, number, message) in rows {
-        assert_eq!(rt; error.number(), number, "{message}");
-        assert_eq!(rt; format!(in rt.alloc(); "{error}")?.as_str(), message);
+        is_equal_at(&rt, &error.number(), &number, &message);
+        says(&rt, rt.alloc(), &error, message)?;
     }
     Ok(())
 }
@@ -70,10 +80,13 @@ fn refusals_of_requests(rt: HostRuntime) -> Result<(), Fail> {
         (Refusal::Memory, 22, None, "out of memory"),
     ];
     for (refusal, number, place, message) in rows {
-        assert_eq!(rt; refusal.number(), number, "{message}");
-        assert!(rt; refusal.place() == place, "{message}");
-        assert_eq!(rt; format!(in rt.alloc(); "{refusal}")?.as_str(), message);
+        is_equal_at(&rt, &refusal.number(), &number, &message);
+        holds_at(&rt, refusal.place() == place, &message);
+        says(&rt, rt.alloc(), &refusal, message)?;
     }
-    assert!(rt; Refusal::BadName(NameError::BadChar(2)).place() == Some(2));
+    holds(
+        &rt,
+        Refusal::BadName(NameError::BadChar(2)).place() == Some(2),
+    );
     Ok(())
 }

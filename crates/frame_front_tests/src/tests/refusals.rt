@@ -1,5 +1,5 @@
 //! What is refused, and where the fault stands.
-use super::{answers_of, put_frame};
+use super::{answers_of, holds, holds_at, put_frame};
 use map_core::Contents;
 use std::alloc::{AllocError, Global};
 use std::process::Abort;
@@ -14,8 +14,8 @@ fn answers_each(rt: &impl Abort, alloc: Global, rows: &[(&[u8], &[u8])]) -> Resu
     }
     let mut contents = Contents::new(alloc);
     let (ended, written) = answers_of(alloc, &mut contents, input.as_slice())?;
-    assert!(rt; ended.is_ok(), "{ended:?}");
-    assert!(rt; written == output, "{:?}", written.as_slice());
+    holds_at(rt, ended.is_ok(), &ended);
+    holds_at(rt, written == output, &written.as_slice());
     Ok(())
 }
 
@@ -120,7 +120,7 @@ fn the_longest_text_takes_no_key(rt: HostRuntime) -> Result<(), AllocError> {
         payload.push(b'A')?;
     }
     payload.extend_from_slice(b"\"]}]}")?;
-    assert!(rt; payload.len() == 3 + 1_048_575);
+    holds(&rt, payload.len() == 3 + 1_048_575);
     answers_each(
         &rt,
         rt.alloc(),

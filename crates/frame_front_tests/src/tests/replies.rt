@@ -1,5 +1,5 @@
 //! How answers that no session over one map gives are coded.
-use super::GET;
+use super::{GET, holds_at, is_equal};
 use frame_front::{Counted, serve};
 use map_core::{Ask, AskError, Op, Reply};
 
@@ -53,10 +53,11 @@ fn codes_errors(rt: HostRuntime) {
         let mut reader = Counted::new(GET);
         let mut writer = Counted::new(Vec::new(rt.alloc()));
         let mut refuses = Refuses(error);
-        assert_eq!(rt;
-            serve(rt.alloc(), &mut reader, &mut writer, &mut refuses, 10),
-            Ok(1)
+        is_equal(
+            &rt,
+            &serve(rt.alloc(), &mut reader, &mut writer, &mut refuses, 10),
+            &Ok(1),
         );
-        assert!(rt; writer.end.as_slice() == text, "{error}");
+        holds_at(&rt, writer.end.as_slice() == text, &error);
     }
 }

@@ -1,5 +1,5 @@
 //! The replies to all whole frames that came are flushed before the next read.
-use super::{ALL_OF_ONE, FETCH_ALL, GET, SET};
+use super::{ALL_OF_ONE, FETCH_ALL, GET, SET, holds, holds_at};
 use frame_front::{Counted, serve};
 use map_core::Contents;
 use std::alloc::AllocError;
@@ -74,7 +74,7 @@ fn replies_are_flushed_before_the_next_read(rt: HostRuntime) -> Result<(), Alloc
     let mut input = Vec::from_slice(alloc, SET)?;
     input.extend_from_slice(GET)?;
     input.extend_from_slice(FETCH_ALL)?;
-    assert!(rt; ALL_OF_ONE.len() == 31);
+    holds(&rt, ALL_OF_ONE.len() == 31);
     for size in 1..=30 {
         let replies = Replies {
             written: Cell::new(0),
@@ -89,8 +89,8 @@ fn replies_are_flushed_before_the_next_read(rt: HostRuntime) -> Result<(), Alloc
         let mut writer = Counted::new(Counting { replies: &replies });
         let mut map = Contents::new(alloc);
         let ended = serve(alloc, &mut reader, &mut writer, &mut map, 100);
-        assert!(rt; ended == Ok(3), "pieces of {size}: {ended:?}");
-        assert!(rt; replies.flushed.get() == 52, "pieces of {size}");
+        holds_at(&rt, ended == Ok(3), &size);
+        holds_at(&rt, replies.flushed.get() == 52, &size);
     }
     Ok(())
 }

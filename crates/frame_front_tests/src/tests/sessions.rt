@@ -1,6 +1,7 @@
 //! What each request is answered.
 use super::{
-    ALL_OF_NONE, ALL_OF_ONE, FETCH_ALL, GET, Pieces, SET, Session, answers_of, serve_each,
+    ALL_OF_NONE, ALL_OF_ONE, FETCH_ALL, GET, Pieces, SET, Session, answers_of, holds, holds_at,
+    serve_each, serves_so,
 };
 use frame_front::FrontError;
 use map_core::Contents;
@@ -221,8 +222,8 @@ fn cuts_do_not_matter(rt: HostRuntime) -> Result<(), AllocError> {
             size: 4096,
         };
         let (ended, written) = answers_of(rt.alloc(), &mut contents, reader)?;
-        assert!(rt; ended == Ok(2), "cut after {first}");
-        assert!(rt; written.as_slice() == FIRST_REPLIES, "cut after {first}");
+        holds_at(&rt, ended == Ok(2), &first);
+        holds_at(&rt, written.as_slice() == FIRST_REPLIES, &first);
     }
     Ok(())
 }
@@ -236,26 +237,17 @@ fn ends_inside_frames(rt: HostRuntime) -> Result<(), AllocError> {
     let mut output = Vec::from_slice(alloc, b"\x00\x00\x00\x01s")?;
     output.extend_from_slice(ALL_OF_ONE)?;
     for length in 0..=23 {
+        let front = input.as_slice().get(..length).unwrap_or(&[]);
+        let (ended, whole) = match length {
+            0 => (Ok(0), 0),
+            1..=17 => (Err(FrontError::Truncated), 0),
+            18 => (Ok(1), 5),
+            19..=22 => (Err(FrontError::Truncated), 5),
+            _ => (Ok(2), output.len()),
+        };
+        let replies = output.as_slice().get(..whole).unwrap_or(&[]);
         for size in [1, 4096] {
-            let mut contents = Contents::new(alloc);
-            let reader = Pieces {
-                bytes: input.as_slice().get(..length).unwrap_or(&[]),
-                first: size,
-                size,
-            };
-            let (ended, written) = answers_of(alloc, &mut contents, reader)?;
-            let (want, whole) = match length {
-                0 => (Ok(0), 0),
-                1..=17 => (Err(FrontError::Truncated), 0),
-                18 => (Ok(1), 5),
-                19..=22 => (Err(FrontError::Truncated), 5),
-                _ => (Ok(2), output.len()),
-            };
-            assert!(rt; ended == want, "{length} bytes");
-            assert!(rt;
-                Some(written.as_slice()) == output.as_slice().get(..whole),
-                "{length} bytes"
-            );
+            serves_so(&rt, alloc, "a front", (front, size), &ended, replies)?;
         }
     }
     Ok(())
@@ -275,8 +267,8 @@ fn keeps_the_map_and_not_the_version(rt: HostRuntime) -> Result<(), AllocError> 
     ];
     for (input, output) in sessions {
         let (ended, written) = answers_of(rt.alloc(), &mut contents, input)?;
-        assert!(rt; ended.is_ok());
-        assert!(rt; written.as_slice() == output);
+        holds(&rt, ended.is_ok());
+        holds(&rt, written.as_slice() == output);
     }
     Ok(())
 }
@@ -294,8 +286,8 @@ fn each_read_is_a_turn(rt: HostRuntime) -> Result<(), AllocError> {
         });
         let mut writer = frame_front::Counted::new(Vec::new(rt.alloc()));
         let ended = frame_front::serve(rt.alloc(), &mut reader, &mut writer, &mut contents, turns);
-        assert!(rt; ended == want, "{turns} turns");
-        assert!(rt; writer.end.as_slice() == FIRST_REPLIES);
+        holds_at(&rt, ended == want, &turns);
+        holds(&rt, writer.end.as_slice() == FIRST_REPLIES);
     }
     Ok(())
 }
@@ -307,8 +299,11 @@ fn uses_up_its_turns(rt: HostRuntime) -> Result<(), AllocError> {
         let mut reader = frame_front::Counted::new(GET);
         let mut writer = frame_front::Counted::new(Vec::new(rt.alloc()));
         let ended = frame_front::serve(rt.alloc(), &mut reader, &mut writer, &mut contents, turns);
-        assert!(rt; ended == want, "{turns} turns");
-        assert!(rt; writer.end.as_slice() == b"\x00\x00\x00\x01\x1e".as_slice());
+        holds_at(&rt, ended == want, &turns);
+        holds(
+            &rt,
+            writer.end.as_slice() == b"\x00\x00\x00\x01\x1e".as_slice(),
+        );
     }
     Ok(())
 }

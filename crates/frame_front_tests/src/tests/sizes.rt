@@ -1,5 +1,5 @@
 //! Long payloads and many of them.
-use super::{Pieces, answers_of};
+use super::{Pieces, answers_of, holds, holds_at};
 use map_core::Contents;
 use std::alloc::{AllocError, Global};
 use std::process::Abort;
@@ -22,8 +22,8 @@ fn answered(rt: &impl Abort, alloc: Global, input: &[u8], output: &[u8]) -> Resu
             size,
         };
         let (ended, written) = answers_of(alloc, &mut contents, reader)?;
-        assert!(rt; ended.is_ok(), "pieces of {size}: {ended:?}");
-        assert!(rt; written.as_slice() == output, "pieces of {size}");
+        holds_at(rt, ended.is_ok(), &size);
+        holds_at(rt, written.as_slice() == output, &size);
     }
     Ok(())
 }
@@ -65,7 +65,7 @@ fn answers_a_long_stream(rt: HostRuntime) -> Result<(), AllocError> {
     output.extend_from_slice(super::ALL_OF_ONE)?;
     let mut contents = Contents::new(alloc);
     let (ended, written) = answers_of(alloc, &mut contents, input.as_slice())?;
-    assert!(rt; ended == Ok(100_000));
-    assert!(rt; written == output);
+    holds(&rt, ended == Ok(100_000));
+    holds(&rt, written == output);
     Ok(())
 }

@@ -1,5 +1,5 @@
 //! Appends: each kind of authority, and which refusal comes first.
-use super::{bundle, entry_text, found, play, play_new, set};
+use super::{bundle, entry_text, found, is_equal, play, play_new, set};
 use map_core::Contents;
 use spiffe_doc::{Bundle, TrustDomain, read_document};
 use std::alloc::{AllocError, Global};
@@ -39,7 +39,7 @@ fn an_x509_authority_is_appended_whole(rt: HostRuntime) -> Result<(), Fail> {
     let mut map = holding(alloc, bundle(alloc, "9")?)?;
     play(alloc, &mut map, &[("append a x509", "appended 10")])?;
     let longer = found(alloc, &mut map, "a")?;
-    assert_eq!(rt; std::str::from_utf8(longer.text())?, WITH_X509);
+    is_equal(&rt, &std::str::from_utf8(longer.text())?, &WITH_X509);
     Ok(())
 }
 
@@ -119,7 +119,7 @@ fn takes_so_long_a_text(rt: HostRuntime) -> Result<(), Fail> {
     let alloc = rt.alloc();
     let n = letters(alloc, 1366)?;
     let full = many(alloc, 733, n.as_str(), "")?;
-    assert_eq!(rt; full.text_len(), 1047467);
+    is_equal(&rt, &full.text_len(), &1047467);
     let mut map = holding(alloc, full)?;
     let line = format!(in alloc; "append a k9999:{n}")?;
     let rows = [

@@ -1,5 +1,5 @@
 //! Maps copied, put together, and taken apart into their bundles.
-use super::{answer, bundle, play, set, snapshot_text};
+use super::{answer, bundle, is_equal, play, set, snapshot_text};
 use map_core::{Contents, Op, Reply, Snapshot, Union};
 use spiffe_doc::{Bundle, TrustDomain};
 use std::alloc::{AllocError, Global};
@@ -39,8 +39,8 @@ fn is_number(
 ) -> Result<(), AllocError> {
     let (domain, bundle) = pair;
     let name = format!(in alloc; "n{number:03}")?;
-    assert_eq!(rt; domain.as_str(), name.as_str());
-    assert_eq!(rt; bundle.sequence(), Some(number));
+    is_equal(rt, &domain.as_str(), &name.as_str());
+    is_equal(rt, &bundle.sequence(), &Some(number));
     Ok(())
 }
 
@@ -57,9 +57,9 @@ fn is_in_order(rt: &impl Abort, alloc: Global, all: &Snapshot) -> Result<(), All
 #[test]
 fn shows_a_thousand_names_in_order(rt: HostRuntime) -> Result<(), Fail> {
     let mut map = a_thousand(rt.alloc())?;
-    assert_eq!(rt; map.len(), 1000);
+    is_equal(&rt, &map.len(), &1000);
     let all = all_of(&mut map)?;
-    assert_eq!(rt; all.len(), 1000);
+    is_equal(&rt, &all.len(), &1000);
     is_in_order(&rt, rt.alloc(), &all)?;
     Ok(())
 }
@@ -117,7 +117,7 @@ fn copies_and_joins(rt: HostRuntime) -> Result<(), Fail> {
 fn an_empty_map_is_taken_apart(rt: HostRuntime) -> Result<(), Fail> {
     let none = Contents::new(rt.alloc()).into_snapshot()?;
     let text = snapshot_text(rt.alloc(), &none)?;
-    assert_eq!(rt; text.as_str(), "all 0");
+    is_equal(&rt, &text.as_str(), &"all 0");
     Ok(())
 }
 
@@ -132,7 +132,7 @@ fn a_map_is_taken_apart_into_its_bundles(rt: HostRuntime) -> Result<(), Fail> {
     ];
     let all = filled(rt.alloc(), &rows)?.into_snapshot()?;
     let text = snapshot_text(rt.alloc(), &all)?;
-    assert_eq!(rt; text.as_str(), "all 3 a 1/1 a-b 4/1 b -/0");
+    is_equal(&rt, &text.as_str(), &"all 3 a 1/1 a-b 4/1 b -/0");
     Ok(())
 }
 
@@ -140,7 +140,7 @@ fn a_map_is_taken_apart_into_its_bundles(rt: HostRuntime) -> Result<(), Fail> {
 fn an_empty_union_is_taken_apart(rt: HostRuntime) -> Result<(), Fail> {
     let none = Union::new(rt.alloc()).into_snapshot()?;
     let text = snapshot_text(rt.alloc(), &none)?;
-    assert_eq!(rt; text.as_str(), "all 0");
+    is_equal(&rt, &text.as_str(), &"all 0");
     Ok(())
 }
 
@@ -166,6 +166,6 @@ fn a_union_is_taken_apart_into_its_bundles(rt: HostRuntime) -> Result<(), Fail> 
         ("remove x", "removed"),
     ];
     let text = union_text(alloc, &first, &filled(alloc, &rows)?)?;
-    assert_eq!(rt; text.as_str(), "all 3 b 9/0 c -/2 d 1/0");
+    is_equal(&rt, &text.as_str(), &"all 3 b 9/0 c -/2 d 1/0");
     Ok(())
 }

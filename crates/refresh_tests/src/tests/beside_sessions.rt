@@ -2,6 +2,7 @@
 ghost use Rattle.std.specs.Prelude.{◌≡◌, ◌-◌, ◌<◌, ◌^◌};
 ghost use Rattle.shard_store.specs.Pass.{IsOf};
 
+use super::{holds, holds_at, is_equal};
 use frame_front::{Counted, serve};
 use map_core::Reply;
 use refresh::{Relationship, Source, SourceFault, What, refresh_once};
@@ -108,21 +109,21 @@ fn gets_beside_a_refresher(rt: HostRuntime) -> Result<(), Fail> {
         return Err(Fail::from("the session ends well"));
     };
     let found = payloads(alloc, replies.as_slice())?;
-    assert_eq!(rt; found.len(), 1000);
+    is_equal(&rt, &found.len(), &1000);
     let mut last = 0;
     for payload in found {
         match payload {
-            [30] => assert_eq!(rt; last, 0),
-            [42, ..] => assert_eq!(rt; payload.len(), 13),
+            [30] => is_equal(&rt, &last, &0),
+            [42, ..] => is_equal(&rt, &payload.len(), &13),
             _ => {
                 let Some(sequence) = sequence_of(payload) else {
                     return Err(Fail::from("a bundle of the source"));
                 };
-                assert!(rt; last <= sequence && sequence <= 100, "{last} {sequence}");
+                holds_at(&rt, last <= sequence && sequence <= 100, &last);
                 last = sequence;
             }
         }
     }
-    assert!(rt; refreshed > 0);
+    holds(&rt, refreshed > 0);
     Ok(())
 }

@@ -2,6 +2,7 @@
 ghost use Rattle.std.specs.Prelude.{◌≤◌};
 ghost use Rattle.shard_store.specs.Pass.{IsOf};
 
+use super::holds;
 use super::words::{call, compare};
 use map_core::{AskError, Op, Reply, Snapshot};
 use shard_store::{Pass, Store};
@@ -153,11 +154,11 @@ fn two_threads_read_back_what_they_set(rt: HostRuntime) -> Result<(), Fail> {
     let (store, mut one) = Store::new(alloc, 3, 5, 10)?;
     let two = store.split(&mut one, 1000);
     let (one, two) = work_two(&rt, alloc, &store, one, two, hundred('a'), hundred('b'));
-    assert!(rt; one.1 == 100 && two.1 == 100);
+    holds(&rt, one.1 == 100 && two.1 == 100);
     let mut pass = store.join(one.0, two.0);
     let answer = store.fetch_all(&mut pass);
     compare(alloc, "fetch", &answer, "all 200")?;
-    assert!(rt; store.close(pass)?.len() == 200);
+    holds(&rt, store.close(pass)?.len() == 200);
     Ok(())
 }
 
@@ -203,11 +204,14 @@ fn four_threads_lose_no_change(rt: HostRuntime) -> Result<(), Fail> {
     );
     let ((a, good_a), (b, good_b)) = one;
     let ((c, good_c), (d, good_d)) = two;
-    assert!(rt; good_a == 50_000 && good_b == 50_000 && good_c == 50_000 && good_d == 50_000);
+    holds(
+        &rt,
+        good_a == 50_000 && good_b == 50_000 && good_c == 50_000 && good_d == 50_000,
+    );
     let pass = store.join(store.join(a, b), store.join(c, d));
     let (pass, changes) = count_changes(&store, pass, 8);
-    assert!(rt; changes == 200_000);
-    assert!(rt; store.close(pass)?.len() == 8);
+    holds(&rt, changes == 200_000);
+    holds(&rt, store.close(pass)?.len() == 8);
     Ok(())
 }
 
@@ -299,8 +303,8 @@ fn a_fetch_all_shows_one_moment_of_a_restless_writer(rt: HostRuntime) -> Result<
         { watch(lent, watcher) },
     );
     let seen = watched.1;
-    assert!(rt; wrote.1 == 100 && seen.other == 0 && seen.moments > 0);
-    assert!(rt; seen.moments.saturating_add(seen.refused) == 1000);
+    holds(&rt, wrote.1 == 100 && seen.other == 0 && seen.moments > 0);
+    holds(&rt, seen.moments.saturating_add(seen.refused) == 1000);
     let mut pass = store.join(wrote.0, watched.0);
     let answer = store.fetch_all(&mut pass);
     compare(alloc, "fetch", &answer, "all 2 a 100/0 b 100/0")?;

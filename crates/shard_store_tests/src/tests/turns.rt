@@ -2,6 +2,7 @@
 ghost use Rattle.std.specs.Prelude.{◌<◌, ◌≤◌, IfOk};
 ghost use Rattle.shard_store.specs.Pass.{IsOf};
 
+use super::holds;
 use super::words::{call, compare, operation};
 use map_core::{Ask, AskError, Op, Reply};
 use shard_store::{CloseError, Pass, Seated, Store};
@@ -93,7 +94,10 @@ fn two_passes_in_turn_with_one_try(rt: HostRuntime) -> Result<(), Fail> {
     play(alloc, &store, &mut p, &mut q, &rows)?;
     let numbers = (p.numbers(), q.numbers());
     let mut pass = store.join(p, q);
-    assert!(rt; numbers == (4294966296, 1000) && pass.numbers() == 4294966296);
+    holds(
+        &rt,
+        numbers == (4294966296, 1000) && pass.numbers() == 4294966296,
+    );
     let answer = store.fetch_all(&mut pass);
     compare(alloc, "fetch", &answer, "all 200")?;
     close_with(store, pass, 200)
@@ -271,9 +275,12 @@ fn close_while_held(alloc: Global, tries: u64) -> Result<CloseError, Fail>
 #[test]
 fn the_shard_that_is_held_at_the_end_is_named(rt: HostRuntime) -> Result<(), Fail> {
     let alloc = rt.alloc();
-    assert!(rt; close_while_held(alloc, 1)? == CloseError::HeldAtEnd(1));
-    assert!(rt; close_while_held(alloc, 3)? == CloseError::HeldAtEnd(1));
-    assert!(rt; close_while_held(alloc, 1_000_000)? == CloseError::HeldAtEnd(1));
+    holds(&rt, close_while_held(alloc, 1)? == CloseError::HeldAtEnd(1));
+    holds(&rt, close_while_held(alloc, 3)? == CloseError::HeldAtEnd(1));
+    holds(
+        &rt,
+        close_while_held(alloc, 1_000_000)? == CloseError::HeldAtEnd(1),
+    );
     Ok(())
 }
 
@@ -401,7 +408,7 @@ fn a_refused_growth_changes_nothing(rt: HostRuntime) -> Result<(), Fail> {
     )?;
     match store.close(pass) {
         Ok(contents) => {
-            assert!(rt; contents.len() == 0);
+            holds(&rt, contents.len() == 0);
             Ok(())
         }
         Err(CloseError::Memory) => Ok(()),
@@ -420,8 +427,8 @@ fn errors_have_numbers_and_texts(rt: HostRuntime) -> Result<(), Fail> {
         ),
     ];
     for (error, number, text) in rows {
-        assert!(rt; error.number() == number);
-        assert!(rt; format!(in rt.alloc(); "{error}")?.as_str() == text);
+        holds(&rt, error.number() == number);
+        holds(&rt, format!(in rt.alloc(); "{error}")?.as_str() == text);
     }
     Ok(())
 }

@@ -1,4 +1,7 @@
-use super::{authority, bundle, is_entry, jwt_point, jwt_rsa, keys, letters, refusal, x509_point};
+use super::{
+    authority, bundle, holds, holds_at, is_entry, is_equal, is_equal_at, jwt_point, jwt_rsa, keys,
+    letters, refusal, x509_point,
+};
 use spiffe_doc::{AppendError, Authority, Bundle, DocError};
 use std::alloc::{AllocError, Global};
 use std::process::Abort;
@@ -31,10 +34,10 @@ fn bundle_of_points(alloc: Global, entries: &[(&str, char)]) -> Result<Bundle, D
 fn equal_authorities_stand_once(rt: HostRuntime) -> Result<(), Fail> {
     let alloc = rt.alloc();
     let equal = bundle_of_points(alloc, &[("k", 'A'), ("l", 'A'), ("k", 'A')])?;
-    assert_eq!(rt; equal.authorities().len(), 2usize);
+    is_equal(&rt, &equal.authorities().len(), &2usize);
     let once = bundle_of_points(alloc, &[("k", 'A'), ("l", 'A')])?;
-    assert!(rt; equal == once);
-    assert_eq!(rt; equal.text(), once.text());
+    holds(&rt, equal == once);
+    is_equal(&rt, &equal.text(), &once.text());
     Ok(())
 }
 
@@ -42,9 +45,10 @@ fn equal_authorities_stand_once(rt: HostRuntime) -> Result<(), Fail> {
 fn key_ids_of_two_keys_are_refused(rt: HostRuntime) -> Result<(), Fail> {
     let alloc = rt.alloc();
     let twice = points(alloc, &[("k", 'A'), ("k", 'E')])?;
-    assert_eq!(rt;
-        refusal(alloc, &keys(alloc, &twice)?)?,
-        Some(DocError::KidTwice(1))
+    is_equal(
+        &rt,
+        &refusal(alloc, &keys(alloc, &twice)?)?,
+        &Some(DocError::KidTwice(1)),
     );
     Ok(())
 }
@@ -54,9 +58,10 @@ fn key_ids_of_two_keys_come_before_later_faults(rt: HostRuntime) -> Result<(), F
     let alloc = rt.alloc();
     let points = points(alloc, &[("k", 'A'), ("l", 'A'), ("k", 'E')])?;
     let later = format!(in alloc; "{points},5")?;
-    assert_eq!(rt;
-        refusal(alloc, &keys(alloc, &later)?)?,
-        Some(DocError::KidTwice(2))
+    is_equal(
+        &rt,
+        &refusal(alloc, &keys(alloc, &later)?)?,
+        &Some(DocError::KidTwice(2)),
     );
     Ok(())
 }
@@ -110,9 +115,9 @@ fn full_and(alloc: Global, kid: &str, n: &str) -> Result<String, AllocError> {
 fn full_bundles(rt: HostRuntime) -> Result<(), Fail> {
     let alloc = rt.alloc();
     let full = full(alloc, "")?;
-    assert_eq!(rt; full.authorities().len(), 1024usize);
+    is_equal(&rt, &full.authorities().len(), &1024usize);
     let refused = append_refusal(alloc, &full, &jwt_rsa(alloc, "z", "AQAB")?)?;
-    assert_eq!(rt; refused, Some(AppendError::TooMany));
+    is_equal(&rt, &refused, &Some(AppendError::TooMany));
     Ok(())
 }
 
@@ -120,7 +125,7 @@ fn full_bundles(rt: HostRuntime) -> Result<(), Fail> {
 fn full_bundles_take_an_equal_entry(rt: HostRuntime) -> Result<(), Fail> {
     let alloc = rt.alloc();
     let equal = bundle(alloc, &full_and(alloc, "k0", "AQAB")?)?;
-    assert!(rt; equal == full(alloc, "")?);
+    holds(&rt, equal == full(alloc, "")?);
     Ok(())
 }
 
@@ -134,7 +139,7 @@ fn full_documents(rt: HostRuntime) -> Result<(), Fail> {
     ];
     for (kid, n, wanted) in rows {
         let refused = refusal(alloc, &full_and(alloc, kid, n)?)?;
-        assert_eq!(rt; refused, Some(wanted), "{kid} {n}");
+        is_equal_at(&rt, &refused, &Some(wanted), &kid);
     }
     Ok(())
 }
@@ -149,7 +154,7 @@ type Refused<'a> = (&'a str, &'a str, AppendError);
 fn refuses(rt: &impl Abort, alloc: Global, before: &Bundle, rows: &[Refused]) -> Result<(), Fail> {
     for (kid, n, wanted) in rows {
         let refused = append_refusal(alloc, before, &jwt_rsa(alloc, kid, n)?)?;
-        assert_eq!(rt; refused, Some(*wanted), "{kid} {n}");
+        is_equal_at(rt, &refused, &Some(*wanted), &kid);
     }
     Ok(())
 }
@@ -211,16 +216,16 @@ fn is_of(alloc: Global, read: &Bundle, document: &str) -> Result<bool, DocError>
 
 /// The bundle is that of its canonical text.
 fn has_text(rt: &impl Abort, alloc: Global, read: &Bundle, wanted: &str) -> Result<(), Fail> {
-    assert_eq!(rt; read.text(), wanted.as_bytes());
-    assert!(rt; is_of(alloc, read, wanted)?, "{wanted}");
+    is_equal(rt, &read.text(), &wanted.as_bytes());
+    holds_at(rt, is_of(alloc, read, wanted)?, &wanted);
     Ok(())
 }
 
 /// A copy of the bundle is that bundle, and not the one of another document.
 fn is_copied(rt: &impl Abort, alloc: Global, read: &Bundle, other: &str) -> Result<(), Fail> {
     let copy: Bundle = read.copy()?;
-    assert!(rt; copy == *read, "{other}");
-    assert!(rt; !is_of(alloc, &copy, other)?, "{other}");
+    holds_at(rt, copy == *read, &other);
+    holds_at(rt, !is_of(alloc, &copy, other)?, &other);
     Ok(())
 }
 
@@ -257,9 +262,9 @@ fn the_longest_canonical_text(rt: HostRuntime) -> Result<(), Fail> {
         "{{\"keys\":[{{\"use\":\"x509-svid\",\"kty\":\"RSA\",\"n\":\"AQAB\",\"e\":\"AQAB\",\"x5c\":[\"{der}\"]}}]}}"
     )?;
     let long = bundle(alloc, &document)?;
-    assert_eq!(rt; long.text_len(), 1048575usize);
+    is_equal(&rt, &long.text_len(), &1048575usize);
     let refused = append_refusal(alloc, &long, &jwt_rsa(alloc, "k", "AQAB")?)?;
-    assert_eq!(rt; refused, Some(AppendError::TooLong));
+    is_equal(&rt, &refused, &Some(AppendError::TooLong));
     Ok(())
 }
 
@@ -271,9 +276,9 @@ fn the_longest_canonical_text_of_the_greatest_sequence(rt: HostRuntime) -> Resul
         "{{\"keys\":[{{\"use\":\"x509-svid\",\"kty\":\"RSA\",\"n\":\"AQAB\",\"e\":\"AQAB\",\"x5c\":[\"{der}\"]}}],\"spiffe_sequence\":18446744073709551615}}"
     )?;
     let long = bundle(alloc, &document)?;
-    assert_eq!(rt; long.text_len(), 1048574usize);
+    is_equal(&rt, &long.text_len(), &1048574usize);
     let refused = append_refusal(alloc, &long, &jwt_rsa(alloc, "k", "AQAB")?)?;
-    assert_eq!(rt; refused, Some(AppendError::SequenceFull));
+    is_equal(&rt, &refused, &Some(AppendError::SequenceFull));
     Ok(())
 }
 
@@ -285,8 +290,8 @@ fn is_its_copy(kept: &Authority) -> Result<bool, AllocError> {
 /// The first authority of the bundle is that of the entry.
 fn begins_with(rt: &impl Abort, alloc: Global, after: &Bundle, entry: &str) -> Result<(), Fail> {
     let kept = after.authorities().first().ok_or("an authority")?;
-    assert!(rt; is_entry(alloc, kept, entry)?, "{entry}");
-    assert!(rt; is_its_copy(kept)?, "{entry}");
+    holds_at(rt, is_entry(alloc, kept, entry)?, &entry);
+    holds_at(rt, is_its_copy(kept)?, &entry);
     Ok(())
 }
 

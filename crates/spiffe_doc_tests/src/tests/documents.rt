@@ -1,4 +1,7 @@
-use super::{bundle, jwt_point, keys, letters, refusal, refusal_of, x509_point};
+use super::{
+    bundle, holds_at, is_equal, is_equal_at, jwt_point, keys, letters, refusal, refusal_of,
+    x509_point,
+};
 use spiffe_doc::{Bundle, DocError, KeyMember, read_document, write_document};
 use std::alloc::{AllocError, Global};
 use std::process::Abort;
@@ -16,7 +19,7 @@ fn refused_documents(rt: HostRuntime) -> Result<(), Fail> {
         ("{\"spiffe_sequence\":-1,\"keys\":{}}", DocError::NoKeys),
     ];
     for (document, wanted) in rows {
-        assert_eq!(rt; refusal(alloc, document)?, Some(wanted), "{document}");
+        is_equal_at(&rt, &refusal(alloc, document)?, &Some(wanted), &document);
     }
     Ok(())
 }
@@ -55,7 +58,7 @@ fn refused_numbers(rt: HostRuntime) -> Result<(), Fail> {
         ),
     ];
     for (document, wanted) in rows {
-        assert_eq!(rt; refusal(alloc, document)?, Some(wanted), "{document}");
+        is_equal_at(&rt, &refusal(alloc, document)?, &Some(wanted), &document);
     }
     Ok(())
 }
@@ -93,16 +96,17 @@ fn refused_entries(rt: HostRuntime) -> Result<(), Fail> {
         ),
     ];
     for (document, wanted) in rows {
-        assert_eq!(rt; refusal(alloc, document)?, Some(wanted), "{document}");
+        is_equal_at(&rt, &refusal(alloc, document)?, &Some(wanted), &document);
     }
     Ok(())
 }
 
 #[test]
 fn a_text_that_is_not_utf8_is_refused(rt: HostRuntime) -> Result<(), Fail> {
-    assert_eq!(rt;
-        refusal_of(rt.alloc(), b"{\"keys\":[],\"z\":\"\xff\"}")?,
-        Some(DocError::NotJson)
+    is_equal(
+        &rt,
+        &refusal_of(rt.alloc(), b"{\"keys\":[],\"z\":\"\xff\"}")?,
+        &Some(DocError::NotJson),
     );
     Ok(())
 }
@@ -110,8 +114,8 @@ fn a_text_that_is_not_utf8_is_refused(rt: HostRuntime) -> Result<(), Fail> {
 /// The bundle is written as the text, which reads back as the bundle.
 fn reads_back(rt: &impl Abort, alloc: Global, read: &Bundle, wanted: &str) -> Result<(), Fail> {
     let written = write_document(alloc, read)?;
-    assert_eq!(rt; written.as_slice(), wanted.as_bytes());
-    assert!(rt; read_document(alloc, &written)? == *read, "{wanted}");
+    is_equal(rt, &written.as_slice(), &wanted.as_bytes());
+    holds_at(rt, read_document(alloc, &written)? == *read, &wanted);
     Ok(())
 }
 
@@ -124,8 +128,8 @@ fn is_written(
     len: usize,
 ) -> Result<(), Fail> {
     let read = bundle(alloc, document)?;
-    assert_eq!(rt; read.text(), wanted.as_bytes(), "{document}");
-    assert_eq!(rt; read.text_len(), len, "{document}");
+    is_equal_at(rt, &read.text(), &wanted.as_bytes(), &document);
+    is_equal_at(rt, &read.text_len(), &len, &document);
     reads_back(rt, alloc, &read, wanted)
 }
 
@@ -186,9 +190,9 @@ fn canonical_texts(rt: HostRuntime) -> Result<(), Fail> {
 #[test]
 fn the_empty_document(rt: HostRuntime) -> Result<(), Fail> {
     let empty = bundle(rt.alloc(), "{\"keys\":[]}")?;
-    assert_eq!(rt; empty.sequence(), None);
-    assert_eq!(rt; empty.refresh_hint(), None);
-    assert_eq!(rt; empty.authorities().len(), 0usize);
+    is_equal(&rt, &empty.sequence(), &None);
+    is_equal(&rt, &empty.refresh_hint(), &None);
+    is_equal(&rt, &empty.authorities().len(), &0usize);
     Ok(())
 }
 
@@ -199,20 +203,20 @@ fn sequences_and_hints(rt: HostRuntime) -> Result<(), Fail> {
         alloc,
         "{\"keys\":[],\"spiffe_sequence\":18446744073709551615}",
     )?;
-    assert_eq!(rt; greatest.sequence(), Some(18446744073709551615u64));
-    assert_eq!(rt; greatest.refresh_hint(), None);
+    is_equal(&rt, &greatest.sequence(), &Some(18446744073709551615u64));
+    is_equal(&rt, &greatest.refresh_hint(), &None);
     let both = bundle(
         alloc,
         "{\"spiffe_refresh_hint\":0,\"keys\":[],\"spiffe_sequence\":7}",
     )?;
-    assert_eq!(rt; both.sequence(), Some(7u64));
-    assert_eq!(rt; both.refresh_hint(), Some(0u64));
+    is_equal(&rt, &both.sequence(), &Some(7u64));
+    is_equal(&rt, &both.refresh_hint(), &Some(0u64));
     let neither = bundle(
         alloc,
         "{\"keys\":[],\"spiffe_sequence\":null,\"spiffe_refresh_hint\":null}",
     )?;
-    assert_eq!(rt; neither.sequence(), None);
-    assert_eq!(rt; neither.refresh_hint(), None);
+    is_equal(&rt, &neither.sequence(), &None);
+    is_equal(&rt, &neither.refresh_hint(), &None);
     Ok(())
 }
 
@@ -228,11 +232,11 @@ fn one_point(alloc: Global) -> Result<String, AllocError> {
 #[test]
 fn truncated_documents(rt: HostRuntime) -> Result<(), Fail> {
     let whole = one_point(rt.alloc())?;
-    assert_eq!(rt; whole.len(), 170usize);
+    is_equal(&rt, &whole.len(), &170usize);
     for len in 0..170 {
         let front = whole.as_bytes().get(..len).ok_or("a shorter document")?;
         let refusal = refusal_of(rt.alloc(), front)?;
-        assert_eq!(rt; refusal, Some(DocError::NotJson), "{len}");
+        is_equal_at(&rt, &refusal, &Some(DocError::NotJson), &len);
     }
     Ok(())
 }
@@ -256,19 +260,20 @@ fn spaced_refusal(alloc: Global, count: usize) -> Result<(usize, Option<DocError
 #[test]
 fn long_documents(rt: HostRuntime) -> Result<(), Fail> {
     let longest = spaced_refusal(rt.alloc(), 1048565)?;
-    assert_eq!(rt; longest, (1048576, None));
+    is_equal(&rt, &longest, &(1048576, None));
     let longer = spaced_refusal(rt.alloc(), 1048566)?;
-    assert_eq!(rt; longer, (1048577, Some(DocError::TooLong)));
+    is_equal(&rt, &longer, &(1048577, Some(DocError::TooLong)));
     Ok(())
 }
 
 #[test]
 fn nested_documents(rt: HostRuntime) -> Result<(), Fail> {
     let alloc = rt.alloc();
-    assert_eq!(rt; refusal(alloc, &nested(alloc, 126)?)?, None);
-    assert_eq!(rt;
-        refusal(alloc, &nested(alloc, 127)?)?,
-        Some(DocError::NotJson)
+    is_equal(&rt, &refusal(alloc, &nested(alloc, 126)?)?, &None);
+    is_equal(
+        &rt,
+        &refusal(alloc, &nested(alloc, 127)?)?,
+        &Some(DocError::NotJson),
     );
     Ok(())
 }

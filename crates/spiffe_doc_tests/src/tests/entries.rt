@@ -1,5 +1,6 @@
 use super::{
-    authority, bundle, entry_refusal, is_entry, jwt_rsa, keys, letters, refusal, x509_point,
+    authority, bundle, entry_refusal, holds, holds_at, is_entry, is_equal, is_equal_at, jwt_rsa,
+    keys, letters, refusal, x509_point,
 };
 use spiffe_doc::{
     Authority, Certificate, Curve, DocError, EcKey, KeyId, KeyMember, PublicKey, RsaKey, read_entry,
@@ -70,7 +71,7 @@ fn points(rt: HostRuntime) -> Result<(), Fail> {
     ];
     for (curve, x, y, wanted) in rows {
         let entry = point(alloc, curve, x, y)?;
-        assert_eq!(rt; refusals(alloc, &entry)?, (wanted, wanted), "{entry}");
+        is_equal_at(&rt, &refusals(alloc, &entry)?, &(wanted, wanted), &entry);
     }
     Ok(())
 }
@@ -93,7 +94,7 @@ fn certificates(rt: HostRuntime) -> Result<(), Fail> {
     ];
     for (x5c, wanted) in rows {
         let entry = x509_point(alloc, "P-256", &a43, &a43, x5c)?;
-        assert_eq!(rt; entry_refusal(alloc, &entry)?, wanted, "{x5c}");
+        is_equal_at(&rt, &entry_refusal(alloc, &entry)?, &wanted, &x5c);
     }
     Ok(())
 }
@@ -114,10 +115,10 @@ fn modulus_refusal(alloc: Global, count: usize) -> Result<Option<DocError>, DocE
 #[test]
 fn long_members(rt: HostRuntime) -> Result<(), Fail> {
     let alloc = rt.alloc();
-    assert_eq!(rt; kid_refusal(alloc, 255)?, None);
-    assert_eq!(rt; kid_refusal(alloc, 256)?, Some(DocError::BadKid(0)));
-    assert_eq!(rt; modulus_refusal(alloc, 1366)?, None);
-    assert_eq!(rt; modulus_refusal(alloc, 1367)?, bad_key(KeyMember::N));
+    is_equal(&rt, &kid_refusal(alloc, 255)?, &None);
+    is_equal(&rt, &kid_refusal(alloc, 256)?, &Some(DocError::BadKid(0)));
+    is_equal(&rt, &modulus_refusal(alloc, 1366)?, &None);
+    is_equal(&rt, &modulus_refusal(alloc, 1367)?, &bad_key(KeyMember::N));
     Ok(())
 }
 
@@ -151,7 +152,7 @@ fn faults_of_keys_in_order(rt: HostRuntime) -> Result<(), Fail> {
         ),
     ];
     for (entry, wanted) in rows {
-        assert_eq!(rt; entry_refusal(alloc, entry)?, wanted, "{entry}");
+        is_equal_at(&rt, &entry_refusal(alloc, entry)?, &wanted, &entry);
     }
     Ok(())
 }
@@ -176,7 +177,7 @@ fn faults_in_order(rt: HostRuntime) -> Result<(), Fail> {
         ("[", Some(DocError::NotJson)),
     ];
     for (entry, wanted) in rows {
-        assert_eq!(rt; entry_refusal(alloc, entry)?, wanted, "{entry}");
+        is_equal_at(&rt, &entry_refusal(alloc, entry)?, &wanted, &entry);
     }
     Ok(())
 }
@@ -207,8 +208,8 @@ fn entries_that_are_passed_over(rt: HostRuntime) -> Result<(), Fail> {
         "{\"use\":\"sig\",\"kty\":\"EC\",\"crv\":\"P-256\",\"x5c\":[\"MAA=\",\"MAA=\"]}",
     ];
     for entry in rows {
-        assert!(rt; is_no_authority(alloc, entry)?, "{entry}");
-        assert_eq!(rt; count_of(alloc, entry)?, 0usize, "{entry}");
+        holds_at(&rt, is_no_authority(alloc, entry)?, &entry);
+        is_equal_at(&rt, &count_of(alloc, entry)?, &0usize, &entry);
     }
     Ok(())
 }
@@ -236,14 +237,14 @@ fn jwt_rsa_of(authority: &Authority) -> Result<(&KeyId, &RsaKey), Fail> {
 }
 
 fn has_point(rt: &impl Abort, key: &EcKey, curve: Curve, x: &[u8], y: &[u8]) {
-    assert!(rt; key.curve() == curve);
-    assert_eq!(rt; key.x().as_slice(), x);
-    assert_eq!(rt; key.y().as_slice(), y);
+    holds(rt, key.curve() == curve);
+    is_equal(rt, &key.x().as_slice(), &x);
+    is_equal(rt, &key.y().as_slice(), &y);
 }
 
 fn has_modulus(rt: &impl Abort, key: &RsaKey, n: &[u8]) {
-    assert_eq!(rt; key.n().as_slice(), n);
-    assert_eq!(rt; key.e().as_slice(), [1u8, 0, 1].as_slice());
+    is_equal(rt, &key.n().as_slice(), &n);
+    is_equal(rt, &key.e().as_slice(), &[1u8, 0, 1].as_slice());
 }
 
 /// An X.509 authority whose coordinates are so many zeros of base64url.
@@ -261,7 +262,7 @@ fn is_zero_point(
 ) -> Result<(), Fail> {
     let (der, key) = x509_ec(authority)?;
     has_point(rt, key, curve, zeros, zeros);
-    assert_eq!(rt; der.der().as_slice(), [0x30u8, 0x00].as_slice());
+    is_equal(rt, &der.der().as_slice(), &[0x30u8, 0x00].as_slice());
     Ok(())
 }
 
@@ -280,7 +281,7 @@ fn members_of_a_longer_point_are_kept(rt: HostRuntime) -> Result<(), Fail> {
 /// The authority has the key id `k` and a key whose modulus and exponent are 65537.
 fn is_small_modulus(rt: &impl Abort, authority: &Authority) -> Result<(), Fail> {
     let (kid, key) = jwt_rsa_of(authority)?;
-    assert_eq!(rt; kid.as_str(), "k");
+    is_equal(rt, &kid.as_str(), &"k");
     has_modulus(rt, key, &[1, 0, 1]);
     Ok(())
 }
@@ -296,7 +297,7 @@ fn members_of_a_modulus_are_kept(rt: HostRuntime) -> Result<(), Fail> {
 fn is_copied(rt: &impl Abort, first: &Authority, second: &Authority) -> Result<(), AllocError> {
     let copy: Authority = first.copy()?;
     let equal = (copy == *first, copy == *second);
-    assert_eq!(rt; equal, (true, false));
+    is_equal(rt, &equal, &(true, false));
     Ok(())
 }
 
@@ -342,15 +343,15 @@ fn is_low_point(rt: &impl Abort, key: &PublicKey) -> Result<(), Fail> {
     let PublicKey::Ec(key) = key else {
         return Err("no key over a curve")?;
     };
-    assert!(rt; key.curve() == Curve::P256);
-    assert_eq!(rt; key.x().as_slice().first().copied(), Some(16u8));
-    assert_eq!(rt; key.y().as_slice(), [0u8; 32].as_slice());
+    holds(rt, key.curve() == Curve::P256);
+    is_equal(rt, &key.x().as_slice().first().copied(), &Some(16u8));
+    is_equal(rt, &key.y().as_slice(), &[0u8; 32].as_slice());
     Ok(())
 }
 
 fn point_is_copied(rt: &impl Abort, key: &PublicKey) -> Result<(), Fail> {
     let copy: PublicKey = key.copy()?;
-    assert!(rt; copy == *key);
+    holds(rt, copy == *key);
     is_low_point(rt, &copy)
 }
 
@@ -376,7 +377,7 @@ fn is_low_modulus(rt: &impl Abort, key: &PublicKey) -> Result<(), Fail> {
 /// A copy of the modulus begins with zeros, and is not the point.
 fn modulus_is_copied(rt: &impl Abort, key: &PublicKey, point: &PublicKey) -> Result<(), Fail> {
     let copy: PublicKey = key.copy()?;
-    assert!(rt; !(copy == *point));
+    holds(rt, !(copy == *point));
     is_low_modulus(rt, &copy)
 }
 
@@ -412,18 +413,19 @@ fn is_one_authority(alloc: Global, first: &str, second: &str) -> Result<bool, Do
 #[test]
 fn the_longest_entry(rt: HostRuntime) -> Result<(), Fail> {
     let longest = spaced(rt.alloc(), 1048514)?;
-    assert_eq!(rt; longest.len(), 1048576usize);
+    is_equal(&rt, &longest.len(), &1048576usize);
     let entry = spaced(rt.alloc(), 0)?;
-    assert!(rt; is_one_authority(rt.alloc(), &longest, &entry)?);
+    holds(&rt, is_one_authority(rt.alloc(), &longest, &entry)?);
     Ok(())
 }
 
 #[test]
 fn a_longer_entry_is_refused(rt: HostRuntime) -> Result<(), Fail> {
     let longer = spaced(rt.alloc(), 1048515)?;
-    assert_eq!(rt;
-        entry_refusal(rt.alloc(), &longer)?,
-        Some(DocError::TooLong)
+    is_equal(
+        &rt,
+        &entry_refusal(rt.alloc(), &longer)?,
+        &Some(DocError::TooLong),
     );
     Ok(())
 }

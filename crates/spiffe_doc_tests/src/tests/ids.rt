@@ -1,4 +1,4 @@
-use super::letters;
+use super::{holds_at, is_equal, is_equal_at, letters};
 use spiffe_doc::{IdError, NameError, SpiffeId, TrustDomain};
 use std::alloc::{AllocError, Global};
 use std::process::Abort;
@@ -41,7 +41,7 @@ fn names(rt: HostRuntime) -> Result<(), Fail> {
         (b"k\xc3\xa9".as_slice(), Some(NameError::BadChar(1))),
     ];
     for (name, wanted) in rows {
-        assert_eq!(rt; name_refusal(alloc, name)?, wanted, "{name:?}");
+        is_equal_at(&rt, &name_refusal(alloc, name)?, &wanted, &name);
     }
     Ok(())
 }
@@ -68,11 +68,11 @@ fn names_are_ordered_by_their_bytes(rt: HostRuntime) -> Result<(), Fail> {
         let lower = TrustDomain::parse(alloc, lower)?;
         let higher = TrustDomain::parse(alloc, higher)?;
         let copy: TrustDomain = higher.copy()?;
-        assert!(rt; lower < higher, "{}", higher.as_str());
-        assert!(rt; higher > lower, "{}", higher.as_str());
-        assert!(rt; lower != higher, "{}", higher.as_str());
-        assert!(rt; copy == higher, "{}", higher.as_str());
-        assert_eq!(rt; copy.as_str(), higher.as_str());
+        holds_at(&rt, lower < higher, &higher.as_str());
+        holds_at(&rt, higher > lower, &higher.as_str());
+        holds_at(&rt, lower != higher, &higher.as_str());
+        holds_at(&rt, copy == higher, &higher.as_str());
+        is_equal(&rt, &copy.as_str(), &higher.as_str());
     }
     Ok(())
 }
@@ -100,7 +100,7 @@ fn long_ids(rt: HostRuntime) -> Result<(), Fail> {
     ];
     for (front, letter, count, rest, wanted) in rows {
         let found = long_id_refusal(rt.alloc(), front, letter, count, rest)?;
-        assert_eq!(rt; found, wanted, "{front} {count}");
+        is_equal_at(&rt, &found, &wanted, &front);
     }
     Ok(())
 }
@@ -130,14 +130,14 @@ fn ids(rt: HostRuntime) -> Result<(), Fail> {
         ("spiffe://a/b/c%20", Some(IdError::BadPath(1))),
     ];
     for (id, wanted) in rows {
-        assert_eq!(rt; id_refusal(alloc, id)?, wanted, "{id}");
+        is_equal_at(&rt, &id_refusal(alloc, id)?, &wanted, &id);
     }
     Ok(())
 }
 
 fn has_parts(rt: &impl Abort, id: &SpiffeId, domain: &str, path: &str) {
-    assert_eq!(rt; id.domain().as_str(), domain);
-    assert_eq!(rt; id.path(), path);
+    is_equal(rt, &id.domain().as_str(), &domain);
+    is_equal(rt, &id.path(), &path);
 }
 
 /// The ID has these parts, and so has its copy.
@@ -157,6 +157,6 @@ fn the_parts_of_an_id(rt: HostRuntime) -> Result<(), Fail> {
 #[test]
 fn an_id_may_have_no_path(rt: HostRuntime) -> Result<(), Fail> {
     let id = SpiffeId::parse(rt.alloc(), "spiffe://example.org")?;
-    assert_eq!(rt; id.path(), "");
+    is_equal(&rt, &id.path(), &"");
     Ok(())
 }

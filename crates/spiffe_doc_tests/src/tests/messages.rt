@@ -1,3 +1,4 @@
+use super::{is_equal, is_equal_at};
 use spiffe_doc::{AppendError, Curve, DocError, IdError, KeyMember, NameError};
 use std::alloc::{AllocError, Global};
 use std::process::Abort;
@@ -12,8 +13,8 @@ fn is_told(
 ) -> Result<(), AllocError> {
     let (number, wanted) = told;
     let text = error.to_string(alloc)?;
-    assert_eq!(rt; text.as_str(), wanted);
-    assert_eq!(rt; error.number(), number, "{wanted}");
+    is_equal(rt, &text.as_str(), &wanted);
+    is_equal_at(rt, &error.number(), &number, &wanted);
     Ok(())
 }
 
@@ -142,8 +143,8 @@ fn messages_and_numbers_of_names(rt: HostRuntime) -> Result<(), Fail> {
     ];
     for (error, number, wanted) in names {
         let text = error.to_string(alloc)?;
-        assert_eq!(rt; text.as_str(), wanted);
-        assert_eq!(rt; error.number(), number, "{wanted}");
+        is_equal(&rt, &text.as_str(), &wanted);
+        is_equal_at(&rt, &error.number(), &number, &wanted);
     }
     Ok(())
 }
@@ -177,8 +178,8 @@ fn messages_and_numbers_of_ids(rt: HostRuntime) -> Result<(), Fail> {
     ];
     for (error, number, wanted) in ids {
         let text = error.to_string(alloc)?;
-        assert_eq!(rt; text.as_str(), wanted);
-        assert_eq!(rt; error.number(), number, "{wanted}");
+        is_equal(&rt, &text.as_str(), &wanted);
+        is_equal_at(&rt, &error.number(), &number, &wanted);
     }
     Ok(())
 }
@@ -205,7 +206,7 @@ fn messages_of_appends(rt: HostRuntime) -> Result<(), Fail> {
     ];
     for (error, wanted) in rows {
         let text = error.to_string(alloc)?;
-        assert_eq!(rt; text.as_str(), wanted);
+        is_equal(&rt, &text.as_str(), &wanted);
     }
     Ok(())
 }

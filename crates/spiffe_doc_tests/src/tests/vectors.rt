@@ -1,5 +1,5 @@
 //! Real bundles, with certificates and keys, and their canonical texts as another program made them.
-use super::bundle;
+use super::{bundle, holds, is_equal};
 use spiffe_doc::{Bundle, write_document, write_entry};
 use std::alloc::{AllocError, Global};
 use std::process::Abort;
@@ -71,21 +71,21 @@ fn is_read(
     numbers: Numbers,
 ) -> Result<(), AllocError> {
     let (sequence, refresh_hint, count) = numbers;
-    assert_eq!(rt; read.text(), text.as_bytes());
-    assert_eq!(rt; read.sequence(), sequence);
-    assert_eq!(rt; read.refresh_hint(), refresh_hint);
-    assert_eq!(rt; read.authorities().len(), count);
+    is_equal(rt, &read.text(), &text.as_bytes());
+    is_equal(rt, &read.sequence(), &sequence);
+    is_equal(rt, &read.refresh_hint(), &refresh_hint);
+    is_equal(rt, &read.authorities().len(), &count);
     let list = listed(alloc, read)?;
-    assert_eq!(rt; list.as_slice(), front_of(text).as_bytes());
+    is_equal(rt, &list.as_slice(), &front_of(text).as_bytes());
     Ok(())
 }
 
 /// The canonical text is that of the bundle, and is written again.
 fn reads_back(rt: &impl Abort, alloc: Global, read: &Bundle, text: &str) -> Result<(), Fail> {
     let again = bundle(alloc, text)?;
-    assert!(rt; again == *read);
+    holds(rt, again == *read);
     let written = write_document(alloc, &again)?;
-    assert_eq!(rt; written.as_slice(), text.as_bytes());
+    is_equal(rt, &written.as_slice(), &text.as_bytes());
     Ok(())
 }
 

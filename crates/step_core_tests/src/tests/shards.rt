@@ -1,5 +1,5 @@
 //! Shards of one caller answer alike, however many they are.
-use super::{answer_text, operation};
+use super::{answer_text, is_equal, operation};
 use map_core::{Ask, AskError, Op, Reply};
 use std::alloc::Global;
 use std::process::Abort;
@@ -102,9 +102,9 @@ fn restless(alloc: Global, count: u64) -> Result<Vec<Event>, Fail> {
 
 /// The order of 14,286 rounds holds the writers alone.
 fn holds_writers(rt: &impl Abort, trace: &Trace) {
-    assert_eq!(rt; (trace.ops.len(), trace.order.len()), (28_572, 14_286));
+    is_equal(rt, &(trace.ops.len(), trace.order.len()), &(28_572, 14_286));
     for (place, number) in trace.order.iter().enumerate() {
-        assert_eq!(rt; *number, 2 * place + 1);
+        is_equal(rt, number, &(2 * place + 1));
     }
 }
 

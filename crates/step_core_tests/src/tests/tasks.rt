@@ -1,5 +1,5 @@
 //! Single shards and tasks, step by step.
-use super::{answer_text, contents_text, operation};
+use super::{answer_text, contents_text, is_equal, operation};
 use map_core::{AskError, Contents, Op, Reply};
 use spiffe_doc::TrustDomain;
 use std::alloc::Global;
@@ -266,9 +266,10 @@ fn a_shared_version_stays(rt: HostRuntime) -> Result<(), Fail> {
         ("remove a", "removed", 3),
     ];
     play(alloc, &mut shard, &rows)?;
-    assert_eq!(rt;
-        (first.len(), second.len(), shard.look().1.len()),
-        (1, 2, 1)
+    is_equal(
+        &rt,
+        &(first.len(), second.len(), shard.look().1.len()),
+        &(1, 2, 1),
     );
     Ok(())
 }
@@ -299,13 +300,13 @@ fn give_round(
     revisions: (u64, u64, u64),
 ) -> Result<(), Fail> {
     let (first, second, now) = revisions;
-    assert_eq!(rt; task.wants(), Want::Collect(0));
+    is_equal(rt, &task.wants(), &Want::Collect(0));
     give_seen(alloc, task, first)?;
-    assert_eq!(rt; task.wants(), Want::Collect(1));
+    is_equal(rt, &task.wants(), &Want::Collect(1));
     give_seen(alloc, task, second)?;
-    assert_eq!(rt; task.wants(), Want::Confirm(0));
+    is_equal(rt, &task.wants(), &Want::Confirm(0));
     task.give(Answer::Revision(first));
-    assert_eq!(rt; task.wants(), Want::Confirm(1));
+    is_equal(rt, &task.wants(), &Want::Confirm(1));
     task.give(Answer::Revision(now));
     Ok(())
 }
@@ -318,7 +319,7 @@ fn a_fetch_all_wants_all_again(rt: HostRuntime) -> Result<(), Fail> {
         give_round(&rt, rt.alloc(), &mut task, revisions)?;
     }
     let text = reply_of(rt.alloc(), task)?;
-    assert_eq!(rt; text.as_str(), "all 0");
+    is_equal(&rt, &text.as_str(), &"all 0");
     Ok(())
 }
 
@@ -330,7 +331,7 @@ fn a_fetch_all_names_the_last_shard_that_moved(rt: HostRuntime) -> Result<(), Fa
         task.give(Answer::Revision(second));
     }
     let text = reply_of(rt.alloc(), task)?;
-    assert_eq!(rt; text.as_str(), "moved 0 7 9");
+    is_equal(&rt, &text.as_str(), &"moved 0 7 9");
     Ok(())
 }
 
@@ -338,7 +339,7 @@ fn a_fetch_all_names_the_last_shard_that_moved(rt: HostRuntime) -> Result<(), Fa
 fn give_replies(rt: &impl Abort, alloc: Global, task: &mut Task) -> Result<(), Fail> {
     task.give(Answer::Revision(0));
     give_seen(alloc, task, 0)?;
-    assert_eq!(rt; task.wants(), Want::Do(1));
+    is_equal(rt, &task.wants(), &Want::Do(1));
     task.give(Answer::Replied(Ok(Reply::Unchanged)));
     task.give(Answer::Replied(Err(AskError::Memory)));
     Ok(())
@@ -350,6 +351,6 @@ fn an_operation_on_a_name_is_one_step(rt: HostRuntime) -> Result<(), Fail> {
     let mut task = Task::begin(rt.alloc(), &operation(rt.alloc(), "get a")?, 2, 1)?;
     give_replies(&rt, rt.alloc(), &mut task)?;
     let text = reply_of(rt.alloc(), task)?;
-    assert_eq!(rt; text.as_str(), "unchanged");
+    is_equal(&rt, &text.as_str(), &"unchanged");
     Ok(())
 }
