@@ -3,17 +3,17 @@ use Rattle.std.specs.Prelude.{◌≡◌, ℕ, false, List, Result, Ok, Err, ◌�
 use Rattle.std.specs.Io.KnownBytes.{Appends}
 use Rattle.frame_front.specs.Outbox.{WritesFront}
 use Rattle.frame_front.specs.declared.error.FrontError.TheVariants.{Memory, WriteFault}
-use Rattle.bundled.specs.declared.command_line.Wanted.{Wanted}
-use Rattle.bundled.specs.declared.command_line.Wanted.TheVariants.{Run, Trace, Migrate, Refresh, Serve}
+use Rattle.command_line.specs.declared.wanted.Wanted.{Wanted}
+use Rattle.command_line.specs.declared.wanted.Wanted.TheVariants.{Run, Trace, Migrate, Refresh, Serve}
 use Rattle.commands.specs.declared.fault.Fault.{Fault}
 use Rattle.commands.specs.declared.fault.Fault.TheVariants.{Front}
-use Rattle.bundled.specs.Settings.{AreSettings}
+use Rattle.command_line.specs.Settings.{AreSettings}
 use Rattle.commands.specs.Streams.{Streams, End, EndsWith, Tells}
 use Rattle.commands.specs.Run.{Runs}
 use Rattle.commands.specs.Trace.{Tracing}
 use Rattle.commands.specs.Migrate.{Migration}
 use Rattle.bundled.specs.Refresh.{RefreshRun}
-use Rattle.bundled.specs.Serve.{ServeCommand}
+use Rattle.server.specs.Serve.{ServeCommand}
 
 -- a command, with its settings
 abbrev pub Does : Wanted → ℕ → Streams → Streams → Type 0

@@ -1,5 +1,2 @@
-pub mod Settings
-pub mod Target
 pub mod Refresh
 pub mod Command
-pub mod Serve

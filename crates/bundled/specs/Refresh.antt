@@ -1,5 +1,5 @@
 -- What the command `refresh` does to its streams; what its lines say is not defined here.
-use Rattle.std.specs.Prelude.{◌≡◌, ℕ, ◌+◌, max, min, List, [], ◌++◌, Bool, true, false, Result, Ok, Err}
+use Rattle.std.specs.Prelude.{◌≡◌, ℕ, List, [], ◌++◌, Bool, true, false, Result, Ok, Err}
 use Rattle.commands.specs.declared.fault.Fault.{Fault}
 use Rattle.commands.specs.Streams.{Streams, Tells}
 use Rattle.commands.specs.Fault.{fault_line}
@@ -22,8 +22,3 @@ pub record RefreshRun (status : ℕ) (old new : Streams) : Type 0 where
   pub has_status : status ≡ refresh_status ended
   pub lines : List ℕ
   pub told : Tells old.error new.error (lines ++ last_line ended)
-
--- when a relationship is due again: as the refresh came to, but not before so many seconds are over; at most the greatest
--- number of 64 bits
-abbrev pub due_not_before : ℕ → ℕ → ℕ → ℕ
-due_not_before now at_least due = max due (min (now + at_least) 18446744073709551615)

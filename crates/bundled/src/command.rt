@@ -3,12 +3,13 @@ ghost use Rattle.std.specs.Prelude.{◌≡◌, ◌<◌, ◌-◌, ◌^◌, ◌⊎
 ghost use Rattle.bundled.specs.Command.{Commands, Shows, Refuses};
 ghost use Rattle.commands.specs.Streams.{End, Streams, Tells, end_of, streams};
 
-use crate::command_line::{Wanted, wanted_by};
 use crate::refreshing::refresh_over;
-use crate::serving::{LineLog, serve_over};
+use crate::serving::serve_over;
 use clap::error::ErrorKind;
+use command_line::{Wanted, wanted_by};
 use commands::{Fault, migrate_over, run_over, tell, trace_over, write_flushed};
 use frame_front::{Counted, FrontError};
+use server::LineLog;
 use std::alloc::{AllocError, Global};
 use std::env::Env;
 use std::fs::Files;

@@ -2,11 +2,8 @@
 #![tactic(auto)]
 
 mod command;
-mod command_line;
 mod refreshing;
 mod serving;
-#[cfg(test)]
-mod tests;
 
 use command::command_over;
 use frame_front::Counted;

@@ -1,66 +1,22 @@
 //! The command `refresh`: sets the bundles of a list of relationships, out of a folder of documents.
-ghost use Rattle.std.specs.Prelude.{◌≡◌, ◌<◌, ◌-◌, ◌^◌, List, ℕ};
-ghost use Rattle.bundled.specs.Refresh.{RefreshRun, due_not_before};
-ghost use Rattle.commands.specs.Streams.{End, Streams, Tells, end_of};
+ghost use Rattle.std.specs.Prelude.{◌<◌, ◌-◌, ◌^◌, List, ℕ};
+ghost use Rattle.bundled.specs.Refresh.{RefreshRun};
+ghost use Rattle.commands.specs.Streams.{End, Tells, end_of};
 
-mod folder;
-mod list;
-mod outcome_lines;
-mod report;
-mod target;
-#[cfg(test)]
-mod tests;
-
-use commands::{Fault, RefreshFault, read_input};
-use folder::Folder;
+use command_line::Refreshing;
+use commands::{Fault, RefreshFault};
 use frame_client::Client;
 use frame_front::{Counted, FrontError};
-use list::{ListError, read_list};
-use map_core::Reply;
-use outcome_lines::Told;
-use refresh::{Outcome, Schedule, What, refresh_at};
-use report::write_line;
+use refresher::{Folder, Sender, Server, Times, read_schedule, refresh_each};
 use std::alloc::Global;
-use std::fs::{File, Files};
+use std::fs::Files;
 use std::io;
 use std::io::Write;
 use std::net::{Ipv4Addr, Net, OpenStream, SocketAddr};
 use std::time::{Clock, Duration};
-use target::{Sender, Server, Target};
 
 /// How long one read or write of a server's stream may wait, in seconds.
 const PATIENCE: u64 = 30;
-
-/// What the command is to do.
-#[derive(Clone, Copy, Debug)]
-pub struct Refreshing<'a> {
-    /// The file of the list of relationships.
-    pub list: &'a str,
-    /// The folder of the documents.
-    pub folder: &'a str,
-    /// The time in seconds; that of the clock if it is left out.
-    pub now: Option<u64>,
-    /// In how many seconds, at the least, a relationship is due again.
-    pub at_least: u64,
-    /// Where the server listens on this machine. Without it, requests go to standard output.
-    pub port: Option<u16>,
-}
-
-/// The time of the refreshes, and how long a relationship is not due again, in seconds.
-#[derive(Clone, Copy)]
-struct Times {
-    time: u64,
-    at_least: u64,
-}
-
-impl Times {
-    /// When a relationship is due again. A server that asks to be asked each second is not obeyed.
-    fn due(&self, outcome: &Outcome) -> u64
-        ensures { result ≡ due_not_before self.now.time self.now.at_least outcome.now.due }
-    {
-        outcome.due.max(self.time.saturating_add(self.at_least))
-    }
-}
 
 /// Refreshes each relationship of the list once, and answers the exit status: 0 if each bundle was stored, unchanged or
 /// sent, 3 if not, 1 after a fault. A list that is refused is a fault, and then nothing is asked. A line for each
@@ -135,26 +91,6 @@ fn refresh_list<H: Files + Clock + Net, W: Write, E: Write>(
     }
 }
 
-/// The relationships of a list, each due now.
-fn read_schedule<H: Files>(alloc: Global, host: &H, list: &str) -> Result<Schedule, Fault> {
-    let Ok(file) = File::open(host, list) else {
-        return Err(Fault::Front(FrontError::ReadFault));
-    };
-    let text = read_input(alloc, &mut Counted::new(file))?;
-    let relationships = match read_list(alloc, text.as_slice()) {
-        Ok(relationships) => relationships,
-        Err(ListError::BadLine(line)) => return Err(Fault::BadLine(line)),
-        Err(ListError::BadRelationship(error, line)) => {
-            return Err(Fault::Refresh(RefreshFault::BadRelationship(error, line)));
-        }
-        Err(ListError::Memory) => return Err(Fault::Front(FrontError::Memory)),
-    };
-    match Schedule::new(alloc, relationships) {
-        Ok(schedule) => Ok(schedule),
-        Err(_) => Err(Fault::Front(FrontError::Memory)),
-    }
-}
-
 fn time_of<H: Clock>(host: &H, wanted: &Refreshing<'_>) -> Result<u64, Fault> {
     match wanted.now {
         Some(now) => Ok(now),
@@ -190,51 +126,4 @@ fn streams<H: Net>(host: &H, port: u16) -> io::Result<(H::Stream, H::Stream)> {
     stream.set_nodelay(true)?;
     let other = stream.try_clone()?;
     Ok((stream, other))
-}
-
-/// Refreshes the relationships in the order in which they are due, each once, and writes a line for each. A line that is
-/// not taken is a fault if it belongs to the output; else it is dropped, and so are those after it.
-fn refresh_each<H: Files, T: Target, L: Write>(
-    alloc: Global,
-    folder: &mut Folder<'_, H>,
-    target: &mut T,
-    schedule: &mut Schedule,
-    times: &Times,
-    lines: &mut Counted<L>,
-    is_output: bool,
-) -> Result<bool, Fault>
-    requires { lines.old.faults < 2 ^ 64 - 1 }
-    ensures { (text : List ℕ) × Tells (end_of L.contents lines.old) (end_of L.contents lines.new) text }
-{
-    let before = lines.faults();
-    let mut all_went_well = true;
-    for _ in 0..schedule.len() {
-        let Some((place, _)) = schedule.next() else {
-            return Ok(all_went_well);
-        };
-        let Ok(outcome) = refresh_at(alloc, folder, target, schedule, place, times.time) else {
-            return Err(Fault::Front(FrontError::Memory));
-        };
-        if let Some(fault) = target.fault() {
-            return Err(fault);
-        }
-        let told = Told {
-            now: times.time,
-            due: times.due(&outcome),
-            domain: schedule.relationship(place).domain(),
-            stored: target.stored(),
-            has_emptied: target.has_emptied(),
-            remark: folder.remark(),
-        };
-        let is_written = write_line(lines, before, &outcome.what, &told);
-        if is_output && !is_written {
-            return Err(Fault::Front(FrontError::WriteFault));
-        }
-        all_went_well = all_went_well && is_good(&outcome);
-    }
-    Ok(all_went_well)
-}
-
-fn is_good(outcome: &Outcome) -> bool {
-    matches!(outcome.what, What::Taken(Reply::Stored | Reply::Unchanged))
 }

@@ -2,14 +2,34 @@
 ghost use Rattle.std.specs.Prelude.{◌<◌, ◌≤◌};
 
 mod dumps;
+mod ends;
 mod sessions;
 mod traces;
 
 use commands::{migrate_over, run_over, trace_over};
 use frame_front::Counted;
 use std::alloc::Global;
+use std::fmt::Debug;
 use std::io::Read;
 use std::process::Abort;
+
+/// What was found in this case is what is wanted.
+fn is_equal_at<T: PartialEq + Debug, C: Debug>(rt: &impl Abort, found: &T, wanted: &T, case: &C) {
+    assert!(rt;
+        *found == *wanted,
+        "{case:?}: {found:?}, and not {wanted:?}"
+    );
+}
+
+/// It is so.
+fn holds(rt: &impl Abort, is_so: bool) {
+    assert!(rt; is_so);
+}
+
+/// It is so in this case.
+fn holds_at<C: Debug>(rt: &impl Abort, is_so: bool, case: &C) {
+    assert!(rt; is_so, "{case:?}");
+}
 
 const FIRST_RUN: &[u8] = b"\x00\x00\x00\x0eS\x01a{\"keys\":[]}\x00\x00\x00\x03G\x01a";
 
@@ -70,15 +90,15 @@ fn trace<R: Read + Drop>(alloc: Global, reader: R) -> Left {
 }
 
 fn left_is(rt: &impl Abort, left: &Left, output: &[u8], faults: &str, status: u8) {
-    assert!(rt;
+    holds_at(
+        rt,
         left.output.as_slice() == output,
-        "{:?}",
-        left.output.as_slice()
+        &left.output.as_slice(),
     );
-    assert!(rt;
+    holds_at(
+        rt,
         left.faults.as_slice() == faults.as_bytes(),
-        "{:?}",
-        left.faults.as_slice()
+        &left.faults.as_slice(),
     );
-    assert!(rt; left.status == status, "status {}", left.status);
+    holds_at(rt, left.status == status, &left.status);
 }

@@ -1,30 +1,27 @@
-//! A server: its store, its workers, and what it says of them.
-ghost use Rattle.std.specs.Prelude.{◌≡◌, false, ◌<◌, ◌≤◌, ◌-◌, ◌+◌, ◌^◌, ◌∷◌, [], List, IfOk, vec_len, length, if◌then◌else◌};
-ghost use Rattle.std.specs.List.{All, flat_map};
+//! A server: its workers and their connections.
+ghost use Rattle.std.specs.Prelude.{◌≡◌, false, ◌<◌, ◌-◌, ◌^◌, IfOk, vec_len};
+ghost use Rattle.std.specs.List.{All};
 ghost use Rattle.shard_store.specs.Pass.{IsOf};
 ghost use Rattle.workers.specs.Workers.{AllWorked};
 ghost use Rattle.workers.specs.Closing.{AreAll, ranges_of};
-ghost use Rattle.bundled.specs.Serve.{always_open, Reports, ServeCommand, ServeRun, SetUpRun};
+ghost use Rattle.server.specs.Serve.{always_open, ServeCommand, ServeRun};
 ghost use Rattle.commands.specs.Streams.{end_of};
 
 use crate::serving::connections::Connections;
-use crate::serving::load::requests_of;
-use crate::serving::report::{Said, count_begun, say, tell_faults};
-use crate::serving::set_up::SetUp;
-use crate::serving::settings::Settings;
 use crate::serving::stop::{Stop, Watch};
+use command_line::Settings;
 use commands::Fault;
 use frame_front::{Counted, FrontError};
+use server::{Said, SetUp, report, requests_of, say};
 use shard_store::{Pass, Store};
 use std::alloc::{AllocError, Global};
 use std::fs::Files;
 use std::io::{Read, Write};
-use std::mem::forget;
 use std::net::{Ipv4Addr, Net, TcpListener, TcpStream};
 use std::thread;
 use std::thread::Threads;
 use std::time::Clock;
-use workers::{Log, Open, Worked, close_store, run_workers};
+use workers::{Log, Open, Worked, run_workers};
 
 /// The same listener for each worker.
 fn connections_of<'a>(
@@ -114,49 +111,14 @@ fn serve_all<R: Threads + Clock + Net<Stream = TcpStream> + Sync, I: Read, L: Lo
     )
 }
 
-fn status_of(all_went_well: bool) -> u8
-    ensures { result ≡ (if all_went_well then 0 else 1) }
-{
-    if all_went_well { 0 } else { 1 }
-}
-
-/// Says how many sessions there were and how many domains stand at the end, and tells the faults of sessions; answers
-/// the exit status.
-fn report<W: Write, E: Write>(
-    store: Store,
-    worked: Vec<Worked>,
-    out: &mut Counted<W>,
-    err: &mut Counted<E>,
-    before: u64,
-) -> u8
-    requires count { before < 2 ^ 64 - 1 }
-    requires some { 0 < vec_len worked }
-    requires own { All (λ w. IsOf w.pass store) worked.items }
-    requires all { AreAll (flat_map (λ w. w.pass.seen.ranges) worked.items) }
-    ensures { Reports worked.items before result (end_of W.contents out.old) (end_of W.contents out.new)
-        (end_of E.contents err.old) (end_of E.contents err.new) }
-{
-    let served = Said::Served(count_begun(worked.as_slice()));
-    let served_taken = say(out, err, before, served);
-    let have_come = tell_faults(worked.as_slice(), err, before);
-    match close_store(store, worked) {
-        Ok(contents) => {
-            let domains = Said::Domains(contents.len() as u64);
-            // The process ends with the server, and its memory goes back as a whole: no walk over every bundle.
-            forget(contents);
-            let domains_taken = say(out, err, before, domains);
-            status_of(served_taken & have_come & domains_taken)
-        }
-        Err(error) => {
-            Fault::Close(error).tell_unless_failed(err, before);
-            1
-        }
-    }
-}
-
-/// Serves over a store that is set up: `listening PORT` goes to the output first, and nothing is accepted if it is not
-/// taken.
-fn serve_with<
+/// Answers the connections of a listener over a store that is set up, until each worker has had as many as it may accept,
+/// or until the end of the input if the server is to stop then; answers the exit status.
+///
+/// `listening PORT` goes to the output first; nothing is accepted if it is not taken. At the end come `served N`, how many
+/// sessions were begun, and `domains M`, how many domains have a bundle then. The faults of sessions are told in between,
+/// in order of the workers; they don't change the status, except that a worker to which no connection came does. The log is
+/// told of changes and of the ends of sessions while it serves.
+pub fn serve_on<
     R: Threads + Clock + Net<Stream = TcpStream> + Sync,
     I: Read,
     W: Write,
@@ -229,46 +191,10 @@ fn serve_at<
     ensures read { settings.until_eof ≡ false → input.new ≡ input.old }
 {
     match TcpListener::bind(host, (Ipv4Addr::LOCALHOST, port)) {
-        Ok(listener) => serve_with(
+        Ok(listener) => serve_on(
             host, alloc, &listener, settings, set_up, input, out, err, log,
         ),
         Err(_) => Fault::Listen.tell(err),
-    }
-}
-
-/// Answers the connections of a listener until each worker has had as many as it may accept, or until the end of the input
-/// if the server is to stop then; answers the exit status. Before that the store is filled with what the requests hold, if
-/// there are any: the request for version 2, and requests of which each stores a bundle, as `migrate` makes them.
-///
-/// `listening PORT` goes to the output first; nothing is accepted if it is not taken. At the end come `served N`, how many
-/// sessions were begun, and `domains M`, how many domains have a bundle then. The faults of sessions are told in between,
-/// in order of the workers; they don't change the status, except that a worker to which no connection came does. The log is
-/// told of changes and of the ends of sessions while it serves.
-pub fn serve_on<
-    R: Threads + Clock + Net<Listener = TcpListener, Stream = TcpStream> + Sync,
-    I: Read,
-    W: Write,
-    E: Write,
-    L: Log + Sync,
->(
-    rt: &R,
-    alloc: Global,
-    listener: &TcpListener,
-    settings: Settings,
-    requests: &[u8],
-    input: &mut Counted<I>,
-    out: &mut Counted<W>,
-    err: &mut Counted<E>,
-    log: &L,
-) -> u8
-    requires { err.old.faults < 2 ^ 64 - 1 }
-    ensures run { SetUpRun settings requests.now result (end_of W.contents out.old) (end_of W.contents out.new)
-        (end_of E.contents err.old) (end_of E.contents err.new) }
-    ensures read { settings.until_eof ≡ false → input.new ≡ input.old }
-{
-    match SetUp::new(alloc, settings, requests) {
-        Ok(set_up) => serve_with(rt, alloc, listener, settings, set_up, input, out, err, log),
-        Err(error) => Fault::Front(error).tell(err),
     }
 }
 

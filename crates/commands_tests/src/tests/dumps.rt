@@ -1,5 +1,5 @@
 //! Dumps, and what they are migrated to.
-use super::{DUMP_OF_ONE, MIGRATED, left_is, migrate, run, trace};
+use super::{DUMP_OF_ONE, MIGRATED, holds, left_is, migrate, run, trace};
 use std::alloc::{AllocError, Global};
 use std::io;
 use std::io::Read;
@@ -129,18 +129,18 @@ fn dumps_are_stored_again(rt: HostRuntime) -> Result<(), AllocError> {
     put_set(&mut sets, "long", long_document(alloc)?.as_str())?;
     sets.extend_from_slice(fetch_all)?;
     let first = run(alloc, sets.as_slice(), 4, 1_000_000);
-    assert!(rt; first.status == 0);
+    holds(&rt, first.status == 0);
     let dump = first.output.as_slice().get(5 * 301..).unwrap_or(b"");
     let head: &[u8] = b"\x00\x00\x00\x09a\x00\x00\x00\x00\x00\x00\x01\x2d";
-    assert!(rt; dump.starts_with(head));
-    assert!(rt; dump.len() > 20_000);
+    holds(&rt, dump.starts_with(head));
+    holds(&rt, dump.len() > 20_000);
     let requests = migrate(alloc, dump);
-    assert!(rt; requests.status == 0);
+    holds(&rt, requests.status == 0);
     let mut again = requests.output;
     again.extend_from_slice(fetch_all)?;
     let second = run(alloc, again.as_slice(), 256, 1_000_000);
-    assert!(rt; second.status == 0);
+    holds(&rt, second.status == 0);
     let same = second.output.as_slice().get(6 + 5 * 301..).unwrap_or(b"");
-    assert!(rt; same == dump);
+    holds(&rt, same == dump);
     Ok(())
 }

@@ -1,4 +1,5 @@
 //! Worked examples of traces, from bytes to bytes.
+use super::is_equal_at;
 use commands::trace_over;
 use frame_front::Counted;
 use std::alloc::Global;
@@ -159,13 +160,13 @@ fn traces(rt: HostRuntime) -> Result<(), Fail> {
     for (name, shards, rounds, input, wanted) in rows {
         let left = left_by(alloc, shards, rounds, input.as_bytes());
         if left.err.as_slice() == b"fault 22\n".as_slice() {
-            assert_eq!(rt; left.out.as_slice(), b"".as_slice(), "{name}");
-            assert_eq!(rt; left.status, 1, "{name}");
+            is_equal_at(&rt, &left.out.as_slice(), &b"".as_slice(), &name);
+            is_equal_at(&rt, &left.status, &1, &name);
             return Err("out of memory")?;
         }
-        assert_eq!(rt; str::from_utf8(&left.out).ok(), Some(wanted), "{name}");
-        assert_eq!(rt; left.status, 0, "{name}");
-        assert_eq!(rt; left.err.as_slice(), b"".as_slice(), "{name}");
+        is_equal_at(&rt, &str::from_utf8(&left.out).ok(), &Some(wanted), &name);
+        is_equal_at(&rt, &left.status, &0, &name);
+        is_equal_at(&rt, &left.err.as_slice(), &b"".as_slice(), &name);
     }
     Ok(())
 }
@@ -219,10 +220,10 @@ fn lines_that_are_no_events(rt: HostRuntime) -> Result<(), Fail> {
         if left.err.as_slice() == b"fault 22\n".as_slice() {
             return Err("out of memory")?;
         }
-        assert_eq!(rt; left.err.as_slice(), wanted, "{input:?}");
+        is_equal_at(&rt, &left.err.as_slice(), &wanted, &input);
         if !wanted.is_empty() {
-            assert_eq!(rt; left.status, 1, "{input:?}");
-            assert_eq!(rt; left.out.as_slice(), b"".as_slice(), "{input:?}");
+            is_equal_at(&rt, &left.status, &1, &input);
+            is_equal_at(&rt, &left.out.as_slice(), &b"".as_slice(), &input);
         }
     }
     Ok(())

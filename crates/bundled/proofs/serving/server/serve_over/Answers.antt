@@ -1,5 +1,5 @@
 use Rattle.std.proofs.Common.{ℕ, List, inl, inr, refl, subst}
-use Rattle.bundled.specs.Serve.{IsSetUp, NotSetUp}
+use Rattle.server.specs.Serve.{IsSetUp, NotSetUp}
 use Rattle.bundled.proofs.serving.server.serve_over.Goals as goal
 
 pub returns-clause-run : goal.returns-clause-run

@@ -1,9 +1,0 @@
-use Rattle.std.proofs.Common.{◌≡◌, take}
-use Rattle.bundled.specs.Serve.{have_come as all_came, session_lines, results_of}
-use Rattle.commands.specs.Streams.{TellsUnlessFailed, end_of}
-use Rattle.bundled.proofs.serving.report.tell_faults.Given as goal
-
-abbrev pub invariant-loop-worker : goal.invariant-loop-worker
-invariant-loop-worker g l =
-    TellsUnlessFailed l.before (end_of g.E.Write.contents l.fn.err) (end_of g.E.Write.contents l.err) (session_lines (results_of (take l.worker-index l.worked)))
-    × (l.have_come ≡ all_came (results_of (take l.worker-index l.worked)))

@@ -1,0 +1,189 @@
+//! How the command line is read.
+ghost use Rattle.std.specs.Prelude.{◌≡◌, ◌<◌, ◌≤◌, IfOk, IfSome};
+ghost use Rattle.command_line.specs.Settings.{AreSettings};
+
+use crate::options::{migrate_command, refresh_command, run_command, serve_command, trace_command};
+use crate::settings::Settings;
+use crate::texts::FRAMES;
+use crate::wanted::{Refreshing, Wanted};
+use clap::error::ErrorKind;
+use clap::{ArgMatches, Command, Error};
+use std::alloc::{AllocError, Global};
+
+/// The most reads that a session may be given.
+const MAX_TURNS: u64 = 1_000_000_000;
+
+/// The reads that a session is given if the command line doesn't say.
+const TURNS: u64 = 1_000_000;
+
+/// The shards of a store if the command line doesn't say.
+const SHARDS: usize = 4;
+
+/// The rounds of a fetch-all if the command line doesn't say.
+const ROUNDS: usize = 3;
+
+/// The workers of a server if the command line doesn't say.
+const WORKERS: u64 = 2;
+
+/// How often an operation is asked again while others are in the way, if the command line doesn't say.
+const RETRIES: u64 = 1000;
+
+/// For how many seconds a client may be silent inside a frame if the command line doesn't say.
+const IDLE: u64 = 60;
+
+/// The tries of a call at a shard that others hold if the command line doesn't say.
+const TRIES: u64 = 1000;
+
+/// In how many seconds, at the least, a relationship is due again if the command line doesn't say.
+const AT_LEAST: u64 = 60;
+
+/// A command with one command more.
+fn with<'a>(
+    command: Result<Command<'a>, AllocError>,
+    more: Result<Command<'a>, AllocError>,
+) -> Result<Command<'a>, AllocError> {
+    command?.subcommand(more?)
+}
+
+/// All commands with their options.
+fn command<'a>(alloc: Global) -> Result<Command<'a>, AllocError> {
+    let none = Command::new(alloc, "bundled")
+        .version("1.0.0")
+        .about("A store of the trust bundles of SPIFFE trust domains")
+        .after_help(FRAMES)
+        .subcommand_required(true);
+    let run = with(Ok(none), run_command(alloc));
+    let trace = with(run, trace_command(alloc));
+    let migrate = with(trace, Ok(migrate_command(alloc)));
+    let refresh = with(migrate, refresh_command(alloc));
+    with(refresh, serve_command(alloc))
+}
+
+/// Reads the command line.
+pub fn wanted_by<'a>(alloc: Global, words: &'a [String]) -> Result<Wanted<'a>, Error>
+    ensures { IfOk result AreSettings }
+{
+    let matches = command(alloc)?.try_get_matches_from(words)?;
+    wanted_of(alloc, &matches)
+}
+
+fn wanted_of<'a>(alloc: Global, matches: &ArgMatches<'a>) -> Result<Wanted<'a>, Error>
+    ensures { IfOk result AreSettings }
+{
+    match matches.subcommand() {
+        Some(("migrate", _)) => Ok(Wanted::Migrate),
+        Some(("refresh", refresh)) => Ok(Wanted::Refresh(refreshing_of(refresh))),
+        Some(("serve", serve)) => serving_of(alloc, serve),
+        Some(("trace", trace)) => Ok(Wanted::Trace {
+            shards: shards_of(trace),
+            rounds: rounds_of(trace),
+        }),
+        Some((_, run)) => Ok(Wanted::Run {
+            shards: shards_of(run),
+            turns: turns_of(run),
+        }),
+        None => Ok(Wanted::Run {
+            shards: SHARDS,
+            turns: TURNS,
+        }),
+    }
+}
+
+fn serving_of<'a>(alloc: Global, serve: &ArgMatches<'a>) -> Result<Wanted<'a>, Error>
+    ensures { IfOk result AreSettings }
+{
+    match connections_of(serve) {
+        Ok(connections) => Ok(Wanted::Serve {
+            port: serve.get_one::<u16>("port").unwrap_or(0),
+            load: serve.get_str("load"),
+            log: serve.get_flag("log"),
+            settings: settings_of(serve, connections),
+        }),
+        Err(NoCount) => Err(bad_connections(alloc)?),
+    }
+}
+
+fn shards_of(command: &ArgMatches<'_>) -> usize
+    ensures some { 0 < result }
+    ensures few { result ≤ 256 }
+{
+    let asked = command.get_one::<u64>("shards");
+    asked.unwrap_or(SHARDS as u64).clamp(1, 256) as usize
+}
+
+fn rounds_of(trace: &ArgMatches<'_>) -> usize
+    ensures some { 0 < result }
+    ensures few { result ≤ 16 }
+{
+    let asked = trace.get_one::<u64>("rounds");
+    asked.unwrap_or(ROUNDS as u64).clamp(1, 16) as usize
+}
+
+fn turns_of(run: &ArgMatches<'_>) -> u64
+    ensures some { 0 < result }
+    ensures few { result ≤ 1000000000 }
+{
+    let asked = run.get_one::<u64>("turns");
+    asked.unwrap_or(TURNS).clamp(1, MAX_TURNS)
+}
+
+fn settings_of(serve: &ArgMatches<'_>, connections: Option<u64>) -> Settings
+    ensures connections { result.connections ≡ connections }
+    ensures limits { (result.rounds ≤ 16) × (result.tries ≤ 1000000) × (0 < result.turns) }
+    ensures times { (result.retries ≤ 1000000) × (0 < result.idle) × (result.idle ≤ 86400) }
+{
+    Settings {
+        workers: serve
+            .get_one::<u64>("workers")
+            .unwrap_or(WORKERS)
+            .clamp(1, 64),
+        connections,
+        until_eof: serve.get_flag("until-eof"),
+        shards: shards_of(serve),
+        rounds: rounds_of(serve) as u64,
+        retries: serve
+            .get_one::<u64>("retries")
+            .unwrap_or(RETRIES)
+            .min(1_000_000),
+        idle: serve.get_one::<u64>("idle").unwrap_or(IDLE).clamp(1, 86400),
+        tries: serve
+            .get_one::<u64>("tries")
+            .unwrap_or(TRIES)
+            .clamp(1, 1_000_000),
+        turns: turns_of(serve),
+    }
+}
+
+/// The text is not a number of connections.
+struct NoCount;
+
+/// How many connections each worker serves; without a number there is no end of them.
+fn connections_of(serve: &ArgMatches<'_>) -> Result<Option<u64>, NoCount>
+    ensures { IfOk result (λ count. IfSome count (λ n. (0 < n) × (n ≤ 1000))) }
+{
+    let text = serve.get_str("connections").unwrap_or("1");
+    if text == "unlimited" {
+        return Ok(None);
+    }
+    match text.parse::<u64>() {
+        Ok(count) if 0 < count && count <= 1000 => Ok(Some(count)),
+        _ => Err(NoCount),
+    }
+}
+
+fn bad_connections(alloc: Global) -> Result<Error, AllocError> {
+    serve_command(alloc)?.error(
+        ErrorKind::ValueValidation,
+        "--connections takes a number in 1..=1000, or `unlimited`",
+    )
+}
+
+fn refreshing_of<'a>(refresh: &ArgMatches<'a>) -> Refreshing<'a> {
+    Refreshing {
+        list: refresh.get_str("relationships").unwrap_or_default(),
+        folder: refresh.get_str("documents").unwrap_or_default(),
+        now: refresh.get_one::<u64>("now"),
+        at_least: refresh.get_one::<u64>("at-least").unwrap_or(AT_LEAST),
+        port: refresh.get_one::<u16>("port"),
+    }
+}

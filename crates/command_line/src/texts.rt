@@ -1,0 +1,87 @@
+//! What the help of each command says at its end.
+
+pub const FRAMES: &str = "\
+A frame is a length of 4 bytes, the greatest first, and a payload of that many bytes. Each request is
+one frame, and so is each reply; the reply to a fetch-all is one frame and then one for each domain.
+The first byte of a payload is a letter:
+
+  S  length of the name, name, document    sets the bundle of a trust domain
+  A  length of the name, name, JWK         appends an authority to its bundle
+  R  length of the name, name              removes it
+  G  length of the name, name              gets it
+  F                                        fetches all
+  V  version                               sets the version of the session: 1 or 2
+  C  length of the name, name,             version 2: sets it where what stands there is what is
+     expectation, document                 expected: 0 none, 1 and a sequence of 8 bytes, 2 unnumbered
+
+The first example sets the bundle of the trust domain `a` to an empty document and gets it back:
+
+  printf '\\0\\0\\0\\16S\\1a{\"keys\":[]}\\0\\0\\0\\3G\\1a' | bundled run | xxd
+
+  00000000: 0000 0001 7300 0000 0c66 7b22 6b65 7973  ....s....f{\"keys
+  00000010: 223a 5b5d 7d                             \":[]}
+
+`s` says that it was stored, and `f` comes before the document that was found. A reply whose first
+byte is below 64 is a refusal with that number.";
+
+pub const EVENTS: &str = "\
+Each line of the input is an event; a caller is a number from 0 to 4294967295:
+
+  begin C set D DOC        begin C append D JWK        begin C setif D E DOC
+  begin C get D            begin C remove D            begin C fetch
+  step C                   end C                       quit C held S R, quit C memory
+
+An event that does not fit, as a step of a caller that is idle, changes nothing. A line is printed for each
+operation that began, and one for the order in which a single map would have given every reply.
+
+The first example: a domain is set while a fetch-all has read its shard, and the fetch-all begins again.
+
+  printf 'begin 1 fetch\\nstep 1\\nbegin 2 set a {\"keys\":[]}\\nstep 2\\nend 2\\nstep 1\\nstep 1\\nstep 1\\nend 1\\n' \\
+    | bundled trace --shards 1 --rounds 2
+
+  record 0 caller 1 first 0 last 8 reply all 1 a {\"keys\":[]}
+  record 1 caller 2 first 2 last 4 reply stored
+  order 1 0";
+
+pub const RELATIONSHIPS: &str = "\
+Each line of the list is a relationship: a trust domain, the URL of its bundle endpoint, the profile of the
+endpoint, and for https_spiffe the SPIFFE ID of the endpoint. `#` begins a comment.
+
+  # domain    URL of the bundle endpoint         profile       SPIFFE ID of the endpoint
+  a.example   https://bundles.example/a          https_web
+  b.example   https://b.example:8443             https_spiffe  spiffe://b.example/spire/server
+
+The documents are fetched by whatever you trust with that, as curl or spire-server:
+
+  curl -fsS https://bundles.example/a -o new && mv new documents/a.example.json
+  bundled refresh --relationships list --documents documents | bundled run
+
+A line is printed for each relationship, on standard error, or with --port on standard output:
+
+  1000 a.example sent due 1300
+
+In place of `sent` comes, with --port, `stored`, `unchanged`, or `refused` with the number of the refusal; and
+`bad document` with its number, `no answer` if there is no file, or `given up`. `stored empty` says that the bundle
+has no authorities any more.
+
+The status is 0 if each bundle was stored, unchanged or sent, and 3 if not.";
+
+pub const SERVING: &str = "\
+Each worker is a thread: it accepts one connection after the other, and serves each to its end. All workers
+share one store, which is empty at the start, or holds what --load gives it: a dump, judged whole and stored before
+the port is listened at. A connection carries the frames that `run` reads and writes; see bundled run --help.
+
+On standard output come `listening PORT` before the first connection is accepted, and at the end `served N`,
+how many connections were served, and `domains M`, how many domains have a bundle. Faults of connections go to
+standard error then, in order of the workers. The status is 1 after a fault of the server itself, such
+as a port that is taken, and 0 otherwise.
+
+With --log each change of a bundle is a line on standard error, with the sequence before and after it, and so is each
+end of a connection:
+
+  worker 0 set a.example none to 7
+  worker 1 appended a.example 7 to 8
+  worker 1 session ended after 3 replies
+
+  bundled serve --port 8443 --connections 10
+  bundled refresh --relationships list --documents documents --port 8443";

@@ -1,0 +1,44 @@
+//! What the program may be asked to do.
+use crate::settings::Settings;
+
+/// What the command line asks for.
+#[derive(Clone, Copy, Debug)]
+pub enum Wanted<'a> {
+    /// A session over an empty store of so many shards, of at most so many reads.
+    Run {
+        shards: usize,
+        turns: u64,
+    },
+    /// A run of events over so many shards, a fetch-all in so many rounds.
+    Trace {
+        shards: usize,
+        rounds: usize,
+    },
+    /// The requests that store a dump again.
+    Migrate,
+    /// A refresh of each relationship of a list.
+    Refresh(Refreshing<'a>),
+    /// A server at this port of 127.0.0.1; one that is free, if it is 0. Its store is filled with the dump in a file, if one
+    /// is named.
+    Serve {
+        port: u16,
+        load: Option<&'a str>,
+        log: bool,
+        settings: Settings,
+    },
+}
+
+/// What a refresh is to do.
+#[derive(Clone, Copy, Debug)]
+pub struct Refreshing<'a> {
+    /// The file of the list of relationships.
+    pub list: &'a str,
+    /// The folder of the documents.
+    pub folder: &'a str,
+    /// The time in seconds; that of the clock if it is left out.
+    pub now: Option<u64>,
+    /// In how many seconds, at the least, a relationship is due again.
+    pub at_least: u64,
+    /// Where the server listens on this machine. Without it, requests go to standard output.
+    pub port: Option<u16>,
+}

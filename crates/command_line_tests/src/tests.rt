@@ -1,0 +1,151 @@
+//! Command lines: which command they want, with which settings.
+use command_line::{Wanted, wanted_by};
+use std::alloc::{AllocError, Global};
+use std::fmt::Debug;
+use std::process::Abort;
+
+/// It is so in this case.
+fn holds_at<C: Debug>(rt: &impl Abort, is_so: bool, case: &C) {
+    assert!(rt; is_so, "{case:?}");
+}
+
+/// What the command line of these words wants, in words: or the text that is shown in its place.
+fn wanted(alloc: Global, words: &[&str]) -> Result<String, AllocError> {
+    let mut line = Vec::new(alloc);
+    for word in words {
+        line.push(String::from_str(alloc, word)?)?;
+    }
+    match wanted_by(alloc, line.as_slice()) {
+        Ok(Wanted::Run { shards, turns }) => format!(in alloc; "run {shards} {turns}"),
+        Ok(Wanted::Trace { shards, rounds }) => format!(in alloc; "trace {shards} {rounds}"),
+        Ok(Wanted::Migrate) => format!(in alloc; "migrate"),
+        Ok(Wanted::Refresh(wanted)) => {
+            let (list, folder, at_least) = (wanted.list, wanted.folder, wanted.at_least);
+            let (now, port) = (wanted.now, wanted.port);
+            format!(in alloc; "refresh {list} {folder} {now:?} {at_least} {port:?}")
+        }
+        Ok(
+            Wanted::Serve {
+                port,
+                load,
+                log,
+                settings,
+            },
+        ) => {
+            let (workers, stops) = (settings.workers, settings.until_eof);
+            let connections = settings.connections.unwrap_or(0);
+            let (shards, rounds) = (settings.shards, settings.rounds);
+            let (tries, turns) = (settings.tries, settings.turns);
+            let (retries, idle) = (settings.retries, settings.idle);
+            format!(in alloc;
+                "serve {port} {load:?} {log} {workers} {connections} {stops} {shards} {rounds} {tries} {retries} {idle} {turns}"
+            )
+        }
+        Err(error) => format!(in alloc; "{error}"),
+    }
+}
+
+const NO_COUNT: &str =
+    "error: --connections takes a number in 1..=1000, or `unlimited`\n\nUsage: serve [OPTIONS] --port <PORT>\n\nFor more information, try '--help'.\n";
+
+// The numbers that a line gives or leaves to their defaults, of which no reply tells.
+#[test]
+fn reads_the_command_line(rt: HostRuntime) -> Result<(), AllocError> {
+    let alloc = rt.alloc();
+    let rows: [(&[&str], &str); 18] = [
+        (&["bundled", "run"], "run 4 1000000"),
+        (&["bundled", "run", "--turns", "7"], "run 4 7"),
+        (
+            &["bundled", "run", "--turns=1000000000"],
+            "run 4 1000000000",
+        ),
+        (&["bundled", "run", "--shards", "256"], "run 256 1000000"),
+        (
+            &[
+                "bundled",
+                "refresh",
+                "--relationships",
+                "l",
+                "--documents",
+                "f",
+            ],
+            "refresh l f None 60 None",
+        ),
+        (
+            &[
+                "bundled",
+                "refresh",
+                "--documents=f/g",
+                "--relationships=-l",
+                "--now=18446744073709551615",
+                "--at-least=0",
+                "--port=65535",
+            ],
+            "refresh -l f/g Some(18446744073709551615) 0 Some(65535)",
+        ),
+        (&["bundled", "trace"], "trace 4 3"),
+        (
+            &["bundled", "trace", "--shards=1", "--rounds=16"],
+            "trace 1 16",
+        ),
+        (&["bundled", "migrate"], "migrate"),
+        (
+            &["bundled", "serve", "--port", "0"],
+            "serve 0 None false 2 1 false 4 3 1000 1000 60 1000000",
+        ),
+        (
+            &[
+                "bundled",
+                "serve",
+                "--port=65535",
+                "--workers=64",
+                "--connections=1000",
+                "--shards=256",
+                "--rounds=16",
+                "--tries=1000000",
+                "--retries=1000000",
+                "--idle=86400",
+                "--load=dumps/a",
+                "--log",
+                "--turns=1000000000",
+            ],
+            "serve 65535 Some(\"dumps/a\") true 64 1000 false 256 16 1000000 1000000 86400 1000000000",
+        ),
+        (
+            &["bundled", "serve", "--port", "1", "--workers", "65"],
+            "error: invalid value '65' for '--workers <COUNT>': 65 is not in 1..=64\n\nFor more information, try '--help'.\n",
+        ),
+        (
+            &[
+                "bundled",
+                "serve",
+                "--port=1",
+                "--connections=unlimited",
+                "--until-eof",
+            ],
+            "serve 1 None false 2 0 true 4 3 1000 1000 60 1000000",
+        ),
+        (
+            &["bundled", "serve", "--port", "1", "--connections", "0"],
+            NO_COUNT,
+        ),
+        (
+            &["bundled", "serve", "--port", "1", "--connections", "1001"],
+            NO_COUNT,
+        ),
+        (
+            &["bundled", "serve", "--port", "1", "--connections", "many"],
+            NO_COUNT,
+        ),
+        (&["bundled", "--version"], "bundled 1.0.0\n"),
+        (
+            &["bundled", "run", "--turns", "0"],
+            "error: invalid value '0' for '--turns <READS>': 0 is not in 1..=1000000000\n\nFor more information, try '--help'.\n",
+        ),
+    ];
+    for (words, text) in rows {
+        let wanted = wanted(alloc, words)?;
+        holds_at(&rt, wanted.as_str() == text, &wanted);
+    }
+    Ok(())
+}

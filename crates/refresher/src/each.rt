@@ -1,0 +1,79 @@
+//! Each relationship refreshed once, and what is said of it.
+ghost use Rattle.std.specs.Prelude.{◌≡◌, ◌<◌, ◌-◌, ◌^◌, List, ℕ};
+ghost use Rattle.refresher.specs.Due.{due_not_before};
+ghost use Rattle.commands.specs.Streams.{Tells, end_of};
+
+use crate::folder::Folder;
+use crate::outcome_lines::Told;
+use crate::report::write_line;
+use crate::target::Target;
+use commands::Fault;
+use frame_front::{Counted, FrontError};
+use map_core::Reply;
+use refresh::{Outcome, Schedule, What, refresh_at};
+use std::alloc::Global;
+use std::fs::Files;
+use std::io::Write;
+
+/// The time of the refreshes, and how long a relationship is not due again, in seconds.
+#[derive(Clone, Copy, Debug)]
+pub struct Times {
+    pub time: u64,
+    pub at_least: u64,
+}
+
+impl Times {
+    /// When a relationship is due again. A server that asks to be asked each second is not obeyed.
+    fn due(&self, outcome: &Outcome) -> u64
+        ensures { result ≡ due_not_before self.now.time self.now.at_least outcome.now.due }
+    {
+        outcome.due.max(self.time.saturating_add(self.at_least))
+    }
+}
+
+/// Refreshes the relationships in the order in which they are due, each once, and writes a line for each. A line that is
+/// not taken is a fault if it belongs to the output; else it is dropped, and so are those after it.
+pub fn refresh_each<H: Files, T: Target, L: Write>(
+    alloc: Global,
+    folder: &mut Folder<'_, H>,
+    target: &mut T,
+    schedule: &mut Schedule,
+    times: &Times,
+    lines: &mut Counted<L>,
+    is_output: bool,
+) -> Result<bool, Fault>
+    requires { lines.old.faults < 2 ^ 64 - 1 }
+    ensures { (text : List ℕ) × Tells (end_of L.contents lines.old) (end_of L.contents lines.new) text }
+{
+    let before = lines.faults();
+    let mut all_went_well = true;
+    for _ in 0..schedule.len() {
+        let Some((place, _)) = schedule.next() else {
+            return Ok(all_went_well);
+        };
+        let Ok(outcome) = refresh_at(alloc, folder, target, schedule, place, times.time) else {
+            return Err(Fault::Front(FrontError::Memory));
+        };
+        if let Some(fault) = target.fault() {
+            return Err(fault);
+        }
+        let told = Told {
+            now: times.time,
+            due: times.due(&outcome),
+            domain: schedule.relationship(place).domain(),
+            stored: target.stored(),
+            has_emptied: target.has_emptied(),
+            remark: folder.remark(),
+        };
+        let is_written = write_line(lines, before, &outcome.what, &told);
+        if is_output && !is_written {
+            return Err(Fault::Front(FrontError::WriteFault));
+        }
+        all_went_well = all_went_well && is_good(&outcome);
+    }
+    Ok(all_went_well)
+}
+
+fn is_good(outcome: &Outcome) -> bool {
+    matches!(outcome.what, What::Taken(Reply::Stored | Reply::Unchanged))
+}

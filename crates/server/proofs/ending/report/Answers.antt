@@ -1,0 +1,59 @@
+use Rattle.std.proofs.Common.{◌≡◌, ℕ, List, ◌++◌, ◌&&◌, Bool, false, Ok, Err, refl, ap, subst, ◌∙◌}
+use Rattle.std.specs.Prelude.{min, if◌then◌else◌}
+use Rattle.server.specs.declared.lines.Said.TheVariants.{Served, Domains}
+use Rattle.workers.specs.declared.run.Worked.{Worked}
+use Rattle.server.specs.Serve.{IsOffered, said_line, untaken, begun, have_come, session_lines, results_of}
+use Rattle.commands.specs.Streams.{TellsUnlessFailed, end_of}
+use Rattle.commands.proofs.Telling.{told_more}
+use Rattle.server.proofs.ReportLemmas.{all_three, not_all}
+use Rattle.server.proofs.ending.report.Goals as goal
+
+pub returns-in-Ok : goal.returns-in-Ok
+returns-in-Ok g c =
+    let worked = c.args.worked.items in
+    let taken = c.say-served_taken.result in
+    let said = c.say-domains_taken.result in
+    let start = end_of g.W.Write.contents c.args.out.now in
+    let between = end_of g.W.Write.contents c.say-served_taken.new.out in
+    let count : c.count_begun.result ≡ min (begun (results_of worked)) 18446744073709551615 =
+    c.count_begun.ensures ∙ ap (λ (ws : List Worked). min (begun (results_of ws)) 18446744073709551615) c.as_slice.ensures.value in
+    let told = subst (λ (ws : List Worked). TellsUnlessFailed c.args.before (end_of g.E.Write.contents c.say-served_taken.new.err) (end_of g.E.Write.contents c.tell_faults-have_come.new.err) (session_lines (results_of ws)))
+    c.as_slice-2.ensures.value c.tell_faults-have_come.ensures.told in
+    let came = c.tell_faults-have_come.ensures.came ∙ ap (λ (ws : List Worked). have_come (results_of ws)) c.as_slice-2.ensures.value in
+    record {
+      served_taken = taken;
+      between = between;
+      served = subst (λ (n : ℕ). IsOffered taken (said_line (Served n)) start between) count c.say-served_taken.ensures.offered;
+      closed = Ok c.in-Ok.contents;
+      closes = c.in-Ok.ensures;
+      domains_taken = said;
+      domains = subst (λ (n : ℕ). IsOffered said (said_line (Domains n)) between (end_of g.W.Write.contents c.say-domains_taken.new.out)) c.len.ensures c.say-domains_taken.ensures.offered;
+      told = told_more c.args.before _ _ _ (untaken taken) (session_lines (results_of worked) ++ untaken said) c.say-served_taken.ensures.told
+          (told_more c.args.before _ _ _ (session_lines (results_of worked)) (untaken said) told c.say-domains_taken.ensures.told);
+      has_status = c.status_of.ensures
+          ∙ ap (λ (b : Bool). if (taken && b) && said then 0 else 1) came
+          ∙ ap (λ (b : Bool). if b then 0 else 1) (all_three taken (have_come (results_of worked)) said);
+    }
+
+pub returns-in-Err : goal.returns-in-Err
+returns-in-Err g c =
+    let worked = c.args.worked.items in
+    let taken = c.say-served_taken.result in
+    let start = end_of g.W.Write.contents c.args.out.now in
+    let between = end_of g.W.Write.contents c.say-served_taken.new.out in
+    let count : c.count_begun.result ≡ min (begun (results_of worked)) 18446744073709551615 =
+    c.count_begun.ensures ∙ ap (λ (ws : List Worked). min (begun (results_of ws)) 18446744073709551615) c.as_slice.ensures.value in
+    let told = subst (λ (ws : List Worked). TellsUnlessFailed c.args.before (end_of g.E.Write.contents c.say-served_taken.new.err) (end_of g.E.Write.contents c.tell_faults-have_come.new.err) (session_lines (results_of ws)))
+    c.as_slice-2.ensures.value c.tell_faults-have_come.ensures.told in
+    record {
+      served_taken = taken;
+      between = between;
+      served = subst (λ (n : ℕ). IsOffered taken (said_line (Served n)) start between) count c.say-served_taken.ensures.offered;
+      closed = Err c.in-Err.error;
+      closes = c.in-Err.ensures;
+      domains_taken = false;
+      domains = (refl, refl);
+      told = told_more c.args.before _ _ _ (untaken taken) _ c.say-served_taken.ensures.told
+          (told_more c.args.before _ _ _ (session_lines (results_of worked)) _ told c.tell_unless_failed.ensures);
+      has_status = not_all taken (have_come (results_of worked));
+    }

@@ -1,0 +1,190 @@
+-- What the command `serve` says, and how it ends.
+use Rattle.std.specs.Prelude.{◌≡◌, ◌⊎◌, ℕ, suc, ◌&&◌, min, if◌then◌else◌, List, [], ◌∷◌, ◌++◌, length, codes, decimal, Bool, true, false, Option, Some, None, Result, Ok, Err}
+use Rattle.std.specs.List.{All, flat_map}
+use Rattle.std.specs.Io.KnownBytes.{Appends}
+use Rattle.frame_front.specs.Counted.{next_count}
+use Rattle.frame_front.specs.Outbox.{WritesFront}
+use Rattle.frame_front.specs.Dump.{Domains as AllDomains, IsDump, AreLawful, FaultOfDump, requests_for}
+use Rattle.frame_front.specs.Frame.{stream_of}
+use Rattle.frame_front.specs.declared.dump.DumpError.{DumpError}
+use Rattle.frame_front.specs.declared.error.FrontError.{FrontError}
+use Rattle.frame_front.specs.declared.error.FrontError.TheVariants.{Memory, WriteFault}
+use Rattle.map_core.specs.PlainMap.{PlainMap, bundles}
+use Rattle.shard_store.specs.declared.change.Seen.{Seen}
+use Rattle.shard_store.specs.Pass.{StoreView, PassView}
+use Rattle.shard_store.specs.declared.close.CloseError.{CloseError}
+use Rattle.commands.specs.declared.fault.Fault.{Fault}
+use Rattle.commands.specs.declared.fault.Fault.TheVariants.{Front, Dump, Listen as ListenFault, Close}
+use Rattle.server.specs.declared.lines.Said.{Said}
+use Rattle.server.specs.declared.lines.Said.TheVariants.{Listening, Served, Domains}
+use Rattle.workers.specs.declared.sessions.SessionFault.{SessionFault}
+use Rattle.workers.specs.declared.sessions.SessionFault.TheVariants as session
+use Rattle.workers.specs.declared.run.Worked.{Worked}
+use Rattle.commands.specs.Fault.{fault_line}
+use Rattle.commands.specs.Input.{InputFault}
+use Rattle.commands.specs.Streams.{End, Tells, TellsUnlessFailed}
+use Rattle.command_line.specs.declared.settings.Settings.{Settings}
+use Rattle.workers.specs.Filling.{Fills, NotFills}
+use Rattle.workers.specs.declared.filling.FillError.TheVariants as fill
+use Rattle.workers.specs.Workers.{AllWorked}
+use Rattle.workers.specs.Closing.{ranges_of, AreAll, ClosesAs}
+
+-- a line of a word and a number
+abbrev pub said_line : Said → List ℕ
+said_line (Listening port) = codes "listening " ++ (decimal port ++ 10 ∷ [])
+said_line (Served count) = codes "served " ++ (decimal count ++ 10 ∷ [])
+said_line (Domains count) = codes "domains " ++ (decimal count ++ 10 ∷ [])
+
+-- A line is written whole; or a front of it, and the writer failed.
+abbrev pub IsOffered : Bool → List ℕ → End → End → Type 0
+IsOffered true line old new = Appends old.bytes new.bytes line × (new.faults ≡ old.faults)
+IsOffered false line old new = WritesFront old.bytes new.bytes line × (new.faults ≡ next_count old.faults)
+
+-- the fault of a line that was not taken
+abbrev pub untaken : Bool → List ℕ
+untaken true = []
+untaken false = fault_line (Front WriteFault)
+
+-- ---- the sessions
+
+-- how many sessions were begun
+abbrev pub begun : List (Result ℕ SessionFault) → ℕ
+begun [] = 0
+begun (Ok count ∷ results) = suc (begun results)
+begun (Err (session.Front error) ∷ results) = suc (begun results)
+begun (Err session.Listen ∷ results) = begun results
+
+-- a session came each time that a worker waited for one
+abbrev pub have_come : List (Result ℕ SessionFault) → Bool
+have_come [] = true
+have_come (Ok count ∷ results) = have_come results
+have_come (Err (session.Front error) ∷ results) = have_come results
+have_come (Err session.Listen ∷ results) = false
+
+-- the lines of their faults
+abbrev pub session_lines : List (Result ℕ SessionFault) → List ℕ
+session_lines [] = []
+session_lines (Ok count ∷ results) = session_lines results
+session_lines (Err (session.Front error) ∷ results) = fault_line (Front error) ++ session_lines results
+session_lines (Err session.Listen ∷ results) = fault_line ListenFault ++ session_lines results
+
+-- those of all workers, in their order
+abbrev pub results_of : List Worked → List (Result ℕ SessionFault)
+results_of worked = flat_map (λ w. w.results.items) worked
+
+-- ---- the end
+
+-- how many domains the map has; or the store gave no map, and nothing is offered
+abbrev pub OffersDomains : Result PlainMap CloseError → Bool → End → End → Type 0
+OffersDomains (Ok contents) taken old new = IsOffered taken (said_line (Domains (length (bundles contents)))) old new
+OffersDomains (Err error) taken old new = (new ≡ old) × (taken ≡ false)
+
+abbrev pub closing_line : Result PlainMap CloseError → Bool → List ℕ
+closing_line (Ok contents) taken = untaken taken
+closing_line (Err error) taken = fault_line (Close error)
+
+-- After the sessions: `served N`, their faults in order of the workers, and `domains M` or why the store gave no map. The status
+-- is 0 if both lines were taken and a session came each time that a worker waited for one.
+pub record Reports (worked : List Worked) (before status : ℕ) (out_old out_new err_old err_new : End) : Type 0 where
+  pub served_taken : Bool
+  pub between : End
+  pub served : IsOffered served_taken (said_line (Served (min (begun (results_of worked)) 18446744073709551615))) out_old between
+  pub closed : Result PlainMap CloseError
+  pub closes : ClosesAs worked closed
+  pub domains_taken : Bool
+  pub domains : OffersDomains closed domains_taken between out_new
+  pub told : TellsUnlessFailed before err_old err_new
+      (untaken served_taken ++ (session_lines (results_of worked) ++ closing_line closed domains_taken))
+  pub has_status : status ≡ (if served_taken && (have_come (results_of worked) && domains_taken) then 0 else 1)
+
+-- ---- the whole command
+
+-- a gate that is always open
+abbrev pub always_open : ℕ → ℕ → Bool → Type 0
+always_open worker call is_open = is_open ≡ true
+
+-- what fills the store before anything is accepted: nothing, or the requests that store again what a dump holds
+abbrev pub IsLoad : {A : Type 0} → Option A → List ℕ → Type 0
+IsLoad None requests = requests ≡ []
+IsLoad (Some file) requests = (dump : List ℕ) × (items : AllDomains) × IsDump dump items × AreLawful items × (requests ≡ stream_of (requests_for items) [])
+
+-- why a file loads nothing: it is not read, since memory ran out or for a fault of an input, or what it holds is not a dump
+abbrev pub IsLoadFault : Fault → Type 0
+IsLoadFault fault =
+    ((left_old : Option (List ℕ)) × (left_new : Option (List ℕ)) × InputFault fault left_old left_new)
+    ⊎ ((dump : List ℕ) × (error : DumpError) × FaultOfDump error dump × (fault ≡ Dump error))
+
+-- The first pass has stored what the requests hold, if there are any, and has its numbers still.
+abbrev pub Filled : List ℕ → StoreView → Seen → Seen → Type 0
+Filled [] store old new = new ≡ old
+Filled (byte ∷ more) store old new = Fills (byte ∷ more) store old new
+
+-- why it has not: memory ran out, or the session of the requests failed
+abbrev pub NotFilled : List ℕ → StoreView → Seen → FrontError → Type 0
+NotFilled [] store old error = ⊥
+NotFilled (byte ∷ more) store old error = (error ≡ Memory) ⊎ NotFills (byte ∷ more) store old (fill.Front error)
+
+-- the store and the passes with which the workers begin: each has seen with what the store was filled, and together they have
+-- all numbers
+pub record IsSetUp (settings : Settings) (requests : List ℕ) (store : StoreView) (passes : List PassView) : Type 0 where
+  pub workers : length passes ≡ settings.workers
+  pub shards : store.id.slots ≡ settings.shards
+  pub rounds : store.rounds ≡ settings.rounds
+  pub tries : store.tries ≡ settings.tries
+  pub all : AreAll (ranges_of passes)
+  pub fresh : Seen
+  pub empty : fresh.log ≡ []
+  pub first : Seen
+  pub filled : Filled requests store fresh first
+  pub seen : All (λ pass. pass.seen.log ≡ first.log) passes
+
+-- why there is no store: memory ran out, or an empty store was not filled
+abbrev pub NotSetUp : List ℕ → FrontError → Type 0
+NotSetUp requests error = (error ≡ Memory) ⊎ ((store : StoreView) × (fresh : Seen) × (fresh.log ≡ []) × NotFilled requests store fresh error)
+
+-- Each worker serves its connections over a pass of its own, and the end is reported; or memory runs out, and that is told.
+abbrev pub Serves : StoreView → List PassView → ℕ → ℕ → End → End → End → End → Type 0
+Serves store passes before status out_old out_new err_old err_new =
+    ((status ≡ 1) × (out_new ≡ out_old) × TellsUnlessFailed before err_old err_new (fault_line (Front Memory)))
+    ⊎ ((worked : List Worked) × AllWorked always_open store 0 passes worked × Reports worked before status out_old out_new err_old err_new)
+
+-- Nothing is accepted if `listening PORT` is not taken.
+abbrev pub ServesIf : Bool → StoreView → List PassView → ℕ → ℕ → End → End → End → End → Type 0
+ServesIf true store passes before status out_old out_new err_old err_new = Serves store passes before status out_old out_new err_old err_new
+ServesIf false store passes before status out_old out_new err_old err_new = (status ≡ 1) × (out_new ≡ out_old) × (err_new ≡ err_old)
+
+-- `listening PORT` is offered, and then connections are served.
+pub record Listens (store : StoreView) (passes : List PassView) (port status : ℕ) (out_old out_new err_old err_new : End) : Type 0 where
+  pub taken : Bool
+  pub out : End
+  pub error : End
+  pub listening : IsOffered taken (said_line (Listening port)) out_old out
+  pub told : TellsUnlessFailed err_old.faults err_old error (untaken taken)
+  pub serves : ServesIf taken store passes err_old.faults status out out_new error err_new
+
+-- It ends before anything is said, and why is told.
+abbrev pub EndsEarly : Fault → ℕ → End → End → End → End → Type 0
+EndsEarly fault status out_old out_new err_old err_new = (status ≡ 1) × (out_new ≡ out_old) × Tells err_old err_new (fault_line fault)
+
+-- There is a listener, and connections are served; or it can't be had, and that is told.
+abbrev pub ServeRun : StoreView → List PassView → ℕ → End → End → End → End → Type 0
+ServeRun store passes status out_old out_new err_old err_new =
+    EndsEarly ListenFault status out_old out_new err_old err_new
+    ⊎ ((port : ℕ) × Listens store passes port status out_old out_new err_old err_new)
+
+-- The store is set up, and serves; or it is not, and why is told.
+abbrev pub SetUpRun : Settings → List ℕ → ℕ → End → End → End → End → Type 0
+SetUpRun settings requests status out_old out_new err_old err_new =
+    ((error : FrontError) × NotSetUp requests error × EndsEarly (Front error) status out_old out_new err_old err_new)
+    ⊎ ((store : StoreView) × (passes : List PassView) × IsSetUp settings requests store passes × ServeRun store passes status out_old out_new err_old err_new)
+
+-- What is to fill the store is not a dump, or can't be read.
+abbrev pub LoadFails : {A : Type 0} → Option A → ℕ → End → End → End → End → Type 0
+LoadFails None status out_old out_new err_old err_new = ⊥
+LoadFails (Some file) status out_old out_new err_old err_new = (fault : Fault) × IsLoadFault fault × EndsEarly fault status out_old out_new err_old err_new
+
+-- The whole command: what is to fill the store is judged before it listens.
+abbrev pub ServeCommand : {A : Type 0} → Option A → Settings → ℕ → End → End → End → End → Type 0
+ServeCommand load settings status out_old out_new err_old err_new =
+    LoadFails load status out_old out_new err_old err_new
+    ⊎ ((requests : List ℕ) × IsLoad load requests × SetUpRun settings requests status out_old out_new err_old err_new)

@@ -1,0 +1,154 @@
+//! What a server says, on its output and on standard error.
+ghost use Rattle.std.specs.Prelude.{◌≡◌, ◌<◌, ◌≤◌, ◌-◌, ◌+◌, ◌^◌, ◌++◌, ◌∷◌, [], min, length, decimal};
+ghost use Rattle.server.specs.Serve.{IsOffered, said_line, untaken, begun, have_come, session_lines, results_of};
+ghost use Rattle.commands.specs.Streams.{TellsUnlessFailed, end_of};
+
+use arrayvec::ArrayVec;
+use commands::{Fault, write_flushed};
+use frame_front::Counted;
+use itoa::Buffer;
+use std::io::Write;
+use workers::{SessionFault, Worked};
+
+/// The most bytes of a line: a word of 9 letters, a number of 20 digits, a space and a line feed.
+const LINE_BYTES: usize = 31;
+
+/// What a server says on its output: a word and a number.
+#[derive(Clone, Copy, Debug)]
+pub enum Said {
+    /// The port where it listens.
+    Listening(u16),
+    /// How many sessions were begun.
+    Served(u64),
+    /// How many domains had a bundle at the end.
+    Domains(u64),
+}
+
+impl Said {
+    fn line(self) -> ArrayVec<u8, LINE_BYTES>
+        ensures { result.items ≡ said_line self }
+    {
+        match self {
+            Said::Listening(port) => line_of(b"listening ", u64::from(port)),
+            Said::Served(count) => line_of(b"served ", count),
+            Said::Domains(count) => line_of(b"domains ", count),
+        }
+    }
+}
+
+fn line_of(word: &[u8], number: u64) -> ArrayVec<u8, LINE_BYTES>
+    requires { length word.now ≤ 10 }
+    ensures { result.items ≡ word.now ++ (decimal number ++ 10 ∷ []) }
+{
+    let mut line = ArrayVec::new();
+    let mut digits = Buffer::new();
+    let _fits = line.try_extend_from_slice(word);
+    let _fits = line.try_extend_from_slice(digits.format(number).as_bytes());
+    let _fits = line.try_extend_from_slice(b"\n");
+    line
+}
+
+/// Writes a line, and sees that the writer keeps nothing back. If the line is not taken, that is told as a fault.
+/// Answers whether it was taken.
+#[tactic(auto, using(commands::proofs::Telling::told_nothing))]
+pub fn say<W: Write, E: Write>(
+    out: &mut Counted<W>,
+    err: &mut Counted<E>,
+    before: u64,
+    said: Said,
+) -> bool
+    requires { before < 2 ^ 64 - 1 }
+    ensures offered { IsOffered result (said_line said) (end_of W.contents out.old) (end_of W.contents out.new) }
+    ensures told { TellsUnlessFailed before (end_of E.contents err.old) (end_of E.contents err.new) (untaken result) }
+{
+    let line = said.line();
+    match write_flushed(out, line.as_slice()) {
+        Ok(()) => true,
+        Err(fault) => {
+            fault.tell_unless_failed(err, before);
+            false
+        }
+    }
+}
+
+/// How many sessions of all workers were begun.
+pub fn count_begun(worked: &[Worked]) -> u64
+    ensures { result ≡ min (begun (results_of worked.now)) 18446744073709551615 }
+{
+    let mut count = 0;
+    for worker in worked {
+        count = begun_after(count, worker.results.as_slice());
+    }
+    count
+}
+
+/// The number, and how many of these sessions were begun.
+fn begun_after(before: u64, results: &[Result<u64, SessionFault>]) -> u64
+    ensures { result ≡ min (before + begun results.now) 18446744073709551615 }
+{
+    let mut count = before;
+    for result in results {
+        count = count.saturating_add(begun_of(result));
+    }
+    count
+}
+
+fn begun_of(ended: &Result<u64, SessionFault>) -> u64
+    ensures { result ≡ begun (ended.now ∷ []) }
+{
+    match ended {
+        Ok(_) | Err(SessionFault::Front(_)) => 1,
+        Err(SessionFault::Listen) => 0,
+    }
+}
+
+/// Tells the faults of all sessions, in order of the workers; but nothing once a call of the writer has failed since
+/// `before` of them had failed. Answers whether a session came each time that a worker waited for one.
+pub fn tell_faults<E: Write>(worked: &[Worked], err: &mut Counted<E>, before: u64) -> bool
+    requires { before < 2 ^ 64 - 1 }
+    ensures told { TellsUnlessFailed before (end_of E.contents err.old) (end_of E.contents err.new) (session_lines (results_of worked.now)) }
+    ensures came { result ≡ have_come (results_of worked.now) }
+{
+    let mut have_come = true;
+    for worker in worked {
+        have_come &= tell_results(worker.results.as_slice(), err, before);
+    }
+    have_come
+}
+
+/// And those of one worker.
+fn tell_results<E: Write>(
+    results: &[Result<u64, SessionFault>],
+    err: &mut Counted<E>,
+    before: u64,
+) -> bool
+    requires { before < 2 ^ 64 - 1 }
+    ensures told { TellsUnlessFailed before (end_of E.contents err.old) (end_of E.contents err.new) (session_lines results.now) }
+    ensures came { result ≡ have_come results.now }
+{
+    let mut have_come = true;
+    for result in results {
+        have_come &= tell_end(result, err, before);
+    }
+    have_come
+}
+
+/// And that of one session, if it has one.
+#[tactic(auto, using(commands::proofs::Telling::told_nothing))]
+fn tell_end<E: Write>(ended: &Result<u64, SessionFault>, err: &mut Counted<E>, before: u64) -> bool
+    requires { before < 2 ^ 64 - 1 }
+    ensures told { TellsUnlessFailed before (end_of E.contents err.old) (end_of E.contents err.new) (session_lines (ended.now ∷ [])) }
+    ensures came { result ≡ have_come (ended.now ∷ []) }
+{
+    match ended {
+        Ok(_) => true,
+        Err(SessionFault::Front(error)) => {
+            Fault::Front(*error).tell_unless_failed(err, before);
+            true
+        }
+        Err(SessionFault::Listen) => {
+            Fault::Listen.tell_unless_failed(err, before);
+            false
+        }
+    }
+}

@@ -1,0 +1,170 @@
+#!/usr/bin/env python3
+"""Runs the program over lines of arguments: which command runs, with which settings, and where a text goes.
+
+usage: gate/command_lines.py   (over the program that rt ci or rt run has built in crates/bundled/out/)
+"""
+import subprocess
+import sys
+
+sys.dont_write_bytecode = True
+
+from program_runs import frame  # noqa: E402
+from refusals import program  # noqa: E402
+
+SECONDS = 60
+EMPTY = b'{"keys":[]}'
+FIRST_RUN = frame(b"S\x01a" + EMPTY) + frame(b"G\x01a")
+FIRST_REPLIES = frame(b"s") + frame(b"f" + EMPTY)
+DUMP_OF_ONE = frame(b"a" + (1).to_bytes(8, "big")) + frame(b"i\x01a" + EMPTY)
+MIGRATED = frame(b"V\x02") + frame(b"C\x01a\x00" + EMPTY)
+
+# A fetch-all over one shard that is done after two steps; over more shards it is not.
+FETCH_ALL = b"begin 1 fetch\nstep 1\nstep 1\nend 1\n"
+FETCHED = b"record 0 caller 1 first 0 last 3 reply all 0\norder 0\n"
+UNFINISHED = b"record 0 caller 1 first 0 last - reply -\norder\n"
+# A fetch-all over one shard that is overtaken in each of three rounds, and one that is overtaken once.
+SET = b'begin 2 set a {"keys":[]}\nstep 2\nend 2\n'
+OVERTAKEN = (
+    b"begin 1 fetch\nstep 1\n" + SET + b"step 1\nstep 1\nbegin 2 remove a\nstep 2\nend 2\nstep 1\nstep 1\n" + SET + b"step 1\nend 1\n"
+)
+WRITES = (
+    b"record 1 caller 2 first 2 last 4 reply stored\nrecord 2 caller 2 first 7 last 9 reply removed\n"
+    b"record 3 caller 2 first 12 last 14 reply stored\norder 1 2 3\n"
+)
+MOVED_IN_ALL = b"record 0 caller 1 first 0 last 16 reply moved 0 2 3\n" + WRITES
+NOT_YET = b"record 0 caller 1 first 0 last - reply -\n" + WRITES
+OVERTAKEN_ONCE = b"begin 1 fetch\nstep 1\n" + SET + b"step 1\nend 1\n"
+MOVED_ONCE = (
+    b"record 0 caller 1 first 0 last 6 reply moved 0 0 1\nrecord 1 caller 2 first 2 last 4 reply stored\norder 1\n"
+)
+
+# Each option at its limits, with a run that shows it if any does (the replies are the same over each number of shards).
+RUNS = [
+    ("run", FIRST_RUN, FIRST_REPLIES),
+    ("run --shards 1", FIRST_RUN, FIRST_REPLIES),
+    ("run --shards=256", FIRST_RUN, FIRST_REPLIES),
+    ("run --turns 2", FIRST_RUN, FIRST_REPLIES),
+    ("run --turns 1000000000", FIRST_RUN, FIRST_REPLIES),
+    ("run --turns 2 --shards 1", FIRST_RUN, FIRST_REPLIES),
+    ("migrate", DUMP_OF_ONE, MIGRATED),
+    ("trace --shards 1", FETCH_ALL, FETCHED),
+    ("trace --shards 2", FETCH_ALL, UNFINISHED),
+    ("trace --shards 256", FETCH_ALL, UNFINISHED),
+    ("trace", FETCH_ALL, UNFINISHED),
+    ("trace --shards 1", OVERTAKEN, MOVED_IN_ALL),
+    ("trace --shards 1 --rounds 3", OVERTAKEN, MOVED_IN_ALL),
+    ("trace --rounds 4 --shards 1", OVERTAKEN, NOT_YET),
+    ("trace --shards 1 --rounds 16", OVERTAKEN, NOT_YET),
+    ("trace --shards 1 --rounds 1", OVERTAKEN_ONCE, MOVED_ONCE),
+    ("trace --shards 2 --rounds 1", FETCH_ALL, UNFINISHED),
+    ("trace --shards 1 --rounds 2", FETCH_ALL, FETCHED),
+]
+
+FAULTS = [
+    ("run --turns 1", FIRST_RUN, FIRST_REPLIES, b"fault 55\n"),
+    ("trace", FIRST_RUN, b"", b"fault 70 1\n"),
+    ("migrate", FIRST_RUN, b"", b"fault 63 0\n"),
+]
+
+# What is asked for, and a part of what is shown.
+SHOWN = [
+    ("--version", "bundled 1.0.0\n"),
+    ("--help", "A frame is a length of 4 bytes"),
+    ("-h", "Usage: bundled <COMMAND>"),
+    ("help", "migrate"),
+    ("run --help", "Usage: bundled run [OPTIONS]"),
+    ("trace --help", "--rounds <COUNT>"),
+    ("migrate --help", "bundled migrate < dump"),
+    ("refresh --help", "--relationships <FILE>"),
+    ("refresh --help", "1000 a.example sent due 1300"),
+    ("serve --help", "worker 0 set a.example none to 7"),
+]
+
+REFRESH = "refresh --relationships list --documents folder"
+# A line that is refused, and a part of what is said.
+REFUSED = [
+    ("", "requires a subcommand"),
+    ("frames", "unrecognized subcommand 'frames'"),
+    ("run run", "unexpected"),
+    ("run --shards 0", "0 is not in 1..=256"),
+    ("run --shards 257", "257 is not in 1..=256"),
+    ("run --turns 0", "0 is not in 1..=1000000000"),
+    ("run --turns 1000000001", "1000000001 is not in 1..=1000000000"),
+    ("run --turns 1e3", "invalid value '1e3' for '--turns <READS>'"),
+    ("run --shards four", "invalid value 'four' for '--shards <COUNT>'"),
+    ("run --shards", "--shards <COUNT>"),
+    ("run --rounds 3", "unexpected argument '--rounds'"),
+    ("trace --shards 0", "0 is not in 1..=256"),
+    ("trace --shards 257", "257 is not in 1..=256"),
+    ("trace --rounds 0", "0 is not in 1..=16"),
+    ("trace --rounds 17", "17 is not in 1..=16"),
+    ("trace --rounds 1.5", "invalid value '1.5' for '--rounds <COUNT>'"),
+    ("trace --turns 3", "unexpected argument '--turns'"),
+    ("migrate --shards 1", "unexpected argument '--shards'"),
+    ("refresh", "--relationships <FILE>"),
+    ("refresh --relationships list", "--documents <FOLDER>"),
+    (f"{REFRESH} --port 0", "0 is not in 1..=65535"),
+    (f"{REFRESH} --port 65536", "--port <PORT>"),
+    (f"{REFRESH} --now -1", "unexpected argument '-1'"),
+    (f"{REFRESH} --at-least 18446744073709551616", "--at-least <SECONDS>"),
+    ("serve", "--port <PORT>"),
+    ("serve --port 1 --workers 65", "65 is not in 1..=64"),
+    ("serve --port 1 --connections 0", "--connections takes a number in 1..=1000, or `unlimited`"),
+    ("run --version", "unexpected argument '--version'"),
+    ("run --shards \udcff", "error: an argument is not UTF-8"),
+    ("\udcff", "try '--help'"),
+]
+
+
+def ran(line, given=FIRST_RUN, out=subprocess.PIPE):
+    """The status of the program, and what it writes, over these arguments. (A byte that is no text comes as a surrogate.)"""
+    words = [program("bundled"), *line.split()]
+    ended = subprocess.run(words, input=given, stdout=out, stderr=subprocess.PIPE, timeout=SECONDS)
+    return ended.returncode, ended.stdout, ended.stderr
+
+
+def runs_what_the_line_wants():
+    for line, given, output in RUNS:
+        assert ran(line, given) == (0, output, b""), line
+
+
+def faults():
+    for line, given, output, told in FAULTS:
+        assert ran(line, given) == (1, output, told), line
+
+
+def shows_what_is_asked_for():
+    """On standard output; if it is not taken, that is a fault."""
+    for line, part in SHOWN:
+        status, output, told = ran(line)
+        assert (status, told) == (0, b"") and part in output.decode(), line
+        with open("/dev/full", "wb") as full:
+            assert ran(line, out=full) == (1, None, b"fault 54\n"), line
+
+
+def refuses_other_lines():
+    """On standard error, with status 2."""
+    for line, part in REFUSED:
+        status, output, told = ran(line)
+        assert (status, output) == (2, b""), line
+        assert told.startswith(b"error: ") and part in told.decode(), line
+
+
+CHECKS = [runs_what_the_line_wants, faults, shows_what_is_asked_for, refuses_other_lines]
+
+
+def main():
+    failed = 0
+    for check in CHECKS:
+        try:
+            check()
+            print(f"{check.__name__}: as it should be", flush=True)
+        except (AssertionError, subprocess.SubprocessError, OSError, ValueError) as error:
+            failed += 1
+            print(f"{check.__name__}: FAILED: {error!r}"[:2000], flush=True)
+    print(f"{len(CHECKS) - failed} passed, {failed} failed")
+    return 1 if failed else 0
+
+
+if __name__ == "__main__":
+    sys.exit(main())
