@@ -3,7 +3,7 @@ ghost use Rattle.std.specs.Prelude.{◌<◌, ◌≤◌, IfOk};
 ghost use Rattle.shard_store.specs.Pass.{IsOf};
 
 use super::holds;
-use super::words::{call, compare, operation};
+use super::words::{answer, call, compare, is_answered, operation};
 use map_core::{Ask, AskError, Op, Reply};
 use shard_store::{CloseError, Pass, Seated, Store};
 use std::alloc::Global;
@@ -47,10 +47,8 @@ fn set_and_get(
     let set = format!(in alloc; "set {letter}{number} {number}")?;
     let get = format!(in alloc; "get {letter}{number}")?;
     let found = format!(in alloc; "found {number}/0")?;
-    let answer = call(store, pass, operation(alloc, set.as_str())?);
-    compare(alloc, set.as_str(), &answer, "stored")?;
-    let answer = call(store, pass, operation(alloc, get.as_str())?);
-    compare(alloc, get.as_str(), &answer, found.as_str())
+    is_answered(alloc, store, pass, &set, "stored")?;
+    is_answered(alloc, store, pass, &get, &found)
 }
 
 /// A hundred domains by each pass, in turn.
@@ -167,12 +165,10 @@ fn hold_one(alloc: Global, tries: u64) -> Result<(), Fail>
     };
     let before = (held.shard(), held.revision());
     for line in ["set a -", "get a", "fetch"] {
-        let answer = call(&store, &mut q, operation(alloc, line)?);
-        compare(alloc, line, &answer, "held 0 0")?;
+        is_answered(alloc, &store, &mut q, line, "held 0 0")?;
     }
     let p = held.let_go(&store);
-    let answer = call(&store, &mut q, operation(alloc, "set a -")?);
-    compare(alloc, "set a -", &answer, "stored")?;
+    is_answered(alloc, &store, &mut q, "set a -", "stored")?;
     let Ok(held) = store.hold(p, 0) else {
         return Err(Fail::from("a shard that was let go was refused"));
     };
@@ -182,8 +178,7 @@ fn hold_one(alloc: Global, tries: u64) -> Result<(), Fail>
         return Err(Fail::from("a shard was held twice"));
     };
     let mut q = q;
-    let answer = call(&store, &mut q, operation(alloc, "get a")?);
-    compare(alloc, "get a", &answer, "held 0 1")?;
+    is_answered(alloc, &store, &mut q, "get a", "held 0 1")?;
     let again = AskError::Held {
         shard: 0,
         revision: 1,
@@ -212,10 +207,8 @@ fn hold_other(alloc: Global, tries: u64) -> Result<(), Fail>
         return Err(Fail::from("a free shard was refused"));
     };
     // The name `b` is at home in shard 0, and `a` in shard 1.
-    let answer = call(&store, &mut q, operation(alloc, "set b -")?);
-    compare(alloc, "set b -", &answer, "stored")?;
-    let answer = call(&store, &mut q, operation(alloc, "set a -")?);
-    compare(alloc, "set a -", &answer, "held 1 0")?;
+    is_answered(alloc, &store, &mut q, "set b -", "stored")?;
+    is_answered(alloc, &store, &mut q, "set a -", "held 1 0")?;
     let pass = store.join(held.let_go(&store), q);
     close_with(store, pass, 1)
 }
@@ -239,8 +232,7 @@ fn play_one(
 {
     for row in rows {
         let (line, expected) = *row;
-        let answer = call(store, pass, operation(alloc, line)?);
-        compare(alloc, line, &answer, expected)?;
+        is_answered(alloc, store, pass, line, expected)?;
     }
     Ok(())
 }
@@ -364,17 +356,12 @@ fn ask_short(
     ensures { IsOf pass.new store.now }
 {
     let (line, expected, before) = row;
-    let op = operation(alloc, line)?;
-    let again = operation(alloc, line)?;
-    let get = operation(alloc, "get a")?;
-    let answer = call(store, pass, op);
-    if !matches!(answer, Err(AskError::Memory)) {
-        return compare(alloc, line, &answer, expected);
+    let first = answer(alloc, store, pass, line)?;
+    if !matches!(first, Err(AskError::Memory)) {
+        return compare(alloc, line, &first, expected);
     }
-    let answer = call(store, pass, get);
-    compare(alloc, "get a", &answer, before)?;
-    let answer = call(store, pass, again);
-    compare(alloc, line, &answer, expected)
+    is_answered(alloc, store, pass, "get a", before)?;
+    is_answered(alloc, store, pass, line, expected)
 }
 
 /// To be run with each allocation refused in turn.

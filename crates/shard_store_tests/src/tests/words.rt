@@ -166,3 +166,30 @@ pub(crate) fn compare(
     }
     Err(Fail::from(format!(in alloc; "{line}: {text}, and not {expected}")?))
 }
+
+/// What a line is answered.
+pub(crate) fn answer(
+    alloc: Global,
+    store: &Store,
+    pass: &mut Pass,
+    line: &str,
+) -> Result<Result<Reply, AskError>, Fail>
+    requires { IsOf pass.old store.now }
+    ensures { IsOf pass.new store.now }
+{
+    Ok(call(store, pass, operation(alloc, line)?))
+}
+
+/// The line is answered so.
+pub(crate) fn is_answered(
+    alloc: Global,
+    store: &Store,
+    pass: &mut Pass,
+    line: &str,
+    expected: &str,
+) -> Result<(), Fail>
+    requires { IsOf pass.old store.now }
+    ensures { IsOf pass.new store.now }
+{
+    compare(alloc, line, &answer(alloc, store, pass, line)?, expected)
+}
