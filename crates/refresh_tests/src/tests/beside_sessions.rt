@@ -7,9 +7,11 @@ use frame_front::{Counted, serve};
 use map_core::Reply;
 use refresh::{Relationship, Source, SourceFault, What, refresh_once};
 use shard_store::{Pass, Seated, Store};
-use std::alloc::Global;
+use std::alloc::{AllocError, Global};
+use std::process::Abort;
 use std::test::Fail;
 use std::thread;
+use std::thread::Threads;
 
 /// Gives documents of the sequences 1, 2 and so on.
 #[derive(Drop)]
@@ -58,22 +60,10 @@ fn serve_memory(alloc: Global, store: &Store, pass: Pass, requests: &[u8]) -> Op
     served.is_ok().then_some(writer.end)
 }
 
-/// The payloads of a stream of frames.
-fn payloads(alloc: Global, stream: &[u8]) -> Result<Vec<&[u8]>, Fail> {
-    let mut found = Vec::new(alloc);
-    let mut rest = stream;
-    for _ in 0..stream.len() {
-        let Some((length, after)) = rest.split_first_chunk::<4>() else {
-            return Ok(found);
-        };
-        let size = u32::from_be_bytes(*length) as usize;
-        let Some((payload, others)) = after.split_at_checked(size) else {
-            return Err(Fail::from("whole frames"));
-        };
-        found.push(payload)?;
-        rest = others;
-    }
-    Ok(found)
+/// The first payload of a stream of frames, and what follows it.
+fn first_payload(stream: &[u8]) -> Option<(&[u8], &[u8])> {
+    let (length, after) = stream.split_first_chunk::<4>()?;
+    after.split_at_checked(u32::from_be_bytes(*length) as usize)
 }
 
 /// The sequence that a reply names, if it is a bundle as the source gives it.
@@ -84,46 +74,71 @@ fn sequence_of(payload: &[u8]) -> Option<u64> {
     str::from_utf8(digits).ok()?.parse::<u64>().ok()
 }
 
-#[test]
-fn gets_beside_a_refresher(rt: HostRuntime) -> Result<(), Fail> {
-    let alloc = rt.alloc();
-    let (store, mut refresher) = Store::new(alloc, 2, 3, 1000)?;
-    let session = store.split(&mut refresher, 1000);
-    let url = "https://bundles.example/a";
-    let relationship = Relationship::read(alloc, "a", url, "https_web", None)?;
+/// The sequence last seen after this reply to a Get, unless it is no reply of the kind.
+fn seen_after(rt: &impl Abort, last: u64, payload: &[u8]) -> Option<u64> {
+    match payload {
+        [30] => is_equal(rt, &last, &0),
+        [42, ..] => is_equal(rt, &payload.len(), &13),
+        _ => {
+            let sequence = sequence_of(payload)?;
+            holds_at(rt, last <= sequence && sequence <= 100, &last);
+            return Some(sequence);
+        }
+    }
+    Some(last)
+}
+
+/// There are 1,000 replies, whose sequences never fall.
+fn never_fall(rt: &impl Abort, replies: &[u8]) -> Option<()> {
+    let (mut rest, mut last) = (replies, 0);
+    for _ in 0..1000 {
+        let (payload, others) = first_payload(rest)?;
+        last = seen_after(rt, last, payload)?;
+        rest = others;
+    }
+    holds(rt, rest.is_empty());
+    Some(())
+}
+
+/// 1,000 Gets of `a`.
+fn gets(alloc: Global) -> Result<Vec<u8>, AllocError> {
     let mut requests = Vec::new(alloc);
     for _ in 0..1000 {
         requests.extend_from_slice(b"\x00\x00\x00\x03G\x01a")?;
     }
-    let (lent, asked, named) = (&store, requests.as_slice(), &relationship);
-    let (refreshed, served) = thread::join(
-        &rt,
+    Ok(requests)
+}
+
+/// A refresher and a session side by side: how often a bundle was stored, and the replies.
+fn side_by_side<R: Threads>(
+    rt: &R,
+    alloc: Global,
+    named: &Relationship,
+    asked: &[u8],
+) -> Result<(u64, Option<Vec<u8>>), AllocError> {
+    let (store, mut refresher) = Store::new(alloc, 2, 3, 1000)?;
+    let session = store.split(&mut refresher, 1000);
+    let lent = &store;
+    Ok(thread::join(
+        rt,
         move ||
             requires { IsOf refresher lent.now }
         { refresh_hundred(alloc, lent, refresher, named) },
         move ||
             requires { IsOf session lent.now }
         { serve_memory(alloc, lent, session, asked) },
-    );
-    let Some(replies) = served else {
-        return Err(Fail::from("the session ends well"));
-    };
-    let found = payloads(alloc, replies.as_slice())?;
-    is_equal(&rt, &found.len(), &1000);
-    let mut last = 0;
-    for payload in found {
-        match payload {
-            [30] => is_equal(&rt, &last, &0),
-            [42, ..] => is_equal(&rt, &payload.len(), &13),
-            _ => {
-                let Some(sequence) = sequence_of(payload) else {
-                    return Err(Fail::from("a bundle of the source"));
-                };
-                holds_at(&rt, last <= sequence && sequence <= 100, &last);
-                last = sequence;
-            }
-        }
-    }
+    ))
+}
+
+#[test]
+fn gets_beside_a_refresher(rt: HostRuntime) -> Result<(), Fail> {
+    let alloc = rt.alloc();
+    let requests = gets(alloc)?;
+    let url = "https://bundles.example/a";
+    let relationship = Relationship::read(alloc, "a", url, "https_web", None)?;
+    let (refreshed, served) = side_by_side(&rt, alloc, &relationship, &requests)?;
+    let replies = served.ok_or("the session ends well")?;
+    never_fall(&rt, &replies).ok_or("replies to a thousand Gets")?;
     holds(&rt, refreshed > 0);
     Ok(())
 }
