@@ -6,7 +6,7 @@ use map_core::{Ask, AskError, Contents, MapRefusal, Op, Reply};
 use refresh::{
     Outcome, Relationship, Schedule, Source, SourceFault, What, next_due, refresh_at, refresh_once,
 };
-use spiffe_doc::{TrustDomain, read_document};
+use spiffe_doc::TrustDomain;
 use std::alloc::Global;
 use std::fmt::Debug;
 use std::process::Abort;
@@ -303,37 +303,51 @@ fn maps_that_refuse(rt: HostRuntime) -> Result<(), Fail> {
     Ok(())
 }
 
+/// What a refresh with this document comes to.
+fn outcome(
+    alloc: Global,
+    map: &mut Contents,
+    relationship: &Relationship,
+    document: &str,
+    now: u64,
+) -> Result<String, Fail> {
+    let mut source = Folder {
+        alloc,
+        documents: &[("a", document)],
+        fetches: 0,
+    };
+    let outcome = refresh_once(alloc, &mut source, map, relationship, now)?;
+    outcome_text(alloc, &outcome)
+}
+
+/// What `a` has: the sequence of its bundle, if it has one.
+fn sequence_of_a(alloc: Global, map: &mut Contents) -> Result<Option<u64>, Fail> {
+    let get = Op::Get(TrustDomain::parse(alloc, "a")?);
+    match map.ask(get)? {
+        Reply::Found(bundle) => Ok(bundle.sequence()),
+        _ => Ok(None),
+    }
+}
+
 /// An older document is refused, and the bundle that is held stays.
 #[test]
 fn older_documents(rt: HostRuntime) -> Result<(), Fail> {
     let alloc = rt.alloc();
     let relationship = web(alloc, "a")?;
     let mut map = Contents::new(alloc);
-    let mut source = Folder {
-        alloc,
-        documents: &[("a", "{\"keys\":[],\"spiffe_sequence\":7}")],
-        fetches: 0,
-    };
-    let newer = refresh_once(alloc, &mut source, &mut map, &relationship, 0)?;
-    is_equal(&rt, &outcome_text(alloc, &newer)?.as_str(), &"stored 300");
-    let mut earlier = Folder {
-        alloc,
-        documents: &[(
-            "a",
+    let rows = [
+        ("{\"keys\":[],\"spiffe_sequence\":7}", 0, "stored 300"),
+        (
             "{\"keys\":[],\"spiffe_sequence\":6,\"spiffe_refresh_hint\":5}",
-        )],
-        fetches: 0,
-    };
-    let older = refresh_once(alloc, &mut earlier, &mut map, &relationship, 300)?;
-    is_equal(&rt, &outcome_text(alloc, &older)?.as_str(), &"stale 7 305");
-    let get = Op::Get(TrustDomain::parse(alloc, "a")?);
-    let Reply::Found(bundle) = map.ask(get)? else {
-        return Err(Fail::from("the bundle is held"));
-    };
-    holds(
-        &rt,
-        bundle == read_document(alloc, b"{\"keys\":[],\"spiffe_sequence\":7}")?,
-    );
+            300,
+            "stale 7 305",
+        ),
+    ];
+    for (document, now, wanted) in rows {
+        let found = outcome(alloc, &mut map, &relationship, document, now)?;
+        is_equal(&rt, &found.as_str(), &wanted);
+        is_equal(&rt, &sequence_of_a(alloc, &mut map)?, &Some(7));
+    }
     Ok(())
 }
 

@@ -1,7 +1,7 @@
 //! Exchanges of a client: what it is asked, what it writes, what it reads and what it answers.
 use super::{ALL_OF_NONE, ALL_OF_ONE, FETCH_ALL, GET, SET};
-use map_core::{AskError, Expect, Op, Reply};
-use spiffe_doc::{Authority, TrustDomain, read_document, read_entry};
+use map_core::{AskError, Expect, MapRefusal, Op, Reply, Snapshot};
+use spiffe_doc::{Authority, Bundle, DocError, TrustDomain, read_document, read_entry};
 use std::alloc::{AllocError, Global};
 use std::test::Fail;
 
@@ -35,10 +35,10 @@ const APPEND: &[u8] =
 
 const REMOVE: &[u8] = b"\x00\x00\x00\x03R\x01a";
 
-fn authority(alloc: Global) -> Result<Authority, Fail> {
+fn authority(alloc: Global) -> Result<Authority, DocError> {
     match read_entry(alloc, JWK)? {
         Some(authority) => Ok(authority),
-        None => Err(Fail::from("the JWK is ignored")),
+        None => Err(DocError::BadEntry(0)),
     }
 }
 
@@ -55,28 +55,43 @@ pub(super) fn op(alloc: Global, ask: Asked) -> Result<Op, Fail> {
     })
 }
 
+/// A domain and how long its text is, in words.
+fn pair_words(alloc: Global, domain: &TrustDomain, bundle: &Bundle) -> Result<String, AllocError> {
+    format!(in alloc; " {} of {} bytes", domain.as_str(), bundle.text_len())
+}
+
+fn all_words(alloc: Global, all: &Snapshot) -> Result<String, AllocError> {
+    let mut words = String::from_str(alloc, "all")?;
+    for (domain, bundle) in all.pairs() {
+        words.push_str(&pair_words(alloc, domain, bundle)?)?;
+    }
+    Ok(words)
+}
+
+fn found_words(alloc: Global, bundle: &Bundle) -> Result<String, AllocError> {
+    format!(in alloc; "found {:?} {} bytes", bundle.sequence(), bundle.text_len())
+}
+
+fn refusal_words(alloc: Global, why: &MapRefusal) -> Result<String, AllocError> {
+    format!(in alloc; "refused {}: {why}", why.number())
+}
+
+fn reply_words(alloc: Global, reply: &Reply) -> Result<String, AllocError> {
+    match reply {
+        Reply::Stored => String::from_str(alloc, "stored"),
+        Reply::Unchanged => String::from_str(alloc, "unchanged"),
+        Reply::Appended(sequence) => format!(in alloc; "appended {sequence:?}"),
+        Reply::Removed => String::from_str(alloc, "removed"),
+        Reply::Found(bundle) => found_words(alloc, bundle),
+        Reply::All(all) => all_words(alloc, all),
+        Reply::Refused(why) => refusal_words(alloc, why),
+    }
+}
+
 /// An answer in words.
 pub(super) fn words(alloc: Global, answer: &Result<Reply, AskError>) -> Result<String, AllocError> {
     match answer {
-        Ok(Reply::Stored) => String::from_str(alloc, "stored"),
-        Ok(Reply::Unchanged) => String::from_str(alloc, "unchanged"),
-        Ok(Reply::Appended(sequence)) => format!(in alloc; "appended {sequence:?}"),
-        Ok(Reply::Removed) => String::from_str(alloc, "removed"),
-        Ok(Reply::Found(bundle)) => {
-            format!(in alloc; "found {:?} {} bytes", bundle.sequence(), bundle.text_len())
-        }
-        Ok(Reply::All(snapshot)) => {
-            let mut all = String::from_str(alloc, "all")?;
-            for (domain, bundle) in snapshot.pairs() {
-                all.push_str(&format!(in alloc;
-                    " {} of {} bytes",
-                    domain.as_str(),
-                    bundle.text_len()
-                )?)?;
-            }
-            Ok(all)
-        }
-        Ok(Reply::Refused(why)) => format!(in alloc; "refused {}: {why}", why.number()),
+        Ok(reply) => reply_words(alloc, reply),
         Err(error) => format!(in alloc; "error {}: {error}", error.number()),
     }
 }

@@ -6,7 +6,7 @@ use super::holds;
 use super::words::{call, compare};
 use map_core::{AskError, Op, Reply, Snapshot};
 use shard_store::{Pass, Store};
-use spiffe_doc::{TrustDomain, read_document};
+use spiffe_doc::{Bundle, DocError, TrustDomain, read_document};
 use std::alloc::Global;
 use std::test::Fail;
 use std::thread;
@@ -26,14 +26,24 @@ fn insist(store: &Store, pass: &mut Pass, op: &Op) -> Result<Reply, AskError>
     Err(AskError::Memory)
 }
 
+fn bundle(alloc: Global, sequence: u64) -> Result<Bundle, DocError> {
+    let text = format!(in alloc; "{{\"keys\":[],\"spiffe_sequence\":{sequence}}}")?;
+    read_document(alloc, text.as_bytes())
+}
+
 fn set_op(alloc: Global, name: &str, sequence: u64) -> Option<Op> {
-    let text = format!(in alloc; "{{\"keys\":[],\"spiffe_sequence\":{sequence}}}").ok()?;
-    let bundle = read_document(alloc, text.as_bytes()).ok()?;
-    Some(Op::Set(TrustDomain::parse(alloc, name).ok()?, bundle))
+    let domain = TrustDomain::parse(alloc, name).ok()?;
+    match bundle(alloc, sequence) {
+        Ok(bundle) => Some(Op::Set(domain, bundle)),
+        Err(_) => None,
+    }
 }
 
 fn get_op(alloc: Global, name: &str) -> Option<Op> {
-    Some(Op::Get(TrustDomain::parse(alloc, name).ok()?))
+    match TrustDomain::parse(alloc, name) {
+        Ok(domain) => Some(Op::Get(domain)),
+        Err(_) => None,
+    }
 }
 
 /// Sets a domain to the sequence. The answer is whether it was stored.

@@ -164,9 +164,12 @@ fn hold_one(alloc: Global, tries: u64) -> Result<(), Fail>
         return Err(Fail::from("a free shard was refused"));
     };
     let before = (held.shard(), held.revision());
-    for line in ["set a -", "get a", "fetch"] {
-        is_answered(alloc, &store, &mut q, line, "held 0 0")?;
-    }
+    let rows = [
+        ("set a -", "held 0 0"),
+        ("get a", "held 0 0"),
+        ("fetch", "held 0 0"),
+    ];
+    play_one(alloc, &store, &mut q, &rows)?;
     let p = held.let_go(&store);
     is_answered(alloc, &store, &mut q, "set a -", "stored")?;
     let Ok(held) = store.hold(p, 0) else {
