@@ -2,7 +2,7 @@
 """The wrong bodies that stand in crates/NAME/wrong-bodies: others of functions of which one is tried at each gate.
 
 usage: gate/wrong_bodies.py                fails unless each of them can be put into the code as it stands
-       gate/wrong_bodies.py try [NAME..]   wants the prover to refuse each, of all crates or of these: an hour on 4 cores
+       gate/wrong_bodies.py try [NAME..]   wants the prover to refuse each, of all crates or of these
 
 rt ci tries those in must-fail/, with at least one of each function that a contract of its own has.
 """
