@@ -383,22 +383,38 @@ fn what_is_not_asked(rt: HostRuntime) -> Result<(), Fail> {
     Ok(())
 }
 
+/// The requests of all exchanges.
+fn all_requests(alloc: Global) -> Result<Vec<u8>, AllocError> {
+    let mut requests = Vec::new(alloc);
+    for exchange in EXCHANGES {
+        requests.extend_from_slice(exchange.request)?;
+    }
+    Ok(requests)
+}
+
+/// Writes the request of an exchange to a writer that has not failed.
+fn put_request(
+    rt: &impl Abort,
+    alloc: Global,
+    writer: &mut Counted<Vec<u8>>,
+    exchange: &Exchange<'_>,
+) -> Result<(), Fail> {
+    let request = op(alloc, exchange.ask)?;
+    assert!(rt; writer.faults() == 0);
+    let is_written = write_request(alloc, writer, &request).is_ok();
+    holds_at(rt, is_written, &exchange.answer);
+    Ok(())
+}
+
 #[test]
 fn requests_one_after_the_other(rt: HostRuntime) -> Result<(), Fail> {
     let alloc = rt.alloc();
+    let wanted = all_requests(alloc)?;
     let mut writer = Counted::new(Vec::new(alloc));
-    let mut want = Vec::new(alloc);
     for exchange in EXCHANGES {
-        let request = op(alloc, exchange.ask)?;
-        assert!(rt; writer.faults() == 0, "{}", exchange.answer);
-        holds_at(
-            &rt,
-            write_request(alloc, &mut writer, &request).is_ok(),
-            &exchange.answer,
-        );
-        want.extend_from_slice(exchange.request)?;
+        put_request(&rt, alloc, &mut writer, &exchange)?;
     }
-    holds(&rt, writer.end.as_slice() == want.as_slice());
+    holds(&rt, writer.end.as_slice() == wanted.as_slice());
     Ok(())
 }
 
