@@ -1,7 +1,7 @@
 //! The command `serve`: workers answer connections, over a store that they share.
 mod connections;
 mod incoming;
-mod server;
+mod listening;
 mod stop;
 
-pub use server::serve_over;
+pub use listening::serve_over;

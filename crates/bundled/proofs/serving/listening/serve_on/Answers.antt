@@ -3,7 +3,7 @@ use Rattle.workers.specs.Closing.{AreAll}
 use Rattle.server.specs.Serve.{always_open, Reports}
 use Rattle.commands.specs.Streams.{TellsUnlessFailed, end_of}
 use Rattle.workers.proofs.WorkedLists.{all_own, all_long, ranges_same}
-use Rattle.bundled.proofs.serving.server.serve_on.Goals as goal
+use Rattle.bundled.proofs.serving.listening.serve_on.Goals as goal
 
 pub report-requires-clause-some : goal.report-requires-clause-some
 report-requires-clause-some g c =

@@ -1,6 +1,6 @@
 use Rattle.std.proofs.Common.{ℕ, List, inl, inr, refl, subst}
 use Rattle.server.specs.Serve.{IsSetUp, NotSetUp}
-use Rattle.bundled.proofs.serving.server.serve_over.Goals as goal
+use Rattle.bundled.proofs.serving.listening.serve_over.Goals as goal
 
 pub returns-clause-run : goal.returns-clause-run
 returns-clause-run g c =
