@@ -1,9 +1,9 @@
 -- Input that is read whole before it is judged.
 use Rattle.std.specs.Prelude.{ℕ, ◌<◌, ◌≤◌, List, length, Option}
 use Rattle.std.specs.Io.KnownBytes.{Consumes, IsAtEnd}
-use Rattle.frame_front.specs.declared.error.FrontError.TheVariants.{BadLength, Truncated, ReadFault, WriteFault, TurnsUsed, Memory}
+use Rattle.frame_front.specs.declared.error.FrontError.TheVariants.{ReadFault, TurnsUsed, Memory}
 use Rattle.commands.specs.declared.fault.Fault.{Fault}
-use Rattle.commands.specs.declared.fault.Fault.TheVariants.{Front, Dump, BadLine, InputTooLong, Refresh, Listen, Close}
+use Rattle.commands.specs.declared.fault.Fault.TheVariants.{Front, InputTooLong}
 
 -- the most bytes of an input, and the most reads
 abbrev pub most_input : ℕ

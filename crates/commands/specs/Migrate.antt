@@ -5,9 +5,9 @@ use Rattle.frame_front.specs.Frame.{stream_of}
 use Rattle.frame_front.specs.Dump.{Domains, IsDump, IsBadDump, requests_for}
 use Rattle.frame_front.specs.Outbox.{WritesFront}
 use Rattle.frame_front.specs.declared.dump.DumpError.TheVariants as dumps
-use Rattle.frame_front.specs.declared.error.FrontError.TheVariants.{BadLength, Truncated, ReadFault, WriteFault, TurnsUsed, Memory}
+use Rattle.frame_front.specs.declared.error.FrontError.TheVariants.{ReadFault, WriteFault, TurnsUsed, Memory}
 use Rattle.commands.specs.declared.fault.Fault.{Fault}
-use Rattle.commands.specs.declared.fault.Fault.TheVariants.{Front, Dump, BadLine, InputTooLong, Refresh, Listen, Close}
+use Rattle.commands.specs.declared.fault.Fault.TheVariants.{Front, Dump, InputTooLong}
 use Rattle.commands.specs.Input.{IsInput, InputFault}
 use Rattle.commands.specs.Streams.{Streams, EndsWith}
 

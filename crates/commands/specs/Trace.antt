@@ -1,8 +1,8 @@
 -- What the command `trace` does to its input and its output; what its lines say is not defined here.
 use Rattle.std.specs.Prelude.{◌≡◌, ℕ, List, Option, Result, Ok, Err}
-use Rattle.frame_front.specs.declared.error.FrontError.TheVariants.{BadLength, Truncated, ReadFault, WriteFault, TurnsUsed, Memory}
+use Rattle.frame_front.specs.declared.error.FrontError.TheVariants.{ReadFault, WriteFault, TurnsUsed, Memory}
 use Rattle.commands.specs.declared.fault.Fault.{Fault}
-use Rattle.commands.specs.declared.fault.Fault.TheVariants.{Front, Dump, BadLine, InputTooLong, Refresh, Listen, Close}
+use Rattle.commands.specs.declared.fault.Fault.TheVariants.{Front, BadLine, InputTooLong}
 use Rattle.commands.specs.Input.{IsInput, InputFault}
 use Rattle.commands.specs.Streams.{Streams, EndsWith}
 

@@ -2,7 +2,7 @@
 use Rattle.std.specs.Prelude.{◌≡◌, ◌≢◌, ◌⊎◌, ℕ, ◌<◌, List, [], ◌++◌, Bool, true, false, Option, Some, None, Result, Ok, Err}
 use Rattle.std.specs.Io.KnownBytes.{Appends, Consumes, IsAtEnd}
 use Rattle.map_core.specs.declared.op.Op.{Op}
-use Rattle.map_core.specs.declared.op.Op.TheVariants.{Set, SetIf, Append, Remove, Get, FetchAll}
+use Rattle.map_core.specs.declared.op.Op.TheVariants.{SetIf, FetchAll}
 use Rattle.map_core.specs.declared.reply.AskError.TheVariants as error
 use Rattle.frame_front.specs.declared.request.Version.TheVariants.{Two}
 use Rattle.frame_client.specs.declared.client_error.ClientError.{ClientError}

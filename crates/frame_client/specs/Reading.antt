@@ -3,7 +3,7 @@ use Rattle.std.specs.Prelude.{◌≡◌, ℕ, ◌<◌, List, length, Option}
 use Rattle.std.specs.Io.KnownBytes.{IsAtEnd}
 use Rattle.frame_front.specs.Frame.{IsUnfinished, IsBadLength}
 use Rattle.frame_client.specs.declared.client_error.ClientError.{ClientError}
-use Rattle.frame_client.specs.declared.client_error.ClientError.TheVariants.{Memory, BadLength, BadReply, Truncated, ReadFault, WriteFault}
+use Rattle.frame_client.specs.declared.client_error.ClientError.TheVariants.{BadLength, Truncated, ReadFault}
 
 -- Why a read stops short, and what the reader has left then.
 abbrev pub StopsShort : ClientError → Option (List ℕ) → Type 0

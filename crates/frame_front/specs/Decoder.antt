@@ -2,7 +2,7 @@
 use Rattle.std.specs.Prelude.{◌≡◌, ℕ, List, ◌++◌}
 use Rattle.frame_front.specs.Frame.{IsPayload, IsBadLength, frame}
 use Rattle.frame_front.specs.declared.error.FrontError.{FrontError}
-use Rattle.frame_front.specs.declared.error.FrontError.TheVariants.{BadLength, Truncated, ReadFault, WriteFault, TurnsUsed, Memory}
+use Rattle.frame_front.specs.declared.error.FrontError.TheVariants.{BadLength, Memory}
 
 -- a whole frame stands first
 abbrev pub BeginsWithFrame : List ℕ → Type 0

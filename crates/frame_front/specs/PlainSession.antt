@@ -7,7 +7,7 @@ use Rattle.map_core.specs.declared.reply.Reply.{Reply}
 use Rattle.map_core.specs.declared.reply.AskError.{AskError}
 use Rattle.map_core.specs.PlainMap.{PlainMap, ask}
 use Rattle.frame_front.specs.declared.error.FrontError.{FrontError}
-use Rattle.frame_front.specs.declared.error.FrontError.TheVariants.{BadLength, Truncated, ReadFault, WriteFault, TurnsUsed, Memory}
+use Rattle.frame_front.specs.declared.error.FrontError.TheVariants.{WriteFault}
 use Rattle.frame_front.specs.declared.request.Version.TheVariants.{One}
 use Rattle.frame_front.specs.declared.request.Request.{Request}
 use Rattle.frame_front.specs.declared.request.Request.TheVariants.{Ask, Speak}

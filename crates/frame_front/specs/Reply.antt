@@ -11,7 +11,7 @@ use Rattle.map_core.specs.declared.op.Expect.TheVariants.{Absent, Sequence, Unnu
 use Rattle.map_core.specs.declared.reply.Reply.{Reply}
 use Rattle.map_core.specs.declared.reply.Reply.TheVariants.{Stored, Unchanged, Appended, Removed, Found, All, Refused}
 use Rattle.map_core.specs.declared.reply.MapRefusal.{MapRefusal}
-use Rattle.map_core.specs.declared.reply.MapRefusal.TheVariants.{NoDomain, Stale, KidTaken, TooMany, TooLong, SequenceFull, NotExpected}
+use Rattle.map_core.specs.declared.reply.MapRefusal.TheVariants.{Stale, NotExpected}
 use Rattle.map_core.specs.declared.reply.AskError.{AskError}
 use Rattle.map_core.specs.declared.reply.AskError.TheVariants.{Memory, Worn, Moved, Held, GateShut}
 use Rattle.frame_front.specs.declared.request.Version.{Version}

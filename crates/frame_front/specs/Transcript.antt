@@ -5,7 +5,7 @@ use Rattle.map_core.specs.declared.op.Op.{Op}
 use Rattle.map_core.specs.declared.reply.Reply.{Reply}
 use Rattle.map_core.specs.declared.reply.AskError.{AskError}
 use Rattle.frame_front.specs.declared.error.FrontError.{FrontError}
-use Rattle.frame_front.specs.declared.error.FrontError.TheVariants.{BadLength, Truncated, ReadFault, WriteFault, TurnsUsed, Memory}
+use Rattle.frame_front.specs.declared.error.FrontError.TheVariants.{Truncated, TurnsUsed}
 use Rattle.frame_front.specs.declared.request.Version.{Version}
 use Rattle.frame_front.specs.declared.request.Version.TheVariants.{One}
 use Rattle.frame_front.specs.Session.{Session}

@@ -1,7 +1,7 @@
 -- Which replies tell of a change, and the numbers of refusals.
 use Rattle.std.specs.Prelude.{ℕ, Bool, true, false}
 use Rattle.map_core.specs.declared.reply.Reply.{Reply}
-use Rattle.map_core.specs.declared.reply.Reply.TheVariants.{Stored, Unchanged, Appended, Removed, Found, All, Refused}
+use Rattle.map_core.specs.declared.reply.Reply.TheVariants.{Stored, Appended, Removed}
 use Rattle.map_core.specs.declared.reply.MapRefusal.{MapRefusal}
 use Rattle.map_core.specs.declared.reply.MapRefusal.TheVariants.{NoDomain, Stale, KidTaken, TooMany, TooLong, SequenceFull, NotExpected}
 use Rattle.map_core.specs.declared.reply.AskError.{AskError}

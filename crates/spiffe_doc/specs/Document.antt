@@ -7,7 +7,7 @@ use Rattle.serde_json.specs.Find.{get, as_array, as_object, as_u64}
 use Rattle.serde_json.specs.Read.{read}
 use Rattle.spiffe_doc.specs.declared.authority.Authority.{Authority}
 use Rattle.spiffe_doc.specs.declared.error.DocError.{DocError}
-use Rattle.spiffe_doc.specs.declared.error.DocError.TheVariants.{TooLong, NotJson, NotObject, NoKeys, BadSequence, BadHint, BadEntry, BadKey, BadX5c, BadKid, KidTwice, TooMany, Memory}
+use Rattle.spiffe_doc.specs.declared.error.DocError.TheVariants.{TooLong, NotJson, NotObject, NoKeys, BadSequence, BadHint, BadEntry, BadKey, BadX5c, BadKid, KidTwice, TooMany}
 use Rattle.spiffe_doc.specs.Answer.{unless, ◌>>=◌}
 use Rattle.spiffe_doc.specs.Authority.{BundleValue}
 use Rattle.spiffe_doc.specs.Equal.{authority_eq}

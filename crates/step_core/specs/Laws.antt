@@ -8,7 +8,7 @@ use Rattle.map_core.specs.declared.reply.Reply.TheVariants.{All}
 use Rattle.map_core.specs.PlainMap.{PlainMap, ask, bundles}
 use Rattle.step_core.specs.declared.trace.OpRecord.{OpRecord}
 use Rattle.step_core.specs.declared.event.Event.{Event}
-use Rattle.step_core.specs.declared.event.Event.TheVariants.{Begin, Step, Quit, End}
+use Rattle.step_core.specs.declared.event.Event.TheVariants.{Begin, Step}
 use Rattle.step_core.specs.World.{World, next, fresh_world, world_from}
 use Rattle.step_core.specs.Shard.{Version, reading}
 use Rattle.step_core.specs.Phase.{Collecting, Confirming}

@@ -4,7 +4,7 @@ use Rattle.std.proofs.Common.{sym, subst}
 use Rattle.map_core.specs.declared.op.Op.{Op}
 use Rattle.map_core.specs.declared.reply.Reply.{Reply}
 use Rattle.map_core.specs.declared.reply.AskError.{AskError}
-use Rattle.map_core.specs.declared.reply.AskError.TheVariants.{Memory, Worn, Moved, Held, GateShut}
+use Rattle.map_core.specs.declared.reply.AskError.TheVariants.{Memory, Moved, Held}
 use Rattle.map_core.specs.PlainMap.{PlainMap}
 use Rattle.map_core.specs.Ask.{PlainAnswer}
 
