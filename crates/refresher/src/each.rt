@@ -24,7 +24,7 @@ pub struct Times {
 
 impl Times {
     /// When a relationship is due again. A server that asks to be asked each second is not obeyed.
-    fn due(&self, outcome: &Outcome) -> u64
+    pub fn due(&self, outcome: &Outcome) -> u64
         ensures { result ≡ due_not_before self.now.time self.now.at_least outcome.now.due }
     {
         outcome.due.max(self.time.saturating_add(self.at_least))
