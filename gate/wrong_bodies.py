@@ -1,10 +1,10 @@
 #!/usr/bin/env python3
-"""The wrong bodies that stand in crates/NAME/wrong-bodies: others of functions of which one is tried at each gate.
+"""The wrong bodies that stand in crates/NAME/wrong-bodies: more than the gate tries.
 
 usage: gate/wrong_bodies.py                fails unless each of them can be put into the code as it stands
        gate/wrong_bodies.py try [NAME..]   wants the prover to refuse each, of all crates or of these
 
-rt ci tries those in must-fail/, with at least one of each function that a contract of its own has.
+rt ci tries those in must-fail/, with at least one of each public function.
 """
 import os
 import re
