@@ -43,7 +43,7 @@ pub record Refuses (status : ℕ) (old new : Streams) : Type 0 where
   pub reads : new.input ≡ old.input
   pub writes : new.output ≡ old.output
   pub text : List ℕ
-  pub told : Tells old.error new.error text
+  pub tells : Tells old.error new.error text
 
 -- The whole program.
 abbrev pub Commands : ℕ → Streams → Streams → Type 0

@@ -21,4 +21,4 @@ pub record RefreshRun (status : ℕ) (old new : Streams) : Type 0 where
   pub ended : Result Bool Fault
   pub has_status : status ≡ refresh_status ended
   pub lines : List ℕ
-  pub told : Tells old.error new.error (lines ++ last_line ended)
+  pub tells : Tells old.error new.error (lines ++ last_line ended)

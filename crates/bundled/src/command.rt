@@ -114,7 +114,7 @@ fn text_of(alloc: Global, error: &clap::Error) -> Result<String, AllocError> {
 fn refuse<E: Write>(text: &[u8], err: &mut Counted<E>) -> u8
     requires { err.old.faults < 2 ^ 64 - 1 }
     ensures status { result ≡ 2 }
-    ensures told { Tells (end_of E.contents err.old) (end_of E.contents err.new) text.now }
+    ensures tells { Tells (end_of E.contents err.old) (end_of E.contents err.new) text.now }
 {
     tell(err, text);
     2

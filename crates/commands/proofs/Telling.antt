@@ -39,20 +39,20 @@ told_nothing before e = elim (cases_Bool (nat_eq e.faults before)) [
 
 -- what was told, and the text that follows it
 pub tells_more : (start old new : End) (lines text : List ℕ) → Tells start old lines → TellsUnlessFailed start.faults old new text → Tells start new (lines ++ text)
-tells_more start old new lines text told (inl follows) = record {
-  front = WritesFront-then start.bytes old.bytes new.bytes lines text (told.whole follows.0) follows.1.front;
-  whole = λ same. Appends-trans start.bytes old.bytes new.bytes lines text (told.whole follows.0) (follows.1.whole (same ∙ sym follows.0));
+tells_more start old new lines text tells (inl follows) = record {
+  front = WritesFront-then start.bytes old.bytes new.bytes lines text (tells.whole follows.0) follows.1.front;
+  whole = λ same. Appends-trans start.bytes old.bytes new.bytes lines text (tells.whole follows.0) (follows.1.whole (same ∙ sym follows.0));
 }
-tells_more start old new lines text told (inr failed) =
+tells_more start old new lines text tells (inr failed) =
     subst (λ (e : End). Tells start e (lines ++ text)) (sym failed.1) record {
-      front = WritesFront-longer start.bytes old.bytes lines text told.front;
+      front = WritesFront-longer start.bytes old.bytes lines text tells.front;
       whole = λ same. absurd (failed.0 same);
     }
 
 -- and the same if the writer may have failed before
 pub told_more : (before : ℕ) (start old new : End) (lines text : List ℕ) → TellsUnlessFailed before start old lines → TellsUnlessFailed before old new text
     → TellsUnlessFailed before start new (lines ++ text)
-told_more before start old new lines text (inl told) follows =
-    inl (told.0, tells_more start old new lines text told.1 (subst (λ (b : ℕ). TellsUnlessFailed b old new text) (sym told.0) follows))
+told_more before start old new lines text (inl tells) follows =
+    inl (tells.0, tells_more start old new lines text tells.1 (subst (λ (b : ℕ). TellsUnlessFailed b old new text) (sym tells.0) follows))
 told_more before start old new lines text (inr failed) (inl follows) = absurd (failed.0 (ap (λ (e : End). e.faults) (sym failed.1) ∙ follows.0))
 told_more before start old new lines text (inr failed) (inr still) = inr (failed.0, still.1 ∙ failed.1)

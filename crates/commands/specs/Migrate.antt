@@ -12,14 +12,14 @@ use Rattle.commands.specs.Input.{IsInput, InputFault}
 use Rattle.commands.specs.Streams.{Streams, EndsWith}
 
 -- the requests that store these domains again, as one stream
-abbrev pub migrated : Domains → List ℕ
-migrated items = stream_of (requests_for items) []
+abbrev pub migration_stream : Domains → List ℕ
+migration_stream items = stream_of (requests_for items) []
 
 -- The input is a dump, and the requests that store it again are written; a front of them if the writer failed. Or it is
 -- not a dump, or is not read, and nothing is written.
 abbrev pub Migrates : Result (Unit {0}) Fault → Option (List ℕ) → Option (List ℕ) → Option (List ℕ) → Option (List ℕ) → Type 0
 Migrates (Ok done) left_old left_new held_old held_new =
-    (input : List ℕ) × (items : Domains) × IsInput input left_old left_new × IsDump input items × Appends held_old held_new (migrated items)
+    (input : List ℕ) × (items : Domains) × IsInput input left_old left_new × IsDump input items × Appends held_old held_new (migration_stream items)
 Migrates (Err (Dump (dumps.BadDump place))) left_old left_new held_old held_new =
     (input : List ℕ) × IsInput input left_old left_new × IsBadDump input place × (held_new ≡ held_old)
 Migrates (Err (Dump dumps.Memory)) left_old left_new held_old held_new = held_new ≡ held_old
@@ -28,7 +28,7 @@ Migrates (Err (Front TurnsUsed)) left_old left_new held_old held_new = InputFaul
 Migrates (Err (Front ReadFault)) left_old left_new held_old held_new = held_new ≡ held_old
 Migrates (Err (Front Memory)) left_old left_new held_old held_new = held_new ≡ held_old
 Migrates (Err (Front WriteFault)) left_old left_new held_old held_new =
-    (input : List ℕ) × (items : Domains) × IsInput input left_old left_new × IsDump input items × WritesFront held_old held_new (migrated items)
+    (input : List ℕ) × (items : Domains) × IsInput input left_old left_new × IsDump input items × WritesFront held_old held_new (migration_stream items)
 Migrates ended left_old left_new held_old held_new = ⊥
 
 -- The whole command.

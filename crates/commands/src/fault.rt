@@ -118,7 +118,7 @@ impl Fault {
     pub fn tell<E: Write>(&self, err: &mut Counted<E>) -> u8
         requires { err.old.faults < 2 ^ 64 - 1 }
         ensures status { result ≡ 1 }
-        ensures told { Tells (end_of E.contents err.old) (end_of E.contents err.new) (fault_line self.now) }
+        ensures tells { Tells (end_of E.contents err.old) (end_of E.contents err.new) (fault_line self.now) }
     {
         let line = self.line();
         tell(err, line.as_slice());

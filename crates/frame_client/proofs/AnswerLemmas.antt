@@ -19,9 +19,11 @@ use Rattle.map_core.specs.declared.reply.AskError.{AskError}
 use Rattle.map_core.specs.declared.reply.AskError.TheVariants as error
 use Rattle.map_core.specs.Reply.{refusal_number, error_number}
 use Rattle.frame_front.specs.Frame.{IsPayload, IsUnfinished, frame}
-use Rattle.frame_front.specs.Reply.{coded, code_of, place_bytes, sequence_bytes, map_detail, error_detail, item_frame}
-use Rattle.frame_client.specs.Answer.{Answer, MayAnswer, IsLawfulAnswer, is_code_for, answer_of, reply_of, refusal_of, error_of, number_of, sequence_of, expect_of, worn_of, held_of, moved_of, found_of, if_canonical}
-use Rattle.frame_client.specs.Client.{is_of_one, BeginsNoReply, NoReply}
+use Rattle.frame_front.specs.Reply.{answer_frames, code_of, place_bytes, sequence_bytes, map_detail, error_detail, item_frame}
+use Rattle.frame_client.specs.Answer.{Answer, MayAnswer, IsValidAnswer, is_code_for}
+use Rattle.frame_client.specs.Private.Payloads.{answer_of, reply_of, refusal_of, error_of, number_of, sequence_of, expect_of, worn_of, held_of, moved_of, found_of, if_canonical}
+use Rattle.frame_client.specs.Client.{BeginsNoReply, NoReply}
+use Rattle.frame_client.specs.Private.Exchanges.{is_of_one}
 use Rattle.frame_front.proofs.FrameLemmas.{frame_first, none_at_end}
 use Rattle.frame_front.proofs.ReplyLemmas.{not_both}
 
@@ -47,7 +49,7 @@ frames_behind (Ok (All items)) = flat_map item_frame items
 frames_behind (Ok (Refused why)) = []
 frames_behind (Err e) = []
 
-pub coded_first : (a : Answer) → coded a ≡ frame (first_payload a) ++ frames_behind a
+pub coded_first : (a : Answer) → answer_frames a ≡ frame (first_payload a) ++ frames_behind a
 coded_first (Ok Stored) = sym (append-nil _)
 coded_first (Ok Unchanged) = sym (append-nil _)
 coded_first (Ok (Appended sequence)) = sym (append-nil _)
@@ -77,16 +79,16 @@ error_payload (error.Held shard revision) = (omega arith, omega arith)
 error_payload error.GateShut = (omega arith, omega arith)
 
 -- it is a payload
-pub first_is_payload : (a : Answer) → IsLawfulAnswer a → IsPayload (first_payload a)
-first_is_payload (Ok Stored) lawful = (omega arith, omega arith)
-first_is_payload (Ok Unchanged) lawful = (omega arith, omega arith)
-first_is_payload (Ok (Appended None)) lawful = (omega arith, omega arith)
-first_is_payload (Ok (Appended (Some sequence))) lawful = (omega arith, omega arith)
-first_is_payload (Ok Removed) lawful = (omega arith, omega arith)
-first_is_payload (Ok (Found bundle)) lawful = (omega arith, omega (arith, lawful.short))
-first_is_payload (Ok (All items)) lawful = (omega arith, omega arith)
-first_is_payload (Ok (Refused why)) lawful = refusal_payload why
-first_is_payload (Err e) lawful = error_payload e
+pub first_is_payload : (a : Answer) → IsValidAnswer a → IsPayload (first_payload a)
+first_is_payload (Ok Stored) valid = (omega arith, omega arith)
+first_is_payload (Ok Unchanged) valid = (omega arith, omega arith)
+first_is_payload (Ok (Appended None)) valid = (omega arith, omega arith)
+first_is_payload (Ok (Appended (Some sequence))) valid = (omega arith, omega arith)
+first_is_payload (Ok Removed) valid = (omega arith, omega arith)
+first_is_payload (Ok (Found bundle)) valid = (omega arith, omega (arith, valid.short))
+first_is_payload (Ok (All items)) valid = (omega arith, omega arith)
+first_is_payload (Ok (Refused why)) valid = refusal_payload why
+first_is_payload (Err e) valid = error_payload e
 
 -- ---- what is read of it
 
@@ -95,8 +97,8 @@ some_none x same = cc
 
 found_text : (bundle : BundleValue) → IsBundle bundle → found_of (text_of bundle) ≡ Some bundle
 unfolding found_of
-found_text bundle lawful =
-    ap (if_canonical (text_of bundle)) (document-text_of bundle lawful)
+found_text bundle valid =
+    ap (if_canonical (text_of bundle)) (document-text_of bundle valid)
     ∙ ap (λ b. if b then Some bundle else None) (nat_list_eq_equiv.refl (text_of bundle))
 
 refusal_read : (why : MapRefusal) → refusal_of (refusal_number why) (map_detail why) ≡ None → ⊥
@@ -154,12 +156,12 @@ code_alone : (p : List ℕ) → IsPayload p → code_of (frame p) ≡ get_or p 0
 code_alone p good = ap code_of (sym (append-nil (frame p))) ∙ code_first p [] good
 
 -- a code that the operation may have
-pub right_code : (op : Op) (payload : List ℕ) (a : Answer) → IsPayload payload → is_code_for op (get_or payload 0 0) ≡ true → frame payload ≡ coded a → MayAnswer op a
+pub right_code : (op : Op) (payload : List ℕ) (a : Answer) → IsPayload payload → is_code_for op (get_or payload 0 0) ≡ true → frame payload ≡ answer_frames a → MayAnswer op a
 right_code op payload a good right same = ap (is_code_for op) (ap code_of (sym same) ∙ code_alone payload good) ∙ right
 
 -- another code
-pub wrong_code : (op : Op) (payload : List ℕ) → IsPayload payload → is_code_for op (get_or payload 0 0) ≡ false → BeginsNoReply op coded (frame payload)
-wrong_code op payload good wrong rest a may lawful same =
+pub wrong_code : (op : Op) (payload : List ℕ) → IsPayload payload → is_code_for op (get_or payload 0 0) ≡ false → BeginsNoReply op answer_frames (frame payload)
+wrong_code op payload good wrong rest a may valid same =
     not_both _ may (ap (is_code_for op) (ap code_of same ∙ code_first payload rest good) ∙ wrong)
 
 not_true : false ≡ true → ⊥
@@ -181,26 +183,26 @@ not_all op items of_one may =
 -- ---- what is not a reply
 
 module _ (op : Op) (of_one : is_of_one op ≡ true) where
-  answer_read : (a : Answer) → IsLawfulAnswer a → MayAnswer op a → answer_of (first_payload a) ≡ None → ⊥
+  answer_read : (a : Answer) → IsValidAnswer a → MayAnswer op a → answer_of (first_payload a) ≡ None → ⊥
   unfolding answer_of reply_of sequence_of number_of
-  answer_read (Ok Stored) lawful may same = some_none _ same
-  answer_read (Ok Unchanged) lawful may same = some_none _ same
-  answer_read (Ok (Appended None)) lawful may same = some_none _ same
-  answer_read (Ok (Appended (Some sequence))) lawful may same = some_none _ same
-  answer_read (Ok Removed) lawful may same = some_none _ same
-  answer_read (Ok (Found bundle)) lawful may same =
-      some_none bundle (sym (found_text bundle lawful) ∙ map_none Found _ (map_none Ok _ same))
-  answer_read (Ok (All items)) lawful may same = not_all op items of_one may
-  answer_read (Ok (Refused why)) lawful may same = refused_read why same
-  answer_read (Err e) lawful may same = failed_read e same
+  answer_read (Ok Stored) valid may same = some_none _ same
+  answer_read (Ok Unchanged) valid may same = some_none _ same
+  answer_read (Ok (Appended None)) valid may same = some_none _ same
+  answer_read (Ok (Appended (Some sequence))) valid may same = some_none _ same
+  answer_read (Ok Removed) valid may same = some_none _ same
+  answer_read (Ok (Found bundle)) valid may same =
+      some_none bundle (sym (found_text bundle valid) ∙ map_none Found _ (map_none Ok _ same))
+  answer_read (Ok (All items)) valid may same = not_all op items of_one may
+  answer_read (Ok (Refused why)) valid may same = refused_read why same
+  answer_read (Err e) valid may same = failed_read e same
 
   -- a payload of which no answer is read
-  pub no_answer : (payload : List ℕ) → IsPayload payload → answer_of payload ≡ None → BeginsNoReply op coded (frame payload)
-  no_answer payload good none rest a may lawful same =
-      let first = frame_first (first_payload a) payload (frames_behind a) rest (first_is_payload a lawful) good (sym (coded_first a) ∙ same) in
-      answer_read a lawful may (ap answer_of first.0 ∙ none)
+  pub no_answer : (payload : List ℕ) → IsPayload payload → answer_of payload ≡ None → BeginsNoReply op answer_frames (frame payload)
+  no_answer payload good none rest a may valid same =
+      let first = frame_first (first_payload a) payload (frames_behind a) rest (first_is_payload a valid) good (sym (coded_first a) ∙ same) in
+      answer_read a valid may (ap answer_of first.0 ∙ none)
 
 -- bytes that are not a whole frame
-pub unfinished_reply : (op : Op) (read : List ℕ) → IsUnfinished read → NoReply op coded read
-unfinished_reply op read cut a may lawful same =
-    none_at_end (first_payload a) (frames_behind a) read (first_is_payload a lawful) (sym same ∙ coded_first a) (inl cut)
+pub unfinished_reply : (op : Op) (read : List ℕ) → IsUnfinished read → NoReply op answer_frames read
+unfinished_reply op read cut a may valid same =
+    none_at_end (first_payload a) (frames_behind a) read (first_is_payload a valid) (sym same ∙ coded_first a) (inl cut)

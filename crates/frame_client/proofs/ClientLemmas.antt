@@ -10,10 +10,11 @@ use Rattle.map_core.specs.declared.op.Op.{Op}
 use Rattle.map_core.specs.declared.op.Op.TheVariants.{Set, SetIf, Append, Remove, Get, FetchAll}
 use Rattle.map_core.specs.declared.op.Expect.{Expect}
 use Rattle.frame_front.specs.Frame.{IsPayload, HasFrames, frame}
-use Rattle.frame_front.specs.Reply.{coded}
+use Rattle.frame_front.specs.Reply.{answer_frames}
 use Rattle.frame_client.specs.Asking.{request_bytes}
-use Rattle.frame_client.specs.Reading.{NoFrame, CountsFault}
-use Rattle.frame_client.specs.Answer.{Answer, MayAnswer, IsLawfulAnswer}
+use Rattle.frame_client.specs.Reading.{CountsFault}
+use Rattle.frame_client.specs.Private.Stops.{NoFrame}
+use Rattle.frame_client.specs.Answer.{Answer, MayAnswer, IsValidAnswer}
 use Rattle.frame_client.specs.Client.{Breaks, BeginsNoReply, reply_preface, reply_bytes, ends, Exchange}
 use Rattle.frame_client.specs.declared.client_error.ClientError.{ClientError}
 use Rattle.frame_client.specs.declared.client_error.ClientError.TheVariants.{Memory, BadLength, BadReply, Truncated, ReadFault, WriteFault}
@@ -21,7 +22,7 @@ use Rattle.frame_front.proofs.FrameLemmas.{frame_first, none_at_end}
 use Rattle.frame_client.proofs.AnswerLemmas.{unfinished_reply}
 
 -- if no frame was read, no reply was
-pub frame_breaks : (op : Op) (why : ClientError) (read : List ℕ) (left : Option (List ℕ)) → NoFrame why read left → Breaks op coded why read left
+pub frame_breaks : (op : Op) (why : ClientError) (read : List ℕ) (left : Option (List ℕ)) → NoFrame why read left → Breaks op answer_frames why read left
 frame_breaks op Truncated read left none = (unfinished_reply op read none.0, none.1)
 frame_breaks op ReadFault read left none = unfinished_reply op read none
 frame_breaks op BadLength read left none = ([], read, record { whole = refl; each = tt; ends = inr none.0 }, none.0)
@@ -54,12 +55,12 @@ behind_version (Get d) read rest payloads framed = ([], framed)
 behind_version FetchAll read rest payloads framed = ([], framed)
 
 -- no reply behind the one to the version
-pub breaks_behind : (op : Op) (why : ClientError) (read : List ℕ) (left : Option (List ℕ)) → Breaks op coded why read left
+pub breaks_behind : (op : Op) (why : ClientError) (read : List ℕ) (left : Option (List ℕ)) → Breaks op answer_frames why read left
     → Breaks op (reply_bytes op) why (reply_preface op ++ read) left
-breaks_behind op Truncated read left breaks = (λ a may lawful same. breaks.0 a may lawful (append_cancel_left (reply_preface op) (coded a) read same), breaks.1)
-breaks_behind op ReadFault read left breaks = λ a may lawful same. breaks a may lawful (append_cancel_left (reply_preface op) (coded a) read same)
-breaks_behind op BadReply read left breaks = λ rest a may lawful same.
-    breaks rest a may lawful (append_cancel_left (reply_preface op) (coded a) (read ++ rest) (same ∙ append_assoc (reply_preface op) read rest))
+breaks_behind op Truncated read left breaks = (λ a may valid same. breaks.0 a may valid (append_cancel_left (reply_preface op) (answer_frames a) read same), breaks.1)
+breaks_behind op ReadFault read left breaks = λ a may valid same. breaks a may valid (append_cancel_left (reply_preface op) (answer_frames a) read same)
+breaks_behind op BadReply read left breaks = λ rest a may valid same.
+    breaks rest a may valid (append_cancel_left (reply_preface op) (answer_frames a) (read ++ rest) (same ∙ append_assoc (reply_preface op) read rest))
 breaks_behind op BadLength read left breaks =
     let framed = behind_version op read breaks.1 breaks.0 breaks.2 in
     (framed.0 ++ breaks.0, breaks.1, framed.1, breaks.3)
@@ -71,8 +72,8 @@ module _ (d : Name) (expect : Expect) (b : BundleValue) where
   pub version_breaks : (why : ClientError) (read : List ℕ) (left : Option (List ℕ)) → NoFrame why read left
       → Breaks (SetIf d expect b) (reply_bytes (SetIf d expect b)) why read left
   version_breaks Truncated read left none =
-      (λ a may lawful same. none_at_end version_set (coded a) read version_payload (sym same) (inl none.0), none.1)
-  version_breaks ReadFault read left none = λ a may lawful same. none_at_end version_set (coded a) read version_payload (sym same) (inl none)
+      (λ a may valid same. none_at_end version_set (answer_frames a) read version_payload (sym same) (inl none.0), none.1)
+  version_breaks ReadFault read left none = λ a may valid same. none_at_end version_set (answer_frames a) read version_payload (sym same) (inl none)
   version_breaks BadLength read left none = ([], read, record { whole = refl; each = tt; ends = inr none.0 }, none.0)
   version_breaks BadReply read left none = absurd none
   version_breaks WriteFault read left none = absurd none
@@ -81,18 +82,18 @@ module _ (d : Name) (expect : Expect) (b : BundleValue) where
   -- another reply
   pub other_version : (payload : List ℕ) → IsPayload payload → payload ≢ 118 ∷ 2 ∷ []
       → BeginsNoReply (SetIf d expect b) (reply_bytes (SetIf d expect b)) (frame payload)
-  other_version payload good other rest a may lawful same =
-      other (sym (frame_first version_set payload (coded a) rest version_payload good same).0)
+  other_version payload good other rest a may valid same =
+      other (sym (frame_first version_set payload (answer_frames a) rest version_payload good same).0)
 
 -- a request that was written, and what came of reading the reply
 pub exchanged : (op : Op) (r : Result Answer ClientError) (left_old left_new held_old held_new : Option (List ℕ)) (reads_old reads_new writes_old writes_new : ℕ)
     → Appends held_old held_new (request_bytes op) → writes_new ≡ writes_old
-    → IfOk r (λ answer. MayAnswer op answer × IsLawfulAnswer answer × Consumes left_old left_new (reply_bytes op answer)) → OnOk r (reads_new ≡ reads_old)
+    → IfOk r (λ answer. MayAnswer op answer × IsValidAnswer answer × Consumes left_old left_new (reply_bytes op answer)) → OnOk r (reads_new ≡ reads_old)
     → IfErr r (λ why. (read : List ℕ) × Consumes left_old left_new read × Breaks op (reply_bytes op) why read left_new)
     → IfErr r (λ why. CountsFault why reads_old reads_new)
     → Exchange op r (ends left_old held_old reads_old writes_old) (ends left_new held_new reads_new writes_new)
 exchanged op (Ok answer) l0 l1 h0 h1 r0 r1 w0 w1 written quiet ok quiet_reader err counted =
-    record { written = written; read = ok.2; may = ok.0; lawful = ok.1; quiet_reader = quiet_reader; quiet_writer = quiet }
+    record { written = written; read = ok.2; may = ok.0; valid = ok.1; quiet_reader = quiet_reader; quiet_writer = quiet }
 exchanged op (Err WriteFault) l0 l1 h0 h1 r0 r1 w0 w1 written quiet ok quiet_reader err counted = absurd err.2
 exchanged op (Err Truncated) l0 l1 h0 h1 r0 r1 w0 w1 written quiet ok quiet_reader err counted =
     record { read = err.0; written = written; consumes = err.1; breaks = err.2; counted = counted; quiet_writer = quiet }

@@ -20,10 +20,12 @@ use Rattle.map_core.specs.declared.reply.AskError.{AskError}
 use Rattle.map_core.specs.declared.reply.AskError.TheVariants as error
 use Rattle.map_core.specs.Reply.{error_number}
 use Rattle.frame_front.specs.Frame.{IsPayload, IsUnfinished, frame}
-use Rattle.frame_front.specs.Reply.{coded, code_of, item_frame, map_detail, error_detail}
-use Rattle.frame_front.specs.Dump.{Domains, AreValid, IsAfter, Ascends, item_of, unless_refused}
-use Rattle.frame_client.specs.Reading.{NoFrame}
-use Rattle.frame_client.specs.Answer.{Answer, MayAnswer, IsLawfulAnswer, is_code_for, number_of}
+use Rattle.frame_front.specs.Reply.{answer_frames, code_of, item_frame, map_detail, error_detail}
+use Rattle.frame_front.specs.Dump.{Domains, AreValid, item_of, unless_refused}
+use Rattle.map_core.specs.Laws.{IsAfter, Ascends}
+use Rattle.frame_client.specs.Private.Stops.{NoFrame}
+use Rattle.frame_client.specs.Answer.{Answer, MayAnswer, IsValidAnswer, is_code_for}
+use Rattle.frame_client.specs.Private.Payloads.{number_of}
 use Rattle.frame_client.specs.Client.{Breaks, BeginsNoReply}
 use Rattle.frame_client.specs.Private.Listing.{NoListing, BreaksListing, head_of}
 use Rattle.frame_client.specs.declared.client_error.ClientError.{ClientError}
@@ -69,9 +71,9 @@ each_item (x ∷ xs) valid = (IsPayload-item x valid.0.0 valid.0.1, each_item xs
 
 module _ (count : ℕ) (items : Domains) (valid : AreValid items) (fewer : length items < count) where
   listing_cut : (cut : List ℕ) → IsUnfinished cut → NoListing count (flat_map item_frame items ++ cut)
-  listing_cut cut unfinished others lawful ascending size same =
-      let front = items_front items others cut valid lawful (omega (arith, fewer, size)) same in
-      let next = valid_at items front.0 front.1 (subst AreValid front.2 lawful) in
+  listing_cut cut unfinished others sound ascending size same =
+      let front = items_front items others cut valid sound (omega (arith, fewer, size)) same in
+      let next = valid_at items front.0 front.1 (subst AreValid front.2 sound) in
       none_at_end (item_payload front.0) (flat_map item_frame front.1) cut (IsPayload-item front.0 next.0 next.1) front.3 (inl unfinished)
 
   -- if no frame was read, the next domain was not
@@ -88,9 +90,9 @@ module _ (count : ℕ) (items : Domains) (valid : AreValid items) (fewer : lengt
   pub listing_bad : (payload : List ℕ) → IsPayload payload
       → ((item : Name × BundleValue) → IsName item.0 → IsBundle item.1 → IsAfter (last_of None items) item.0 → payload ≢ item_payload item)
       → (rest : List ℕ) → NoListing count ((flat_map item_frame items ++ frame payload) ++ rest)
-  listing_bad payload good none rest others lawful ascending size same =
-      let front = items_front items others (frame payload ++ rest) valid lawful (omega (arith, fewer, size)) (same ∙ append_assoc (flat_map item_frame items) (frame payload) rest) in
-      let next = valid_at items front.0 front.1 (subst AreValid front.2 lawful) in
+  listing_bad payload good none rest others sound ascending size same =
+      let front = items_front items others (frame payload ++ rest) valid sound (omega (arith, fewer, size)) (same ∙ append_assoc (flat_map item_frame items) (frame payload) rest) in
+      let next = valid_at items front.0 front.1 (subst AreValid front.2 sound) in
       let first = frame_first payload (item_payload front.0) rest (flat_map item_frame front.1) good (IsPayload-item front.0 next.0 next.1) front.3 in
       none front.0 next.0 next.1 (ascends_at None items front.0 front.1 (subst (Ascends None) front.2 ascending)) first.0
 
@@ -99,8 +101,8 @@ flat_more [] y = append-nil (item_frame y)
 flat_more (x ∷ xs) y = ap (λ r. item_frame x ++ r) (flat_more xs y) ∙ sym (append_assoc (item_frame x) (flat_map item_frame xs) (item_frame y))
 
 pub valid_more : (xs : Domains) (y : Name × BundleValue) → AreValid xs → IsName y.0 → IsBundle y.1 → AreValid (xs ++ y ∷ [])
-valid_more [] y valid name lawful = ((name, lawful), tt)
-valid_more (x ∷ xs) y valid name lawful = (valid.0, valid_more xs y valid.1 name lawful)
+valid_more [] y valid name sound = ((name, sound), tt)
+valid_more (x ∷ xs) y valid name sound = (valid.0, valid_more xs y valid.1 name sound)
 
 -- bytes that are two parts, cut where the first ends
 pub joined_parts : (bytes first others : List ℕ) → bytes ≡ first ++ others → (take (length first) bytes ≡ first) × (drop (length first) bytes ≡ others)
@@ -110,15 +112,15 @@ joined_parts bytes first others same =
 -- the payload of a valid domain is read as that domain
 item_of-payload : (y : Name × BundleValue) → IsName y.0 → IsBundle y.1 → item_of (item_payload y) ≡ Some y
 unfolding item_of
-item_of-payload y name lawful = ap unless_refused (named_bundle-item y.0 y.1 name lawful)
+item_of-payload y name sound = ap unless_refused (named_bundle-item y.0 y.1 name sound)
 
 -- if no domain is read, none stands
 pub no_item_read : (payload : List ℕ) → item_of payload ≡ None → (y : Name × BundleValue) → IsName y.0 → IsBundle y.1 → payload ≢ item_payload y
-no_item_read payload none y name lawful same = none_item y (sym none ∙ ap item_of same ∙ item_of-payload y name lawful)
+no_item_read payload none y name sound same = none_item y (sym none ∙ ap item_of same ∙ item_of-payload y name sound)
 
 -- if another text of a domain is read, none stands
 pub same_read : (payload : List ℕ) (x : Name × BundleValue) → item_of payload ≡ Some x → (y : Name × BundleValue) → IsName y.0 → IsBundle y.1 → payload ≡ item_payload y → y ≡ x
-same_read payload x read y name lawful same = some_item y x (sym (item_of-payload y name lawful) ∙ sym (ap item_of same) ∙ read)
+same_read payload x read y name sound same = some_item y x (sym (item_of-payload y name sound) ∙ sym (ap item_of same) ∙ read)
 
 -- What was read so far: the frames of valid domains, in order of their names, and the last name.
 pub record Listed (left_old left_new : Option (List ℕ)) (items : Domains) (last : Option Name) (place : ℕ) : Type 0 where
@@ -135,11 +137,11 @@ Listed-none left = record { consumed = Consumes-nil left; size = refl; last_is =
 pub Listed-one : (l0 l1 l2 : Option (List ℕ)) (items : Domains) (last : Option Name) (place : ℕ) (y : Name × BundleValue) (payload : List ℕ) → Listed l0 l1 items last place
     → Consumes l1 l2 (frame payload) → frame payload ≡ item_frame y → IsAfter last y.0 → IsName y.0 → IsBundle y.1
     → Listed l0 l2 (items ++ y ∷ []) (Some y.0) (place + 1)
-Listed-one l0 l1 l2 items last place y payload listed took same after name lawful = record {
+Listed-one l0 l1 l2 items last place y payload listed took same after name sound = record {
   consumed = subst (Consumes l0 l2) (ap (λ f. flat_map item_frame items ++ f) same ∙ sym (flat_more items y)) (Consumes-trans l0 l1 l2 (flat_map item_frame items) (frame payload) listed.consumed took);
   size = omega (arith, listed.size, length-append items (y ∷ []));
   last_is = sym (last_of-one None items y);
-  valid = valid_more items y listed.valid name lawful;
+  valid = valid_more items y listed.valid name sound;
   ascending = Ascends-one None items y listed.ascending (subst (λ (l : Option Name). IsAfter l y.0) listed.last_is after);
 }
 
@@ -190,9 +192,9 @@ head_read (Err (error.Held shard revision)) may same = error_read (error.Held sh
 head_read (Err error.GateShut) may same = error_read error.GateShut (map_none Err _ same)
 
 -- a payload of which neither a number nor an error is read
-pub bad_head : (payload : List ℕ) → IsPayload payload → head_of payload ≡ None → BeginsNoReply FetchAll coded (frame payload)
-bad_head payload good none rest a may lawful same =
-    let first = frame_first (first_payload a) payload (frames_behind a) rest (first_is_payload a lawful) good (sym (coded_first a) ∙ same) in
+pub bad_head : (payload : List ℕ) → IsPayload payload → head_of payload ≡ None → BeginsNoReply FetchAll answer_frames (frame payload)
+bad_head payload good none rest a may sound same =
+    let first = frame_first (first_payload a) payload (frames_behind a) rest (first_is_payload a sound) good (sym (coded_first a) ∙ same) in
     head_read a may (ap head_of first.0 ∙ none)
 
 module _ (count : ℕ) (fits : count < 2 ^ 64) where
@@ -203,31 +205,31 @@ module _ (count : ℕ) (fits : count < 2 ^ 64) where
   head_payload = (omega arith, omega arith)
 
   -- an answer that begins with the number has so many domains
-  all_listing : (a : Answer) (read : List ℕ) → MayAnswer FetchAll a → IsLawfulAnswer a → coded a ≡ frame head ++ read
+  all_listing : (a : Answer) (read : List ℕ) → MayAnswer FetchAll a → IsValidAnswer a → answer_frames a ≡ frame head ++ read
       → (items : Domains) × AreValid items × Ascends None items × (length items ≡ count) × (flat_map item_frame items ≡ read)
-  all_listing (Ok Stored) read may lawful same = absurd (other_code 115 [] refl may)
-  all_listing (Ok Unchanged) read may lawful same = absurd (other_code 117 [] refl may)
-  all_listing (Ok (Appended sequence)) read may lawful same = absurd (other_code 112 _ refl may)
-  all_listing (Ok Removed) read may lawful same = absurd (other_code 100 [] refl may)
-  all_listing (Ok (Found bundle)) read may lawful same = absurd (other_code 102 _ refl may)
-  all_listing (Ok (Refused why)) read may lawful same = absurd (not_refused why may)
-  all_listing (Ok (All items)) read may lawful same =
+  all_listing (Ok Stored) read may sound same = absurd (other_code 115 [] refl may)
+  all_listing (Ok Unchanged) read may sound same = absurd (other_code 117 [] refl may)
+  all_listing (Ok (Appended sequence)) read may sound same = absurd (other_code 112 _ refl may)
+  all_listing (Ok Removed) read may sound same = absurd (other_code 100 [] refl may)
+  all_listing (Ok (Found bundle)) read may sound same = absurd (other_code 102 _ refl may)
+  all_listing (Ok (Refused why)) read may sound same = absurd (not_refused why may)
+  all_listing (Ok (All items)) read may sound same =
       let own = first_payload (Ok (All items)) in
-      let first = frame_first own head (flat_map item_frame items) read (first_is_payload (Ok (All items)) lawful) head_payload same in
-      let size : length items ≡ count = sym (from_be_bytes-to_be_bytes_8 (length items) lawful.2) ∙ ap (λ p. from_be_bytes w64 (drop 1 p)) first.0 ∙ from_be_bytes-to_be_bytes_8 count fits in
-      (items, lawful.0, lawful.1, size, first.1)
-  all_listing (Err e) read may lawful same =
+      let first = frame_first own head (flat_map item_frame items) read (first_is_payload (Ok (All items)) sound) head_payload same in
+      let size : length items ≡ count = sym (from_be_bytes-to_be_bytes_8 (length items) sound.2) ∙ ap (λ p. from_be_bytes w64 (drop 1 p)) first.0 ∙ from_be_bytes-to_be_bytes_8 count fits in
+      (items, sound.0, sound.1, size, first.1)
+  all_listing (Err e) read may sound same =
       let own = first_payload (Err e) in
       let first = frame_first own head [] read (error_payload e) head_payload (append-nil (frame own) ∙ same) in
       absurd (not_97 e (cons_head (error_number e) 97 (error_detail e) (to_be_bytes w64 count) first.0))
 
   pub all_breaks : (why : ClientError) (read : List ℕ) (left : Option (List ℕ)) → BreaksListing why count read left
-      → Breaks FetchAll coded why (frame head ++ read) left
+      → Breaks FetchAll answer_frames why (frame head ++ read) left
   all_breaks Truncated read left breaks =
-      (λ a may lawful same. let l = all_listing a read may lawful same in breaks.0 l.0 l.1 l.2 l.3 l.4, breaks.1)
-  all_breaks ReadFault read left breaks = λ a may lawful same. let l = all_listing a read may lawful same in breaks l.0 l.1 l.2 l.3 l.4
-  all_breaks BadReply read left breaks = λ rest a may lawful same.
-      let l = all_listing a (read ++ rest) may lawful (same ∙ append_assoc (frame head) read rest) in breaks rest l.0 l.1 l.2 l.3 l.4
+      (λ a may sound same. let l = all_listing a read may sound same in breaks.0 l.0 l.1 l.2 l.3 l.4, breaks.1)
+  all_breaks ReadFault read left breaks = λ a may sound same. let l = all_listing a read may sound same in breaks l.0 l.1 l.2 l.3 l.4
+  all_breaks BadReply read left breaks = λ rest a may sound same.
+      let l = all_listing a (read ++ rest) may sound (same ∙ append_assoc (frame head) read rest) in breaks rest l.0 l.1 l.2 l.3 l.4
   all_breaks BadLength read left breaks = (
     head ∷ breaks.0,
     breaks.1,

@@ -10,13 +10,13 @@ use Rattle.spiffe_doc.specs.declared.error.AppendError.{AppendError}
 use Rattle.spiffe_doc.specs.declared.error.AppendError.TheVariants as cannot
 use Rattle.map_core.specs.declared.op.Op.{Op}
 use Rattle.map_core.specs.declared.op.Op.TheVariants.{Set, SetIf, Append, Remove, Get, FetchAll}
-use Rattle.map_core.specs.declared.held.Held.{Held}
-use Rattle.map_core.specs.declared.held.Held.TheVariants.{Published, Mark}
+use Rattle.map_core.specs.declared.held.Holding.{Holding}
+use Rattle.map_core.specs.declared.held.Holding.TheVariants.{Published, Mark}
 use Rattle.map_core.specs.declared.reply.Reply.TheVariants.{Unchanged, Refused}
 use Rattle.map_core.specs.declared.reply.MapRefusal.TheVariants.{Stale, NotExpected}
 use Rattle.map_core.specs.Name.{Name}
 use Rattle.map_core.specs.Op.{expect_eq}
-use Rattle.map_core.specs.Table.{meaning, kept, stored, stored_after, is_lower, set, expectation, append, append_to, not_appended, remove, get}
+use Rattle.map_core.specs.Table.{meaning, keep, store, store_after, is_lower, set, expectation, append, append_to, append_refusal, remove, get}
 use Rattle.map_core.specs.PlainMap.{PlainMap, ask}
 use Rattle.frame_front.specs.Frame.{frame}
 use Rattle.frame_front.specs.Reply.{code_of}
@@ -35,31 +35,31 @@ module _ (op : Op) where
   fits code rest right = ap (is_code_for op) (one_code code rest) ∙ right
 
   module _ (may_store : is_code_for op 115 ≡ true) (may_refuse : is_code_for op 31 ≡ true) where
-    lower : (b : BundleValue) (held : Option Held) (before : ℕ) (is : Bool) → MayAnswer op (Ok (if is then kept (Refused (Stale before)) held else stored b).reply)
+    lower : (b : BundleValue) (held : Option Holding) (before : ℕ) (is : Bool) → MayAnswer op (Ok (if is then keep (Refused (Stale before)) held else store b).reply)
     lower b held before true = fits 31 _ may_refuse
     lower b held before false = fits 115 _ may_store
 
-    after : (before : Option ℕ) (b : BundleValue) (held : Option Held) → MayAnswer op (Ok (stored_after before b held).reply)
+    after : (before : Option ℕ) (b : BundleValue) (held : Option Holding) → MayAnswer op (Ok (store_after before b held).reply)
     after None b held = fits 115 _ may_store
     after (Some before) b held = lower b held before (is_lower b.sequence before)
 
     module _ (may_keep : is_code_for op 117 ≡ true) where
-      equal : (b c : BundleValue) (is : Bool) → MayAnswer op (Ok (if is then kept Unchanged (Some (Published c)) else stored_after c.sequence b (Some (Published c))).reply)
+      equal : (b c : BundleValue) (is : Bool) → MayAnswer op (Ok (if is then keep Unchanged (Some (Published c)) else store_after c.sequence b (Some (Published c))).reply)
       equal b c true = fits 117 _ may_keep
       equal b c false = after c.sequence b (Some (Published c))
 
-      set_answers : (b : BundleValue) (held : Option Held) → MayAnswer op (Ok (set b held).reply)
+      set_answers : (b : BundleValue) (held : Option Holding) → MayAnswer op (Ok (set b held).reply)
       set_answers b None = fits 115 _ may_store
       set_answers b (Some (Mark s)) = after (Some s) b (Some (Mark s))
       set_answers b (Some (Published c)) = equal b c (bundle_eq b c)
 
-      expected : (b : BundleValue) (held : Option Held) (is : Bool) → is_code_for op 36 ≡ true
-          → MayAnswer op (Ok (if is then set b held else kept (Refused (NotExpected (expectation held))) held).reply)
+      expected : (b : BundleValue) (held : Option Holding) (is : Bool) → is_code_for op 36 ≡ true
+          → MayAnswer op (Ok (if is then set b held else keep (Refused (NotExpected (expectation held))) held).reply)
       expected b held true may = set_answers b held
       expected b held false may = fits 36 _ may
 
 module _ (d : Name) (a : Authority) where
-  not_answers : (b : BundleValue) (why : AppendError) → MayAnswer (Append d a) (Ok (not_appended why))
+  not_answers : (b : BundleValue) (why : AppendError) → MayAnswer (Append d a) (Ok (append_refusal why))
   not_answers b cannot.Present = fits (Append d a) 117 _ refl
   not_answers b cannot.KidTaken = fits (Append d a) 32 _ refl
   not_answers b cannot.TooMany = fits (Append d a) 33 _ refl
@@ -71,17 +71,17 @@ module _ (d : Name) (a : Authority) where
   longer b (Ok more) = fits (Append d a) 112 _ refl
   longer b (Err why) = not_answers b why
 
-  append_answers : (held : Option Held) → MayAnswer (Append d a) (Ok (append a held).reply)
+  append_answers : (held : Option Holding) → MayAnswer (Append d a) (Ok (append a held).reply)
   append_answers None = fits (Append d a) 30 _ refl
   append_answers (Some (Mark s)) = fits (Append d a) 30 _ refl
   append_answers (Some (Published b)) = longer b (appended b a)
 
-remove_answers : (d : Name) (held : Option Held) → MayAnswer (Remove d) (Ok (remove held).reply)
+remove_answers : (d : Name) (held : Option Holding) → MayAnswer (Remove d) (Ok (remove held).reply)
 remove_answers d None = fits (Remove d) 30 _ refl
 remove_answers d (Some (Mark s)) = fits (Remove d) 30 _ refl
 remove_answers d (Some (Published b)) = fits (Remove d) 100 _ refl
 
-get_answers : (d : Name) (held : Option Held) → MayAnswer (Get d) (Ok (get held).reply)
+get_answers : (d : Name) (held : Option Holding) → MayAnswer (Get d) (Ok (get held).reply)
 get_answers d None = fits (Get d) 30 _ refl
 get_answers d (Some (Mark s)) = fits (Get d) 30 _ refl
 get_answers d (Some (Published b)) = fits (Get d) 102 _ refl

@@ -3,8 +3,8 @@ use Rattle.std.proofs.Common.{◌≡◌, ℕ, ◌<◌, ◌≤◌, List, ◌++◌
 use Rattle.std.specs.Prelude.{Option}
 use Rattle.std.proofs.lemmas.List.{take_at, take_all}
 use Rattle.std.specs.Int.{w32, to_be_bytes, from_be_bytes}
-use Rattle.frame_front.specs.Frame.{IsUnfinished, frame, spelled_length, most_payload}
-use Rattle.frame_client.specs.Reading.{StopsShort, NoFrame}
+use Rattle.frame_front.specs.Frame.{IsUnfinished, frame, length_field, most_payload}
+use Rattle.frame_client.specs.Private.Stops.{StopsShort, NoFrame}
 use Rattle.frame_client.specs.declared.client_error.ClientError.{ClientError}
 use Rattle.frame_client.specs.declared.client_error.ClientError.TheVariants.{Memory, BadLength, BadReply, Truncated, ReadFault, WriteFault}
 
@@ -16,21 +16,21 @@ frame_whole field payload size four bytes long =
     sym (ap (λ f. f ++ payload) (ap (to_be_bytes w32) long ∙ bytes ∙ take_all 4 field (omega arith)))
 
 -- four bytes spell the same with others behind them
-spelled_before : (field rest : List ℕ) → length field ≡ 4 → spelled_length (field ++ rest) ≡ spelled_length field
-unfolding spelled_length
-spelled_before field rest four = ap (from_be_bytes w32) (take_at field rest 4 four ∙ sym (take_all 4 field (omega arith)))
+length_field_before : (field rest : List ℕ) → length field ≡ 4 → length_field (field ++ rest) ≡ length_field field
+unfolding length_field
+length_field_before field rest four = ap (from_be_bytes w32) (take_at field rest 4 four ∙ sym (take_all 4 field (omega arith)))
 
-cut_payload : (field read : List ℕ) (size : ℕ) → length field ≡ 4 → size ≡ spelled_length field → 0 < size → size ≤ most_payload → length read < size
+cut_payload : (field read : List ℕ) (size : ℕ) → length field ≡ 4 → size ≡ length_field field → 0 < size → size ≤ most_payload → length read < size
     → IsUnfinished (field ++ read)
 cut_payload field read size four spelled some few short =
-    let same = spelled_before field read four in
+    let same = length_field_before field read four in
     record {
       good = λ h. (omega (arith, same), omega (arith, same));
       short = λ h. omega (arith, same, length-append field read);
     }
 
 -- a payload that was not read whole
-pub NoFrame-payload : (why : ClientError) (left : Option (List ℕ)) (field read : List ℕ) (size : ℕ) → length field ≡ 4 → size ≡ spelled_length field
+pub NoFrame-payload : (why : ClientError) (left : Option (List ℕ)) (field read : List ℕ) (size : ℕ) → length field ≡ 4 → size ≡ length_field field
     → 0 < size → size ≤ most_payload → length read < size → StopsShort why left → NoFrame why (field ++ read) left
 NoFrame-payload Truncated left field read size four spelled some few short stops = (cut_payload field read size four spelled some few short, stops)
 NoFrame-payload ReadFault left field read size four spelled some few short stops = cut_payload field read size four spelled some few short

@@ -1,5 +1,5 @@
 -- The bytes of a request.
-use Rattle.std.specs.Prelude.{◌≡◌, ℕ, ◌<◌, ◌^◌, List, [], ◌∷◌, ◌++◌, length, nat_le, Bool, true, false}
+use Rattle.std.specs.Prelude.{◌≡◌, ℕ, ◌<◌, ◌^◌, List, ◌∷◌, ◌++◌, length, nat_le, Bool, true, false, []}
 use Rattle.spiffe_doc.specs.Text.{entry_text, text_of}
 use Rattle.spiffe_doc.specs.Name.{IsName}
 use Rattle.spiffe_doc.specs.Authority.{IsAuthority}
@@ -12,13 +12,6 @@ use Rattle.frame_client.specs.declared.asking.RequestError.{RequestError}
 use Rattle.frame_client.specs.declared.asking.RequestError.TheVariants.{Memory, TooLong, WriteFault}
 use Rattle.frame_front.specs.Frame.{frame}
 use Rattle.frame_front.specs.Reply.{expect_bytes}
-
--- the document at the end of a request
-abbrev pub document_part : Op → List ℕ
-document_part (Set d b) = text_of b
-document_part (SetIf d expect b) = text_of b
-document_part (Append d a) = entry_text a
-document_part op = []
 
 -- the letter, the length of the name and the name, the expectation, and the document
 abbrev pub request_payload : Op → List ℕ
@@ -70,10 +63,10 @@ IsExpect (Sequence sequence) = sequence < 2 ^ 64
 IsExpect Unnumbered = Unit {0}
 
 -- an operation on a trust domain name, whose numbers and whose bundle are valid
-abbrev pub IsLawfulOp : Op → Type 0
-IsLawfulOp (Set d b) = IsName d × IsBundle b
-IsLawfulOp (SetIf d expect b) = IsName d × IsExpect expect × IsBundle b
-IsLawfulOp (Append d a) = IsName d × IsAuthority a
-IsLawfulOp (Remove d) = IsName d
-IsLawfulOp (Get d) = IsName d
-IsLawfulOp FetchAll = Unit {0}
+abbrev pub IsValidOp : Op → Type 0
+IsValidOp (Set d b) = IsName d × IsBundle b
+IsValidOp (SetIf d expect b) = IsName d × IsExpect expect × IsBundle b
+IsValidOp (Append d a) = IsName d × IsAuthority a
+IsValidOp (Remove d) = IsName d
+IsValidOp (Get d) = IsName d
+IsValidOp FetchAll = Unit {0}

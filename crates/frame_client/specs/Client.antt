@@ -1,23 +1,18 @@
 -- What a client writes and reads when it is asked.
-use Rattle.std.specs.Prelude.{◌≡◌, ◌≢◌, ◌⊎◌, ℕ, ◌<◌, List, [], ◌++◌, Bool, true, false, Option, Some, None, Result, Ok, Err}
+use Rattle.std.specs.Prelude.{◌≡◌, ◌≢◌, ◌⊎◌, ℕ, ◌<◌, List, ◌++◌, true, false, Option, Some, None, Result, Ok, Err, []}
 use Rattle.std.specs.Io.KnownBytes.{Appends, Consumes, IsAtEnd}
 use Rattle.map_core.specs.declared.op.Op.{Op}
-use Rattle.map_core.specs.declared.op.Op.TheVariants.{SetIf, FetchAll}
+use Rattle.map_core.specs.declared.op.Op.TheVariants.{SetIf}
 use Rattle.map_core.specs.declared.reply.AskError.TheVariants as error
 use Rattle.frame_front.specs.declared.request.Version.TheVariants.{Two}
 use Rattle.frame_client.specs.declared.client_error.ClientError.{ClientError}
 use Rattle.frame_client.specs.declared.client_error.ClientError.TheVariants.{Memory, BadLength, BadReply, Truncated, ReadFault, WriteFault}
 use Rattle.frame_front.specs.Frame.{HasFrames, IsBadLength}
-use Rattle.frame_front.specs.Reply.{coded, version_frame}
+use Rattle.frame_front.specs.Reply.{answer_frames, version_frame}
 use Rattle.frame_front.specs.Outbox.{WritesFront}
 use Rattle.frame_client.specs.Asking.{request_bytes, is_written}
 use Rattle.frame_client.specs.Reading.{CountsFault}
-use Rattle.frame_client.specs.Answer.{Answer, MayAnswer, IsLawfulAnswer}
-
--- whether the reply to the operation is one frame: to all but a fetch-all
-abbrev pub is_of_one : Op → Bool
-is_of_one FetchAll = false
-is_of_one op = true
+use Rattle.frame_client.specs.Answer.{Answer, MayAnswer, IsValidAnswer}
 
 -- the reply to the request that sets version 2
 abbrev pub reply_preface : Op → List ℕ
@@ -26,14 +21,14 @@ reply_preface op = []
 
 -- what is read if this is the answer
 abbrev pub reply_bytes : Op → Answer → List ℕ
-reply_bytes op answer = reply_preface op ++ coded answer
+reply_bytes op answer = reply_preface op ++ answer_frames answer
 
 -- ---- what was read is not a reply
 
-module _ (op : Op) (spelled : Answer → List ℕ) where
-  -- no answer that the operation may have is spelled so
+module _ (op : Op) (bytes_for : Answer → List ℕ) where
+  -- no answer that the operation may have is read so
   abbrev pub NoReply : List ℕ → Type 0
-  NoReply read = (answer : Answer) → MayAnswer op answer → IsLawfulAnswer answer → spelled answer ≢ read
+  NoReply read = (answer : Answer) → MayAnswer op answer → IsValidAnswer answer → bytes_for answer ≢ read
 
   -- nor is it with anything behind it
   abbrev pub BeginsNoReply : List ℕ → Type 0
@@ -65,7 +60,7 @@ pub record IsAnswered (op : Op) (answer : Answer) (old new : Ends) : Type 0 wher
   pub written : Appends old.held new.held (request_bytes op)
   pub read : Consumes old.left new.left (reply_bytes op answer)
   pub may : MayAnswer op answer
-  pub lawful : IsLawfulAnswer answer
+  pub valid : IsValidAnswer answer
   pub quiet_reader : new.read_faults ≡ old.read_faults
   pub quiet_writer : new.write_faults ≡ old.write_faults
 
@@ -89,11 +84,7 @@ pub record IsBroken (op : Op) (why : ClientError) (old new : Ends) : Type 0 wher
 abbrev pub Exchange : Op → Result Answer ClientError → Ends → Ends → Type 0
 Exchange op (Ok answer) old new = IsAnswered op answer old new
 Exchange op (Err WriteFault) old new = IsUnsent op old new
-Exchange op (Err Truncated) old new = IsBroken op Truncated old new
-Exchange op (Err ReadFault) old new = IsBroken op ReadFault old new
-Exchange op (Err BadReply) old new = IsBroken op BadReply old new
-Exchange op (Err BadLength) old new = IsBroken op BadLength old new
-Exchange op (Err Memory) old new = IsBroken op Memory old new
+Exchange op (Err why) old new = IsBroken op why old new
 
 -- ---- a client
 

@@ -5,8 +5,9 @@ ghost use Rattle.map_core.specs.Reply.{refusal_number, error_number};
 ghost use Rattle.spiffe_doc.specs.Bundle.{IsBundle};
 ghost use Rattle.spiffe_doc.specs.Text.{text_of};
 ghost use Rattle.frame_front.specs.Frame.{frame};
-ghost use Rattle.frame_front.specs.Reply.{coded, coded_reply, place_bytes, sequence_bytes, expect_bytes, map_detail, error_detail};
-ghost use Rattle.frame_client.specs.Answer.{number_of, sequence_of, expect_of, refusal_of, worn_of, held_of, moved_of, error_of, found_of, reply_of, answer_of, is_code_for as code_for, IsLawfulAnswer};
+ghost use Rattle.frame_front.specs.Reply.{answer_frames, reply_frames, place_bytes, sequence_bytes, expect_bytes, map_detail, error_detail};
+ghost use Rattle.frame_client.specs.Answer.{is_code_for as code_for, IsValidAnswer};
+ghost use Rattle.frame_client.specs.Private.Payloads.{number_of, sequence_of, expect_of, refusal_of, worn_of, held_of, moved_of, error_of, found_of, reply_of, answer_of};
 
 use frame_front::wire::is_error_code;
 use map_core::{AskError, Expect, MapRefusal, Op, Reply};
@@ -29,7 +30,7 @@ pub(crate) fn is_code_for(op: &Op, code: u8) -> bool
 }
 
 /// The number that 8 bytes spell.
-fn spelled_number(bytes: &[u8]) -> u64
+fn number_in(bytes: &[u8]) -> u64
     requires { length bytes.now ≡ 8 }
     ensures value { result ≡ from_be_bytes w64 bytes.now }
     ensures bytes { to_be_bytes w64 result ≡ bytes.now }
@@ -40,19 +41,19 @@ fn spelled_number(bytes: &[u8]) -> u64
 }
 
 /// A number of 8 bytes, and nothing more.
-#[tactic(auto, unfolding(crate::specs::Answer::number_of))]
+#[tactic(auto, unfolding(crate::specs::Private::Payloads::number_of))]
 pub(crate) fn read_number(bytes: &[u8]) -> Option<u64>
     ensures value { result ≡ number_of bytes.now }
     ensures found { IfSome result (λ number. bytes.now ≡ to_be_bytes w64 number) }
 {
     if bytes.len() == 8 {
-        Some(spelled_number(bytes))
+        Some(number_in(bytes))
     } else {
         None
     }
 }
 
-#[tactic(auto, unfolding(crate::specs::Answer::sequence_of))]
+#[tactic(auto, unfolding(crate::specs::Private::Payloads::sequence_of))]
 fn read_sequence(bytes: &[u8]) -> Option<Option<u64>>
     ensures value { result ≡ sequence_of bytes.now }
     ensures found { IfSome result (λ sequence. bytes.now ≡ sequence_bytes sequence) }
@@ -67,7 +68,7 @@ fn read_sequence(bytes: &[u8]) -> Option<Option<u64>>
     }
 }
 
-#[tactic(auto, unfolding(crate::specs::Answer::expect_of))]
+#[tactic(auto, unfolding(crate::specs::Private::Payloads::expect_of))]
 fn read_expect(bytes: &[u8]) -> Option<Expect>
     ensures value { result ≡ expect_of bytes.now }
     ensures found { IfSome result (λ expect. bytes.now ≡ expect_bytes expect) }
@@ -83,7 +84,7 @@ fn read_expect(bytes: &[u8]) -> Option<Expect>
     }
 }
 
-#[tactic(auto, unfolding(crate::specs::Answer::refusal_of))]
+#[tactic(auto, unfolding(crate::specs::Private::Payloads::refusal_of))]
 fn read_refusal(code: u8, bytes: &[u8]) -> Option<MapRefusal>
     ensures value { result ≡ refusal_of code bytes.now }
     ensures found { IfSome result (λ why. code ∷ bytes.now ≡ refusal_number why ∷ map_detail why) }
@@ -102,7 +103,7 @@ fn read_refusal(code: u8, bytes: &[u8]) -> Option<MapRefusal>
 
 /// The shard that 4 bytes spell.
 #[tactic(auto, unfolding(frame_front::specs::Reply::place_bytes))]
-fn spelled_shard(bytes: &[u8]) -> usize
+fn shard_in(bytes: &[u8]) -> usize
     requires { length bytes.now ≡ 4 }
     ensures value { result ≡ from_be_bytes w32 bytes.now }
     ensures bytes { place_bytes result ≡ bytes.now }
@@ -110,21 +111,21 @@ fn spelled_shard(bytes: &[u8]) -> usize
     u32::from_be_bytes([bytes[0], bytes[1], bytes[2], bytes[3]]) as usize
 }
 
-#[tactic(auto, unfolding(crate::specs::Answer::worn_of))]
+#[tactic(auto, unfolding(crate::specs::Private::Payloads::worn_of))]
 fn read_worn(bytes: &[u8]) -> Option<AskError>
     ensures value { result ≡ worn_of bytes.now }
     ensures found { IfSome result (λ error. (40 ∷ bytes.now) ≡ error_number error ∷ error_detail error) }
 {
     if bytes.len() == 4 {
         Some(AskError::Worn {
-            shard: spelled_shard(bytes),
+            shard: shard_in(bytes),
         })
     } else {
         None
     }
 }
 
-#[tactic(auto, unfolding(crate::specs::Answer::moved_of))]
+#[tactic(auto, unfolding(crate::specs::Private::Payloads::moved_of))]
 fn read_moved(bytes: &[u8]) -> Option<AskError>
     ensures value { result ≡ moved_of bytes.now }
     ensures found { IfSome result (λ error. (41 ∷ bytes.now) ≡ error_number error ∷ error_detail error) }
@@ -135,13 +136,13 @@ fn read_moved(bytes: &[u8]) -> Option<AskError>
     let (shard, revisions) = bytes.split_at(4);
     let (first, second) = revisions.split_at(8);
     Some(AskError::Moved {
-        shard: spelled_shard(shard),
-        first: spelled_number(first),
-        second: spelled_number(second),
+        shard: shard_in(shard),
+        first: number_in(first),
+        second: number_in(second),
     })
 }
 
-#[tactic(auto, unfolding(crate::specs::Answer::held_of))]
+#[tactic(auto, unfolding(crate::specs::Private::Payloads::held_of))]
 fn read_held(bytes: &[u8]) -> Option<AskError>
     ensures value { result ≡ held_of bytes.now }
     ensures found { IfSome result (λ error. (42 ∷ bytes.now) ≡ error_number error ∷ error_detail error) }
@@ -151,12 +152,12 @@ fn read_held(bytes: &[u8]) -> Option<AskError>
     }
     let (shard, revision) = bytes.split_at(4);
     Some(AskError::Held {
-        shard: spelled_shard(shard),
-        revision: spelled_number(revision),
+        shard: shard_in(shard),
+        revision: number_in(revision),
     })
 }
 
-#[tactic(auto, unfolding(crate::specs::Answer::error_of))]
+#[tactic(auto, unfolding(crate::specs::Private::Payloads::error_of))]
 pub(crate) fn read_error(code: u8, bytes: &[u8]) -> Option<AskError>
     ensures value { result ≡ error_of code bytes.now }
     ensures found { IfSome result (λ error. code ∷ bytes.now ≡ error_number error ∷ error_detail error) }
@@ -172,7 +173,7 @@ pub(crate) fn read_error(code: u8, bytes: &[u8]) -> Option<AskError>
 }
 
 /// The bundle whose canonical text stands there.
-#[tactic(auto, unfolding(crate::specs::Answer::found_of))]
+#[tactic(auto, unfolding(crate::specs::Private::Payloads::found_of))]
 fn read_found(alloc: Global, bytes: &[u8]) -> Result<Option<Bundle>, AllocError>
     ensures value { IfOk result (λ found. found_of bytes.now ≡ found) }
     ensures found { IfOk result (λ found. IfSome found (λ bundle. (bytes.now ≡ text_of bundle) × IsBundle bundle)) }
@@ -192,10 +193,10 @@ fn read_found(alloc: Global, bytes: &[u8]) -> Result<Option<Bundle>, AllocError>
 }
 
 /// The reply of a map that a code and what follows it tell. One frame never tells all bundles.
-#[tactic(auto, unfolding(crate::specs::Answer::reply_of))]
+#[tactic(auto, unfolding(crate::specs::Private::Payloads::reply_of))]
 fn read_reply(alloc: Global, code: u8, bytes: &[u8]) -> Result<Option<Reply>, AllocError>
     ensures value { IfOk result (λ told. reply_of code bytes.now ≡ told) }
-    ensures found { IfOk result (λ told. IfSome told (λ reply. (frame (code ∷ bytes.now) ≡ coded_reply reply) × IsLawfulAnswer (Ok reply))) }
+    ensures found { IfOk result (λ told. IfSome told (λ reply. (frame (code ∷ bytes.now) ≡ reply_frames reply) × IsValidAnswer (Ok reply))) }
 {
     match (code, bytes) {
         (b's', []) => Ok(Some(Reply::Stored)),
@@ -209,13 +210,13 @@ fn read_reply(alloc: Global, code: u8, bytes: &[u8]) -> Result<Option<Reply>, Al
 }
 
 /// The answer that a payload tells, if it is the code of one.
-#[tactic(auto, unfolding(crate::specs::Answer::answer_of))]
+#[tactic(auto, unfolding(crate::specs::Private::Payloads::answer_of))]
 pub(crate) fn read_answer(
     alloc: Global,
     payload: &[u8],
 ) -> Result<Option<Result<Reply, AskError>>, AllocError>
     ensures value { IfOk result (λ told. answer_of payload.now ≡ told) }
-    ensures found { IfOk result (λ told. IfSome told (λ answer. (frame payload.now ≡ coded answer) × IsLawfulAnswer answer)) }
+    ensures found { IfOk result (λ told. IfSome told (λ answer. (frame payload.now ≡ answer_frames answer) × IsValidAnswer answer)) }
 {
     let Some((code, bytes)) = payload.split_first() else {
         return Ok(None);

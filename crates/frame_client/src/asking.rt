@@ -5,7 +5,8 @@ ghost use Rattle.std.specs.Cow.{cow_slice_items};
 ghost use Rattle.arrayvec.specs.ArrayVec.{array_vec_len};
 ghost use Rattle.frame_front.specs.Frame.{frame};
 ghost use Rattle.frame_front.specs.Outbox.{WritesFront};
-ghost use Rattle.frame_client.specs.Asking.{document_part, request_bytes, is_append, is_written as can_be_written, IsUnwritable};
+ghost use Rattle.frame_client.specs.Asking.{request_bytes, is_append, is_written as can_be_written, IsUnwritable};
+ghost use Rattle.frame_client.specs.Private.Requests.{document_part};
 
 use arrayvec::ArrayVec;
 use frame_front::wire::{canonical_text, expect_bytes, write_both};

@@ -3,10 +3,11 @@ ghost use Rattle.std.specs.Prelude.{◌≡◌, ◌⊎◌, ◌<◌, ◌≤◌, �
 ghost use Rattle.std.specs.Io.KnownBytes.{Consumes};
 ghost use Rattle.frame_front.specs.Frame.{IsPayload, frame};
 ghost use Rattle.frame_client.specs.Reading.{CountsFault};
-ghost use Rattle.frame_front.specs.Reply.{coded};
-ghost use Rattle.frame_client.specs.Answer.{MayAnswer, IsLawfulAnswer};
-ghost use Rattle.frame_client.specs.Asking.{document_part};
-ghost use Rattle.frame_client.specs.Client.{Asks, Breaks, BeginsNoReply, is_of_one as has_one_frame, reply_preface, reply_bytes, Exchange, ends};
+ghost use Rattle.frame_front.specs.Reply.{answer_frames};
+ghost use Rattle.frame_client.specs.Answer.{MayAnswer, IsValidAnswer};
+ghost use Rattle.frame_client.specs.Private.Requests.{document_part};
+ghost use Rattle.frame_client.specs.Client.{Asks, Breaks, BeginsNoReply, reply_preface, reply_bytes, Exchange, ends};
+ghost use Rattle.frame_client.specs.Private.Exchanges.{is_of_one as has_one_frame};
 
 use crate::ClientError;
 use crate::answer::{is_code_for, read_answer};
@@ -139,11 +140,15 @@ fn is_of_one(op: &Op) -> bool
 }
 
 /// The answer that the payload of a reply tells.
-fn told(alloc: Global, op: &Op, payload: &[u8]) -> Result<Result<Reply, AskError>, ClientError>
+fn judge_payload(
+    alloc: Global,
+    op: &Op,
+    payload: &[u8],
+) -> Result<Result<Reply, AskError>, ClientError>
     requires of_one { has_one_frame op.now ≡ true }
     requires payload { IsPayload payload.now }
-    ensures ok { IfOk result (λ answer. MayAnswer op.now answer × IsLawfulAnswer answer × (frame payload.now ≡ coded answer)) }
-    ensures bad { result ≡ Err ClientError.BadReply → BeginsNoReply op.now coded (frame payload.now) }
+    ensures ok { IfOk result (λ answer. MayAnswer op.now answer × IsValidAnswer answer × (frame payload.now ≡ answer_frames answer)) }
+    ensures bad { result ≡ Err ClientError.BadReply → BeginsNoReply op.now answer_frames (frame payload.now) }
     ensures why { IfErr result (λ why. (why ≡ ClientError.BadReply) ⊎ (why ≡ ClientError.Memory)) }
 {
     if !is_code_for(op, payload[0]) {
@@ -202,20 +207,20 @@ fn read_one<R: Read>(
     requires room { length buffer.old ≡ 1049000 }
     requires count { reader.old.faults < 2 ^ 64 - 1 }
     ensures len { length buffer.new ≡ length buffer.old }
-    ensures ok { IfOk result (λ answer. MayAnswer op.now answer × IsLawfulAnswer answer
-        × Consumes (R.remaining reader.old.end) (R.remaining reader.new.end) (coded answer)) }
+    ensures ok { IfOk result (λ answer. MayAnswer op.now answer × IsValidAnswer answer
+        × Consumes (R.remaining reader.old.end) (R.remaining reader.new.end) (answer_frames answer)) }
     ensures quiet { OnOk result (reader.new.faults ≡ reader.old.faults) }
     ensures err { IfErr result (λ why. (read : List ℕ)
         × Consumes (R.remaining reader.old.end) (R.remaining reader.new.end) read
-        × Breaks op.now coded why read (R.remaining reader.new.end)) }
+        × Breaks op.now answer_frames why read (R.remaining reader.new.end)) }
     ensures counted { IfErr result (λ why. CountsFault why reader.old.faults reader.new.faults) }
 {
     let size = read_frame(reader, buffer)?;
-    told(alloc, op, &buffer[..size])
+    judge_payload(alloc, op, &buffer[..size])
 }
 
 /// Reads the reply to the operation's own request.
-fn read_told<R: Read>(
+fn read_and_count<R: Read>(
     alloc: Global,
     reader: &mut Counted<R>,
     buffer: &mut [u8],
@@ -224,12 +229,12 @@ fn read_told<R: Read>(
     requires room { length buffer.old ≡ 1049000 }
     requires count { reader.old.faults < 2 ^ 64 - 1 }
     ensures len { length buffer.new ≡ length buffer.old }
-    ensures ok { IfOk result (λ answer. MayAnswer op.now answer × IsLawfulAnswer answer
-        × Consumes (R.remaining reader.old.end) (R.remaining reader.new.end) (coded answer)) }
+    ensures ok { IfOk result (λ answer. MayAnswer op.now answer × IsValidAnswer answer
+        × Consumes (R.remaining reader.old.end) (R.remaining reader.new.end) (answer_frames answer)) }
     ensures quiet { OnOk result (reader.new.faults ≡ reader.old.faults) }
     ensures err { IfErr result (λ why. (read : List ℕ)
         × Consumes (R.remaining reader.old.end) (R.remaining reader.new.end) read
-        × Breaks op.now coded why read (R.remaining reader.new.end)) }
+        × Breaks op.now answer_frames why read (R.remaining reader.new.end)) }
     ensures counted { IfErr result (λ why. CountsFault why reader.old.faults reader.new.faults) }
 {
     if is_of_one(op) {
@@ -249,7 +254,7 @@ fn read_reply<R: Read>(
     requires room { length buffer.old ≡ 1049000 }
     requires count { reader.old.faults < 2 ^ 64 - 1 }
     ensures len { length buffer.new ≡ length buffer.old }
-    ensures ok { IfOk result (λ answer. MayAnswer op.now answer × IsLawfulAnswer answer
+    ensures ok { IfOk result (λ answer. MayAnswer op.now answer × IsValidAnswer answer
         × Consumes (R.remaining reader.old.end) (R.remaining reader.new.end) (reply_bytes op.now answer)) }
     ensures quiet { OnOk result (reader.new.faults ≡ reader.old.faults) }
     ensures err { IfErr result (λ why. (read : List ℕ)
@@ -258,7 +263,7 @@ fn read_reply<R: Read>(
     ensures counted { IfErr result (λ why. CountsFault why reader.old.faults reader.new.faults) }
 {
     read_preface(reader, buffer, op)?;
-    read_told(alloc, reader, buffer, op)
+    read_and_count(alloc, reader, buffer, op)
 }
 
 /// Writes the request for an operation, which ends with the document, and reads the reply.

@@ -12,9 +12,10 @@ ghost use Rattle.map_core.specs.Reply.{error_number};
 ghost use Rattle.map_core.specs.declared.op.Op.TheVariants.{FetchAll};
 ghost use Rattle.frame_front.specs.Frame.{frame};
 ghost use Rattle.frame_client.specs.Reading.{CountsFault};
-ghost use Rattle.frame_front.specs.Reply.{coded, error_detail, item_frame};
-ghost use Rattle.frame_front.specs.Dump.{IsAfter, AreValid, Ascends};
-ghost use Rattle.frame_client.specs.Answer.{MayAnswer, IsLawfulAnswer};
+ghost use Rattle.frame_front.specs.Reply.{answer_frames, error_detail, item_frame};
+ghost use Rattle.frame_front.specs.Dump.{AreValid};
+ghost use Rattle.map_core.specs.Laws.{IsAfter, Ascends};
+ghost use Rattle.frame_client.specs.Answer.{MayAnswer, IsValidAnswer};
 ghost use Rattle.frame_client.specs.Client.{Breaks};
 ghost use Rattle.frame_client.specs.Private.Listing.{head_of, BreaksListing};
 
@@ -103,7 +104,7 @@ fn read_listing<R: Read>(
     requires room { length buffer.old ≡ 1049000 }
     requires count { reader.old.faults < 2 ^ 64 - 1 }
     ensures len { length buffer.new ≡ length buffer.old }
-    ensures lawful { IfOk result (λ items. AreValid items.items × Ascends None items.items × (length items.items ≡ count)) }
+    ensures valid { IfOk result (λ items. AreValid items.items × Ascends None items.items × (length items.items ≡ count)) }
     ensures ok { IfOk result (λ items.
         Consumes (R.remaining reader.old.end) (R.remaining reader.new.end) (flat_map item_frame items.items)) }
     ensures quiet { OnOk result (reader.new.faults ≡ reader.old.faults) }
@@ -143,12 +144,12 @@ pub(crate) fn read_all<R: Read>(
     requires room { length buffer.old ≡ 1049000 }
     requires count { reader.old.faults < 2 ^ 64 - 1 }
     ensures len { length buffer.new ≡ length buffer.old }
-    ensures ok { IfOk result (λ answer. MayAnswer FetchAll answer × IsLawfulAnswer answer
-        × Consumes (R.remaining reader.old.end) (R.remaining reader.new.end) (coded answer)) }
+    ensures ok { IfOk result (λ answer. MayAnswer FetchAll answer × IsValidAnswer answer
+        × Consumes (R.remaining reader.old.end) (R.remaining reader.new.end) (answer_frames answer)) }
     ensures quiet { OnOk result (reader.new.faults ≡ reader.old.faults) }
     ensures err { IfErr result (λ why. (read : List ℕ)
         × Consumes (R.remaining reader.old.end) (R.remaining reader.new.end) read
-        × Breaks FetchAll coded why read (R.remaining reader.new.end)) }
+        × Breaks FetchAll answer_frames why read (R.remaining reader.new.end)) }
     ensures counted { IfErr result (λ why. CountsFault why reader.old.faults reader.new.faults) }
 {
     let size = read_frame(reader, buffer)?;

@@ -2,11 +2,12 @@
 ghost use Rattle.std.specs.Prelude.{◌≡◌, ◌<◌, ◌-◌, ◌^◌, ℕ, List, length, take, OnOk, IfOk, IfErr};
 ghost use Rattle.std.specs.Io.KnownBytes.{Consumes};
 ghost use Rattle.frame_front.specs.Frame.{IsPayload, frame};
-ghost use Rattle.frame_client.specs.Reading.{StopsShort, NoFrame, CountsFault};
+ghost use Rattle.frame_client.specs.Reading.{CountsFault};
+ghost use Rattle.frame_client.specs.Private.Stops.{StopsShort, NoFrame};
 
 use crate::ClientError;
 use frame_front::Counted;
-use frame_front::wire::{LENGTH_BYTES, MAX_PAYLOAD, spelled_length};
+use frame_front::wire::{LENGTH_BYTES, MAX_PAYLOAD, length_field};
 use std::io::Read;
 
 /// Reads until the buffer is full.
@@ -49,7 +50,7 @@ pub(crate) fn read_frame<R: Read>(
 {
     let mut field = [0; LENGTH_BYTES];
     fill(reader, &mut field)?;
-    let size = spelled_length(&field);
+    let size = length_field(&field);
     if size == 0 || size > MAX_PAYLOAD {
         return Err(ClientError::BadLength);
     }

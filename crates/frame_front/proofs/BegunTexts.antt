@@ -3,7 +3,7 @@ use Rattle.std.proofs.Common.{◌≡◌, ℕ, zero, suc, ◌-◌, ◌<◌, ◌�
 use Rattle.std.specs.List.{AllByRecursion, concat}
 use Rattle.frame_front.specs.Frame.{IsPayload}
 use Rattle.frame_front.specs.Reply.{is_error_reply}
-use Rattle.frame_front.specs.PlainSession.{begun}
+use Rattle.frame_front.specs.PlainSession.{texts_within}
 
 -- none of these texts tells an error
 abbrev pub NoErrors : List (List ℕ) → Type 0
@@ -22,14 +22,14 @@ pub empty_answers : (text : List ℕ) → length text ≤ 0 → is_error_reply t
 empty_answers [] none = refl
 empty_answers (x ∷ xs) none = absurd (omega (arith, none))
 
-pub begun_before : (ts us : List (List ℕ)) (n : ℕ) → length (concat ts) ≤ n → NoErrors (begun n (ts ++ us)) → NoErrors ts
+pub begun_before : (ts us : List (List ℕ)) (n : ℕ) → length (concat ts) ≤ n → NoErrors (texts_within n (ts ++ us)) → NoErrors ts
 begun_before [] us n whole no_errors = tt
 begun_before (t ∷ ts) us zero whole no_errors =
     (empty_answers t (omega (arith, whole, length-append t (concat ts))), begun_before ts us zero (omega (arith, whole, length-append t (concat ts))) tt)
 begun_before (t ∷ ts) us (suc n) whole no_errors =
     (no_errors.0, begun_before ts us (suc n - length t) (omega (arith, whole, length-append t (concat ts))) no_errors.1)
 
-pub begun_reaches : (ts : List (List ℕ)) (text : List ℕ) (n : ℕ) → length (concat ts) < n → NoErrors (begun n (ts ++ text ∷ [])) → is_error_reply text ≡ false
+pub begun_reaches : (ts : List (List ℕ)) (text : List ℕ) (n : ℕ) → length (concat ts) < n → NoErrors (texts_within n (ts ++ text ∷ [])) → is_error_reply text ≡ false
 begun_reaches [] text zero reached no_errors = absurd (omega (arith, reached))
 begun_reaches [] text (suc n) reached no_errors = no_errors.0
 begun_reaches (t ∷ ts) text zero reached no_errors = absurd (omega (arith, reached))

@@ -6,7 +6,8 @@ use Rattle.spiffe_doc.specs.Authority.{BundleValue}
 use Rattle.spiffe_doc.specs.Bundle.{IsBundle}
 use Rattle.map_core.specs.Name.{Name}
 use Rattle.frame_front.specs.Frame.{frame, stream_of}
-use Rattle.frame_front.specs.Dump.{Domains, AreLawful, item_of, ReadsItems, IsAfter, Ascends, request_for}
+use Rattle.frame_front.specs.Dump.{Domains, HaveValidBundles, item_of, ReadsItems, request_for}
+use Rattle.map_core.specs.Laws.{IsAfter, Ascends}
 use Rattle.frame_front.proofs.SessionLemmas.{stream_of-append}
 
 -- the last name, if any
@@ -34,9 +35,9 @@ pub last_of-one : (last : Option Name) (items : Domains) (i : Name × BundleValu
 last_of-one last [] i = refl
 last_of-one last (j ∷ is) i = last_of-one (Some j.0) is i
 
-pub lawful-one : (items : Domains) (i : Name × BundleValue) → AreLawful items → IsBundle i.1 → AreLawful (items ++ i ∷ [])
-lawful-one [] i lawful one = (one, tt)
-lawful-one (j ∷ is) i lawful one = (lawful.0, lawful-one is i lawful.1 one)
+pub valid-one : (items : Domains) (i : Name × BundleValue) → HaveValidBundles items → IsBundle i.1 → HaveValidBundles (items ++ i ∷ [])
+valid-one [] i valid one = (one, tt)
+valid-one (j ∷ is) i valid one = (valid.0, valid-one is i valid.1 one)
 
 pub map-one : (items : Domains) (i : Name × BundleValue) → map request_for (items ++ i ∷ []) ≡ map request_for items ++ request_for i ∷ []
 map-one [] i = refl

@@ -5,15 +5,17 @@ use Rattle.std.specs.List.{AllByRecursion, flat_map}
 use Rattle.spiffe_doc.specs.Authority.{BundleValue}
 use Rattle.spiffe_doc.specs.Bundle.{IsBundle}
 use Rattle.map_core.specs.Name.{Name}
-use Rattle.frame_front.specs.Frame.{IsPayload, HasFrames, frame, stream_of, frames}
-use Rattle.frame_front.specs.Dump.{Domains, AreLawful, count_of, item_of, ReadsItems, IsAfter, Ascends, IsDump, IsDumpFront, IsBadDump, request_for, requests_for, NoItem, NoCount}
+use Rattle.frame_front.specs.Frame.{IsPayload, HasFrames, frame, stream_of}
+use Rattle.frame_front.specs.Dump.{Domains, HaveValidBundles, count_of, item_of, ReadsItems, IsDump, IsDumpFront, IsBadDump, request_for, requests_for}
+use Rattle.frame_front.specs.Private.Refusals.{NoItem, NoCount}
+use Rattle.map_core.specs.Laws.{IsAfter, Ascends}
 use Rattle.std.proofs.Math.Seq.{drop-append_seam}
 use Rattle.std.proofs.lemmas.Bool.Decides.{nat_tests}
 use Rattle.std.specs.Prelude.{◌==◌, true, false}
 use Rattle.frame_front.proofs.FrameLemmas.{frames_unique, frame_first}
-use Rattle.frame_front.proofs.FramesExist.{has_frames}
+use Rattle.frame_front.proofs.FramesExist.{frames, has_frames}
 use Rattle.frame_front.proofs.SessionLemmas.{stream_of-append, each-append, fewer_than_bytes}
-use Rattle.frame_front.proofs.DomainLists.{cons_head, cons_tail, last_of, ReadsItems-length, ReadsItems-one, Ascends-one, last_of-one, lawful-one, map-one, stream-one, stream-more}
+use Rattle.frame_front.proofs.DomainLists.{cons_head, cons_tail, last_of, ReadsItems-length, ReadsItems-one, Ascends-one, last_of-one, valid-one, map-one, stream-one, stream-more}
 
 -- So many domains of a dump are read, and written as requests.
 pub record Migrated (dump : List ℕ) (count : ℕ) (rest : List ℕ) (last : Option Name) (place : ℕ) (stream : List ℕ) : Type 0 where
@@ -25,7 +27,7 @@ pub record Migrated (dump : List ℕ) (count : ℕ) (rest : List ℕ) (last : Op
   pub counted : count_of head ≡ Some count
   pub read : ReadsItems payloads items
   pub ascending : Ascends None items
-  pub lawful : AreLawful items
+  pub valid : HaveValidBundles items
   pub last_is : last ≡ last_of None items
   pub placed : place ≡ length items
   pub written : stream ≡ stream_of (requests_for items) []
@@ -168,7 +170,7 @@ module _ (dump : List ℕ) (count : ℕ) (rest : List ℕ) (last : Option Name) 
   pub Migrated-then : (payload rest_new stream_new : List ℕ) (item : Name × BundleValue) (place_new : ℕ) (last_new : Option Name) → IsPayload payload → rest ≡ frame payload ++ rest_new
       → item_of payload ≡ Some item → IsAfter last item.0 → IsBundle item.1 → stream_new ≡ stream ++ frame (request_for item) → last_new ≡ Some item.0
       → place_new ≡ place + 1 → Migrated dump count rest_new last_new place_new stream_new
-  Migrated-then payload rest_new stream_new item place_new last_new good stands reads after lawful wrote last_is placed = record {
+  Migrated-then payload rest_new stream_new item place_new last_new good stands reads after valid wrote last_is placed = record {
     head = so_far.head;
     payloads = so_far.payloads ++ payload ∷ [];
     items = so_far.items ++ item ∷ [];
@@ -177,7 +179,7 @@ module _ (dump : List ℕ) (count : ℕ) (rest : List ℕ) (last : Option Name) 
     counted = so_far.counted;
     read = ReadsItems-one so_far.payloads so_far.items payload item so_far.read reads;
     ascending = Ascends-one None so_far.items item so_far.ascending (subst (λ l. IsAfter l item.0) so_far.last_is after);
-    lawful = lawful-one so_far.items item so_far.lawful lawful;
+    valid = valid-one so_far.items item so_far.valid valid;
     last_is = last_is ∙ sym (last_of-one None so_far.items item);
     placed = omega (arith, placed, so_far.placed, length-append so_far.items (item ∷ []));
     written = wrote ∙ ap (λ s. s ++ frame (request_for item)) so_far.written ∙ sym (stream-more (requests_for so_far.items) (request_for item))
@@ -185,7 +187,7 @@ module _ (dump : List ℕ) (count : ℕ) (rest : List ℕ) (last : Option Name) 
   }
 
   -- all domains are read
-  pub Migrated-whole : place ≡ count → rest ≡ [] → (items : Domains) × IsDump dump items × AreLawful items × (stream ≡ stream_of (requests_for items) [])
+  pub Migrated-whole : place ≡ count → rest ≡ [] → (items : Domains) × IsDump dump items × HaveValidBundles items × (stream ≡ stream_of (requests_for items) [])
   Migrated-whole full none = (
     so_far.items,
     record {
@@ -200,7 +202,7 @@ module _ (dump : List ℕ) (count : ℕ) (rest : List ℕ) (last : Option Name) 
       read = so_far.read;
       ascending = so_far.ascending;
     },
-    so_far.lawful,
+    so_far.valid,
     so_far.written,
   )
 
@@ -220,7 +222,7 @@ Migrated-none dump head rest stream count good stands counted wrote = record {
   counted = counted;
   read = tt;
   ascending = tt;
-  lawful = tt;
+  valid = tt;
   last_is = refl;
   placed = refl;
   written = wrote ∙ sym (append-nil (frame (86 ∷ 2 ∷ []))) ∙ sym (append-nil (frame (86 ∷ 2 ∷ []) ++ []));

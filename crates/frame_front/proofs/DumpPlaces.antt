@@ -3,7 +3,8 @@ use Rattle.std.proofs.Common.{◌≡◌, ℕ, ◌<◌, ◌≤◌, List, [], ◌�
 use Rattle.std.specs.Prelude.{Option, Some, None}
 use Rattle.std.proofs.lemmas.Bool.{cases_lt}
 use Rattle.map_core.specs.Name.{Name}
-use Rattle.frame_front.specs.Dump.{Domains, ReadsItems, Ascends, IsDumpFront, IsBadDump}
+use Rattle.frame_front.specs.Dump.{Domains, ReadsItems, IsDumpFront, IsBadDump}
+use Rattle.map_core.specs.Laws.{Ascends}
 use Rattle.frame_front.proofs.FrameLemmas.{frames_unique}
 use Rattle.frame_front.proofs.DomainLists.{cons_head, cons_tail}
 

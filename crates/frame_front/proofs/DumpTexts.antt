@@ -12,7 +12,7 @@ use Rattle.map_core.specs.declared.reply.Reply.TheVariants.{All}
 use Rattle.map_core.specs.Name.{Name}
 use Rattle.map_core.specs.PlainMap.{PlainMap, bundles}
 use Rattle.frame_front.specs.Frame.{IsPayload, frame}
-use Rattle.frame_front.specs.Reply.{coded_reply, item_frame}
+use Rattle.frame_front.specs.Reply.{reply_frames, item_frame}
 use Rattle.frame_front.specs.Dump.{Domains, AreValid, dump_of}
 use Rattle.frame_front.proofs.FrameLemmas.{frame_first, length-frame}
 use Rattle.frame_front.proofs.DomainLists.{cons_head, cons_tail}
@@ -22,19 +22,19 @@ abbrev pub item_payload : Name × BundleValue → List ℕ
 item_payload item = 105 ∷ length item.0 ∷ item.0 ++ text_of item.1
 
 pub IsPayload-item : (item : Name × BundleValue) → IsName item.0 → IsBundle item.1 → IsPayload (item_payload item)
-IsPayload-item item name lawful =
+IsPayload-item item name valid =
     let size : length (item_payload item) ≡ 2 + length item.0 + length (text_of item.1) = omega (arith, length-append item.0 (text_of item.1)) in
-    (omega (arith, size), omega (arith, size, name.short, lawful.short))
+    (omega (arith, size), omega (arith, size, name.short, valid.short))
 
 -- a domain's payload tells its name and its bundle
 pub same_item : (a b : Name × BundleValue) → IsBundle a.1 → IsBundle b.1 → item_payload a ≡ item_payload b → a ≡ b
-same_item a b lawful_a lawful_b same =
+same_item a b valid_a valid_b same =
     let rest = cons_tail 105 105 (length a.0 ∷ a.0 ++ text_of a.1) (length b.0 ∷ b.0 ++ text_of b.1) same in
     let sizes : length a.0 ≡ length b.0 = cons_head (length a.0) (length b.0) (a.0 ++ text_of a.1) (b.0 ++ text_of b.1) rest in
     let parts : a.0 ++ text_of a.1 ≡ b.0 ++ text_of b.1 = cons_tail (length a.0) (length b.0) (a.0 ++ text_of a.1) (b.0 ++ text_of b.1) rest in
     let names : a.0 ≡ b.0 = sym (take_at a.0 (text_of a.1) (length a.0) refl) ∙ ap (take (length a.0)) parts ∙ take_at b.0 (text_of b.1) (length a.0) (sym sizes) in
     let texts : text_of a.1 ≡ text_of b.1 = append_cancel_left a.0 (text_of a.1) (text_of b.1) (parts ∙ ap (λ n. n ++ text_of b.1) (sym names)) in
-    let values : a.1 ≡ b.1 = text_of-injective a.1 b.1 lawful_a lawful_b texts in
+    let values : a.1 ≡ b.1 = text_of-injective a.1 b.1 valid_a valid_b texts in
     λ i. (names i, values i)
 
 no_frame : (payload rest : List ℕ) → frame payload ++ rest ≡ [] → ⊥
@@ -63,5 +63,5 @@ same_dump m n valid_m valid_n = (
   λ same. same_items (bundles m) (bundles n) valid_m valid_n
       (frame_first (head_payload (bundles m)) (head_payload (bundles n)) (flat_map item_frame (bundles m)) (flat_map item_frame (bundles n))
       (IsPayload-head (bundles m)) (IsPayload-head (bundles n)) same).1,
-  λ same. ap (λ items. coded_reply (All items)) same,
+  λ same. ap (λ items. reply_frames (All items)) same,
 )

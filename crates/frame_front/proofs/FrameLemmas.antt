@@ -4,7 +4,7 @@ use Rattle.std.proofs.lemmas.List.{append_cancel_left, length-take-le, take-appe
 use Rattle.std.proofs.lemmas.Nat.{be_bytes_4, from_be_bytes-to_be_bytes_4}
 use Rattle.std.specs.Int.{w32, to_be_bytes}
 use Rattle.std.specs.List.{AllByRecursion}
-use Rattle.frame_front.specs.Frame.{IsPayload, IsUnfinished, IsBadLength, HasFrames, frame, spelled_length, stream_of, most_payload}
+use Rattle.frame_front.specs.Frame.{IsPayload, IsUnfinished, IsBadLength, HasFrames, frame, length_field, stream_of, most_payload}
 
 -- a front of four bytes, what they say, and the rest
 module _ (bytes : List ℕ) (n : ℕ) (long : 4 + n ≤ length bytes) where
@@ -18,9 +18,9 @@ module _ (bytes : List ℕ) (n : ℕ) (long : 4 + n ≤ length bytes) where
   payload_length = length-take-le n (drop 4 bytes) (omega (arith, length-drop 4 bytes))
 
   -- bytes whose first four spell n begin with the frame of the n bytes that follow
-  frame_stands : ((i : ℕ) → get_or bytes i 0 < 256) → n ≡ spelled_length bytes
+  frame_stands : ((i : ℕ) → get_or bytes i 0 < 256) → n ≡ length_field bytes
       → bytes ≡ frame (take n (drop 4 bytes)) ++ drop (4 + n) bytes
-  unfolding frame spelled_length
+  unfolding frame length_field
   frame_stands fits spelled =
       let four : length (take 4 bytes) ≡ 4 = length-take-le 4 bytes (omega arith) in
       let small : (i : ℕ) → get_or (take 4 bytes) i 0 < 256 = λ i. grind (arith, get_or-take, fits i) in
@@ -31,7 +31,7 @@ module _ (bytes : List ℕ) (n : ℕ) (long : 4 + n ≤ length bytes) where
 
 -- what is cut off such bytes is a payload, and they are its frame and the rest
 pub frame_cut_off : (bytes payload rest : List ℕ) (n : ℕ) → ((i : ℕ) → get_or bytes i 0 < 256)
-    → n ≡ spelled_length bytes → 0 < n → n ≤ most_payload → 4 + n ≤ length bytes
+    → n ≡ length_field bytes → 0 < n → n ≤ most_payload → 4 + n ≤ length bytes
     → payload ≡ take n (drop 4 bytes) → rest ≡ drop (4 + n) bytes
     → IsPayload payload × (bytes ≡ frame payload ++ rest)
 frame_cut_off bytes payload rest n fits spelled some few long is_payload is_rest =
@@ -39,9 +39,9 @@ frame_cut_off bytes payload rest n fits spelled some few long is_payload is_rest
     ((omega arith, omega arith), frame_stands bytes n long fits spelled ∙ ap (λ p. frame p ++ drop (4 + n) bytes) (sym is_payload) ∙ ap (λ r. frame payload ++ r) (sym is_rest))
 
 -- a frame spells its payload's length
-pub spelled_length-frame : (p rest : List ℕ) → IsPayload p → spelled_length (frame p ++ rest) ≡ length p
-unfolding frame spelled_length
-spelled_length-frame p rest good = from_be_bytes-to_be_bytes_4 (length p) (omega arith)
+pub length_field-frame : (p rest : List ℕ) → IsPayload p → length_field (frame p ++ rest) ≡ length p
+unfolding frame length_field
+length_field-frame p rest good = from_be_bytes-to_be_bytes_4 (length p) (omega arith)
 
 pub drop_frame : (p rest : List ℕ) → drop 4 (frame p ++ rest) ≡ p ++ rest
 unfolding frame
@@ -54,7 +54,7 @@ length-frame p rest = grind arith
 -- no frame begins another
 pub frame_first : (p q x y : List ℕ) → IsPayload p → IsPayload q → frame p ++ x ≡ frame q ++ y → (p ≡ q) × (x ≡ y)
 frame_first p q x y good_p good_q same =
-    let lengths : length p ≡ length q = sym (spelled_length-frame p x good_p) ∙ ap spelled_length same ∙ spelled_length-frame q y good_q in
+    let lengths : length p ≡ length q = sym (length_field-frame p x good_p) ∙ ap length_field same ∙ length_field-frame q y good_q in
     let tails : p ++ x ≡ q ++ y = sym (drop_frame p x) ∙ ap (drop 4) same ∙ drop_frame q y in
     let payloads : p ≡ q = sym (take_at p x (length p) refl) ∙ ap (take (length p)) tails ∙ take_at q y (length p) (sym lengths) in
     (payloads, append_cancel_left p x y (tails ∙ ap (λ z. z ++ y) (sym payloads)))
@@ -62,12 +62,12 @@ frame_first p q x y good_p good_q same =
 -- if frames end, none stands
 pub none_at_end : (p x rest : List ℕ) → IsPayload p → rest ≡ frame p ++ x → IsUnfinished rest ⊎ IsBadLength rest → ⊥
 none_at_end p x rest good same (inl partial) =
-    let spelled : spelled_length rest ≡ length p = ap spelled_length same ∙ spelled_length-frame p x good in
+    let spelled : length_field rest ≡ length p = ap length_field same ∙ length_field-frame p x good in
     let long : length rest ≡ 4 + length (p ++ x) = ap length same ∙ length-frame p x in
-    let short : 4 ≤ length rest → length rest < 4 + spelled_length rest = partial.short in
+    let short : 4 ≤ length rest → length rest < 4 + length_field rest = partial.short in
     omega (arith, length-append p x, short (omega arith))
 none_at_end p x rest good same (inr stop) =
-    let spelled : spelled_length rest ≡ length p = ap spelled_length same ∙ spelled_length-frame p x good in
+    let spelled : length_field rest ≡ length p = ap length_field same ∙ length_field-frame p x good in
     stop.bad (omega arith, omega arith)
 
 both_streams : (ps qs : List (List ℕ)) (r s : List ℕ) → stream_of ps r ≡ stream_of qs s

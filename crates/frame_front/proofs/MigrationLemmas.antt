@@ -20,25 +20,26 @@ use Rattle.spiffe_doc.specs.declared.name.NameError.{NameError}
 use Rattle.spiffe_doc.proofs.NameLemmas.{trust_domain-IsName, IsName-trust_domain}
 use Rattle.spiffe_doc.proofs.RoundTrip.{document-text_of}
 use Rattle.spiffe_doc.proofs.DocumentLaws.{IsBundle-document}
-use Rattle.map_core.specs.declared.held.Held.{Held}
-use Rattle.map_core.specs.declared.held.Held.TheVariants.{Published}
+use Rattle.map_core.specs.declared.held.Holding.{Holding}
+use Rattle.map_core.specs.declared.held.Holding.TheVariants.{Published}
 use Rattle.map_core.specs.declared.op.Op.TheVariants.{SetIf}
 use Rattle.map_core.specs.declared.op.Expect.TheVariants.{Absent}
 use Rattle.map_core.specs.declared.reply.Reply.TheVariants.{Stored}
 use Rattle.map_core.specs.Name.{Name, name_cmp}
 use Rattle.map_core.specs.Table.{meaning, set_if}
-use Rattle.map_core.specs.PlainMap.{PlainMap, put, ask, bundles, published}
+use Rattle.map_core.specs.PlainMap.{PlainMap, put, ask, bundles, bundles_among}
 use Rattle.frame_front.specs.declared.request.Version.TheVariants.{One, Two}
-use Rattle.frame_front.specs.declared.request.Request.TheVariants.{Ask, Speak}
+use Rattle.frame_front.specs.declared.request.Request.TheVariants.{Ask, SetVersion}
 use Rattle.frame_front.specs.declared.refusal.Refusal.{Refusal}
 use Rattle.frame_front.specs.declared.refusal.Refusal.TheVariants.{BadRequest}
 use Rattle.frame_front.specs.Frame.{IsPayload, HasFrames, stream_of}
 use Rattle.frame_front.specs.Refusal.{name_refusal, document_refusal}
-use Rattle.frame_front.specs.Request.{◌>>=◌, split_name, split_expect, named, name_of, bundle_of, named_bundle, set_if_of, version_of, request_of}
+use Rattle.frame_front.specs.Request.{◌>>=◌, split_name, split_expect, name_or_refusal, parse_name, parse_bundle, named_bundle, set_if_of, version_of, request_of}
 use Rattle.frame_front.specs.Request as requests
-use Rattle.frame_front.specs.Reply.{coded_reply, version_frame}
+use Rattle.frame_front.specs.Reply.{reply_frames, version_frame}
 use Rattle.frame_front.specs.PlainSession.{text_for, state_for, answers_to, state_after}
-use Rattle.frame_front.specs.Dump.{Domains, unless_refused, item_of, ReadsItems, IsAfter, Ascends, IsDump, AreValid, request_for, requests_for, held_of, map_of}
+use Rattle.frame_front.specs.Dump.{Domains, unless_refused, item_of, ReadsItems, IsDump, AreValid, request_for, requests_for, held_of, map_of}
+use Rattle.map_core.specs.Laws.{IsAfter, Ascends}
 use Rattle.frame_front.proofs.DomainLists.{last_of, last_of-one, Ascends-one, some_item, none_item}
 
 -- ---- a domain that was read is valid
@@ -49,41 +50,41 @@ same_ok x y same = cc
 no_ok : {A : Type 0} (refusal : Refusal) (y : A) → (let r : Result A Refusal = Err refusal in let s : Result A Refusal = Ok y in r ≡ s) → ⊥
 no_ok refusal y same = cc
 
-named_name : (bytes name : List ℕ) (t : Result Name NameError) → trust_domain bytes ≡ t → named t ≡ Ok name → IsName name
+named_name : (bytes name : List ℕ) (t : Result Name NameError) → trust_domain bytes ≡ t → name_or_refusal t ≡ Ok name → IsName name
 named_name bytes name (Ok n) is same =
     let read = trust_domain-IsName bytes n is in subst IsName (sym read.0 ∙ same_ok n name same) read.1
 named_name bytes name (Err e) is same = absurd (no_ok (name_refusal e) name same)
 
-name_read : (bytes name : List ℕ) → name_of bytes ≡ Ok name → IsName name
-unfolding name_of
+name_read : (bytes name : List ℕ) → parse_name bytes ≡ Ok name → IsName name
+unfolding parse_name
 name_read bytes name same = named_name bytes name (trust_domain bytes) refl same
 
-published_bundle : (bytes : List ℕ) (bundle : BundleValue) (d : Result BundleValue DocError) → document bytes ≡ d → requests.published d ≡ Ok bundle → IsBundle bundle
+published_bundle : (bytes : List ℕ) (bundle : BundleValue) (d : Result BundleValue DocError) → document bytes ≡ d → requests.bundle_or_refusal d ≡ Ok bundle → IsBundle bundle
 published_bundle bytes bundle (Ok b) is same = subst IsBundle (same_ok b bundle same) (IsBundle-document bytes b is)
 published_bundle bytes bundle (Err e) is same = absurd (no_ok (document_refusal e) bundle same)
 
-bundle_read : (bytes : List ℕ) (bundle : BundleValue) → bundle_of bytes ≡ Ok bundle → IsBundle bundle
-unfolding bundle_of
+bundle_read : (bytes : List ℕ) (bundle : BundleValue) → parse_bundle bytes ≡ Ok bundle → IsBundle bundle
+unfolding parse_bundle
 bundle_read bytes bundle same = published_bundle bytes bundle (document bytes) refl same
 
 -- the parts of what was read
 parts_read : (parts : Result (List ℕ × List ℕ) Refusal) (item : Name × BundleValue)
-    → (parts >>= (λ p. name_of p.0 >>= (λ name. bundle_of p.1 >>= (λ bundle. Ok (name, bundle))))) ≡ Ok item → IsName item.0 × IsBundle item.1
+    → (parts >>= (λ p. parse_name p.0 >>= (λ name. parse_bundle p.1 >>= (λ bundle. Ok (name, bundle))))) ≡ Ok item → IsName item.0 × IsBundle item.1
 parts_read (Err refusal) item same = absurd (no_ok refusal item same)
-parts_read (Ok p) item same = of_name (name_of p.0) refl same
+parts_read (Ok p) item same = of_name (parse_name p.0) refl same
   where
-    of_bundle : (name : Name) (b : Result BundleValue Refusal) → bundle_of p.1 ≡ b → (b >>= (λ bundle. Ok (name, bundle))) ≡ Ok item
+    of_bundle : (name : Name) (b : Result BundleValue Refusal) → parse_bundle p.1 ≡ b → (b >>= (λ bundle. Ok (name, bundle))) ≡ Ok item
         → (name ≡ item.0) × IsBundle item.1
     of_bundle name (Err refusal) is same = absurd (no_ok refusal item same)
     of_bundle name (Ok bundle) is same =
         let read = same_ok (name, bundle) item same in
         (ap (λ (i : Name × BundleValue). i.0) read, subst IsBundle (ap (λ (i : Name × BundleValue). i.1) read) (bundle_read p.1 bundle is))
 
-    of_name : (n : Result Name Refusal) → name_of p.0 ≡ n → (n >>= (λ name. bundle_of p.1 >>= (λ bundle. Ok (name, bundle)))) ≡ Ok item
+    of_name : (n : Result Name Refusal) → parse_name p.0 ≡ n → (n >>= (λ name. parse_bundle p.1 >>= (λ bundle. Ok (name, bundle)))) ≡ Ok item
         → IsName item.0 × IsBundle item.1
     of_name (Err refusal) is same = absurd (no_ok refusal item same)
     of_name (Ok name) is same =
-        let parts = of_bundle name (bundle_of p.1) refl same in (subst IsName parts.0 (name_read p.0 name is), parts.1)
+        let parts = of_bundle name (parse_bundle p.1) refl same in (subst IsName parts.0 (name_read p.0 name is), parts.1)
 
 item_read : (read : Result (Name × BundleValue) Refusal) (item : Name × BundleValue) → unless_refused read ≡ Some item → read ≡ Ok item
 item_read (Ok i) item same = ap Ok (some_item i item same)
@@ -115,21 +116,21 @@ pub split_name-name : (name rest : List ℕ) → split_name (length name ∷ nam
 unfolding split_name
 split_name-name name rest = chosen_parts (nat_le (length name) (length (name ++ rest))) name rest refl
 
-pub name_of-name : (name : Name) → IsName name → name_of name ≡ Ok name
-unfolding name_of
-name_of-name name is = ap named (IsName-trust_domain name name refl is)
+pub name_of-name : (name : Name) → IsName name → parse_name name ≡ Ok name
+unfolding parse_name
+name_of-name name is = ap name_or_refusal (IsName-trust_domain name name refl is)
 
-pub bundle_of-text : (b : BundleValue) → IsBundle b → bundle_of (text_of b) ≡ Ok b
-unfolding bundle_of
-bundle_of-text b is = ap requests.published (document-text_of b is)
+pub bundle_of-text : (b : BundleValue) → IsBundle b → parse_bundle (text_of b) ≡ Ok b
+unfolding parse_bundle
+bundle_of-text b is = ap requests.bundle_or_refusal (document-text_of b is)
 
 request_read : (item : Name × BundleValue) → IsName item.0 → IsBundle item.1 → request_of Two (request_for item) ≡ Ok (Ask (SetIf item.0 Absent item.1))
 unfolding request_of set_if_of split_expect
-request_read item is lawful =
-    ap (λ (r : Result (List ℕ × List ℕ) Refusal). r >>= (λ parts. split_expect parts.1 >>= (λ expected. name_of parts.0 >>= (λ name. bundle_of expected.1 >>= (λ bundle. Ok (Ask (SetIf name expected.0 bundle)))))))
+request_read item is valid =
+    ap (λ (r : Result (List ℕ × List ℕ) Refusal). r >>= (λ parts. split_expect parts.1 >>= (λ expected. parse_name parts.0 >>= (λ name. parse_bundle expected.1 >>= (λ bundle. Ok (Ask (SetIf name expected.0 bundle)))))))
     (split_name-name item.0 (0 ∷ text_of item.1))
-    ∙ ap (λ (r : Result Name Refusal). r >>= (λ name. bundle_of (text_of item.1) >>= (λ bundle. Ok (Ask (SetIf name Absent bundle))))) (name_of-name item.0 is)
-    ∙ ap (λ (r : Result BundleValue Refusal). r >>= (λ bundle. Ok (Ask (SetIf item.0 Absent bundle)))) (bundle_of-text item.1 lawful)
+    ∙ ap (λ (r : Result Name Refusal). r >>= (λ name. parse_bundle (text_of item.1) >>= (λ bundle. Ok (Ask (SetIf name Absent bundle))))) (name_of-name item.0 is)
+    ∙ ap (λ (r : Result BundleValue Refusal). r >>= (λ bundle. Ok (Ask (SetIf item.0 Absent bundle)))) (bundle_of-text item.1 valid)
 
 -- ---- it is stored, and stands last
 
@@ -165,16 +166,16 @@ module _ (item : Name × BundleValue) (m : Domains) (ascending : Ascends None m)
   stored_map = ap (λ held. put (map_of m) item.0 (set_if Absent item.1 held).held) not_there ∙ sym one_more
 
 all_stored : (items m : Domains) → AreValid items → Ascends None m → Ascends (last_of None m) items
-    → (answers_to (Two, map_of m) (map request_for items) ≡ map (λ item. coded_reply Stored) items)
+    → (answers_to (Two, map_of m) (map request_for items) ≡ map (λ item. reply_frames Stored) items)
     × (state_after (Two, map_of m) (map request_for items) ≡ (Two, map_of (m ++ items)))
 all_stored [] m valid below ascending = (refl, ap (λ n. (Two, map_of n)) (sym (append-nil m)))
 all_stored (item ∷ items) m valid below ascending =
     let read = request_read item valid.0.0 valid.0.1 in
-    let text : text_for (Two, map_of m) (request_of Two (request_for item)) ≡ coded_reply Stored = ap (text_for (Two, map_of m)) read ∙ ap coded_reply (stored_reply item m below ascending.0) in
+    let text : text_for (Two, map_of m) (request_of Two (request_for item)) ≡ reply_frames Stored = ap (text_for (Two, map_of m)) read ∙ ap reply_frames (stored_reply item m below ascending.0) in
     let state : state_for (Two, map_of m) (request_of Two (request_for item)) ≡ (Two, map_of (m ++ item ∷ [])) = ap (state_for (Two, map_of m)) read ∙ ap (λ n. (Two, n)) (stored_map item m below ascending.0) in
     let others = all_stored items (m ++ item ∷ []) valid.1 (Ascends-one None m item below ascending.0) (subst (λ l. Ascends l items) (sym (last_of-one None m item)) ascending.1) in (
       ap (λ t. t ∷ answers_to (state_for (Two, map_of m) (request_of Two (request_for item))) (map request_for items)) text
-          ∙ ap (λ s. coded_reply Stored ∷ answers_to s (map request_for items)) state ∙ ap (λ ts. coded_reply Stored ∷ ts) others.0,
+          ∙ ap (λ s. reply_frames Stored ∷ answers_to s (map request_for items)) state ∙ ap (λ ts. reply_frames Stored ∷ ts) others.0,
       ap (λ s. state_after s (map request_for items)) state ∙ others.1 ∙ ap (λ n. (Two, map_of n)) (append_assoc m (item ∷ []) items),
     )
 
@@ -184,11 +185,11 @@ empty_list : {A : Type 0} (es : List A) → length es ≡ 0 → es ≡ []
 empty_list [] none = refl
 empty_list (e ∷ es) none = absurd (omega (arith, none))
 
-put_first : (k : Name) (v : Held) (e : Name × Held) (es : List (Name × Held)) → name_cmp k e.0 ≡ Less → finite.put name_cmp k v (e ∷ es) ≡ (k, v) ∷ e ∷ es
+put_first : (k : Name) (v : Holding) (e : Name × Holding) (es : List (Name × Holding)) → name_cmp k e.0 ≡ Less → finite.put name_cmp k v (e ∷ es) ≡ (k, v) ∷ e ∷ es
 put_first k v e es less = rw less refl
 
 no_entries : finite.entries (let m : PlainMap = finite.empty in m) ≡ []
-no_entries = empty_list _ (sym (len-entries (let m : PlainMap = finite.empty in m)) ∙ len-empty name_cmp Held)
+no_entries = empty_list _ (sym (len-entries (let m : PlainMap = finite.empty in m)) ∙ len-empty name_cmp Holding)
 
 kept_order : (last : Option Name) (items : Domains) → Ascends last items → finite.entries (map_of items) ≡ map held_of items
 kept_order last [] ascending = no_entries
@@ -198,7 +199,7 @@ kept_order last (item ∷ next ∷ items) ascending =
     ∙ ap (finite.put name_cmp item.0 (Published item.1)) (kept_order (Some item.0) (next ∷ items) ascending.1)
     ∙ put_first item.0 (Published item.1) (held_of next) (map held_of items) ascending.1.0
 
-published_all : (items : Domains) → published (map held_of items) ≡ items
+published_all : (items : Domains) → bundles_among (map held_of items) ≡ items
 published_all [] = refl
 published_all (item ∷ items) = ap (λ rest. item ∷ rest) (published_all items)
 
@@ -208,14 +209,14 @@ are_payloads (item ∷ items) valid =
     let size : length (request_for item) ≡ 3 + length item.0 + length (text_of item.1) = omega (arith, length-append item.0 (0 ∷ text_of item.1)) in
     ((omega (arith, size), omega (arith, size, valid.0.0.short, valid.0.1.short)), are_payloads items valid.1)
 
-version_read : request_of One (86 ∷ 2 ∷ []) ≡ Ok (Speak Two)
+version_read : request_of One (86 ∷ 2 ∷ []) ≡ Ok (SetVersion Two)
 unfolding request_of version_of
 version_read = refl
 
 pub migration : (dump : List ℕ) (items : Domains) → IsDump dump items
     → AreValid items
     × HasFrames (stream_of (requests_for items) []) (requests_for items) []
-    × (answers_to (One, finite.empty) (requests_for items) ≡ version_frame Two ∷ map (λ item. coded_reply Stored) items)
+    × (answers_to (One, finite.empty) (requests_for items) ≡ version_frame Two ∷ map (λ item. reply_frames Stored) items)
     × (state_after (One, finite.empty) (requests_for items) ≡ (Two, map_of items))
     × (bundles (map_of items) ≡ items)
 migration dump items is =
@@ -230,5 +231,5 @@ migration dump items is =
       ap (λ r. text_for (One, finite.empty) r ∷ answers_to (state_for (One, finite.empty) r) (map request_for items)) version_read
           ∙ ap (λ ts. version_frame Two ∷ ts) stored.0,
       ap (λ r. state_after (state_for (One, finite.empty) r) (map request_for items)) version_read ∙ stored.1,
-      ap published (kept_order None items is.ascending) ∙ published_all items,
+      ap bundles_among (kept_order None items is.ascending) ∙ published_all items,
     )

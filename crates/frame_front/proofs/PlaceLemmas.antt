@@ -20,7 +20,7 @@ use Rattle.frame_front.specs.declared.request.Version.TheVariants.{One, Two}
 use Rattle.frame_front.specs.declared.refusal.Refusal.{Refusal}
 use Rattle.frame_front.specs.Refusal.{refusal_place}
 use Rattle.frame_front.specs.Reply.{place_bytes}
-use Rattle.frame_front.specs.Request.{◌>>=◌, split_name, split_expect, at_end, named, name_of, published, bundle_of, given, authority_of, only_name, named_bundle, set_of, set_if_of, append_of, remove_of, get_of, fetch_all_of, version_of, later_letter, request_of}
+use Rattle.frame_front.specs.Request.{◌>>=◌, split_name, split_expect, at_end, name_or_refusal, parse_name, bundle_or_refusal, parse_bundle, authority_or_refusal, parse_authority, only_name, named_bundle, set_of, set_if_of, append_of, remove_of, get_of, fetch_all_of, version_of, later_letter, request_of}
 
 -- if it is a refusal that names a place, the place is small
 abbrev HasSmallPlace : {A : Type 0} → Result A Refusal → Type 0
@@ -59,11 +59,11 @@ char_place text at false false (Some i) long is same =
     let inside = (position-Some (λ x. not (is_name_byte x)) text i 0 is).0 in
     omega (arith, same_char i at same, inside, short)
 
-small_name : (bytes : List ℕ) → HasSmallPlace (name_of bytes)
-unfolding name_of
+small_name : (bytes : List ℕ) → HasSmallPlace (parse_name bytes)
+unfolding parse_name
 small_name bytes = of_read (trust_domain bytes) refl
   where
-    of_read : (t : Result Name NameError) → trust_domain bytes ≡ t → HasSmallPlace (named t)
+    of_read : (t : Result Name NameError) → trust_domain bytes ≡ t → HasSmallPlace (name_or_refusal t)
     of_read (Ok n) is = tt
     of_read (Err name.Empty) is = tt
     of_read (Err name.TooLong) is = tt
@@ -72,11 +72,11 @@ small_name bytes = of_read (trust_domain bytes) refl
 
 -- ---- documents and entries
 
-small_bundle : (bytes : List ℕ) → HasSmallPlace (bundle_of bytes)
-unfolding bundle_of
+small_bundle : (bytes : List ℕ) → HasSmallPlace (parse_bundle bytes)
+unfolding parse_bundle
 small_bundle bytes = of_read (document bytes) refl
   where
-    of_read : (d : Result BundleValue DocError) → document bytes ≡ d → HasSmallPlace (published d)
+    of_read : (d : Result BundleValue DocError) → document bytes ≡ d → HasSmallPlace (bundle_or_refusal d)
     of_read (Ok b) is = tt
     of_read (Err doc.TooLong) is = tt
     of_read (Err doc.NotJson) is = tt
@@ -95,11 +95,11 @@ small_bundle bytes = of_read (document bytes) refl
 zero_small : (place : ℕ) → place ≡ 0 → place < 1048576
 zero_small place none = omega (arith, none)
 
-small_authority : (bytes : List ℕ) → HasSmallPlace (authority_of bytes)
-unfolding authority_of
+small_authority : (bytes : List ℕ) → HasSmallPlace (parse_authority bytes)
+unfolding parse_authority
 small_authority bytes = of_read (entry bytes) refl
   where
-    of_read : (d : Result (Option Authority) DocError) → entry bytes ≡ d → HasSmallPlace (given d)
+    of_read : (d : Result (Option Authority) DocError) → entry bytes ≡ d → HasSmallPlace (authority_or_refusal d)
     of_read (Ok (Some a)) is = tt
     of_read (Ok None) is = tt
     of_read (Err doc.TooLong) is = tt
@@ -141,7 +141,7 @@ small_named : (bytes : List ℕ) → HasSmallPlace (named_bundle bytes)
 unfolding named_bundle
 small_named bytes =
     small_then (split_name bytes) _ (small_split bytes)
-    (λ parts. small_then (name_of parts.0) _ (small_name parts.0) (λ name. small_then (bundle_of parts.1) _ (small_bundle parts.1) (λ bundle. tt)))
+    (λ parts. small_then (parse_name parts.0) _ (small_name parts.0) (λ name. small_then (parse_bundle parts.1) _ (small_bundle parts.1) (λ bundle. tt)))
 
 small_set : (bytes : List ℕ) → HasSmallPlace (set_of bytes)
 unfolding set_of
@@ -152,13 +152,13 @@ unfolding set_if_of
 small_set_if bytes =
     small_then (split_name bytes) _ (small_split bytes)
     (λ parts. small_then (split_expect parts.1) _ (small_expect parts.1)
-    (λ expected. small_then (name_of parts.0) _ (small_name parts.0) (λ name. small_then (bundle_of expected.1) _ (small_bundle expected.1) (λ bundle. tt))))
+    (λ expected. small_then (parse_name parts.0) _ (small_name parts.0) (λ name. small_then (parse_bundle expected.1) _ (small_bundle expected.1) (λ bundle. tt))))
 
 small_append : (bytes : List ℕ) → HasSmallPlace (append_of bytes)
 unfolding append_of
 small_append bytes =
     small_then (split_name bytes) _ (small_split bytes)
-    (λ parts. small_then (name_of parts.0) _ (small_name parts.0) (λ name. small_then (authority_of parts.1) _ (small_authority parts.1) (λ authority. tt)))
+    (λ parts. small_then (parse_name parts.0) _ (small_name parts.0) (λ name. small_then (parse_authority parts.1) _ (small_authority parts.1) (λ authority. tt)))
 
 small_remove : (bytes : List ℕ) → HasSmallPlace (remove_of bytes)
 unfolding remove_of
@@ -201,7 +201,7 @@ exact place small =
 
 pub place_coded : (version : Version) (payload : List ℕ) (refusal : Refusal) (place : ℕ) → request_of version payload ≡ Err refusal
     → refusal_place refusal ≡ Some place → (place < 1048576) × (place_bytes place ≡ to_be_bytes w32 place)
-place_coded version payload refusal place is named =
+place_coded version payload refusal place is name_or_refusal =
     let small : IfSome (refusal_place refusal) (λ at. at < 1048576) = subst HasSmallPlace is (small_request version payload) in
-    let below : place < 1048576 = subst (λ (o : Option ℕ). IfSome o (λ at. at < 1048576)) named small in
+    let below : place < 1048576 = subst (λ (o : Option ℕ). IfSome o (λ at. at < 1048576)) name_or_refusal small in
     (below, exact place below)

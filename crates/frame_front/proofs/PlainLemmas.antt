@@ -16,13 +16,13 @@ use Rattle.frame_front.specs.declared.error.FrontError.{FrontError}
 use Rattle.frame_front.specs.declared.error.FrontError.TheVariants.{BadLength, Truncated, ReadFault, WriteFault, TurnsUsed, Memory}
 use Rattle.frame_front.specs.declared.request.Version.TheVariants.{One}
 use Rattle.frame_front.specs.declared.request.Request.{Request}
-use Rattle.frame_front.specs.declared.request.Request.TheVariants.{Ask, Speak}
+use Rattle.frame_front.specs.declared.request.Request.TheVariants.{Ask, SetVersion}
 use Rattle.frame_front.specs.declared.refusal.Refusal.{Refusal}
 use Rattle.frame_front.specs.Request.{request_of}
 use Rattle.frame_front.specs.Reply.{is_error_reply}
 use Rattle.frame_front.specs.Session.{SessionState, AnswersRequest, Answers, AnswersAll}
 use Rattle.frame_front.specs.Transcript.{Transcript}
-use Rattle.frame_front.specs.PlainSession.{text_for, state_for, answers_to, state_after, TellsError, PlainTranscript, begun, Stands}
+use Rattle.frame_front.specs.PlainSession.{text_for, state_for, answers_to, state_after, TellsError, PlainTranscript, texts_within, WritesTexts}
 use Rattle.frame_front.proofs.SessionLemmas.{stream_of-append, concat-one}
 use Rattle.frame_front.proofs.BegunTexts.{NoErrors, no_errors-append, each_before, begun_before, begun_reaches}
 use Rattle.frame_front.proofs.ReplyLemmas.{not_both, want_is_error, version_answers, plain_goes_out, errors_keep, one_answers}
@@ -40,7 +40,7 @@ module _ {S : Type 0} (answers : S → Op → Result Reply AskError → S → Ty
       → (n : PlainMap) × (shows new.1 ≡ Some n) × (is_error_reply text ≡ false → PlainStep (old.0, m) read text (new.0, n))
   plain_request (Err refusal) old new text m shown answer =
       (m, ap (λ (s : SessionState S). shows s.1) answer.1 ∙ shown, λ other. record { text_is = answer.0; new_is = ap (λ (s : SessionState S). (s.0, m)) answer.1 })
-  plain_request (Ok (Speak version)) old new text m shown answer =
+  plain_request (Ok (SetVersion version)) old new text m shown answer =
       (m, ap (λ (s : SessionState S). shows s.1) answer.1 ∙ shown, λ other. record { text_is = answer.0; new_is = ap (λ (s : SessionState S). (s.0, m)) answer.1 })
   plain_request (Ok (Ask op)) old new text m shown answer =
       let left = plain_goes_out answer.0 m (shows new.1) op text (plainly old.1 op answer.0 new.1 m shown answer.1) answer.2 in (
@@ -55,7 +55,7 @@ module _ {S : Type 0} (answers : S → Op → Result Reply AskError → S → Ty
   error_request : (read : Result Request Refusal) (old new : SessionState S) (text : List ℕ) (m : PlainMap) → shows old.1 ≡ Some m
       → AnswersRequest answers read old text new → is_error_reply text ≡ true → (shows new.1 ≡ Some m) × (new.0 ≡ old.0)
   error_request (Err refusal) old new text m shown answer tells = (ap (λ (s : SessionState S). shows s.1) answer.1 ∙ shown, ap (λ (s : SessionState S). s.0) answer.1)
-  error_request (Ok (Speak version)) old new text m shown answer tells = absurd (not_both (is_error_reply text) tells (ap is_error_reply answer.0 ∙ version_answers version))
+  error_request (Ok (SetVersion version)) old new text m shown answer tells = absurd (not_both (is_error_reply text) tells (ap is_error_reply answer.0 ∙ version_answers version))
   error_request (Ok (Ask op)) old new text m shown answer tells =
       (errors_keep answer.0 m (shows new.1) op text (plainly old.1 op answer.0 new.1 m shown answer.1) answer.2 tells, answer.3)
 
@@ -74,7 +74,7 @@ module _ {S : Type 0} (answers : S → Op → Result Reply AskError → S → Ty
 
   -- if no text that is begun tells an error, none of their codes says so
   begun_answer : (payloads texts : List (List ℕ)) (old new : SessionState S) (n : ℕ) → AnswersAll answers old payloads texts new
-      → AllByRecursion (λ text. ¬ (TellsError answers text)) (begun n texts) → NoErrors (begun n texts)
+      → AllByRecursion (λ text. ¬ (TellsError answers text)) (texts_within n texts) → NoErrors (texts_within n texts)
   begun_answer payloads texts old new zero answered none = tt
   begun_answer payloads [] old new (suc n) answered none = tt
   begun_answer [] (text ∷ texts) old new (suc n) answered none = absurd answered
@@ -120,13 +120,13 @@ module _ {S : Type 0} (answers : S → Op → Result Reply AskError → S → Ty
     pub whole : read ≡ stream_of payloads rest
     pub each : AllByRecursion IsPayload payloads
     pub stands : (missing : List ℕ) × (concat texts ≡ written ++ missing)
-    pub told : AllByRecursion (λ text. ¬ (TellsError answers text)) (begun (length written) texts) → (texts ≡ answers_to (One, old) payloads) × (new ≡ (state_after (One, old) payloads).1)
+    pub told : AllByRecursion (λ text. ¬ (TellsError answers text)) (texts_within (length written) texts) → (texts ≡ answers_to (One, old) payloads) × (new ≡ (state_after (One, old) payloads).1)
 
   module _ (payloads before gathered : List (List ℕ)) (rest front : List ℕ) (old : S) (new : SessionState S) (m : PlainMap) (shown : shows old ≡ Some m)
       (each : AllByRecursion IsPayload payloads) (no_errors : NoErrors gathered) where
     all_kept : (alone : List (List ℕ)) (missing : List ℕ) → AnswersAll answers (One, old) payloads ((before ++ gathered) ++ alone) new
         → concat (gathered ++ alone) ≡ front ++ missing
-        → (NoErrors (begun (length (concat before ++ front)) ((before ++ gathered) ++ alone)) → NoErrors alone)
+        → (NoErrors (texts_within (length (concat before ++ front)) ((before ++ gathered) ++ alone)) → NoErrors alone)
         → (n : PlainMap) × (shows new.1 ≡ Some n) × PlainCut (stream_of payloads rest) (concat before ++ front) m n
     all_kept alone missing answered cut alone_answers =
         let all = plain_all payloads ((before ++ gathered) ++ alone) (One, old) new m shown answered in (
@@ -147,7 +147,7 @@ module _ {S : Type 0} (answers : S → Op → Result Reply AskError → S → Ty
                 all.2 (no_errors-append (before ++ gathered) alone
                 (no_errors-append before gathered
                 (begun_before before (gathered ++ alone) (length (concat before ++ front)) (omega (arith, length-append (concat before) front))
-                (subst (λ ts. NoErrors (begun (length (concat before ++ front)) ts)) (append_assoc before gathered alone) none_begun)) no_errors)
+                (subst (λ ts. NoErrors (texts_within (length (concat before ++ front)) ts)) (append_assoc before gathered alone) none_begun)) no_errors)
                 (alone_answers none_begun));
           },
         )
@@ -206,7 +206,7 @@ module _ {S : Type 0} (answers : S → Op → Result Reply AskError → S → Ty
   module _ (turns : ℕ) (left_old left_new held_old held_new : Option (List ℕ)) (old new : S) (m : PlainMap) (shown : shows old ≡ Some m) where
     -- all texts are written whole
     plain_whole : (result : Result ℕ FrontError) (t : Transcript answers result turns left_old left_new held_old held_new old new)
-        → t.written ≡ concat t.session.texts → Stands result t.session.texts t.written
+        → t.written ≡ concat t.session.texts → WritesTexts result t.session.texts t.written
         → (n : PlainMap) × (shows new ≡ Some n) × PlainTranscript answers result turns left_old left_new held_old held_new m n
     plain_whole result t written stands =
         let s = t.session in
@@ -230,7 +230,7 @@ module _ {S : Type 0} (answers : S → Op → Result Reply AskError → S → Ty
             stands = stands;
             told = λ none_tells. let none_begun = begun_answer s.payloads s.texts (One, old) (t.version, new) (length t.written) s.serves.answered none_tells in
                 all.2 (begun_before s.texts [] (length t.written) (omega (arith, ap length written))
-                (subst (λ ts. NoErrors (begun (length t.written) ts)) (sym (append-nil s.texts)) none_begun));
+                (subst (λ ts. NoErrors (texts_within (length t.written) ts)) (sym (append-nil s.texts)) none_begun));
           },
         )
 

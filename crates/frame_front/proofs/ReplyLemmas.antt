@@ -17,12 +17,12 @@ use Rattle.map_core.proofs.MapLaws.{ask_keeps}
 use Rattle.frame_front.specs.declared.request.Version.{Version}
 use Rattle.frame_front.specs.declared.request.Version.TheVariants.{One, Two}
 use Rattle.frame_front.specs.declared.request.Request.{Request}
-use Rattle.frame_front.specs.declared.request.Request.TheVariants.{Ask, Speak}
+use Rattle.frame_front.specs.declared.request.Request.TheVariants.{Ask, SetVersion}
 use Rattle.frame_front.specs.declared.refusal.Refusal.{Refusal}
 use Rattle.frame_front.specs.declared.refusal.Refusal.TheVariants.{BadRequest, BadName, BadDocument, PassedOver, Memory}
 use Rattle.frame_front.specs.Frame.{frame}
 use Rattle.frame_front.specs.Request.{request_of}
-use Rattle.frame_front.specs.Reply.{coded, coded_reply, GoesOut, memory_frame, refusal_frame, version_frame, is_error_code, is_error_reply}
+use Rattle.frame_front.specs.Reply.{answer_frames, reply_frames, GoesOut, memory_frame, refusal_frame, version_frame, is_error_code, is_error_reply}
 use Rattle.frame_front.specs.Session.{SessionState, AnswersRequest, Answers}
 use Rattle.frame_front.specs.PlainSession.{TellsError}
 
@@ -45,7 +45,7 @@ pub version_answers : (version : Version) → is_error_reply (version_frame vers
 version_answers One = one_frame_tells 118 _
 version_answers Two = one_frame_tells 118 _
 
-refused_answers : (why : MapRefusal) → is_error_reply (coded_reply (Refused why)) ≡ false
+refused_answers : (why : MapRefusal) → is_error_reply (reply_frames (Refused why)) ≡ false
 refused_answers NoDomain = one_frame_tells 30 _
 refused_answers (Stale sequence) = one_frame_tells 31 _
 refused_answers KidTaken = one_frame_tells 32 _
@@ -55,7 +55,7 @@ refused_answers SequenceFull = one_frame_tells 35 _
 refused_answers (NotExpected found) = one_frame_tells 36 _
 
 -- a reply of the map tells no error
-reply_answers : (reply : Reply) → is_error_reply (coded_reply reply) ≡ false
+reply_answers : (reply : Reply) → is_error_reply (reply_frames reply) ≡ false
 reply_answers Stored = one_frame_tells 115 _
 reply_answers Unchanged = one_frame_tells 117 _
 reply_answers (Appended sequence) = one_frame_tells 112 _
@@ -64,7 +64,7 @@ reply_answers (Found bundle) = one_frame_tells 102 _
 reply_answers (All items) = frame_tells 97 _ _
 reply_answers (Refused why) = refused_answers why
 
-error_tells : (e : AskError) → is_error_reply (coded (Err e)) ≡ true
+error_tells : (e : AskError) → is_error_reply (answer_frames (Err e)) ≡ true
 error_tells error.Memory = one_frame_tells 22 _
 error_tells (error.Worn shard) = one_frame_tells 40 _
 error_tells (error.Moved shard first second) = one_frame_tells 41 _
@@ -73,8 +73,8 @@ error_tells error.GateShut = one_frame_tells 56 _
 
 -- what is shown after a plain answer; if the text that goes out tells no error, it is the plain map's reply
 pub plain_goes_out : (answer : Result Reply AskError) (m : PlainMap) (shown : Option PlainMap) (op : Op) (text : List ℕ) → PlainAnswer m op answer shown → GoesOut answer text
-    → (n : PlainMap) × (shown ≡ Some n) × (is_error_reply text ≡ false → (text ≡ coded_reply (ask m op).reply) × (n ≡ (ask m op).map))
-plain_goes_out (Ok reply) m shown op text plain (inl same) = ((ask m op).map, plain.1, λ none. (same ∙ ap coded_reply plain.0, refl))
+    → (n : PlainMap) × (shown ≡ Some n) × (is_error_reply text ≡ false → (text ≡ reply_frames (ask m op).reply) × (n ≡ (ask m op).map))
+plain_goes_out (Ok reply) m shown op text plain (inl same) = ((ask m op).map, plain.1, λ none. (same ∙ ap reply_frames plain.0, refl))
 plain_goes_out (Ok reply) m shown op text plain (inr want) =
     ((ask m op).map, plain.1, λ none. absurd (not_both (is_error_reply text) (want_is_error text want.1) none))
 plain_goes_out (Err e) m shown op text plain (inl same) =
@@ -128,7 +128,7 @@ module _ {S : Type 0} (answers : S → Op → Result Reply AskError → S → Ty
   request_answers : (read : Result Request Refusal) (old new : SessionState S) (text : List ℕ) → AnswersRequest answers read old text new
       → ¬ (TellsError answers text) → is_error_reply text ≡ false
   request_answers (Err refusal) old new text answer none = refusal_answers refusal text answer.0 (λ same. none (inl same))
-  request_answers (Ok (Speak version)) old new text answer none = ap is_error_reply answer.0 ∙ version_answers version
+  request_answers (Ok (SetVersion version)) old new text answer none = ap is_error_reply answer.0 ∙ version_answers version
   request_answers (Ok (Ask op)) old new text answer none = answer_answers op answer.0 old.1 new.1 text answer.1 answer.2 none
 
   -- a text that tells no error has no code that says so
@@ -140,4 +140,4 @@ module _ {S : Type 0} (answers : S → Op → Result Reply AskError → S → Ty
 -- over one map out of memory is the only error
 pub one_map_tells : (text : List ℕ) → TellsError ContentsAnswer text → text ≡ memory_frame
 one_map_tells text (inl same) = same
-one_map_tells text (inr told) = told.2 ∙ ap (λ (e : AskError). coded (Err e)) told.1.3.0
+one_map_tells text (inr told) = told.2 ∙ ap (λ (e : AskError). answer_frames (Err e)) told.1.3.0

@@ -11,8 +11,10 @@ use Rattle.map_core.specs.declared.reply.Reply.{Reply}
 use Rattle.map_core.specs.declared.reply.AskError.{AskError}
 use Rattle.frame_front.specs.Frame.{IsPayload, frame, stream_of}
 use Rattle.frame_front.specs.Reply.{is_error_reply}
-use Rattle.frame_front.specs.Session.{SessionState, Answers, AnswersAll, Serves, Round, RoundEndsAt, Writes}
-use Rattle.frame_front.specs.Outbox.{WritesFront, Puts}
+use Rattle.frame_front.specs.Session.{SessionState, Answers, AnswersAll, Serves, Writes}
+use Rattle.frame_front.specs.Private.Round.{Round, RoundEndsAt}
+use Rattle.frame_front.specs.Outbox.{WritesFront}
+use Rattle.frame_front.specs.Private.Gathered.{Puts}
 use Rattle.frame_front.specs.declared.error.FrontError.{FrontError}
 use Rattle.frame_front.specs.declared.error.FrontError.TheVariants.{WriteFault}
 use Rattle.frame_front.proofs.FrameLemmas.{longer_by_frame}

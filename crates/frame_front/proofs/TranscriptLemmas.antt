@@ -13,7 +13,8 @@ use Rattle.frame_front.specs.declared.error.FrontError.TheVariants.{BadLength, T
 use Rattle.frame_front.specs.declared.request.Version.{Version}
 use Rattle.frame_front.specs.declared.request.Version.TheVariants.{One}
 use Rattle.frame_front.specs.Frame.{IsUnfinished}
-use Rattle.frame_front.specs.Session.{SessionState, Serves, EndsAt, Writes, Round, RoundEndsAt}
+use Rattle.frame_front.specs.Session.{SessionState, Serves, EndsAt, Writes}
+use Rattle.frame_front.specs.Private.Round.{Round, RoundEndsAt}
 use Rattle.frame_front.specs.Transcript.{Transcript, EndsInput, UsesTurns, IsReadIn}
 use Rattle.frame_front.proofs.SessionLemmas.{Serves-none, Serves-read, Serves-then, fewer_than_bytes}
 

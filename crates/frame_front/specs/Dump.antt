@@ -1,24 +1,24 @@
 -- Dumps: the frames of a reply to a fetch-all, and the requests that store again what they hold.
-use Rattle.std.specs.Prelude.{◌≡◌, ℕ, ◌≤◌, List, [], ◌∷◌, ◌++◌, length, ◌==◌, ◌&&◌, map, if◌then◌else◌, Option, Some, None, Result, Ok, Err}
+use Rattle.std.specs.Prelude.{◌≡◌, ℕ, ◌≤◌, List, ◌∷◌, ◌++◌, length, ◌==◌, ◌&&◌, map, if◌then◌else◌, Option, Some, None, Result, Ok, Err, []}
 use Rattle.std.specs.Int.{w64, from_be_bytes}
 use Rattle.std.specs.List.{AllByRecursion}
 use Rattle.std.specs.FinMap as finite
-use Rattle.std.specs.declared.cmp.Ordering.TheVariants.{Less}
 use Rattle.spiffe_doc.specs.Authority.{BundleValue}
 use Rattle.spiffe_doc.specs.Name.{IsName}
 use Rattle.spiffe_doc.specs.Bundle.{IsBundle}
 use Rattle.spiffe_doc.specs.Text.{text_of}
-use Rattle.map_core.specs.declared.held.Held.{Held}
-use Rattle.map_core.specs.declared.held.Held.TheVariants.{Published}
-use Rattle.map_core.specs.Name.{Name, name_cmp}
+use Rattle.map_core.specs.declared.held.Holding.{Holding}
+use Rattle.map_core.specs.declared.held.Holding.TheVariants.{Published}
+use Rattle.map_core.specs.Name.{Name}
+use Rattle.map_core.specs.Laws.{Ascends}
 use Rattle.map_core.specs.declared.reply.Reply.TheVariants.{All}
 use Rattle.map_core.specs.PlainMap.{PlainMap, bundles}
 use Rattle.frame_front.specs.declared.refusal.Refusal.{Refusal}
 use Rattle.frame_front.specs.declared.dump.DumpError.{DumpError}
 use Rattle.frame_front.specs.declared.dump.DumpError.TheVariants.{BadDump, Memory}
-use Rattle.frame_front.specs.Frame.{HasFrames, IsPayload, frame}
+use Rattle.frame_front.specs.Frame.{HasFrames}
 use Rattle.frame_front.specs.Request.{named_bundle}
-use Rattle.frame_front.specs.Reply.{coded_reply}
+use Rattle.frame_front.specs.Reply.{reply_frames}
 
 -- trust domains with their bundles
 abbrev pub Domains : Type 0
@@ -44,16 +44,6 @@ ReadsItems [] [] = Unit {0}
 ReadsItems (payload ∷ payloads) (item ∷ items) = (item_of payload ≡ Some item) × ReadsItems payloads items
 ReadsItems [] (item ∷ items) = ⊥
 ReadsItems (payload ∷ payloads) [] = ⊥
-
--- the name comes after the last one, if any
-abbrev pub IsAfter : Option Name → Name → Type 0
-IsAfter None name = Unit {0}
-IsAfter (Some last) name = name_cmp last name ≡ Less
-
--- each name comes after the one before it, and the first after the last one given
-abbrev pub Ascends : Option Name → Domains → Type 0
-Ascends last [] = Unit {0}
-Ascends last (item ∷ items) = IsAfter last item.0 × Ascends (Some item.0) items
 
 -- A dump of these domains: their number, and then a frame for each, in order of their names.
 pub record IsDump (dump : List ℕ) (items : Domains) : Type 0 where
@@ -86,8 +76,8 @@ FaultOfDump (BadDump place) dump = IsBadDump dump place
 FaultOfDump Memory dump = Unit {0}
 
 -- all bundles are valid
-abbrev pub AreLawful : Domains → Type 0
-AreLawful items = AllByRecursion (λ item. IsBundle item.1) items
+abbrev pub HaveValidBundles : Domains → Type 0
+HaveValidBundles items = AllByRecursion (λ item. IsBundle item.1) items
 
 -- each name is a trust domain name, and each bundle is valid
 abbrev pub AreValid : Domains → Type 0
@@ -95,7 +85,7 @@ AreValid items = AllByRecursion (λ item. IsName item.0 × IsBundle item.1) item
 
 -- the dump of a map: the reply to a fetch-all, which has the names and the bundles and no tombstone
 abbrev pub dump_of : PlainMap → List ℕ
-dump_of m = coded_reply (All (bundles m))
+dump_of m = reply_frames (All (bundles m))
 
 -- the request that sets a domain if it is absent: C, the name, the expectation, and the canonical text
 abbrev pub request_for : Name × BundleValue → List ℕ
@@ -106,21 +96,12 @@ abbrev pub requests_for : Domains → List (List ℕ)
 requests_for items = (86 ∷ 2 ∷ []) ∷ map request_for items
 
 -- a domain as the map holds it
-abbrev pub held_of : Name × BundleValue → Name × Held
+abbrev pub held_of : Name × BundleValue → Name × Holding
 held_of item = (item.0, Published item.1)
 
 -- the map of these domains
 abbrev pub map_of : Domains → PlainMap
 map_of items = finite.from_entries (map held_of items)
-
--- no frame of a domain whose name comes after the last one stands first
-abbrev pub NoItem : Option Name → List ℕ → Type 0
-NoItem last bytes = (payload rest : List ℕ) (item : Name × BundleValue) → IsPayload payload → bytes ≡ frame payload ++ rest
-    → item_of payload ≡ Some item → ¬ (IsAfter last item.0)
-
--- no frame of a count stands first
-abbrev pub NoCount : List ℕ → Type 0
-NoCount bytes = (payload rest : List ℕ) → IsPayload payload → bytes ≡ frame payload ++ rest → count_of payload ≡ None
 
 -- the number of the error
 abbrev pub dump_number : DumpError → ℕ

@@ -5,9 +5,9 @@ pub mod Decoder
 pub mod Refusal
 pub mod Request
 pub mod Reply
-pub mod Storage
 pub mod Outbox
 pub mod Session
 pub mod Transcript
 pub mod PlainSession
 pub mod Dump
+pub mod Private

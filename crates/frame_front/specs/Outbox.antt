@@ -1,7 +1,6 @@
 -- What is written of some bytes.
-use Rattle.std.specs.Prelude.{◌≡◌, ℕ, List, [], ◌++◌, Option, ◌⊎◌, false}
+use Rattle.std.specs.Prelude.{◌≡◌, ℕ, List, ◌++◌, Option}
 use Rattle.std.specs.Io.KnownBytes.{Appends}
-use Rattle.frame_front.specs.Reply.{is_error_reply}
 
 -- a front of the bytes is written
 pub record WritesFront (old new : Option (List ℕ)) (bytes : List ℕ) : Type 0 where
@@ -9,11 +8,3 @@ pub record WritesFront (old new : Option (List ℕ)) (bytes : List ℕ) : Type 0
   pub missing : List ℕ
   pub split : bytes ≡ front ++ missing
   pub appends : Appends old new front
-
--- One more text is gathered, unless it says that whoever was asked gave an error. What was gathered before is written
--- first, if there is no room for both; the text too, if it is not gathered.
-abbrev pub Puts : Option (List ℕ) → Option (List ℕ) → List ℕ → List ℕ → List ℕ → Type 0
-Puts held_old held_new outbox text outbox_new =
-    (Appends held_old held_new [] × (is_error_reply text ≡ false) × (outbox_new ≡ outbox ++ text))
-    ⊎ ((Appends held_old held_new outbox × (is_error_reply text ≡ false) × (outbox_new ≡ text))
-    ⊎ (Appends held_old held_new (outbox ++ text) × (outbox_new ≡ [])))

@@ -10,24 +10,24 @@ use Rattle.frame_front.specs.declared.error.FrontError.{FrontError}
 use Rattle.frame_front.specs.declared.error.FrontError.TheVariants.{WriteFault}
 use Rattle.frame_front.specs.declared.request.Version.TheVariants.{One}
 use Rattle.frame_front.specs.declared.request.Request.{Request}
-use Rattle.frame_front.specs.declared.request.Request.TheVariants.{Ask, Speak}
+use Rattle.frame_front.specs.declared.request.Request.TheVariants.{Ask, SetVersion}
 use Rattle.frame_front.specs.declared.refusal.Refusal.{Refusal}
 use Rattle.frame_front.specs.Frame.{stream_of, IsPayload}
 use Rattle.frame_front.specs.Request.{request_of}
-use Rattle.frame_front.specs.Reply.{coded, coded_reply, memory_frame, refusal_frame, version_frame}
+use Rattle.frame_front.specs.Reply.{answer_frames, reply_frames, memory_frame, refusal_frame, version_frame}
 use Rattle.frame_front.specs.Session.{SessionState, EndsAt}
 use Rattle.frame_front.specs.Transcript.{EndsInput, UsesTurns, IsReadIn}
 
 -- the answer to a payload that reads so
 abbrev pub text_for : SessionState PlainMap → Result Request Refusal → List ℕ
 text_for state (Err refusal) = refusal_frame refusal
-text_for state (Ok (Speak version)) = version_frame version
-text_for state (Ok (Ask op)) = coded_reply (ask state.1 op).reply
+text_for state (Ok (SetVersion version)) = version_frame version
+text_for state (Ok (Ask op)) = reply_frames (ask state.1 op).reply
 
 -- and the state after it
 abbrev pub state_for : SessionState PlainMap → Result Request Refusal → SessionState PlainMap
 state_for state (Err refusal) = state
-state_for state (Ok (Speak version)) = (version, state.1)
+state_for state (Ok (SetVersion version)) = (version, state.1)
 state_for state (Ok (Ask op)) = (state.0, (ask state.1 op).map)
 
 -- the answers to these payloads, one after the other
@@ -42,15 +42,15 @@ state_after state [] = state
 state_after state (payload ∷ payloads) = state_after (state_for state (request_of state.0 payload)) payloads
 
 -- of texts that follow one another, those of which a byte is among the first n
-abbrev pub begun : ℕ → List (List ℕ) → List (List ℕ)
-begun zero texts = []
-begun (suc n) [] = []
-begun (suc n) (text ∷ texts) = text ∷ begun (suc n - length text) texts
+abbrev pub texts_within : ℕ → List (List ℕ) → List (List ℕ)
+texts_within zero texts = []
+texts_within (suc n) [] = []
+texts_within (suc n) (text ∷ texts) = text ∷ texts_within (suc n - length text) texts
 
 -- the texts are written whole; if the writer failed, a front of them
-abbrev pub Stands : Result ℕ FrontError → List (List ℕ) → List ℕ → Type 0
-Stands (Err WriteFault) texts written = (missing : List ℕ) × (concat texts ≡ written ++ missing)
-Stands ended texts written = written ≡ concat texts
+abbrev pub WritesTexts : Result ℕ FrontError → List (List ℕ) → List ℕ → Type 0
+WritesTexts (Err WriteFault) texts written = (missing : List ℕ) × (concat texts ≡ written ++ missing)
+WritesTexts ended texts written = written ≡ concat texts
 
 module _ {S : Type 0} (answers : S → Op → Result Reply AskError → S → Type 0) where
   -- whoever is asked may give this error
@@ -59,7 +59,7 @@ module _ {S : Type 0} (answers : S → Op → Result Reply AskError → S → Ty
 
   -- a reply says that memory ran out, or that whoever is asked gave an error
   abbrev pub TellsError : List ℕ → Type 0
-  TellsError text = (text ≡ memory_frame) ⊎ ((error : AskError) × MayFail error × (text ≡ coded (Err error)))
+  TellsError text = (text ≡ memory_frame) ⊎ ((error : AskError) × MayFail error × (text ≡ answer_frames (Err error)))
 
   -- A session over a map that shows a plain map. The payloads are a prefix of the frames read, and the texts are the
   -- replies to them. Where no text that is begun tells an error, the texts are the plain map's answers, and the map
@@ -79,6 +79,6 @@ module _ {S : Type 0} (answers : S → Op → Result Reply AskError → S → Ty
     pub few_read : IsReadIn turns read
     pub used : UsesTurns result turns (length read)
     pub ended : EndsInput result left_new
-    pub stands : Stands result texts written
-    pub told : AllByRecursion (λ text. ¬ (TellsError text)) (begun (length written) texts)
+    pub stands : WritesTexts result texts written
+    pub told : AllByRecursion (λ text. ¬ (TellsError text)) (texts_within (length written) texts)
         → (texts ≡ answers_to (One, old) payloads) × (new ≡ (state_after (One, old) payloads).1)

@@ -54,18 +54,18 @@ abbrev pub item_frame : Name × BundleValue → List ℕ
 item_frame item = frame (105 ∷ length item.0 ∷ item.0 ++ text_of item.1)
 
 -- the codes are s, u, p, d, f and a, and the numbers of refusals
-abbrev pub coded_reply : Reply → List ℕ
-coded_reply Stored = frame (115 ∷ [])
-coded_reply Unchanged = frame (117 ∷ [])
-coded_reply (Appended sequence) = frame (112 ∷ sequence_bytes sequence)
-coded_reply Removed = frame (100 ∷ [])
-coded_reply (Found bundle) = frame (102 ∷ text_of bundle)
-coded_reply (All items) = frame (97 ∷ to_be_bytes w64 (length items)) ++ flat_map item_frame items
-coded_reply (Refused why) = frame (map.refusal_number why ∷ map_detail why)
+abbrev pub reply_frames : Reply → List ℕ
+reply_frames Stored = frame (115 ∷ [])
+reply_frames Unchanged = frame (117 ∷ [])
+reply_frames (Appended sequence) = frame (112 ∷ sequence_bytes sequence)
+reply_frames Removed = frame (100 ∷ [])
+reply_frames (Found bundle) = frame (102 ∷ text_of bundle)
+reply_frames (All items) = frame (97 ∷ to_be_bytes w64 (length items)) ++ flat_map item_frame items
+reply_frames (Refused why) = frame (map.refusal_number why ∷ map_detail why)
 
-abbrev pub coded : Result Reply AskError → List ℕ
-coded (Ok reply) = coded_reply reply
-coded (Err error) = frame (map.error_number error ∷ error_detail error)
+abbrev pub answer_frames : Result Reply AskError → List ℕ
+answer_frames (Ok reply) = reply_frames reply
+answer_frames (Err error) = frame (map.error_number error ∷ error_detail error)
 
 -- the reply that says that memory ran out
 abbrev pub memory_frame : List ℕ
@@ -94,7 +94,7 @@ TakesMemory answer = ⊥
 
 -- An answer goes out coded; or as out of memory, if coding it takes memory that is refused.
 abbrev pub GoesOut : Result Reply AskError → List ℕ → Type 0
-GoesOut answer text = (text ≡ coded answer) ⊎ (TakesMemory answer × (text ≡ memory_frame))
+GoesOut answer text = (text ≡ answer_frames answer) ⊎ (TakesMemory answer × (text ≡ memory_frame))
 
 -- the code of a reply follows its length
 abbrev pub code_of : List ℕ → ℕ

@@ -14,7 +14,7 @@ use Rattle.map_core.specs.declared.op.Expect.TheVariants.{Absent, Sequence, Unnu
 use Rattle.frame_front.specs.declared.request.Version.{Version}
 use Rattle.frame_front.specs.declared.request.Version.TheVariants.{One, Two}
 use Rattle.frame_front.specs.declared.request.Request.{Request}
-use Rattle.frame_front.specs.declared.request.Request.TheVariants.{Ask, Speak}
+use Rattle.frame_front.specs.declared.request.Request.TheVariants.{Ask, SetVersion}
 use Rattle.frame_front.specs.declared.refusal.Refusal.{Refusal}
 use Rattle.frame_front.specs.declared.refusal.Refusal.TheVariants.{BadRequest, PassedOver}
 use Rattle.frame_front.specs.Refusal.{name_refusal, document_refusal}
@@ -43,37 +43,37 @@ abbrev pub at_end : List ℕ → Result (Unit {0}) Refusal
 at_end [] = Ok tt
 at_end (byte ∷ bytes) = Err BadRequest
 
-abbrev pub named : Result Name NameError → Result Name Refusal
-named (Ok name) = Ok name
-named (Err fault) = Err (name_refusal fault)
+abbrev pub name_or_refusal : Result Name NameError → Result Name Refusal
+name_or_refusal (Ok name) = Ok name
+name_or_refusal (Err fault) = Err (name_refusal fault)
 
 -- the trust domain that the bytes name
-unfoldable pub name_of : List ℕ → Result Name Refusal
-name_of bytes = named (trust_domain bytes)
+unfoldable pub parse_name : List ℕ → Result Name Refusal
+parse_name bytes = name_or_refusal (trust_domain bytes)
 
-abbrev pub published : Result BundleValue DocError → Result BundleValue Refusal
-published (Ok bundle) = Ok bundle
-published (Err fault) = Err (document_refusal fault)
+abbrev pub bundle_or_refusal : Result BundleValue DocError → Result BundleValue Refusal
+bundle_or_refusal (Ok bundle) = Ok bundle
+bundle_or_refusal (Err fault) = Err (document_refusal fault)
 
 -- the bundle that the bytes are a document of
-unfoldable pub bundle_of : List ℕ → Result BundleValue Refusal
-bundle_of bytes = published (document bytes)
+unfoldable pub parse_bundle : List ℕ → Result BundleValue Refusal
+parse_bundle bytes = bundle_or_refusal (document bytes)
 
-abbrev pub given : Result (Option Authority) DocError → Result Authority Refusal
-given (Ok (Some authority)) = Ok authority
-given (Ok None) = Err PassedOver
-given (Err fault) = Err (document_refusal fault)
+abbrev pub authority_or_refusal : Result (Option Authority) DocError → Result Authority Refusal
+authority_or_refusal (Ok (Some authority)) = Ok authority
+authority_or_refusal (Ok None) = Err PassedOver
+authority_or_refusal (Err fault) = Err (document_refusal fault)
 
 -- the authority that the bytes are a JWK of
-unfoldable pub authority_of : List ℕ → Result Authority Refusal
-authority_of bytes = given (entry bytes)
+unfoldable pub parse_authority : List ℕ → Result Authority Refusal
+parse_authority bytes = authority_or_refusal (entry bytes)
 
 -- a name, and a document of its bundle
 unfoldable pub named_bundle : List ℕ → Result (Name × BundleValue) Refusal
 named_bundle bytes = do
   parts ← split_name bytes
-  name ← name_of parts.0
-  bundle ← bundle_of parts.1
+  name ← parse_name parts.0
+  bundle ← parse_bundle parts.1
   Ok (name, bundle)
 
 unfoldable pub set_of : List ℕ → Result Request Refusal
@@ -85,15 +85,15 @@ unfoldable pub set_if_of : List ℕ → Result Request Refusal
 set_if_of bytes = do
   parts ← split_name bytes
   expected ← split_expect parts.1
-  name ← name_of parts.0
-  bundle ← bundle_of expected.1
+  name ← parse_name parts.0
+  bundle ← parse_bundle expected.1
   Ok (Ask (SetIf name expected.0 bundle))
 
 unfoldable pub append_of : List ℕ → Result Request Refusal
 append_of bytes = do
   parts ← split_name bytes
-  name ← name_of parts.0
-  authority ← authority_of parts.1
+  name ← parse_name parts.0
+  authority ← parse_authority parts.1
   Ok (Ask (Append name authority))
 
 -- a name, and nothing after it
@@ -101,7 +101,7 @@ unfoldable pub only_name : List ℕ → Result Name Refusal
 only_name bytes = do
   parts ← split_name bytes
   nothing ← at_end parts.1
-  name_of parts.0
+  parse_name parts.0
 
 unfoldable pub remove_of : List ℕ → Result Request Refusal
 remove_of bytes = do
@@ -121,7 +121,7 @@ fetch_all_of bytes = do
 -- one byte, 1 or 2
 unfoldable pub version_of : List ℕ → Result Request Refusal
 version_of [] = Err BadRequest
-version_of (number ∷ []) = if number == 1 then Ok (Speak One) else if number == 2 then Ok (Speak Two) else Err BadRequest
+version_of (number ∷ []) = if number == 1 then Ok (SetVersion One) else if number == 2 then Ok (SetVersion Two) else Err BadRequest
 version_of (number ∷ byte ∷ bytes) = Err BadRequest
 
 -- C, only in version 2
@@ -130,8 +130,8 @@ later_letter One letter bytes = Err BadRequest
 later_letter Two letter bytes = if letter == 67 then set_if_of bytes else Err BadRequest
 
 -- S, A, R, G, F and V, in both versions
-abbrev pub lettered : Version → ℕ → List ℕ → Result Request Refusal
-lettered version letter bytes =
+abbrev pub request_by_letter : Version → ℕ → List ℕ → Result Request Refusal
+request_by_letter version letter bytes =
     if letter == 83 then set_of bytes
     else if letter == 65 then append_of bytes
     else if letter == 82 then remove_of bytes
@@ -143,4 +143,4 @@ lettered version letter bytes =
 -- the request that a payload is in a session of this version, or why it is refused
 unfoldable pub request_of : Version → List ℕ → Result Request Refusal
 request_of version [] = Err BadRequest
-request_of version (letter ∷ bytes) = lettered version letter bytes
+request_of version (letter ∷ bytes) = request_by_letter version letter bytes

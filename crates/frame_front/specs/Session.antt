@@ -8,7 +8,7 @@ use Rattle.frame_front.specs.declared.error.FrontError.{FrontError}
 use Rattle.frame_front.specs.declared.error.FrontError.TheVariants.{BadLength, Truncated, ReadFault, WriteFault, TurnsUsed, Memory}
 use Rattle.frame_front.specs.declared.request.Version.{Version}
 use Rattle.frame_front.specs.declared.request.Request.{Request}
-use Rattle.frame_front.specs.declared.request.Request.TheVariants.{Ask, Speak}
+use Rattle.frame_front.specs.declared.request.Request.TheVariants.{Ask, SetVersion}
 use Rattle.frame_front.specs.declared.refusal.Refusal.{Refusal}
 use Rattle.frame_front.specs.Frame.{stream_of, IsPayload, IsUnfinished, IsBadLength}
 use Rattle.frame_front.specs.Request.{request_of}
@@ -24,7 +24,7 @@ module _ {S : Type 0} (answers : S → Op → Result Reply AskError → S → Ty
   -- a refusal asks nothing
   AnswersRequest (Err refusal) old text new = (text ≡ refusal_frame refusal) × (new ≡ old)
   -- a version is set, and nothing is asked
-  AnswersRequest (Ok (Speak version)) old text new = (text ≡ version_frame version) × (new ≡ (version, old.1))
+  AnswersRequest (Ok (SetVersion version)) old text new = (text ≡ version_frame version) × (new ≡ (version, old.1))
   -- an operation is asked once, and one answer goes out
   AnswersRequest (Ok (Ask op)) old text new =
       (answer : Result Reply AskError) × answers old.1 op answer new.1 × GoesOut answer text × (new.0 ≡ old.0)
@@ -85,22 +85,4 @@ pub record Session {S : Type 0} (answers : S → Op → Result Reply AskError �
   pub rest : List ℕ
   pub serves : Serves answers read payloads texts rest old new
   pub ends : EndsAt result (length payloads) rest
-  pub writes : Writes result texts written
-
--- how far the answering of the frames that are kept is, with these bytes kept after it
-abbrev pub RoundEndsAt : Result ℕ FrontError → ℕ → List ℕ → List ℕ → Type 0
-RoundEndsAt (Ok count) answered rest kept = (count ≡ answered) × (rest ≡ kept) × IsUnfinished rest
-RoundEndsAt (Err BadLength) answered rest kept = IsBadLength rest
-RoundEndsAt (Err WriteFault) answered rest kept = Unit {0}
-RoundEndsAt (Err Memory) answered rest kept = Unit {0}
-RoundEndsAt ended answered rest kept = ⊥
-
--- The whole frames among the kept bytes were answered, and these bytes written.
-pub record Round {S : Type 0} (answers : S → Op → Result Reply AskError → S → Type 0) (result : Result ℕ FrontError)
-    (kept_old kept_new : List ℕ) (old new : SessionState S) (written : List ℕ) : Type 0 where
-  pub payloads : List (List ℕ)
-  pub texts : List (List ℕ)
-  pub rest : List ℕ
-  pub serves : Serves answers kept_old payloads texts rest old new
-  pub ends : RoundEndsAt result (length payloads) rest kept_new
   pub writes : Writes result texts written

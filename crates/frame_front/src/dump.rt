@@ -2,7 +2,9 @@
 ghost use Rattle.std.specs.Prelude.{◌≡◌, ◌++◌, ℕ, List, [], ◌∷◌, Some, None, true, false, IfOk, IfErr, IfSome, IfNone, OnOk};
 ghost use Rattle.spiffe_doc.specs.Bundle.{IsBundle};
 ghost use Rattle.frame_front.specs.Frame.{IsPayload, frame, stream_of};
-ghost use Rattle.frame_front.specs.Dump.{Domains, IsDump, IsAfter, AreLawful, NoItem, NoCount, FaultOfDump, count_of, item_of, request_for, requests_for, dump_number};
+ghost use Rattle.frame_front.specs.Dump.{Domains, IsDump, HaveValidBundles, FaultOfDump, count_of, item_of, request_for, requests_for, dump_number};
+ghost use Rattle.frame_front.specs.Private.Refusals.{NoItem, NoCount};
+ghost use Rattle.map_core.specs.Laws.{IsAfter};
 
 use crate::frame::{LENGTH_BYTES, first_frame, put_frame};
 use crate::refusal::Refusal;
@@ -52,7 +54,7 @@ impl From<AllocError> for DumpError {
 /// The requests of version 2 that store again what a dump of version 1 holds. A dump is the frames of a
 /// reply to a fetch-all: the number of domains, and a frame for each in order of their names.
 pub fn migrate(alloc: Global, dump: &[u8]) -> Result<Vec<u8>, DumpError>
-    ensures ok { IfOk result (λ stream. (items : Domains) × IsDump dump.now items × AreLawful items
+    ensures ok { IfOk result (λ stream. (items : Domains) × IsDump dump.now items × HaveValidBundles items
         × (stream.items ≡ stream_of (requests_for items) [])) }
     ensures err { IfErr result (λ fault. FaultOfDump fault dump.now) }
 {

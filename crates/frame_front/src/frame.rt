@@ -1,7 +1,7 @@
 //! Frames: a length of 4 bytes, big-endian, and a payload of that many bytes.
 ghost use Rattle.std.specs.Prelude.{◌≡◌, ◌≤◌, ◌<◌, ◌^◌, ◌++◌, ◌+◌, length, take, drop, IfOk, IfErr, IfSome, IfNone, OnOk};
 ghost use Rattle.std.specs.Int.{w32, to_be_bytes};
-ghost use Rattle.frame_front.specs.Frame.{IsPayload, IsUnfinished, IsBadLength, frame, spelled_length as length_spelled};
+ghost use Rattle.frame_front.specs.Frame.{IsPayload, IsUnfinished, IsBadLength, frame, length_field as stated_length};
 
 use crate::FrontError;
 use std::alloc::AllocError;
@@ -13,10 +13,10 @@ pub const MAX_PAYLOAD: usize = 1_049_000;
 pub const LENGTH_BYTES: usize = 4;
 
 /// The length that stands first.
-#[tactic(auto, unfolding(crate::specs::Frame::spelled_length))]
-pub fn spelled_length(bytes: &[u8]) -> usize
+#[tactic(auto, unfolding(crate::specs::Frame::length_field))]
+pub fn length_field(bytes: &[u8]) -> usize
     requires { 4 ≤ length bytes.now }
-    ensures value { result ≡ length_spelled bytes.now }
+    ensures value { result ≡ stated_length bytes.now }
     ensures bytes { to_be_bytes w32 result ≡ take 4 bytes.now }
 {
     u32::from_be_bytes([bytes[0], bytes[1], bytes[2], bytes[3]]) as usize
@@ -32,7 +32,7 @@ pub(crate) fn first_frame(bytes: &[u8]) -> Result<Option<&[u8]>, FrontError>
     if bytes.len() < LENGTH_BYTES {
         return Ok(None);
     }
-    let size = spelled_length(bytes);
+    let size = length_field(bytes);
     if size == 0 || size > MAX_PAYLOAD {
         return Err(FrontError::BadLength);
     }

@@ -2,7 +2,7 @@
 ghost use Rattle.std.specs.Prelude.{◌≡◌, ◌↔◌, ℕ, List, [], ◌∷◌, ◌++◌, ◌<◌, map, slice_index, Ok, Err, Some, true};
 ghost use Rattle.map_core.specs.Ask.{ContentsAnswer};
 ghost use Rattle.map_core.specs.PlainMap.{PlainMap, bundles, ask};
-ghost use Rattle.frame_front.specs.Frame.{HasFrames, frames, stream_of};
+ghost use Rattle.frame_front.specs.Frame.{HasFrames, stream_of};
 ghost use Rattle.frame_front.specs.declared.request.Version.{Version};
 ghost use Rattle.std.specs.FinMap as finite;
 ghost use Rattle.map_core.specs.declared.reply.Reply.TheVariants.{Stored};
@@ -10,11 +10,11 @@ ghost use Rattle.frame_front.specs.declared.request.Version.TheVariants.{One, Tw
 ghost use Rattle.frame_front.specs.declared.refusal.Refusal.{Refusal};
 ghost use Rattle.frame_front.specs.Refusal.{refusal_place};
 ghost use Rattle.frame_front.specs.Request.{request_of};
-ghost use Rattle.frame_front.specs.declared.request.Request.TheVariants.{Ask, Speak};
+ghost use Rattle.frame_front.specs.declared.request.Request.TheVariants.{Ask, SetVersion};
 ghost use Rattle.map_core.specs.declared.op.Op.{Op};
 ghost use Rattle.std.specs.List.{concat};
 ghost use Rattle.std.specs.Int.{w32, to_be_bytes};
-ghost use Rattle.frame_front.specs.Reply.{coded_reply, place_bytes, version_frame, memory_frame, is_error_reply};
+ghost use Rattle.frame_front.specs.Reply.{reply_frames, place_bytes, version_frame, memory_frame, is_error_reply};
 ghost use Rattle.frame_front.specs.PlainSession.{TellsError, answers_to, state_after};
 ghost use Rattle.frame_front.specs.Dump.{Domains, IsDump, IsBadDump, AreValid, requests_for, map_of, dump_of};
 ghost use Rattle.frame_front.specs.Session.{Answers};
@@ -34,10 +34,10 @@ pub fn frames_follow()
         HasFrames front ps rest → HasFrames (rest ++ more) qs end → HasFrames (front ++ more) (ps ++ qs) end }
 {}
 
-/// Each stream of bytes has its frames, which `frames` gives.
+/// Each stream of bytes has its frames.
 pub fn each_stream_has_frames()
     ensures { (stream : List ℕ) → ((i : ℕ) → slice_index stream i < 256)
-        → HasFrames stream (frames stream).payloads (frames stream).rest }
+        → (payloads : List (List ℕ)) × (rest : List ℕ) × HasFrames stream payloads rest }
 {}
 
 /// A reply that tells an error says that nothing changed: the map shown and the version are as they were.
@@ -53,7 +53,7 @@ pub fn places_are_coded_exactly()
 {}
 
 /// Over one map the only reply that tells an error is the one that says that memory ran out.
-pub fn one_map_tells_want_of_memory_alone()
+pub fn one_map_tells_only_out_of_memory()
     ensures { (text : List ℕ) → TellsError ContentsAnswer text → text ≡ memory_frame }
 {}
 
@@ -67,12 +67,12 @@ pub fn bad_dumps_have_one_place()
 pub fn migrated_dumps_are_stored()
     ensures { (dump : List ℕ) (items : Domains) → IsDump dump items → AreValid items
         × HasFrames (stream_of (requests_for items) []) (requests_for items) []
-        × (answers_to (One, finite.empty) (requests_for items) ≡ version_frame Two ∷ map (λ item. coded_reply Stored) items)
+        × (answers_to (One, finite.empty) (requests_for items) ≡ version_frame Two ∷ map (λ item. reply_frames Stored) items)
         × (state_after (One, finite.empty) (requests_for items) ≡ (Two, map_of items))
         × (bundles (map_of items) ≡ items) }
 {}
 
-/// Two maps of valid bundles have equal dumps exactly if they have the same bundles under the same names.
+/// Two maps of valid bundles have equal dumps if and only if they have the same bundles under the same names.
 /// So a dump, or a hash of it that has no collisions, tells what a federation publishes.
 pub fn equal_dumps_are_of_equal_bundles()
     ensures { (m n : PlainMap) → AreValid (bundles m) → AreValid (bundles n) → (dump_of m ≡ dump_of n) ↔ (bundles m ≡ bundles n) }

@@ -2,9 +2,10 @@
 ghost use Rattle.std.specs.Prelude.{◌≡◌, ◌++◌, ◌<◌, ◌-◌, ◌^◌, [], true, false, OnOk, IfErr};
 ghost use Rattle.std.specs.Io.KnownBytes.{Appends};
 ghost use Rattle.frame_front.specs.Reply.{is_error_reply};
-ghost use Rattle.frame_front.specs.Outbox.{WritesFront, Puts};
+ghost use Rattle.frame_front.specs.Outbox.{WritesFront};
+ghost use Rattle.frame_front.specs.Private.Gathered.{Puts};
 
-use crate::reply::ReplyText;
+use crate::reply::ReplyBytes;
 use crate::{Counted, FrontError};
 use arrayvec::ArrayVec;
 use std::io::Write;
@@ -40,7 +41,7 @@ impl Outbox {
     /// Gathers a reply, if there is room for it. A reply that says that whoever was asked gave an
     /// error is not gathered: it is written at once, so that the replies that wait have all changed
     /// the map as they say.
-    fn gather(&mut self, reply: &ReplyText) -> bool
+    fn gather(&mut self, reply: &ReplyBytes) -> bool
         ensures gathered { result ≡ true → self.new ≡ self.old ++ reply.now }
         ensures no_error { result ≡ true → is_error_reply reply.now ≡ false }
         ensures alone { result ≡ false → self.new ≡ self.old }
@@ -62,7 +63,7 @@ impl Outbox {
     pub(crate) fn put<W: Write>(
         &mut self,
         writer: &mut Counted<W>,
-        reply: &ReplyText,
+        reply: &ReplyBytes,
     ) -> Result<(), FrontError>
         requires { writer.old.faults < 2 ^ 64 - 1 }
         ensures ok { OnOk result (Puts (W.contents writer.old.end) (W.contents writer.new.end) self.old reply.now self.new) }
@@ -113,7 +114,7 @@ impl Outbox {
 }
 
 /// Writes all of a reply.
-fn write_reply<W: Write>(writer: &mut Counted<W>, reply: &ReplyText) -> Result<(), FrontError>
+fn write_reply<W: Write>(writer: &mut Counted<W>, reply: &ReplyBytes) -> Result<(), FrontError>
     requires { writer.old.faults < 2 ^ 64 - 1 }
     ensures ok { OnOk result (Appends (W.contents writer.old.end) (W.contents writer.new.end) reply.now) }
     ensures quiet { OnOk result (writer.new.faults ≡ writer.old.faults) }

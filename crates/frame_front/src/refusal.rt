@@ -1,6 +1,7 @@
 //! Why a payload is answered and nothing is asked.
 ghost use Rattle.std.specs.Prelude.{◌≡◌};
-ghost use Rattle.frame_front.specs.Refusal.{refusal_number, name_place as place_in_name, document_place as place_in_document, refusal_place};
+ghost use Rattle.frame_front.specs.Refusal.{refusal_number, name_place as place_in_name, refusal_place};
+ghost use Rattle.spiffe_doc.specs.Document.{place_of};
 
 use spiffe_doc::{DocError, NameError};
 use thiserror::Error;
@@ -56,7 +57,7 @@ fn name_place(fault: NameError) -> Option<usize>
 }
 
 fn document_place(fault: DocError) -> Option<usize>
-    ensures { result ≡ place_in_document fault }
+    ensures { result ≡ place_of fault }
 {
     match fault {
         DocError::BadEntry(place)

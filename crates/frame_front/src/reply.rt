@@ -3,7 +3,7 @@ ghost use Rattle.std.specs.Prelude.{◌≡◌, ◌+◌, ◌<◌, ◌≤◌, ◌�
 ghost use Rattle.arrayvec.specs.ArrayVec.{array_vec_len};
 ghost use Rattle.spiffe_doc.specs.Text.{text_of};
 ghost use Rattle.frame_front.specs.Frame.{frame};
-ghost use Rattle.frame_front.specs.Reply.{coded, coded_reply, item_frame, memory_frame, refusal_frame, version_frame, place_bytes as bytes_of_place, sequence_bytes as bytes_of_sequence, expect_bytes as bytes_of_expect, is_error_reply, is_error_code as error_code, GoesOut};
+ghost use Rattle.frame_front.specs.Reply.{answer_frames, reply_frames, item_frame, memory_frame, refusal_frame, version_frame, place_bytes as bytes_of_place, sequence_bytes as bytes_of_sequence, expect_bytes as bytes_of_expect, is_error_reply, is_error_code as error_code, GoesOut};
 
 use crate::frame::put_frame;
 use crate::refusal::Refusal;
@@ -35,14 +35,14 @@ enum Body {
 
 /// The bytes of a reply, made whole. All but the reply to a fetch-all are made without memory.
 #[derive(Drop)]
-pub(crate) struct ReplyText {
+pub(crate) struct ReplyBytes {
     head: ArrayVec<u8, HEAD_BYTES>,
     body: Body,
 }
 
-impl Model for ReplyText {
+impl Model for ReplyBytes {
     ghost use Rattle.std.specs.Prelude.{ℕ, List, ◌++◌, ◌≤◌, length};
-    ghost use Rattle.frame_front.specs.Storage.{body_text};
+    ghost use Rattle.frame_front.specs.Private.Storage.{body_text};
 
     ghost Value = { List ℕ };
 
@@ -51,7 +51,7 @@ impl Model for ReplyText {
     ghost invariant = { λ text. 5 ≤ length text.head.items };
 }
 
-impl ReplyText {
+impl ReplyBytes {
     /// The two parts that are written one after the other.
     pub(crate) fn parts(&self) -> (&[u8], &[u8])
         ensures whole { result.0.now ++ result.1.now ≡ self.now }
@@ -73,7 +73,7 @@ impl ReplyText {
     }
 
     /// A frame of a code and a few numbers.
-    fn short(code: u8, numbers: &[u8]) -> ReplyText
+    fn short(code: u8, numbers: &[u8]) -> ReplyBytes
         requires { length numbers.now ≤ 20 }
         ensures { result ≡ frame (code ∷ numbers.now) }
     {
@@ -82,36 +82,36 @@ impl ReplyText {
         put(&mut head, &size.to_be_bytes());
         put(&mut head, &[code]);
         put(&mut head, numbers);
-        ReplyText {
+        ReplyBytes {
             head,
             body: Body::Empty,
         }
     }
 
     /// The bundle that was found.
-    fn found(bundle: Bundle) -> ReplyText
+    fn found(bundle: Bundle) -> ReplyBytes
         ensures { result ≡ frame (102 ∷ text_of bundle) }
     {
         let mut head = ArrayVec::new();
         let size = (canonical_text(&bundle).len() + 1) as u32;
         put(&mut head, &size.to_be_bytes());
         put(&mut head, b"f");
-        ReplyText {
+        ReplyBytes {
             head,
             body: Body::Canonical(bundle),
         }
     }
 
     /// All bundles: their number, and then a frame for each.
-    fn all(alloc: Global, items: &[(TrustDomain, Bundle)]) -> Result<ReplyText, AllocError>
-        ensures { IfOk result (λ text. text ≡ coded_reply (Reply.All items.now)) }
+    fn all(alloc: Global, items: &[(TrustDomain, Bundle)]) -> Result<ReplyBytes, AllocError>
+        ensures { IfOk result (λ text. text ≡ reply_frames (Reply.All items.now)) }
     {
         let frames = item_frames(alloc, items)?;
         let mut head = ArrayVec::new();
         put(&mut head, &9_u32.to_be_bytes());
         put(&mut head, b"a");
         put(&mut head, &(items.len() as u64).to_be_bytes());
-        Ok(ReplyText {
+        Ok(ReplyBytes {
             head,
             body: Body::Frames(frames),
         })
@@ -164,43 +164,43 @@ fn put_item(out: &mut Vec<u8>, domain: &TrustDomain, bundle: &Bundle) -> Result<
 }
 
 /// The reply that says that memory ran out.
-pub(crate) fn memory_reply() -> ReplyText
+pub(crate) fn memory_reply() -> ReplyBytes
     ensures { result ≡ memory_frame }
 {
-    ReplyText::short(22, &[])
+    ReplyBytes::short(22, &[])
 }
 
 /// The reply to a payload that is refused.
-pub(crate) fn refusal_reply(refusal: Refusal) -> ReplyText
+pub(crate) fn refusal_reply(refusal: Refusal) -> ReplyBytes
     ensures { result ≡ refusal_frame refusal }
 {
     match refusal.place() {
-        Some(place) => ReplyText::short(refusal.number(), &place_bytes(place)),
-        None => ReplyText::short(refusal.number(), &[]),
+        Some(place) => ReplyBytes::short(refusal.number(), &place_bytes(place)),
+        None => ReplyBytes::short(refusal.number(), &[]),
     }
 }
 
 /// The reply to a payload that sets the version.
-pub(crate) fn version_reply(version: Version) -> ReplyText
+pub(crate) fn version_reply(version: Version) -> ReplyBytes
     ensures { result ≡ version_frame version }
 {
-    ReplyText::short(b'v', &[version.number()])
+    ReplyBytes::short(b'v', &[version.number()])
 }
 
 /// The answer as it goes out. If there is no memory for all bundles, it says so.
-pub(crate) fn answer_reply(alloc: Global, answer: Result<Reply, AskError>) -> ReplyText
+pub(crate) fn answer_reply(alloc: Global, answer: Result<Reply, AskError>) -> ReplyBytes
     ensures { GoesOut answer result }
 {
     match answer {
-        Ok(Reply::Stored) => ReplyText::short(b's', &[]),
-        Ok(Reply::Unchanged) => ReplyText::short(b'u', &[]),
-        Ok(Reply::Appended(sequence)) => ReplyText::short(
+        Ok(Reply::Stored) => ReplyBytes::short(b's', &[]),
+        Ok(Reply::Unchanged) => ReplyBytes::short(b'u', &[]),
+        Ok(Reply::Appended(sequence)) => ReplyBytes::short(
             b'p',
             sequence_bytes(sequence).as_slice(),
         ),
-        Ok(Reply::Removed) => ReplyText::short(b'd', &[]),
-        Ok(Reply::Found(bundle)) => ReplyText::found(bundle),
-        Ok(Reply::All(snapshot)) => match ReplyText::all(alloc, snapshot.pairs()) {
+        Ok(Reply::Removed) => ReplyBytes::short(b'd', &[]),
+        Ok(Reply::Found(bundle)) => ReplyBytes::found(bundle),
+        Ok(Reply::All(snapshot)) => match ReplyBytes::all(alloc, snapshot.pairs()) {
             Ok(text) => text,
             Err(_) => memory_reply(),
         },
@@ -209,24 +209,24 @@ pub(crate) fn answer_reply(alloc: Global, answer: Result<Reply, AskError>) -> Re
     }
 }
 
-fn map_refusal_reply(why: MapRefusal) -> ReplyText
-    ensures { result ≡ coded_reply (Reply.Refused why) }
+fn map_refusal_reply(why: MapRefusal) -> ReplyBytes
+    ensures { result ≡ reply_frames (Reply.Refused why) }
 {
     match why {
-        MapRefusal::Stale(sequence) => ReplyText::short(why.number(), &sequence.to_be_bytes()),
+        MapRefusal::Stale(sequence) => ReplyBytes::short(why.number(), &sequence.to_be_bytes()),
         MapRefusal::NotExpected(found) => {
-            ReplyText::short(why.number(), expect_bytes(found).as_slice())
+            ReplyBytes::short(why.number(), expect_bytes(found).as_slice())
         }
-        _ => ReplyText::short(why.number(), &[]),
+        _ => ReplyBytes::short(why.number(), &[]),
     }
 }
 
-fn error_reply(error: AskError) -> ReplyText
-    ensures { result ≡ coded (Err error) }
+fn error_reply(error: AskError) -> ReplyBytes
+    ensures { result ≡ answer_frames (Err error) }
 {
     match error {
-        AskError::Memory | AskError::GateShut => ReplyText::short(error.number(), &[]),
-        AskError::Worn { shard } => ReplyText::short(error.number(), &place_bytes(shard)),
+        AskError::Memory | AskError::GateShut => ReplyBytes::short(error.number(), &[]),
+        AskError::Worn { shard } => ReplyBytes::short(error.number(), &place_bytes(shard)),
         AskError::Moved {
             shard,
             first,
@@ -236,13 +236,13 @@ fn error_reply(error: AskError) -> ReplyText
             put(&mut numbers, &place_bytes(shard));
             put(&mut numbers, &first.to_be_bytes());
             put(&mut numbers, &second.to_be_bytes());
-            ReplyText::short(error.number(), numbers.as_slice())
+            ReplyBytes::short(error.number(), numbers.as_slice())
         }
         AskError::Held { shard, revision } => {
             let mut numbers = ArrayVec::new();
             put(&mut numbers, &place_bytes(shard));
             put(&mut numbers, &revision.to_be_bytes());
-            ReplyText::short(error.number(), numbers.as_slice())
+            ReplyBytes::short(error.number(), numbers.as_slice())
         }
     }
 }

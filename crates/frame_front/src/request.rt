@@ -2,7 +2,7 @@
 ghost use Rattle.std.specs.Prelude.{◌≡◌, ◌⊎◌, Ok, Err, MatchResult, OnOk, OnErr};
 ghost use Rattle.spiffe_doc.specs.Answer.{Gives};
 ghost use Rattle.frame_front.specs.Reply.{version_number};
-ghost use Rattle.frame_front.specs.Request.{request_of, split_name as name_split, split_expect as expect_split, at_end as ends, name_of, bundle_of, authority_of, only_name as name_alone, named_bundle, set_of, set_if_of, append_of, remove_of, get_of, fetch_all_of, version_of};
+ghost use Rattle.frame_front.specs.Request.{request_of, split_name as name_split, split_expect as expect_split, at_end as ends, parse_name, parse_bundle, parse_authority, only_name as name_alone, named_bundle, set_of, set_if_of, append_of, remove_of, get_of, fetch_all_of, version_of};
 
 use crate::refusal::Refusal;
 use map_core::{Expect, Op};
@@ -35,7 +35,7 @@ pub enum Request {
     /// An operation on the map.
     Ask(Op),
     /// The version that the session has from now on.
-    Speak(Version),
+    SetVersion(Version),
 }
 
 /// Reads a payload as a request. Refusals come in this order: no request at all, a bad name, a bad
@@ -115,8 +115,8 @@ fn read_version(bytes: &[u8]) -> Result<Request, Refusal>
     ensures { Gives Refusal.Memory result (version_of bytes.now) }
 {
     match bytes {
-        [1] => Ok(Request::Speak(Version::One)),
-        [2] => Ok(Request::Speak(Version::Two)),
+        [1] => Ok(Request::SetVersion(Version::One)),
+        [2] => Ok(Request::SetVersion(Version::Two)),
         _ => Err(Refusal::BadRequest),
     }
 }
@@ -190,23 +190,23 @@ fn at_end(bytes: &[u8]) -> Result<(), Refusal>
     }
 }
 
-#[tactic(auto, unfolding(crate::specs::Request::name_of))]
+#[tactic(auto, unfolding(crate::specs::Request::parse_name))]
 fn read_name(alloc: Global, bytes: &[u8]) -> Result<TrustDomain, Refusal>
-    ensures { Gives Refusal.Memory result (name_of bytes.now) }
+    ensures { Gives Refusal.Memory result (parse_name bytes.now) }
 {
     Ok(TrustDomain::parse_bytes(alloc, bytes)?)
 }
 
-#[tactic(auto, unfolding(crate::specs::Request::bundle_of))]
+#[tactic(auto, unfolding(crate::specs::Request::parse_bundle))]
 fn read_bundle(alloc: Global, bytes: &[u8]) -> Result<Bundle, Refusal>
-    ensures { Gives Refusal.Memory result (bundle_of bytes.now) }
+    ensures { Gives Refusal.Memory result (parse_bundle bytes.now) }
 {
     Ok(read_document(alloc, bytes)?)
 }
 
-#[tactic(auto, unfolding(crate::specs::Request::authority_of))]
+#[tactic(auto, unfolding(crate::specs::Request::parse_authority))]
 fn read_authority(alloc: Global, bytes: &[u8]) -> Result<Authority, Refusal>
-    ensures { Gives Refusal.Memory result (authority_of bytes.now) }
+    ensures { Gives Refusal.Memory result (parse_authority bytes.now) }
 {
     match read_entry(alloc, bytes)? {
         Some(authority) => Ok(authority),

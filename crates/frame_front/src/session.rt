@@ -1,7 +1,8 @@
 //! Sessions: requests come in, replies go out.
 ghost use Rattle.std.specs.Prelude.{◌≡◌, ◌≤◌, ◌-◌, ◌^◌, ◌<◌, ℕ, List, [], length, Err, Some, true, OnOk, IfErr};
 ghost use Rattle.std.specs.Io.KnownBytes.{Appends, Consumes, IsAtEnd};
-ghost use Rattle.frame_front.specs.Session.{Answers, Round, Session};
+ghost use Rattle.frame_front.specs.Session.{Answers, Session};
+ghost use Rattle.frame_front.specs.Private.Round.{Round};
 ghost use Rattle.frame_front.specs.Transcript.{Transcript};
 ghost use Rattle.frame_front.specs.PlainSession.{PlainTranscript};
 ghost use Rattle.frame_front.specs.Reply.{is_error_reply};
@@ -11,7 +12,7 @@ ghost use Rattle.map_core.specs.PlainMap.{PlainMap};
 
 use crate::outbox::Outbox;
 use crate::refusal::Refusal;
-use crate::reply::{ReplyText, answer_reply, memory_reply, refusal_reply, version_reply};
+use crate::reply::{ReplyBytes, answer_reply, memory_reply, refusal_reply, version_reply};
 use crate::request::{Request, Version, read_request};
 use crate::{Counted, Decoder, FrontError};
 use map_core::Ask;
@@ -22,7 +23,7 @@ use std::io::{Read, Write};
 const PIECE_BYTES: usize = 4096;
 
 /// Answers one payload.
-fn answer<A: Ask>(alloc: Global, version: &mut Version, ask: &mut A, payload: &[u8]) -> ReplyText
+fn answer<A: Ask>(alloc: Global, version: &mut Version, ask: &mut A, payload: &[u8]) -> ReplyBytes
     ensures { Answers A.answers (version.old, ask.old) payload.now result (version.new, ask.new) }
 {
     match read_request(alloc, *version, payload) {
@@ -30,7 +31,7 @@ fn answer<A: Ask>(alloc: Global, version: &mut Version, ask: &mut A, payload: &[
             let answer = ask.ask(op);
             answer_reply(alloc, answer)
         }
-        Ok(Request::Speak(wanted)) => {
+        Ok(Request::SetVersion(wanted)) => {
             *version = wanted;
             version_reply(wanted)
         }

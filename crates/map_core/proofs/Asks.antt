@@ -3,54 +3,54 @@ use Rattle.std.proofs.Common.{◌≡◌, false, Option, Some, None, Result, Ok, 
 use Rattle.std.specs.FinMap as finite
 use Rattle.map_core.specs.declared.op.Op.{Op}
 use Rattle.map_core.specs.declared.op.Op.TheVariants.{Get, FetchAll}
-use Rattle.map_core.specs.declared.held.Held.{Held}
-use Rattle.map_core.specs.declared.held.Held.TheVariants.{Published, Mark}
+use Rattle.map_core.specs.declared.held.Holding.{Holding}
+use Rattle.map_core.specs.declared.held.Holding.TheVariants.{Published, Mark}
 use Rattle.map_core.specs.declared.reply.Reply.TheVariants.{All}
-use Rattle.map_core.specs.declared.table.Outcome as program
-use Rattle.map_core.specs.declared.table.Outcome.TheVariants.{Kept, Put, Cleared}
+use Rattle.map_core.specs.declared.table.RowEffect as program
+use Rattle.map_core.specs.declared.table.RowEffect.TheVariants.{Kept, Put, Cleared}
 use Rattle.map_core.specs.Name.{Name}
 use Rattle.map_core.specs.Op.{domain_of}
-use Rattle.map_core.specs.Private.Outcome.{reply_of, held_then, outcome_at, left_by}
+use Rattle.map_core.specs.Private.Outcome.{reply_of, held_after, outcome_at, left_by}
 use Rattle.map_core.specs.Reply.{is_change}
-use Rattle.map_core.specs.Table.{Outcome, OnName, On_name, meaning, get}
+use Rattle.map_core.specs.Table.{Effect, OnName, On_name, meaning, get}
 use Rattle.map_core.specs.PlainMap.{PlainMap, put, bundles, ask_on, ask}
 use Rattle.map_core.proofs.Maps.{put-same}
 
 -- the program's outcome is the row's, at what the name holds
-at_name : (m : PlainMap) (d : Name) (table : Option Held → Outcome) (o : program.Outcome) (held : Option Held)
+at_name : (m : PlainMap) (d : Name) (table : Option Holding → Effect) (o : program.RowEffect) (held : Option Holding)
     → held ≡ finite.get m d → outcome_at held o ≡ table held → outcome_at (finite.get m d) o ≡ table (finite.get m d)
-at_name m d table o held is row = subst (λ (h : Option Held). outcome_at h o ≡ table h) is row
+at_name m d table o held is row = subst (λ (h : Option Holding). outcome_at h o ≡ table h) is row
 
-left-put : (m : PlainMap) (d : Name) (o : program.Outcome) → left_by m (Some d) o ≡ put m d (held_then (finite.get m d) o)
+left-put : (m : PlainMap) (d : Name) (o : program.RowEffect) → left_by m (Some d) o ≡ put m d (held_after (finite.get m d) o)
 left-put m d (Kept reply) = sym (put-same m d (finite.get m d) refl)
 left-put m d (Put reply now) = refl
 left-put m d (Cleared reply) = refl
 
-pub row_reply : (m : PlainMap) (op : Op) (d : Name) (table : Option Held → Outcome) (o : program.Outcome) (held : Option Held)
+pub row_reply : (m : PlainMap) (op : Op) (d : Name) (table : Option Holding → Effect) (o : program.RowEffect) (held : Option Holding)
     → meaning op ≡ On_name d table → held ≡ finite.get m d → outcome_at held o ≡ table held → reply_of o ≡ (ask m op).reply
 unfolding ask
 row_reply m op d table o held on is row =
-    ap (λ (x : Outcome). x.reply) (at_name m d table o held is row) ∙ ap (λ (w : OnName). (ask_on m w).reply) (sym on)
+    ap (λ (x : Effect). x.reply) (at_name m d table o held is row) ∙ ap (λ (w : OnName). (ask_on m w).reply) (sym on)
 
-pub row_left : (m : PlainMap) (op : Op) (d : Name) (table : Option Held → Outcome) (o : program.Outcome) (held : Option Held)
+pub row_left : (m : PlainMap) (op : Op) (d : Name) (table : Option Holding → Effect) (o : program.RowEffect) (held : Option Holding)
     → domain_of op ≡ Some d → meaning op ≡ On_name d table → held ≡ finite.get m d → outcome_at held o ≡ table held → left_by m (domain_of op) o ≡ (ask m op).map
 unfolding ask
 row_left m op d table o held named on is row =
     ap (λ (x : Option Name). left_by m x o) named ∙ left-put m d o
-    ∙ ap (λ (x : Outcome). put m d x.held) (at_name m d table o held is row) ∙ ap (λ (w : OnName). (ask_on m w).map) (sym on)
+    ∙ ap (λ (x : Effect). put m d x.held) (at_name m d table o held is row) ∙ ap (λ (w : OnName). (ask_on m w).map) (sym on)
 
 -- the same of an outcome that may be out of memory
-pub IfOk-row_reply : {E : Type 0} (m : PlainMap) (op : Op) (d : Name) (table : Option Held → Outcome) (r : Result program.Outcome E) (held : Option Held)
+pub IfOk-row_reply : {E : Type 0} (m : PlainMap) (op : Op) (d : Name) (table : Option Holding → Effect) (r : Result program.RowEffect E) (held : Option Holding)
     → meaning op ≡ On_name d table → held ≡ finite.get m d → IfOk r (λ o. outcome_at held o ≡ table held) → IfOk r (λ o. reply_of o ≡ (ask m op).reply)
 IfOk-row_reply m op d table (Ok o) held on is row = row_reply m op d table o held on is row
 IfOk-row_reply m op d table (Err e) held on is row = tt
 
-pub IfOk-row_left : {E : Type 0} (m : PlainMap) (op : Op) (d : Name) (table : Option Held → Outcome) (r : Result program.Outcome E) (held : Option Held)
+pub IfOk-row_left : {E : Type 0} (m : PlainMap) (op : Op) (d : Name) (table : Option Holding → Effect) (r : Result program.RowEffect E) (held : Option Holding)
     → domain_of op ≡ Some d → meaning op ≡ On_name d table → held ≡ finite.get m d → IfOk r (λ o. outcome_at held o ≡ table held) → IfOk r (λ o. left_by m (domain_of op) o ≡ (ask m op).map)
 IfOk-row_left m op d table (Ok o) held named on is row = row_left m op d table o held named on is row
 IfOk-row_left m op d table (Err e) held named on is row = tt
 
-get_quiet : (held : Option Held) → is_change (get held).reply ≡ false
+get_quiet : (held : Option Holding) → is_change (get held).reply ≡ false
 get_quiet None = refl
 get_quiet (Some (Mark s)) = refl
 get_quiet (Some (Published b)) = refl
@@ -68,7 +68,7 @@ pub fetch_all_reply : (m : PlainMap) (op : Op) → op ≡ FetchAll → (ask m op
 unfolding ask meaning
 fetch_all_reply m op is = ap (λ (x : Op). (ask m x).reply) is
 
-pub fetch_all_left : (m : PlainMap) (op : Op) (o : program.Outcome) → op ≡ FetchAll → left_by m (domain_of op) o ≡ (ask m op).map
+pub fetch_all_left : (m : PlainMap) (op : Op) (o : program.RowEffect) → op ≡ FetchAll → left_by m (domain_of op) o ≡ (ask m op).map
 unfolding ask meaning
 fetch_all_left m op o is = ap (λ (x : Op). left_by m (domain_of x) o) is ∙ ap (λ (x : Op). (ask m x).map) (sym is)
 

@@ -3,11 +3,11 @@ use Rattle.std.proofs.Common.{◌≡◌, ◌≢◌, ℕ, ◌<◌, Bool, true, fa
 use Rattle.std.specs.FinMap as finite
 use Rattle.map_core.specs.declared.op.Op.{Op}
 use Rattle.map_core.specs.declared.op.Op.TheVariants.{Set, SetIf, Append, Remove, Get, FetchAll}
-use Rattle.map_core.specs.declared.held.Held.{Held}
+use Rattle.map_core.specs.declared.held.Holding.{Holding}
 use Rattle.map_core.specs.Name.{Name}
 use Rattle.map_core.specs.Reply.{is_change}
 use Rattle.map_core.specs.Table.{OnName, On_name, On_all, meaning}
-use Rattle.map_core.specs.PlainMap.{PlainMap, put, ask_on, ask, name_of, home, shard_of, part, together}
+use Rattle.map_core.specs.PlainMap.{PlainMap, put, ask_on, ask, name_of, home, shard_of, partition, merge}
 use Rattle.map_core.specs.Op.{domain_of}
 use Rattle.map_core.proofs.Tables.{Keeps, Changes, set_changes, set_if_changes, append_changes, remove_changes, get_changes, set_keeps, set_if_keeps, append_keeps, remove_keeps, get_keeps}
 use Rattle.std.proofs.Common.{cond, [], option_map}
@@ -61,34 +61,34 @@ pub ask_keeps : (m : PlainMap) (op : Op) → is_change (ask m op).reply ≡ fals
 unfolding ask
 ask_keeps m op h = on_keeps m (meaning op) (meaning_keeps op) h
 
-on_part_reply : (n : ℕ) (m : PlainMap) (i : ℕ) (w : OnName) → shard_on n w ≡ Some i → (ask_on (part n m i) w).reply ≡ (ask_on m w).reply
+on_part_reply : (n : ℕ) (m : PlainMap) (i : ℕ) (w : OnName) → shard_on n w ≡ Some i → (ask_on (partition n m i) w).reply ≡ (ask_on m w).reply
 on_part_reply n m i (On_name d table) at =
     let is : home n d ≡ i = (cc) in ap (λ held. (table held).reply) (get-part_home n m i d is)
 on_part_reply n m i On_all at = cc
 
 -- the shard of the name gives the reply
-pub part_reply : (n : ℕ) (m : PlainMap) (op : Op) (i : ℕ) → shard_of n op ≡ Some i → (ask (part n m i) op).reply ≡ (ask m op).reply
+pub part_reply : (n : ℕ) (m : PlainMap) (op : Op) (i : ℕ) → shard_of n op ≡ Some i → (ask (partition n m i) op).reply ≡ (ask m op).reply
 unfolding ask
 part_reply n m op i at = on_part_reply n m i (meaning op) (shard_is n op ∙ at)
 
-on_part_home : (n : ℕ) (m : PlainMap) (i : ℕ) (w : OnName) → shard_on n w ≡ Some i → part n (ask_on m w).map i ≡ (ask_on (part n m i) w).map
+on_part_home : (n : ℕ) (m : PlainMap) (i : ℕ) (w : OnName) → shard_on n w ≡ Some i → partition n (ask_on m w).map i ≡ (ask_on (partition n m i) w).map
 on_part_home n m i (On_name d table) at =
     let is : home n d ≡ i = (cc) in
-    part-put_home n m i d _ is ∙ ap (λ held. put (part n m i) d (table held).held) (sym (get-part_home n m i d is))
+    part-put_home n m i d _ is ∙ ap (λ held. put (partition n m i) d (table held).held) (sym (get-part_home n m i d is))
 on_part_home n m i On_all at = cc
 
 -- and changes as the map does there
-pub part_home : (n : ℕ) (m : PlainMap) (op : Op) (i : ℕ) → shard_of n op ≡ Some i → part n (ask m op).map i ≡ (ask (part n m i) op).map
+pub part_home : (n : ℕ) (m : PlainMap) (op : Op) (i : ℕ) → shard_of n op ≡ Some i → partition n (ask m op).map i ≡ (ask (partition n m i) op).map
 unfolding ask
 part_home n m op i at = on_part_home n m i (meaning op) (shard_is n op ∙ at)
 
-on_part_away : (n : ℕ) (m : PlainMap) (i j : ℕ) (w : OnName) → shard_on n w ≡ Some i → j ≢ i → part n (ask_on m w).map j ≡ part n m j
+on_part_away : (n : ℕ) (m : PlainMap) (i j : ℕ) (w : OnName) → shard_on n w ≡ Some i → j ≢ i → partition n (ask_on m w).map j ≡ partition n m j
 on_part_away n m i j (On_name d table) at ne =
     let is : home n d ≡ i = (cc) in part-put_away n m j d _ (λ e. ne (sym e ∙ is))
 on_part_away n m i j On_all at ne = cc
 
 -- all other parts stay
-pub part_away : (n : ℕ) (m : PlainMap) (op : Op) (i j : ℕ) → shard_of n op ≡ Some i → j ≢ i → part n (ask m op).map j ≡ part n m j
+pub part_away : (n : ℕ) (m : PlainMap) (op : Op) (i j : ℕ) → shard_of n op ≡ Some i → j ≢ i → partition n (ask m op).map j ≡ partition n m j
 unfolding ask
 part_away n m op i j at ne = on_part_away n m i j (meaning op) (shard_is n op ∙ at) ne
 
@@ -109,8 +109,8 @@ unfolding ask
 fetch_keeps n m op none = on_all_keeps n m (meaning op) (shard_is n op ∙ none)
 
 -- the parts together are the map
-pub together_is : (n : ℕ) (m : PlainMap) (parts : ℕ → PlainMap) → 0 < n → ((j : ℕ) → j < n → parts j ≡ part n m j) → together n parts ≡ m
-together_is n m parts h is = together_same n parts (part n m) is ∙ together_parts n m h
+pub together_is : (n : ℕ) (m : PlainMap) (parts : ℕ → PlainMap) → 0 < n → ((j : ℕ) → j < n → parts j ≡ partition n m j) → merge n parts ≡ m
+together_is n m parts h is = together_same n parts (partition n m) is ∙ together_parts n m h
 
 -- every fetch-all is answered alike
 pub fetch_reply : (n : ℕ) (m : PlainMap) (op : Op) → shard_of n op ≡ None → (ask m op).reply ≡ (ask m FetchAll).reply
@@ -122,7 +122,7 @@ fetch_reply n m (Remove d) none = cc
 fetch_reply n m (Get d) none = cc
 fetch_reply n m FetchAll none = refl
 
-other_held : (b : Bool) (x y : Option Held) → (b ≡ true → ⊥) → cond b x y ≡ y
+other_held : (b : Bool) (x y : Option Holding) → (b ≡ true → ⊥) → cond b x y ≡ y
 other_held true x y h = absurd (h refl)
 other_held false x y h = refl
 
@@ -193,7 +193,7 @@ unfolding ask
 asked_puts n i m op at = subst (λ (d : Name). (ask_on m (meaning op)).map ≡ put m d (finite.get (ask_on m (meaning op)).map d)) (name_is op) (puts_named n i m (meaning op) (shard_is n op ∙ at))
 
 -- what the name holds then follows from the part
-pub now_of_part : (n i : ℕ) (m p : PlainMap) (op : Op) → shard_of n op ≡ Some i → part n m i ≡ part n p i → finite.get (ask m op).map (name_of op) ≡ finite.get (ask p op).map (name_of op)
+pub now_of_part : (n i : ℕ) (m p : PlainMap) (op : Op) → shard_of n op ≡ Some i → partition n m i ≡ partition n p i → finite.get (ask m op).map (name_of op) ≡ finite.get (ask p op).map (name_of op)
 now_of_part n i m p op at same = let here = home_of n i op at in
     sym (get-part_home n (ask m op).map i (name_of op) here)
     ∙ ap (λ x. finite.get x (name_of op)) (part_home n m op i at ∙ ap (λ x. (ask x op).map) same ∙ sym (part_home n p op i at))
@@ -201,6 +201,6 @@ now_of_part n i m p op at same = let here = home_of n i op at in
 
 -- ---- an operation on one name, at the part of its home
 pub asked_at_home : (n : ℕ) (m : PlainMap) (op : Op) (i : ℕ) → shard_of n op ≡ Some i →
-    ((ask (part n m i) op).reply ≡ (ask m op).reply) × (part n (ask m op).map i ≡ (ask (part n m i) op).map)
-    × ((j : ℕ) → j ≢ i → part n (ask m op).map j ≡ part n m j)
+    ((ask (partition n m i) op).reply ≡ (ask m op).reply) × (partition n (ask m op).map i ≡ (ask (partition n m i) op).map)
+    × ((j : ℕ) → j ≢ i → partition n (ask m op).map j ≡ partition n m j)
 asked_at_home n m op i at = (part_reply n m op i at, part_home n m op i at, λ j ne. part_away n m op i j at ne)

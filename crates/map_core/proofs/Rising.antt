@@ -7,13 +7,13 @@ use Rattle.std.specs.FinMap.Entries.{below_all}
 use Rattle.std.specs.FinMap.{is_sorted}
 use Rattle.std.specs.FinMap as finite
 use Rattle.spiffe_doc.specs.Authority.{BundleValue}
-use Rattle.map_core.specs.declared.held.Held.{Held}
-use Rattle.map_core.specs.declared.held.Held.TheVariants.{Published, Mark}
+use Rattle.map_core.specs.declared.held.Holding.{Holding}
+use Rattle.map_core.specs.declared.held.Holding.TheVariants.{Published, Mark}
 use Rattle.map_core.specs.declared.op.Op.TheVariants.{FetchAll}
 use Rattle.map_core.specs.declared.reply.Reply.{Reply}
 use Rattle.map_core.specs.declared.reply.Reply.TheVariants.{Stored, Unchanged, Appended, Removed, Found, All, Refused}
 use Rattle.map_core.specs.Name.{Name, name_cmp}
-use Rattle.map_core.specs.PlainMap.{PlainMap, published, bundles, ask}
+use Rattle.map_core.specs.PlainMap.{PlainMap, bundles_among, bundles, ask}
 use Rattle.map_core.specs.Laws.{IsAfter, Ascends}
 use Rattle.map_core.proofs.Asks.{fetch_all}
 
@@ -31,19 +31,19 @@ less Equal p = absurd p
 less Greater p = absurd p
 
 -- the name of the last one, if any, is below all names of the entries
-abbrev IsBelow : Option Name → List (Name × Held) → Type 0
+abbrev IsBelow : Option Name → List (Name × Holding) → Type 0
 IsBelow None es = Unit {0}
 IsBelow (Some last) es = T (below_all name_cmp last es)
 
-after_last : (last : Option Name) (e : Name × Held) (es : List (Name × Held)) → IsBelow last (e ∷ es) → IsAfter last e.0
+after_last : (last : Option Name) (e : Name × Holding) (es : List (Name × Holding)) → IsBelow last (e ∷ es) → IsAfter last e.0
 after_last None e es h = tt
 after_last (Some last) e es h = less (name_cmp last e.0) (first _ _ h)
 
-below_rest : (last : Option Name) (e : Name × Held) (es : List (Name × Held)) → IsBelow last (e ∷ es) → IsBelow last es
+below_rest : (last : Option Name) (e : Name × Holding) (es : List (Name × Holding)) → IsBelow last (e ∷ es) → IsBelow last es
 below_rest None e es h = tt
 below_rest (Some last) e es h = second _ _ h
 
-published_rise : (last : Option Name) (es : List (Name × Held)) → IsBelow last es → T (is_sorted name_cmp es) → Ascends last (published es)
+published_rise : (last : Option Name) (es : List (Name × Holding)) → IsBelow last es → T (is_sorted name_cmp es) → Ascends last (bundles_among es)
 published_rise last [] below sorted = tt
 published_rise last ((d, Published b) ∷ es) below sorted =
     (after_last last (d, Published b) es below, published_rise (Some d) es (first _ _ sorted) (second _ _ sorted))

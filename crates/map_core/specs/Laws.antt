@@ -9,7 +9,7 @@ use Rattle.map_core.specs.declared.reply.Reply.TheVariants.{All}
 use Rattle.map_core.specs.Name.{Name, name_cmp}
 use Rattle.map_core.specs.Op.{domain_of}
 use Rattle.map_core.specs.Reply.{is_change}
-use Rattle.map_core.specs.PlainMap.{PlainMap, ask, shard_of, part, together}
+use Rattle.map_core.specs.PlainMap.{PlainMap, ask, shard_of, partition, merge}
 
 -- The reply of an operation on one name, and what that name holds then, follow from what it held; all other names keep theirs.
 abbrev pub DependsOnName : Type 0
@@ -24,14 +24,14 @@ TellsOfChange = (m : PlainMap) (op : Op) → ((ask m op).map ≢ m → is_change
 
 -- The parts of a map, by the homes of the names, are together the map.
 abbrev pub PartsTogether : Type 0
-PartsTogether = (n : ℕ) (m : PlainMap) → 0 < n → together n (part n m) ≡ m
+PartsTogether = (n : ℕ) (m : PlainMap) → 0 < n → merge n (partition n m) ≡ m
 
 -- An operation on one name is answered by the part of its home, which it changes as it changes the map; the other parts stay.
 abbrev pub AskedAtHome : Type 0
 AskedAtHome =
     (n : ℕ) (m : PlainMap) (op : Op) (i : ℕ) → shard_of n op ≡ Some i →
-    ((ask (part n m i) op).reply ≡ (ask m op).reply) × (part n (ask m op).map i ≡ (ask (part n m i) op).map)
-    × ((j : ℕ) → j ≢ i → part n (ask m op).map j ≡ part n m j)
+    ((ask (partition n m i) op).reply ≡ (ask m op).reply) × (partition n (ask m op).map i ≡ (ask (partition n m i) op).map)
+    × ((j : ℕ) → j ≢ i → partition n (ask m op).map j ≡ partition n m j)
 
 -- the name comes after the last one, if any
 abbrev pub IsAfter : Option Name → Name → Type 0

@@ -4,7 +4,6 @@ pub mod Reply
 pub mod Table
 pub mod PlainMap
 pub mod Union
-pub mod Codes
 pub mod Ask
 pub mod AskLaws
 pub mod Laws

@@ -5,8 +5,8 @@ use Rattle.std.specs.FinMap.{FinMap}
 use Rattle.std.specs.FinMap as finite
 use Rattle.spiffe_doc.specs.Authority.{BundleValue}
 use Rattle.map_core.specs.declared.op.Op.{Op}
-use Rattle.map_core.specs.declared.held.Held.{Held}
-use Rattle.map_core.specs.declared.held.Held.TheVariants.{Published, Mark}
+use Rattle.map_core.specs.declared.held.Holding.{Holding}
+use Rattle.map_core.specs.declared.held.Holding.TheVariants.{Published, Mark}
 use Rattle.map_core.specs.declared.reply.Reply.{Reply}
 use Rattle.map_core.specs.declared.reply.Reply.TheVariants.{All}
 use Rattle.map_core.specs.Name.{Name, name_cmp}
@@ -15,34 +15,34 @@ use Rattle.map_core.specs.Table.{OnName, On_name, On_all, meaning}
 
 -- a finite map from names to what they hold: two of them that hold the same under each name are one
 abbrev pub PlainMap : Type 0
-PlainMap = FinMap name_cmp Held
+PlainMap = FinMap name_cmp Holding
 
 -- the map with this under the name d, or with nothing there
-abbrev pub put : PlainMap → Name → Option Held → PlainMap
+abbrev pub put : PlainMap → Name → Option Holding → PlainMap
 put m d (Some held) = finite.insert m d held
 put m d None = finite.remove m d
 
 -- the bundles among the entries, with their names
-abbrev pub published : List (Name × Held) → List (Name × BundleValue)
-published [] = []
-published (e ∷ es) = elim e.1 [ Published b ↦ (e.0, b) ∷ published es | Mark s ↦ published es ]
+abbrev pub bundles_among : List (Name × Holding) → List (Name × BundleValue)
+bundles_among [] = []
+bundles_among (e ∷ es) = elim e.1 [ Published b ↦ (e.0, b) ∷ bundles_among es | Mark s ↦ bundles_among es ]
 
 -- all bundles of the map, in order of their names
 abbrev pub bundles : PlainMap → List (Name × BundleValue)
-bundles m = published (finite.entries m)
+bundles m = bundles_among (finite.entries m)
 
 -- the reply to an operation, and the map after it
-pub record Asked : Type 0 where
+pub record AskResult : Type 0 where
   pub reply : Reply
   pub map : PlainMap
 
 -- the row is asked what the name holds, and what it leaves is put back; a fetch-all shows all bundles
-abbrev pub ask_on : PlainMap → OnName → Asked
+abbrev pub ask_on : PlainMap → OnName → AskResult
 ask_on m (On_name d table) = let outcome = table (finite.get m d) in record { reply = outcome.reply; map = put m d outcome.held }
 ask_on m On_all = record { reply = All (bundles m); map = m }
 
 -- what an operation is answered, and what is held then
-unfoldable pub ask : PlainMap → Op → Asked
+unfoldable pub ask : PlainMap → Op → AskResult
 ask m op = ask_on m (meaning op)
 
 -- the name of an operation on one name (of a fetch-all nothing is said)
@@ -58,14 +58,14 @@ unfoldable pub shard_of : ℕ → Op → Option ℕ
 shard_of n op = option_map (home n) (domain_of op)
 
 -- what stands under the names that belong to shard i, of n
-unfoldable pub part : ℕ → PlainMap → ℕ → PlainMap
-part n m i = finite.retain_keys m (λ d. home n d == i)
+unfoldable pub partition : ℕ → PlainMap → ℕ → PlainMap
+partition n m i = finite.retain_keys m (λ d. home n d == i)
 
 -- the entries of p, and those of m under the names that p does not have
-abbrev pub join : PlainMap → PlainMap → PlainMap
-join m p = finite.from_entries (finite.entries p ++ finite.entries m)
+abbrev pub union : PlainMap → PlainMap → PlainMap
+union m p = finite.from_entries (finite.entries p ++ finite.entries m)
 
 -- the first count of the parts, together
-unfoldable pub together : ℕ → (ℕ → PlainMap) → PlainMap
-together zero parts = finite.empty
-together (suc count) parts = join (together count parts) (parts count)
+unfoldable pub merge : ℕ → (ℕ → PlainMap) → PlainMap
+merge zero parts = finite.empty
+merge (suc count) parts = union (merge count parts) (parts count)

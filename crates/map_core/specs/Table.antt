@@ -10,8 +10,8 @@ use Rattle.map_core.specs.declared.op.Op.{Op}
 use Rattle.map_core.specs.declared.op.Op.TheVariants.{Set, SetIf, Append, Remove, Get, FetchAll}
 use Rattle.map_core.specs.declared.op.Expect.{Expect}
 use Rattle.map_core.specs.declared.op.Expect.TheVariants.{Absent, Sequence, Unnumbered}
-use Rattle.map_core.specs.declared.held.Held.{Held}
-use Rattle.map_core.specs.declared.held.Held.TheVariants.{Published, Mark}
+use Rattle.map_core.specs.declared.held.Holding.{Holding}
+use Rattle.map_core.specs.declared.held.Holding.TheVariants.{Published, Mark}
 use Rattle.map_core.specs.declared.reply.Reply.{Reply}
 use Rattle.map_core.specs.declared.reply.Reply.TheVariants.{Stored, Unchanged, Appended, Removed, Found, Refused}
 use Rattle.map_core.specs.declared.reply.MapRefusal.TheVariants.{NoDomain, Stale, KidTaken, TooMany, TooLong, SequenceFull, NotExpected}
@@ -19,17 +19,17 @@ use Rattle.map_core.specs.Name.{Name}
 use Rattle.map_core.specs.Op.{expect_eq}
 
 -- what an operation on one name gives: the reply, and what the name holds then
-pub record Outcome : Type 0 where
+pub record Effect : Type 0 where
   pub reply : Reply
-  pub held : Option Held
+  pub held : Option Holding
 
 -- the name keeps what it held
-abbrev pub kept : Reply → Option Held → Outcome
-kept reply held = record { reply = reply; held = held }
+abbrev pub keep : Reply → Option Holding → Effect
+keep reply held = record { reply = reply; held = held }
 
 -- the bundle is stored, in place of what the name held
-abbrev pub stored : BundleValue → Outcome
-stored b = record { reply = Stored; held = Some (Published b) }
+abbrev pub store : BundleValue → Effect
+store b = record { reply = Stored; held = Some (Published b) }
 
 -- whether both sequences are there and the first is lower
 abbrev pub is_lower : Option ℕ → ℕ → Bool
@@ -37,68 +37,68 @@ is_lower None before = false
 is_lower (Some s) before = nat_lt s before
 
 -- the bundle is stored, unless its sequence is lower than the one before
-abbrev pub stored_after : Option ℕ → BundleValue → Option Held → Outcome
-stored_after None b held = stored b
-stored_after (Some before) b held = if is_lower b.sequence before then kept (Refused (Stale before)) held else stored b
+abbrev pub store_after : Option ℕ → BundleValue → Option Holding → Effect
+store_after None b held = store b
+store_after (Some before) b held = if is_lower b.sequence before then keep (Refused (Stale before)) held else store b
 
 -- Set: a mark is measured as the bundle that it was; an equal bundle stays
-abbrev pub set : BundleValue → Option Held → Outcome
-set b None = stored b
-set b (Some (Mark s)) = stored_after (Some s) b (Some (Mark s))
+abbrev pub set : BundleValue → Option Holding → Effect
+set b None = store b
+set b (Some (Mark s)) = store_after (Some s) b (Some (Mark s))
 set b (Some (Published c)) =
-    if bundle_eq b c then kept Unchanged (Some (Published c)) else stored_after c.sequence b (Some (Published c))
+    if bundle_eq b c then keep Unchanged (Some (Published c)) else store_after c.sequence b (Some (Published c))
 
 -- the expectation that fits a bundle of this sequence
-abbrev pub numbered : Option ℕ → Expect
-numbered (Some s) = Sequence s
-numbered None = Unnumbered
+abbrev pub expect_sequence : Option ℕ → Expect
+expect_sequence (Some s) = Sequence s
+expect_sequence None = Unnumbered
 
 -- the expectation that fits what is held: a mark is not a bundle
-abbrev pub expectation : Option Held → Expect
+abbrev pub expectation : Option Holding → Expect
 expectation None = Absent
 expectation (Some (Mark s)) = Absent
-expectation (Some (Published b)) = numbered b.sequence
+expectation (Some (Published b)) = expect_sequence b.sequence
 
 -- SetIf: as Set, if the expectation fits
-abbrev pub set_if : Expect → BundleValue → Option Held → Outcome
+abbrev pub set_if : Expect → BundleValue → Option Holding → Effect
 set_if expect b held =
-    if expect_eq expect (expectation held) then set b held else kept (Refused (NotExpected (expectation held))) held
+    if expect_eq expect (expectation held) then set b held else keep (Refused (NotExpected (expectation held))) held
 
 -- what is answered if the bundle doesn't take the authority (`appended` never gives Memory)
-abbrev pub not_appended : AppendError → Reply
-not_appended cannot.Present = Unchanged
-not_appended cannot.KidTaken = Refused KidTaken
-not_appended cannot.TooMany = Refused TooMany
-not_appended cannot.SequenceFull = Refused SequenceFull
-not_appended cannot.TooLong = Refused TooLong
-not_appended cannot.Memory = Unchanged
+abbrev pub append_refusal : AppendError → Reply
+append_refusal cannot.Present = Unchanged
+append_refusal cannot.KidTaken = Refused KidTaken
+append_refusal cannot.TooMany = Refused TooMany
+append_refusal cannot.SequenceFull = Refused SequenceFull
+append_refusal cannot.TooLong = Refused TooLong
+append_refusal cannot.Memory = Unchanged
 
 -- the longer bundle is held, if there is one
-abbrev pub append_to : BundleValue → Result BundleValue AppendError → Outcome
+abbrev pub append_to : BundleValue → Result BundleValue AppendError → Effect
 append_to b (Ok longer) = record { reply = Appended longer.sequence; held = Some (Published longer) }
-append_to b (Err why) = kept (not_appended why) (Some (Published b))
+append_to b (Err why) = keep (append_refusal why) (Some (Published b))
 
 -- Append: to a bundle only
-abbrev pub append : Authority → Option Held → Outcome
-append a None = kept (Refused NoDomain) None
-append a (Some (Mark s)) = kept (Refused NoDomain) (Some (Mark s))
+abbrev pub append : Authority → Option Holding → Effect
+append a None = keep (Refused NoDomain) None
+append a (Some (Mark s)) = keep (Refused NoDomain) (Some (Mark s))
 append a (Some (Published b)) = append_to b (appended b a)
 
 -- Remove: the bundle leaves a mark of its sequence, if it has one
-abbrev pub remove : Option Held → Outcome
-remove None = kept (Refused NoDomain) None
-remove (Some (Mark s)) = kept (Refused NoDomain) (Some (Mark s))
+abbrev pub remove : Option Holding → Effect
+remove None = keep (Refused NoDomain) None
+remove (Some (Mark s)) = keep (Refused NoDomain) (Some (Mark s))
 remove (Some (Published b)) = record { reply = Removed; held = option_map Mark b.sequence }
 
 -- Get: the bundle, if there is one
-abbrev pub get : Option Held → Outcome
-get None = kept (Refused NoDomain) None
-get (Some (Mark s)) = kept (Refused NoDomain) (Some (Mark s))
-get (Some (Published b)) = kept (Found b) (Some (Published b))
+abbrev pub get : Option Holding → Effect
+get None = keep (Refused NoDomain) None
+get (Some (Mark s)) = keep (Refused NoDomain) (Some (Mark s))
+get (Some (Published b)) = keep (Found b) (Some (Published b))
 
 -- an operation is on one name, by a row of the table, or on all names
 pub data OnName : Type 0 where
-  On_name : Name → (Option Held → Outcome) → OnName
+  On_name : Name → (Option Holding → Effect) → OnName
   On_all : OnName
 
 -- what each operation is on, and its row

@@ -4,15 +4,15 @@ ghost use Rattle.std.specs.FinMap as finite;
 ghost use Rattle.map_core.specs.Op.{domain_of, carries_nothing};
 ghost use Rattle.map_core.specs.declared.op.Op.TheVariants.{Set};
 ghost use Rattle.map_core.specs.Private.Outcome.{reply_of, left_by};
-ghost use Rattle.map_core.specs.PlainMap.{ask, join, bundles};
+ghost use Rattle.map_core.specs.PlainMap.{ask, union, bundles};
 ghost use Rattle.map_core.specs.Reply.{is_change};
 ghost use Rattle.map_core.specs.Union.{put_in_turn};
 
-use crate::held::Held;
+use crate::held::Holding;
 use crate::op::Op;
 use crate::reply::{AskError, Reply, Snapshot};
 use crate::table;
-use crate::table::Outcome;
+use crate::table::RowEffect;
 use spiffe_doc::{Bundle, TrustDomain};
 use std::alloc::{AllocError, Global};
 use std::collections::BTreeMap;
@@ -22,12 +22,12 @@ use std::marker::Model;
 #[derive(Drop)]
 pub struct Contents {
     alloc: Global,
-    held: BTreeMap<TrustDomain, Held>,
+    held: BTreeMap<TrustDomain, Holding>,
 }
 
 impl Model for Contents {
     ghost use Rattle.std.specs.FinMap as finite;
-    ghost use Rattle.map_core.specs.Codes.{plain_map_code};
+    ghost use Rattle.map_core.specs.Private.Codes.{plain_map_code};
     ghost use Rattle.map_core.specs.PlainMap.{PlainMap};
 
     ghost Value = { PlainMap };
@@ -74,14 +74,14 @@ impl Contents {
             return Err(AllocError);
         };
         // A mark of 0 refuses nothing: it stands for a name that was not there.
-        let there = entry.or_insert(Held::Mark(0));
+        let there = entry.or_insert(Holding::Mark(0));
         match table::set(Some(there), bundle) {
-            Outcome::Put(reply, held) => {
+            RowEffect::Put(reply, held) => {
                 *there = held;
                 Ok(reply)
             }
-            Outcome::Kept(reply) => Ok(reply),
-            Outcome::Cleared(reply) => Ok(reply),
+            RowEffect::Kept(reply) => Ok(reply),
+            RowEffect::Cleared(reply) => Ok(reply),
         }
     }
 
@@ -147,7 +147,7 @@ impl Contents {
         let Contents { alloc, held } = self;
         let mut taken = Vec::with_capacity(alloc, count)?;
         for (domain, held) in held {
-            if let Held::Published(bundle) = held {
+            if let Holding::Published(bundle) = held {
                 taken.push((domain, bundle))?;
             }
         }
@@ -155,8 +155,11 @@ impl Contents {
     }
 
     /// Pushes all names with what they hold, in order. The bundles are shared.
-    pub(crate) fn push_entries(&self, out: &mut Vec<(TrustDomain, Held)>) -> Result<(), AllocError>
-        ensures { OnOk result (put_in_turn out.new.items ≡ join (put_in_turn out.old.items) self.now) }
+    pub(crate) fn push_entries(
+        &self,
+        out: &mut Vec<(TrustDomain, Holding)>,
+    ) -> Result<(), AllocError>
+        ensures { OnOk result (put_in_turn out.new.items ≡ union (put_in_turn out.old.items) self.now) }
     {
         out.reserve(self.held.len())?;
         for (domain, held) in self.held.iter() {
@@ -168,7 +171,7 @@ impl Contents {
     /// The map of these entries, inserted in turn: of two under one name the later one stays.
     pub(crate) fn from_entries(
         alloc: Global,
-        entries: Vec<(TrustDomain, Held)>,
+        entries: Vec<(TrustDomain, Holding)>,
     ) -> Result<Contents, AllocError>
         ensures { IfOk result (λ all. all ≡ put_in_turn entries.items) }
     {
@@ -177,7 +180,7 @@ impl Contents {
     }
 
     /// What the operation gives.
-    fn outcome(&self, op: &Op) -> Result<Outcome, AllocError>
+    fn outcome(&self, op: &Op) -> Result<RowEffect, AllocError>
         ensures reply { IfOk result (λ outcome. reply_of outcome ≡ (ask self.now op.now).reply) }
         ensures left { IfOk result (λ outcome. left_by self.now (domain_of op.now) outcome ≡ (ask self.now op.now).map) }
     {
@@ -189,12 +192,16 @@ impl Contents {
             Op::Append(domain, authority) => table::append(self.alloc, self.at(domain), authority),
             Op::Remove(domain) => Ok(table::remove(self.at(domain))),
             Op::Get(domain) => table::get(self.at(domain)),
-            Op::FetchAll => Ok(Outcome::Kept(Reply::All(self.snapshot()?))),
+            Op::FetchAll => Ok(RowEffect::Kept(Reply::All(self.snapshot()?))),
         }
     }
 
     /// Leaves what an operation leaves, under the name that it was on.
-    fn settle(&mut self, domain: Option<TrustDomain>, outcome: Outcome) -> Result<Reply, AllocError>
+    fn settle(
+        &mut self,
+        domain: Option<TrustDomain>,
+        outcome: RowEffect,
+    ) -> Result<Reply, AllocError>
         ensures reply { IfOk result (λ reply. reply ≡ reply_of outcome) }
         ensures left { OnOk result (self.new ≡ left_by self.old domain outcome) }
         ensures err { OnErr result (self.new ≡ self.old) }
@@ -203,12 +210,12 @@ impl Contents {
             return Ok(outcome.into_reply());
         };
         match outcome {
-            Outcome::Kept(reply) => Ok(reply),
-            Outcome::Put(reply, held) => {
+            RowEffect::Kept(reply) => Ok(reply),
+            RowEffect::Put(reply, held) => {
                 self.store(domain, held)?;
                 Ok(reply)
             }
-            Outcome::Cleared(reply) => {
+            RowEffect::Cleared(reply) => {
                 self.clear(&domain);
                 Ok(reply)
             }
@@ -221,7 +228,7 @@ impl Contents {
     {
         let mut pairs = Vec::with_capacity(self.alloc, self.len())?;
         for (domain, held) in self.held.iter() {
-            if let Held::Published(bundle) = held {
+            if let Holding::Published(bundle) = held {
                 pairs.push((domain.copy()?, bundle.copy()?))?;
             }
         }
@@ -229,14 +236,14 @@ impl Contents {
     }
 
     /// What is held under the name.
-    fn at(&self, domain: &TrustDomain) -> Option<&Held>
+    fn at(&self, domain: &TrustDomain) -> Option<&Holding>
         ensures { option_copied result ≡ finite.get self.now domain.now }
     {
         self.held.get(domain)
     }
 
     /// Holds this under the name.
-    fn store(&mut self, domain: TrustDomain, held: Held) -> Result<(), AllocError>
+    fn store(&mut self, domain: TrustDomain, held: Holding) -> Result<(), AllocError>
         ensures ok { OnOk result (self.new ≡ finite.insert self.old domain held) }
         ensures err { OnErr result (self.new ≡ self.old) }
     {

@@ -7,36 +7,36 @@ use std::alloc::AllocError;
 
 /// What is held under a name: a bundle, or a mark of the sequence of one that was removed.
 #[derive(Drop)]
-pub enum Held {
+pub enum Holding {
     Published(Bundle),
     Mark(u64),
 }
 
-impl Held {
+impl Holding {
     /// Whether it is a bundle.
     pub(crate) fn is_published(&self) -> bool
         ensures { result ≡ is_published self.now }
     {
-        matches!(self, Held::Published(_))
+        matches!(self, Holding::Published(_))
     }
 
     /// The same bundle, shared, or the same mark.
-    pub(crate) fn copy(&self) -> Result<Held, AllocError>
+    pub(crate) fn copy(&self) -> Result<Holding, AllocError>
         ensures { IfOk result (λ copy. copy ≡ self.now) }
     {
         match self {
-            Held::Published(bundle) => Ok(Held::Published(bundle.copy()?)),
-            Held::Mark(sequence) => Ok(Held::Mark(*sequence)),
+            Holding::Published(bundle) => Ok(Holding::Published(bundle.copy()?)),
+            Holding::Mark(sequence) => Ok(Holding::Mark(*sequence)),
         }
     }
 }
 
-impl Clone for Held {
+impl Clone for Holding {
     ghost use Rattle.std.specs.Prelude.{◌≡◌};
 
     ghost is_clone = { λ held clone. clone ≡ held };
 
-    fn clone(&self) -> Result<Held, AllocError> {
+    fn clone(&self) -> Result<Holding, AllocError> {
         self.copy()
     }
 }

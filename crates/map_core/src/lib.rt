@@ -4,18 +4,18 @@
 //! nothing has changed. Whatever implements `Ask` and shows a map answers so too.
 #![tactic(auto)]
 
-pub mod ask;
-pub mod contents;
-pub mod held;
+mod ask;
+mod contents;
+mod held;
 pub mod laws;
-pub mod op;
-pub mod reply;
+mod op;
+mod reply;
 mod table;
-pub mod union;
+mod union;
 
 pub use ask::Ask;
 pub use contents::Contents;
-pub use held::Held;
+pub use held::Holding;
 pub use op::{Expect, Op};
 pub use reply::{AskError, MapRefusal, Reply, Snapshot};
 pub use union::Union;

@@ -5,9 +5,9 @@ ghost use Rattle.map_core.specs.Op.{expect_eq};
 ghost use Rattle.map_core.specs.Private.Outcome.{reply_of, outcome_at};
 ghost use Rattle.map_core.specs.Reply.{is_change};
 ghost use Rattle.map_core.specs.Table as rows;
-ghost use Rattle.map_core.specs.declared.held.Held.{Held};
+ghost use Rattle.map_core.specs.declared.held.Holding.{Holding};
 
-use crate::held::Held;
+use crate::held::Holding;
 use crate::op::Expect;
 use crate::reply::{MapRefusal, Reply};
 use spiffe_doc::{AppendError, Authority, Bundle};
@@ -15,21 +15,21 @@ use std::alloc::{AllocError, Global};
 
 /// What an operation on one name gives: the reply, and what is left under the name.
 #[derive(Drop)]
-pub(crate) enum Outcome {
+pub(crate) enum RowEffect {
     Kept(Reply),
-    Put(Reply, Held),
+    Put(Reply, Holding),
     Cleared(Reply),
 }
 
-impl Outcome {
+impl RowEffect {
     /// Whether the reply says that the map is changed.
     pub(crate) fn is_change(&self) -> bool
         ensures { result ≡ is_change (reply_of self.now) }
     {
         match self {
-            Outcome::Kept(reply) => reply.is_change(),
-            Outcome::Put(reply, _) => reply.is_change(),
-            Outcome::Cleared(reply) => reply.is_change(),
+            RowEffect::Kept(reply) => reply.is_change(),
+            RowEffect::Put(reply, _) => reply.is_change(),
+            RowEffect::Cleared(reply) => reply.is_change(),
         }
     }
 
@@ -38,30 +38,30 @@ impl Outcome {
         ensures { result ≡ reply_of self }
     {
         match self {
-            Outcome::Kept(reply) => reply,
-            Outcome::Put(reply, _) => reply,
-            Outcome::Cleared(reply) => reply,
+            RowEffect::Kept(reply) => reply,
+            RowEffect::Put(reply, _) => reply,
+            RowEffect::Cleared(reply) => reply,
         }
     }
 }
 
 /// The name keeps what it held.
-fn refused(why: MapRefusal) -> Outcome
-    ensures { (held : Option Held) → outcome_at held result ≡ rows.kept (Reply.Refused why) held }
+fn refused(why: MapRefusal) -> RowEffect
+    ensures { (held : Option Holding) → outcome_at held result ≡ rows.keep (Reply.Refused why) held }
 {
-    Outcome::Kept(Reply::Refused(why))
+    RowEffect::Kept(Reply::Refused(why))
 }
 
 /// `Set`, at a name that holds this.
-pub(crate) fn set(there: Option<&Held>, bundle: Bundle) -> Outcome
+pub(crate) fn set(there: Option<&Holding>, bundle: Bundle) -> RowEffect
     ensures { outcome_at (option_copied there.entry) result ≡ rows.set bundle (option_copied there.entry) }
 {
     match there {
-        None => Outcome::Put(Reply::Stored, Held::Published(bundle)),
-        Some(Held::Mark(sequence)) => stored_after(Some(*sequence), bundle),
-        Some(Held::Published(standing)) => {
+        None => RowEffect::Put(Reply::Stored, Holding::Published(bundle)),
+        Some(Holding::Mark(sequence)) => stored_after(Some(*sequence), bundle),
+        Some(Holding::Published(standing)) => {
             if bundle == *standing {
-                Outcome::Kept(Reply::Unchanged)
+                RowEffect::Kept(Reply::Unchanged)
             } else {
                 stored_after(standing.sequence(), bundle)
             }
@@ -70,23 +70,23 @@ pub(crate) fn set(there: Option<&Held>, bundle: Bundle) -> Outcome
 }
 
 /// The bundle is stored, unless its sequence is lower than the one before.
-fn stored_after(before: Option<u64>, bundle: Bundle) -> Outcome
-    ensures { (held : Option Held) → outcome_at held result ≡ rows.stored_after before bundle held }
+fn stored_after(before: Option<u64>, bundle: Bundle) -> RowEffect
+    ensures { (held : Option Holding) → outcome_at held result ≡ rows.store_after before bundle held }
 {
     match (bundle.sequence(), before) {
         (Some(sequence), Some(before)) if sequence < before => refused(MapRefusal::Stale(before)),
-        _ => Outcome::Put(Reply::Stored, Held::Published(bundle)),
+        _ => RowEffect::Put(Reply::Stored, Holding::Published(bundle)),
     }
 }
 
 /// The expectation that fits.
-fn expectation(there: Option<&Held>) -> Expect
+fn expectation(there: Option<&Holding>) -> Expect
     ensures { result ≡ rows.expectation (option_copied there.entry) }
 {
     match there {
         None => Expect::Absent,
-        Some(Held::Mark(_)) => Expect::Absent,
-        Some(Held::Published(bundle)) => match bundle.sequence() {
+        Some(Holding::Mark(_)) => Expect::Absent,
+        Some(Holding::Published(bundle)) => match bundle.sequence() {
             Some(sequence) => Expect::Sequence(sequence),
             None => Expect::Unnumbered,
         },
@@ -101,7 +101,7 @@ fn is_expected(expect: Expect, found: Expect) -> bool
 }
 
 /// `SetIf`, at a name that holds this.
-pub(crate) fn set_if(there: Option<&Held>, expect: Expect, bundle: Bundle) -> Outcome
+pub(crate) fn set_if(there: Option<&Holding>, expect: Expect, bundle: Bundle) -> RowEffect
     ensures { outcome_at (option_copied there.entry) result ≡ rows.set_if expect bundle (option_copied there.entry) }
 {
     let found = expectation(there);
@@ -115,30 +115,30 @@ pub(crate) fn set_if(there: Option<&Held>, expect: Expect, bundle: Bundle) -> Ou
 /// `Append`, at a name that holds this.
 pub(crate) fn append(
     alloc: Global,
-    there: Option<&Held>,
+    there: Option<&Holding>,
     authority: &Authority,
-) -> Result<Outcome, AllocError>
+) -> Result<RowEffect, AllocError>
     ensures { IfOk result (λ outcome.
         outcome_at (option_copied there.entry) outcome ≡ rows.append authority.now (option_copied there.entry)) }
 {
     match there {
-        Some(Held::Published(bundle)) => append_to(alloc, bundle, authority),
+        Some(Holding::Published(bundle)) => append_to(alloc, bundle, authority),
         _ => Ok(refused(MapRefusal::NoDomain)),
     }
 }
 
 /// `Append` to a bundle.
-fn append_to(alloc: Global, bundle: &Bundle, authority: &Authority) -> Result<Outcome, AllocError>
+fn append_to(alloc: Global, bundle: &Bundle, authority: &Authority) -> Result<RowEffect, AllocError>
     ensures { IfOk result (λ outcome.
-        outcome_at (Some (Held.Published bundle.now)) outcome ≡ rows.append_to bundle.now (appended bundle.now authority.now)) }
+        outcome_at (Some (Holding.Published bundle.now)) outcome ≡ rows.append_to bundle.now (appended bundle.now authority.now)) }
 {
     match bundle.appended(alloc, authority) {
         Ok(longer) => {
             let sequence = longer.sequence();
-            Ok(Outcome::Put(Reply::Appended(sequence), Held::Published(longer)))
+            Ok(RowEffect::Put(Reply::Appended(sequence), Holding::Published(longer)))
         }
         Err(AppendError::Memory) => Err(AllocError),
-        Err(AppendError::Present) => Ok(Outcome::Kept(Reply::Unchanged)),
+        Err(AppendError::Present) => Ok(RowEffect::Kept(Reply::Unchanged)),
         Err(AppendError::KidTaken) => Ok(refused(MapRefusal::KidTaken)),
         Err(AppendError::TooMany) => Ok(refused(MapRefusal::TooMany)),
         Err(AppendError::SequenceFull) => Ok(refused(MapRefusal::SequenceFull)),
@@ -147,25 +147,25 @@ fn append_to(alloc: Global, bundle: &Bundle, authority: &Authority) -> Result<Ou
 }
 
 /// `Remove`, at a name that holds this.
-pub(crate) fn remove(there: Option<&Held>) -> Outcome
+pub(crate) fn remove(there: Option<&Holding>) -> RowEffect
     ensures { outcome_at (option_copied there.entry) result ≡ rows.remove (option_copied there.entry) }
 {
     match there {
-        Some(Held::Published(bundle)) => match bundle.sequence() {
-            Some(sequence) => Outcome::Put(Reply::Removed, Held::Mark(sequence)),
-            None => Outcome::Cleared(Reply::Removed),
+        Some(Holding::Published(bundle)) => match bundle.sequence() {
+            Some(sequence) => RowEffect::Put(Reply::Removed, Holding::Mark(sequence)),
+            None => RowEffect::Cleared(Reply::Removed),
         },
         _ => refused(MapRefusal::NoDomain),
     }
 }
 
 /// `Get`, at a name that holds this.
-pub(crate) fn get(there: Option<&Held>) -> Result<Outcome, AllocError>
+pub(crate) fn get(there: Option<&Holding>) -> Result<RowEffect, AllocError>
     ensures { IfOk result (λ outcome.
         outcome_at (option_copied there.entry) outcome ≡ rows.get (option_copied there.entry)) }
 {
     match there {
-        Some(Held::Published(bundle)) => Ok(Outcome::Kept(Reply::Found(bundle.copy()?))),
+        Some(Holding::Published(bundle)) => Ok(RowEffect::Kept(Reply::Found(bundle.copy()?))),
         _ => Ok(refused(MapRefusal::NoDomain)),
     }
 }

@@ -1,10 +1,10 @@
 //! Maps put together.
 ghost use Rattle.std.specs.Prelude.{◌≡◌, IfOk};
 ghost use Rattle.std.specs.FinMap as finite;
-ghost use Rattle.map_core.specs.PlainMap.{join, bundles};
+ghost use Rattle.map_core.specs.PlainMap.{union, bundles};
 
 use crate::contents::Contents;
-use crate::held::Held;
+use crate::held::Holding;
 use crate::reply::Snapshot;
 use spiffe_doc::TrustDomain;
 use std::alloc::{AllocError, Global};
@@ -15,11 +15,11 @@ use std::marker::Model;
 #[derive(Drop)]
 pub struct Union {
     alloc: Global,
-    held: Vec<(TrustDomain, Held)>,
+    held: Vec<(TrustDomain, Holding)>,
 }
 
 impl Model for Union {
-    ghost use Rattle.map_core.specs.Codes.{plain_map_code};
+    ghost use Rattle.map_core.specs.Private.Codes.{plain_map_code};
     ghost use Rattle.map_core.specs.PlainMap.{PlainMap};
     ghost use Rattle.map_core.specs.Union.{put_in_turn};
 
@@ -43,8 +43,8 @@ impl Union {
 
     /// What the other holds, and under other names what these hold. The bundles are shared. If memory runs out,
     /// these are gone.
-    pub fn join(mut self, other: &Contents) -> Result<Union, AllocError>
-        ensures { IfOk result (λ joined. joined ≡ join self other.now) }
+    pub fn add(mut self, other: &Contents) -> Result<Union, AllocError>
+        ensures { IfOk result (λ added. added ≡ union self other.now) }
     {
         other.push_entries(&mut self.held)?;
         Ok(self)

@@ -7,10 +7,10 @@ use Rattle.spiffe_doc.specs.declared.error.DocError.{DocError}
 use Rattle.spiffe_doc.specs.Authority.{BundleValue}
 use Rattle.spiffe_doc.specs.Document.{document}
 use Rattle.spiffe_doc.specs.Equal.{bundle_eq}
-use Rattle.spiffe_doc.specs.Equality.{bundle_decides}
+use Rattle.spiffe_doc.specs.Private.Equality.{bundle_decides}
 use Rattle.map_core.specs.declared.op.Op.TheVariants.{Set}
-use Rattle.map_core.specs.declared.held.Held.{Held}
-use Rattle.map_core.specs.declared.held.Held.TheVariants.{Mark, Published}
+use Rattle.map_core.specs.declared.held.Holding.{Holding}
+use Rattle.map_core.specs.declared.held.Holding.TheVariants.{Mark, Published}
 use Rattle.map_core.specs.declared.reply.Reply.{Reply}
 use Rattle.map_core.specs.declared.reply.Reply.TheVariants.{Stored, Unchanged, Refused}
 use Rattle.map_core.specs.declared.reply.MapRefusal.TheVariants.{Stale}
@@ -19,14 +19,14 @@ use Rattle.map_core.specs.declared.reply.AskError.TheVariants.{Memory}
 use Rattle.map_core.specs.Ask.{ContentsAnswer}
 use Rattle.map_core.specs.Name.{Name}
 use Rattle.map_core.specs.Reply.{is_change}
-use Rattle.map_core.specs.Table.{Outcome as Row, kept, stored, stored_after, is_lower, set, meaning}
+use Rattle.map_core.specs.Table.{Effect as Row, keep, store, store_after, is_lower, set, meaning}
 use Rattle.map_core.specs.PlainMap.{PlainMap, ask}
 use Rattle.map_core.proofs.MapLaws.{ask_keeps, depends_on_name}
 use Rattle.refresh.specs.declared.outcome.Outcome.{Outcome}
 use Rattle.refresh.specs.declared.outcome.What.TheVariants.{Taken}
 use Rattle.refresh.specs.Relationship.{RelationshipValue}
 use Rattle.refresh.specs.Due.{due_after}
-use Rattle.refresh.specs.Refresh.{Follows, Judges, Sets, comes_to, told}
+use Rattle.refresh.specs.Refresh.{Follows, Judges, Sets, comes_to, outcome_of}
 use Rattle.refresh.specs.Laws.{LeavesMap, EqualIsUnchanged, OlderIsRefused, OnlyStoredChanges, OthersStay, DueIsLater}
 
 -- ---- due times
@@ -56,15 +56,15 @@ others_stay r now (Some bytes) m result n h name other = judged_leaves r now (do
 -- ---- documents that change nothing
 
 -- a Set is answered by the row of its name
-set_reply : (m : PlainMap) (d : Name) (b : BundleValue) (held : Option Held) → finite.get m d ≡ held → (ask m (Set d b)).reply ≡ (set b held).reply
+set_reply : (m : PlainMap) (d : Name) (b : BundleValue) (held : Option Holding) → finite.get m d ≡ held → (ask m (Set d b)).reply ≡ (set b held).reply
 unfolding ask meaning
-set_reply m d b held is = ap (λ (h : Option Held). (set b h).reply) is
+set_reply m d b held is = ap (λ (h : Option Holding). (set b h).reply) is
 
 told_reply : (now : ℕ) (hint : Option ℕ) (m : PlainMap) (d : Name) (b : BundleValue) (reply : Reply) (answer : Result Reply AskError) (n : PlainMap) (result : Result Outcome AllocError)
-    → (ask m (Set d b)).reply ≡ reply → is_change reply ≡ false → ContentsAnswer m (Set d b) answer n → result ≡ told now hint answer → LeavesMap now hint reply m result n
+    → (ask m (Set d b)).reply ≡ reply → is_change reply ≡ false → ContentsAnswer m (Set d b) answer n → result ≡ outcome_of now hint answer → LeavesMap now hint reply m result n
 told_reply now hint m d b reply (Ok given) n result is keeps h t =
     (inl (t ∙ ap (λ (x : Reply). comes_to now hint (Taken x)) (h.0 ∙ is)), h.1 ∙ ask_keeps m (Set d b) (ap is_change is ∙ keeps))
-told_reply now hint m d b reply (Err e) n result is keeps h t = (inr (t ∙ ap (λ (x : AskError). told now hint (Err x)) h.0), h.1)
+told_reply now hint m d b reply (Err e) n result is keeps h t = (inr (t ∙ ap (λ (x : AskError). outcome_of now hint (Err x)) h.0), h.1)
 
 set_leaves : (r : RelationshipValue) (now : ℕ) (b : BundleValue) (reply : Reply) (m : PlainMap) (result : Result Outcome AllocError) (n : PlainMap)
     → (ask m (Set r.domain b)).reply ≡ reply → is_change reply ≡ false → Sets ContentsAnswer r now b m result n → LeavesMap now b.refresh_hint reply m result n
@@ -77,7 +77,7 @@ read_as : (r : RelationshipValue) (now : ℕ) (bytes : List ℕ) (b : BundleValu
 read_as r now bytes b m result n is h = subst (λ (j : Result BundleValue DocError). Judges ContentsAnswer r now j m result n) is h
 
 equal_row : (b : BundleValue) → (set b (Some (Published b))).reply ≡ Unchanged
-equal_row b = ap (λ t. (let o : Row = cond t (kept Unchanged (Some (Published b))) (stored_after b.sequence b (Some (Published b))) in o).reply) ((bundle_decides b b).1 refl)
+equal_row b = ap (λ t. (let o : Row = cond t (keep Unchanged (Some (Published b))) (store_after b.sequence b (Some (Published b))) in o).reply) ((bundle_decides b b).1 refl)
 
 pub equal_is_unchanged : EqualIsUnchanged
 equal_is_unchanged r now bytes b m result n is held h =
@@ -96,15 +96,15 @@ lower_test : (s t : ℕ) → s < t → nat_lt s t ≡ true
 lower_test s t l = grind (arith, nat_tests)
 
 older_after : (b c : BundleValue) (s t : ℕ) → b.sequence ≡ Some s → c.sequence ≡ Some t → s < t
-    → (stored_after c.sequence b (Some (Published c))).reply ≡ Refused (Stale t)
+    → (store_after c.sequence b (Some (Published c))).reply ≡ Refused (Stale t)
 older_after b c s t bs cs l =
-    ap (λ (x : Option ℕ). (stored_after x b (Some (Published c))).reply) cs
-    ∙ ap (λ (x : Option ℕ). (let o : Row = cond (is_lower x t) (kept (Refused (Stale t)) (Some (Published c))) (stored b) in o).reply) bs
-    ∙ ap (λ x. (let o : Row = cond x (kept (Refused (Stale t)) (Some (Published c))) (stored b) in o).reply) (lower_test s t l)
+    ap (λ (x : Option ℕ). (store_after x b (Some (Published c))).reply) cs
+    ∙ ap (λ (x : Option ℕ). (let o : Row = cond (is_lower x t) (keep (Refused (Stale t)) (Some (Published c))) (store b) in o).reply) bs
+    ∙ ap (λ x. (let o : Row = cond x (keep (Refused (Stale t)) (Some (Published c))) (store b) in o).reply) (lower_test s t l)
 
 older_row : (b c : BundleValue) (s t : ℕ) → b.sequence ≡ Some s → c.sequence ≡ Some t → s < t → (set b (Some (Published c))).reply ≡ Refused (Stale t)
 older_row b c s t bs cs l =
-    elim (bundle_eq b c) as (λ x. bundle_eq b c ≡ x → (let o : Row = cond x (kept Unchanged (Some (Published c))) (stored_after c.sequence b (Some (Published c))) in o).reply ≡ Refused (Stale t)) [
+    elim (bundle_eq b c) as (λ x. bundle_eq b c ≡ x → (let o : Row = cond x (keep Unchanged (Some (Published c))) (store_after c.sequence b (Some (Published c))) in o).reply ≡ Refused (Stale t)) [
       | true ↦ λ same. absurd (apart b c s t bs cs l same)
       | false ↦ λ other. older_after b c s t bs cs l
     ] refl
@@ -115,24 +115,24 @@ older_is_refused r now bytes b c s t m result n is held bs cs l h =
 
 -- ---- what changes the map
 
-after_is : (before : Option ℕ) (b : BundleValue) (held : Option Held)
-    → ((stored_after before b held).reply ≡ Stored) ⊎ (is_change (stored_after before b held).reply ≡ false)
+after_is : (before : Option ℕ) (b : BundleValue) (held : Option Holding)
+    → ((store_after before b held).reply ≡ Stored) ⊎ (is_change (store_after before b held).reply ≡ false)
 after_is None b held = inl refl
 after_is (Some before) b held =
-    elim (is_lower b.sequence before) as (λ t. ((let o : Row = cond t (kept (Refused (Stale before)) held) (stored b) in o).reply ≡ Stored)
-    ⊎ (is_change (let o : Row = cond t (kept (Refused (Stale before)) held) (stored b) in o).reply ≡ false)) [ true ↦ inr refl | false ↦ inl refl ]
+    elim (is_lower b.sequence before) as (λ t. ((let o : Row = cond t (keep (Refused (Stale before)) held) (store b) in o).reply ≡ Stored)
+    ⊎ (is_change (let o : Row = cond t (keep (Refused (Stale before)) held) (store b) in o).reply ≡ false)) [ true ↦ inr refl | false ↦ inl refl ]
 
 -- a Set is answered by Stored, or keeps the map
-row_is : (b : BundleValue) (held : Option Held) → ((set b held).reply ≡ Stored) ⊎ (is_change (set b held).reply ≡ false)
+row_is : (b : BundleValue) (held : Option Holding) → ((set b held).reply ≡ Stored) ⊎ (is_change (set b held).reply ≡ false)
 row_is b None = inl refl
 row_is b (Some (Mark s)) = after_is (Some s) b (Some (Mark s))
 row_is b (Some (Published c)) =
-    elim (bundle_eq b c) as (λ t. ((let o : Row = cond t (kept Unchanged (Some (Published c))) (stored_after c.sequence b (Some (Published c))) in o).reply ≡ Stored)
-    ⊎ (is_change (let o : Row = cond t (kept Unchanged (Some (Published c))) (stored_after c.sequence b (Some (Published c))) in o).reply ≡ false))
+    elim (bundle_eq b c) as (λ t. ((let o : Row = cond t (keep Unchanged (Some (Published c))) (store_after c.sequence b (Some (Published c))) in o).reply ≡ Stored)
+    ⊎ (is_change (let o : Row = cond t (keep Unchanged (Some (Published c))) (store_after c.sequence b (Some (Published c))) in o).reply ≡ false))
     [ true ↦ inr refl | false ↦ after_is c.sequence b (Some (Published c)) ]
 
 told_changes : (now : ℕ) (hint : Option ℕ) (m : PlainMap) (d : Name) (b : BundleValue) (answer : Result Reply AskError) (n : PlainMap) (result : Result Outcome AllocError)
-    → ContentsAnswer m (Set d b) answer n → result ≡ told now hint answer → (result ≡ comes_to now hint (Taken Stored)) ⊎ (n ≡ m)
+    → ContentsAnswer m (Set d b) answer n → result ≡ outcome_of now hint answer → (result ≡ comes_to now hint (Taken Stored)) ⊎ (n ≡ m)
 told_changes now hint m d b (Err e) n result h t = inr h.1
 told_changes now hint m d b (Ok given) n result h t =
     let same : (ask m (Set d b)).reply ≡ (set b (finite.get m d)).reply = set_reply m d b (finite.get m d) refl in

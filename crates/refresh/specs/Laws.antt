@@ -4,7 +4,7 @@ use Rattle.std.specs.declared.alloc.AllocError.{AllocError}
 use Rattle.std.specs.FinMap as finite
 use Rattle.spiffe_doc.specs.Authority.{BundleValue}
 use Rattle.spiffe_doc.specs.Document.{document}
-use Rattle.map_core.specs.declared.held.Held.TheVariants.{Published}
+use Rattle.map_core.specs.declared.held.Holding.TheVariants.{Published}
 use Rattle.map_core.specs.declared.reply.Reply.{Reply}
 use Rattle.map_core.specs.declared.reply.Reply.TheVariants.{Stored, Unchanged, Refused}
 use Rattle.map_core.specs.declared.reply.MapRefusal.TheVariants.{Stale}

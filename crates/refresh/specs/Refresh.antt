@@ -8,7 +8,7 @@ use Rattle.map_core.specs.declared.op.Op.{Op}
 use Rattle.map_core.specs.declared.op.Op.TheVariants.{Set}
 use Rattle.map_core.specs.declared.reply.Reply.{Reply}
 use Rattle.map_core.specs.declared.reply.AskError.{AskError}
-use Rattle.map_core.specs.declared.reply.AskError.TheVariants.{Memory, Worn, Moved, Held, GateShut}
+use Rattle.map_core.specs.declared.reply.AskError.TheVariants.{Memory}
 use Rattle.refresh.specs.declared.outcome.Outcome.{Outcome}
 use Rattle.refresh.specs.declared.outcome.What.{What}
 use Rattle.refresh.specs.declared.outcome.What.TheVariants.{Taken, BadDocument, NoAnswer, Asked}
@@ -20,19 +20,16 @@ abbrev pub comes_to : ℕ → Option ℕ → What → Result Outcome AllocError
 comes_to now hint what = Ok (record { what = what; due = due_after now hint })
 
 -- what the answer to the Set comes to: out of memory is an error
-abbrev pub told : ℕ → Option ℕ → Result Reply AskError → Result Outcome AllocError
-told now hint (Ok reply) = comes_to now hint (Taken reply)
-told now hint (Err Memory) = Err alloc_error
-told now hint (Err (Worn shard)) = comes_to now hint (Asked (Worn shard))
-told now hint (Err (Moved shard first second)) = comes_to now hint (Asked (Moved shard first second))
-told now hint (Err (Held shard revision)) = comes_to now hint (Asked (Held shard revision))
-told now hint (Err GateShut) = comes_to now hint (Asked GateShut)
+abbrev pub outcome_of : ℕ → Option ℕ → Result Reply AskError → Result Outcome AllocError
+outcome_of now hint (Ok reply) = comes_to now hint (Taken reply)
+outcome_of now hint (Err Memory) = Err alloc_error
+outcome_of now hint (Err error) = comes_to now hint (Asked error)
 
 module _ {A : Type 0} (answers : A → Op → Result Reply AskError → A → Type 0) where
   -- The bundle that was read is set in the relationship's trust domain, by one Set; or out of memory, and the map is as before.
   abbrev pub Sets : RelationshipValue → ℕ → BundleValue → A → Result Outcome AllocError → A → Type 0
   Sets r now bundle before result after =
-      ((answer : Result Reply AskError) × answers before (Set r.domain bundle) answer after × (result ≡ told now bundle.refresh_hint answer))
+      ((answer : Result Reply AskError) × answers before (Set r.domain bundle) answer after × (result ≡ outcome_of now bundle.refresh_hint answer))
       ⊎ ((result ≡ Err alloc_error) × (after ≡ before))
 
   -- What was fetched is a bundle, which is set; or it is not, and the map is as before.

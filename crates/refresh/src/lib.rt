@@ -6,12 +6,12 @@
 #![tactic(auto)]
 
 mod due;
-pub mod error;
+mod error;
 pub mod laws;
-pub mod outcome;
-pub mod relationship;
-pub mod schedule;
-pub mod source;
+mod outcome;
+mod relationship;
+mod schedule;
+mod source;
 
 pub use due::next_due;
 pub use error::RelationError;

@@ -11,12 +11,12 @@ pub struct SourceFault;
 pub trait Source {
     ghost use Rattle.std.specs.Prelude.{ℕ, List, Option};
     ghost use Rattle.refresh.specs.Relationship.{RelationshipValue};
-    ghost use Rattle.refresh.specs.Fetch.{fetched};
+    ghost use Rattle.refresh.specs.Fetch.{fetch_result};
 
     // In the state before, a fetch for the relationship may give this document, or none, and leave the state after.
     ghost fetches: { Self → RelationshipValue → Option (List ℕ) → Self → Type 0 };
 
     /// Fetches the document of the relationship's bundle endpoint, once. The bytes are not judged.
     fn fetch(&mut self, relationship: &Relationship) -> Result<Vec<u8>, SourceFault>
-        ensures { fetches self.old relationship.now (fetched result) self.new };
+        ensures { fetches self.old relationship.now (fetch_result result) self.new };
 }

@@ -5,18 +5,18 @@ use Rattle.std.proofs.Math.Seq.{take-suc}
 use Rattle.std.proofs.lemmas.Grind.{flat_map-append}
 use Rattle.commands.specs.Fault.{fault_line}
 use Rattle.commands.specs.declared.fault.Fault.TheVariants as faults
-use Rattle.server.specs.Serve.{begun, have_come, session_lines, results_of}
+use Rattle.server.specs.Serve.{session_count, all_came, session_lines, results_of}
 use Rattle.workers.specs.declared.sessions.SessionFault.{SessionFault}
 use Rattle.workers.specs.declared.sessions.SessionFault.TheVariants.{Front, Listen}
 use Rattle.workers.specs.declared.run.Worked.{Worked}
 
-pub begun_append : (results more : List (Result ℕ SessionFault)) → begun (results ++ more) ≡ begun results + begun more
+pub begun_append : (results more : List (Result ℕ SessionFault)) → session_count (results ++ more) ≡ session_count results + session_count more
 begun_append [] more = omega arith
 begun_append (Ok count ∷ results) more = omega (arith, begun_append results more)
 begun_append (Err (Front error) ∷ results) more = omega (arith, begun_append results more)
 begun_append (Err Listen ∷ results) more = begun_append results more
 
-pub come_append : (results more : List (Result ℕ SessionFault)) → have_come (results ++ more) ≡ (have_come results && have_come more)
+pub come_append : (results more : List (Result ℕ SessionFault)) → all_came (results ++ more) ≡ (all_came results && all_came more)
 come_append [] more = refl
 come_append (Ok count ∷ results) more = come_append results more
 come_append (Err (Front error) ∷ results) more = come_append results more
@@ -40,11 +40,11 @@ one_more : {X : Type 0} (xs : List X) (i : ℕ) (d : X) → i < length xs → ta
 one_more xs i d inside = let next : i + 1 ≡ suc i = omega arith in ap (λ (n : ℕ). take n xs) next ∙ take-suc xs i d inside
 
 module _ (results : List (Result ℕ SessionFault)) (i : ℕ) (d : Result ℕ SessionFault) (inside : i < length results) where
-  pub begun_step : begun (take (i + 1) results) ≡ begun (take i results) + begun (get_or results i d ∷ [])
-  begun_step = ap begun (one_more results i d inside) ∙ begun_append (take i results) (get_or results i d ∷ [])
+  pub begun_step : session_count (take (i + 1) results) ≡ session_count (take i results) + session_count (get_or results i d ∷ [])
+  begun_step = ap session_count (one_more results i d inside) ∙ begun_append (take i results) (get_or results i d ∷ [])
 
-  pub come_step : have_come (take (i + 1) results) ≡ (have_come (take i results) && have_come (get_or results i d ∷ []))
-  come_step = ap have_come (one_more results i d inside) ∙ come_append (take i results) (get_or results i d ∷ [])
+  pub come_step : all_came (take (i + 1) results) ≡ (all_came (take i results) && all_came (get_or results i d ∷ []))
+  come_step = ap all_came (one_more results i d inside) ∙ come_append (take i results) (get_or results i d ∷ [])
 
   pub lines_step : session_lines (take (i + 1) results) ≡ session_lines (take i results) ++ session_lines (get_or results i d ∷ [])
   lines_step = ap session_lines (one_more results i d inside) ∙ lines_append (take i results) (get_or results i d ∷ [])
@@ -55,11 +55,11 @@ module _ (worked : List Worked) (i : ℕ) (w : Worked) (inside : i < length work
       ap results_of (one_more worked i w inside ∙ ap (λ v. take i worked ++ v ∷ []) (sym is))
       ∙ results_push (take i worked) w
 
-  pub all_begun_step : begun (results_of (take (i + 1) worked)) ≡ begun (results_of (take i worked)) + begun w.results.items
-  all_begun_step = ap begun results_step ∙ begun_append (results_of (take i worked)) w.results.items
+  pub all_begun_step : session_count (results_of (take (i + 1) worked)) ≡ session_count (results_of (take i worked)) + session_count w.results.items
+  all_begun_step = ap session_count results_step ∙ begun_append (results_of (take i worked)) w.results.items
 
-  pub all_come_step : have_come (results_of (take (i + 1) worked)) ≡ (have_come (results_of (take i worked)) && have_come w.results.items)
-  all_come_step = ap have_come results_step ∙ come_append (results_of (take i worked)) w.results.items
+  pub all_come_step : all_came (results_of (take (i + 1) worked)) ≡ (all_came (results_of (take i worked)) && all_came w.results.items)
+  all_come_step = ap all_came results_step ∙ come_append (results_of (take i worked)) w.results.items
 
   pub all_lines_step : session_lines (results_of (take (i + 1) worked)) ≡ session_lines (results_of (take i worked)) ++ session_lines w.results.items
   all_lines_step = ap session_lines results_step ∙ lines_append (results_of (take i worked)) w.results.items

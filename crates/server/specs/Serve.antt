@@ -4,7 +4,7 @@ use Rattle.std.specs.List.{All, flat_map}
 use Rattle.std.specs.Io.KnownBytes.{Appends}
 use Rattle.frame_front.specs.Counted.{next_count}
 use Rattle.frame_front.specs.Outbox.{WritesFront}
-use Rattle.frame_front.specs.Dump.{Domains as AllDomains, IsDump, AreLawful, FaultOfDump, requests_for}
+use Rattle.frame_front.specs.Dump.{Domains as AllDomains, IsDump, HaveValidBundles, FaultOfDump, requests_for}
 use Rattle.frame_front.specs.Frame.{stream_of}
 use Rattle.frame_front.specs.declared.dump.DumpError.{DumpError}
 use Rattle.frame_front.specs.declared.error.FrontError.{FrontError}
@@ -41,25 +41,23 @@ IsOffered true line old new = Appends old.bytes new.bytes line × (new.faults �
 IsOffered false line old new = WritesFront old.bytes new.bytes line × (new.faults ≡ next_count old.faults)
 
 -- the fault of a line that was not taken
-abbrev pub untaken : Bool → List ℕ
-untaken true = []
-untaken false = fault_line (Front WriteFault)
+abbrev pub write_fault : Bool → List ℕ
+write_fault true = []
+write_fault false = fault_line (Front WriteFault)
 
 -- ---- the sessions
 
 -- how many sessions were begun
-abbrev pub begun : List (Result ℕ SessionFault) → ℕ
-begun [] = 0
-begun (Ok count ∷ results) = suc (begun results)
-begun (Err (session.Front error) ∷ results) = suc (begun results)
-begun (Err session.Listen ∷ results) = begun results
+abbrev pub session_count : List (Result ℕ SessionFault) → ℕ
+session_count [] = 0
+session_count (Err session.Listen ∷ results) = session_count results
+session_count (result ∷ results) = suc (session_count results)
 
 -- a session came each time that a worker waited for one
-abbrev pub have_come : List (Result ℕ SessionFault) → Bool
-have_come [] = true
-have_come (Ok count ∷ results) = have_come results
-have_come (Err (session.Front error) ∷ results) = have_come results
-have_come (Err session.Listen ∷ results) = false
+abbrev pub all_came : List (Result ℕ SessionFault) → Bool
+all_came [] = true
+all_came (Err session.Listen ∷ results) = false
+all_came (result ∷ results) = all_came results
 
 -- the lines of their faults
 abbrev pub session_lines : List (Result ℕ SessionFault) → List ℕ
@@ -80,7 +78,7 @@ OffersDomains (Ok contents) taken old new = IsOffered taken (said_line (Domains 
 OffersDomains (Err error) taken old new = (new ≡ old) × (taken ≡ false)
 
 abbrev pub closing_line : Result PlainMap CloseError → Bool → List ℕ
-closing_line (Ok contents) taken = untaken taken
+closing_line (Ok contents) taken = write_fault taken
 closing_line (Err error) taken = fault_line (Close error)
 
 -- After the sessions: `served N`, their faults in order of the workers, and `domains M` or why the store gave no map. The status
@@ -88,14 +86,14 @@ closing_line (Err error) taken = fault_line (Close error)
 pub record Reports (worked : List Worked) (before status : ℕ) (out_old out_new err_old err_new : End) : Type 0 where
   pub served_taken : Bool
   pub between : End
-  pub served : IsOffered served_taken (said_line (Served (min (begun (results_of worked)) 18446744073709551615))) out_old between
+  pub served : IsOffered served_taken (said_line (Served (min (session_count (results_of worked)) 18446744073709551615))) out_old between
   pub closed : Result PlainMap CloseError
   pub closes : ClosesAs worked closed
   pub domains_taken : Bool
   pub domains : OffersDomains closed domains_taken between out_new
-  pub told : TellsUnlessFailed before err_old err_new
-      (untaken served_taken ++ (session_lines (results_of worked) ++ closing_line closed domains_taken))
-  pub has_status : status ≡ (if served_taken && (have_come (results_of worked) && domains_taken) then 0 else 1)
+  pub tells : TellsUnlessFailed before err_old err_new
+      (write_fault served_taken ++ (session_lines (results_of worked) ++ closing_line closed domains_taken))
+  pub has_status : status ≡ (if served_taken && (all_came (results_of worked) && domains_taken) then 0 else 1)
 
 -- ---- the whole command
 
@@ -106,7 +104,7 @@ always_open worker call is_open = is_open ≡ true
 -- what fills the store before anything is accepted: nothing, or the requests that store again what a dump holds
 abbrev pub IsLoad : {A : Type 0} → Option A → List ℕ → Type 0
 IsLoad None requests = requests ≡ []
-IsLoad (Some file) requests = (dump : List ℕ) × (items : AllDomains) × IsDump dump items × AreLawful items × (requests ≡ stream_of (requests_for items) [])
+IsLoad (Some file) requests = (dump : List ℕ) × (items : AllDomains) × IsDump dump items × HaveValidBundles items × (requests ≡ stream_of (requests_for items) [])
 
 -- why a file loads nothing: it is not read, since memory ran out or for a fault of an input, or what it holds is not a dump
 abbrev pub IsLoadFault : Fault → Type 0
@@ -159,7 +157,7 @@ pub record Listens (store : StoreView) (passes : List PassView) (port status : �
   pub out : End
   pub error : End
   pub listening : IsOffered taken (said_line (Listening port)) out_old out
-  pub told : TellsUnlessFailed err_old.faults err_old error (untaken taken)
+  pub tells : TellsUnlessFailed err_old.faults err_old error (write_fault taken)
   pub serves : ServesIf taken store passes err_old.faults status out out_new error err_new
 
 -- It ends before anything is said, and why is told.

@@ -1,6 +1,6 @@
 //! What a server says, on its output and on standard error.
 ghost use Rattle.std.specs.Prelude.{◌≡◌, ◌<◌, ◌≤◌, ◌-◌, ◌+◌, ◌^◌, ◌++◌, ◌∷◌, [], min, length, decimal};
-ghost use Rattle.server.specs.Serve.{IsOffered, said_line, untaken, begun, have_come, session_lines, results_of};
+ghost use Rattle.server.specs.Serve.{IsOffered, said_line, write_fault, session_count, all_came, session_lines, results_of};
 ghost use Rattle.commands.specs.Streams.{TellsUnlessFailed, end_of};
 
 use arrayvec::ArrayVec;
@@ -59,7 +59,7 @@ pub fn say<W: Write, E: Write>(
 ) -> bool
     requires { before < 2 ^ 64 - 1 }
     ensures offered { IsOffered result (said_line said) (end_of W.contents out.old) (end_of W.contents out.new) }
-    ensures told { TellsUnlessFailed before (end_of E.contents err.old) (end_of E.contents err.new) (untaken result) }
+    ensures tells { TellsUnlessFailed before (end_of E.contents err.old) (end_of E.contents err.new) (write_fault result) }
 {
     let line = said.line();
     match write_flushed(out, line.as_slice()) {
@@ -73,7 +73,7 @@ pub fn say<W: Write, E: Write>(
 
 /// How many sessions of all workers were begun.
 pub fn count_begun(worked: &[Worked]) -> u64
-    ensures { result ≡ min (begun (results_of worked.now)) 18446744073709551615 }
+    ensures { result ≡ min (session_count (results_of worked.now)) 18446744073709551615 }
 {
     let mut count = 0;
     for worker in worked {
@@ -84,7 +84,7 @@ pub fn count_begun(worked: &[Worked]) -> u64
 
 /// The number, and how many of these sessions were begun.
 fn begun_after(before: u64, results: &[Result<u64, SessionFault>]) -> u64
-    ensures { result ≡ min (before + begun results.now) 18446744073709551615 }
+    ensures { result ≡ min (before + session_count results.now) 18446744073709551615 }
 {
     let mut count = before;
     for result in results {
@@ -94,7 +94,7 @@ fn begun_after(before: u64, results: &[Result<u64, SessionFault>]) -> u64
 }
 
 fn begun_of(ended: &Result<u64, SessionFault>) -> u64
-    ensures { result ≡ begun (ended.now ∷ []) }
+    ensures { result ≡ session_count (ended.now ∷ []) }
 {
     match ended {
         Ok(_) | Err(SessionFault::Front(_)) => 1,
@@ -106,8 +106,8 @@ fn begun_of(ended: &Result<u64, SessionFault>) -> u64
 /// `before` of them had failed. Answers whether a session came each time that a worker waited for one.
 pub fn tell_faults<E: Write>(worked: &[Worked], err: &mut Counted<E>, before: u64) -> bool
     requires { before < 2 ^ 64 - 1 }
-    ensures told { TellsUnlessFailed before (end_of E.contents err.old) (end_of E.contents err.new) (session_lines (results_of worked.now)) }
-    ensures came { result ≡ have_come (results_of worked.now) }
+    ensures tells { TellsUnlessFailed before (end_of E.contents err.old) (end_of E.contents err.new) (session_lines (results_of worked.now)) }
+    ensures came { result ≡ all_came (results_of worked.now) }
 {
     let mut have_come = true;
     for worker in worked {
@@ -123,8 +123,8 @@ fn tell_results<E: Write>(
     before: u64,
 ) -> bool
     requires { before < 2 ^ 64 - 1 }
-    ensures told { TellsUnlessFailed before (end_of E.contents err.old) (end_of E.contents err.new) (session_lines results.now) }
-    ensures came { result ≡ have_come results.now }
+    ensures tells { TellsUnlessFailed before (end_of E.contents err.old) (end_of E.contents err.new) (session_lines results.now) }
+    ensures came { result ≡ all_came results.now }
 {
     let mut have_come = true;
     for result in results {
@@ -137,8 +137,8 @@ fn tell_results<E: Write>(
 #[tactic(auto, using(commands::proofs::Telling::told_nothing))]
 fn tell_end<E: Write>(ended: &Result<u64, SessionFault>, err: &mut Counted<E>, before: u64) -> bool
     requires { before < 2 ^ 64 - 1 }
-    ensures told { TellsUnlessFailed before (end_of E.contents err.old) (end_of E.contents err.new) (session_lines (ended.now ∷ [])) }
-    ensures came { result ≡ have_come (ended.now ∷ []) }
+    ensures tells { TellsUnlessFailed before (end_of E.contents err.old) (end_of E.contents err.new) (session_lines (ended.now ∷ [])) }
+    ensures came { result ≡ all_came (ended.now ∷ []) }
 {
     match ended {
         Ok(_) => true,

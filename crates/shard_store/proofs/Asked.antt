@@ -14,16 +14,16 @@ use Rattle.map_core.proofs.Asks.{fetch_all}
 use Rattle.shard_store.specs.declared.change.Seen.{Seen}
 use Rattle.shard_store.specs.Changes.{after}
 use Rattle.shard_store.specs.Pass.{StoreView}
-use Rattle.shard_store.specs.Promise.{Concerns, Answered, IsRefusedAt, IsRefused, StoreAnswer}
+use Rattle.shard_store.specs.Promise.{Concerns, IsReply, IsRefusedAt, IsRefused, StoreAnswer}
 use Rattle.shard_store.proofs.Promise.{refused_at, at_each, fetch_has_no_home}
 use Rattle.shard_store.proofs.Changes.{not_some}
 
-by_shard : (r : Result Reply AskError) (store : StoreView) (op : Op) (s t : Seen) → MatchResult r (λ reply. Answered op s reply t) (IsRefusedAt store.id.slots op s t) → StoreAnswer store op s r t
+by_shard : (r : Result Reply AskError) (store : StoreView) (op : Op) (s t : Seen) → MatchResult r (λ reply. IsReply op s reply t) (IsRefusedAt store.id.slots op s t) → StoreAnswer store op s r t
 by_shard (Ok reply) store op s t a = a
 by_shard (Err e) store op s t a = refused_at store op s t e a
 
 -- an operation that is for no shard is answered as a fetch-all
-any_fetch : (n : ℕ) (op : Op) (s t : Seen) (reply : Reply) → shard_of n op ≡ None → Answered FetchAll s reply t → Answered op s reply t
+any_fetch : (n : ℕ) (op : Op) (s t : Seen) (reply : Reply) → shard_of n op ≡ None → IsReply FetchAll s reply t → IsReply op s reply t
 any_fetch n op s t reply none a = (
   a.0,
   a.1,
@@ -45,18 +45,18 @@ any_refused store op s t (Moved i k m) none r = (r.0, r.1, none, r.3, r.4, r.5)
 any_refused store op s t GateShut none r = absurd r
 
 by_all : (r : Result Reply AskError) (store : StoreView) (op : Op) (s t : Seen) → shard_of store.id.slots op ≡ None
-    → MatchResult r (λ reply. Answered FetchAll s reply t) (IsRefused store FetchAll s t) → StoreAnswer store op s r t
+    → MatchResult r (λ reply. IsReply FetchAll s reply t) (IsRefused store FetchAll s t) → StoreAnswer store op s r t
 by_all (Ok reply) store op s t none a = any_fetch store.id.slots op s t reply none a
 by_all (Err e) store op s t none a = any_refused store op s t e none a
 
 -- the answer of one shard, at the store's own names
 pub shard_answers : (r : Result Reply AskError) (store : StoreView) (op : Op) (z : TableId) (s s' t : Seen) → z ≡ store.id → s ≡ s'
-    → MatchResult r (λ reply. Answered op s reply t) (IsRefusedAt z.slots op s t) → StoreAnswer store op s' r t
+    → MatchResult r (λ reply. IsReply op s reply t) (IsRefusedAt z.slots op s t) → StoreAnswer store op s' r t
 shard_answers r store op z s s' t e f a = by_shard r store op s' t
-    (subst (λ (x : TableId × Seen). MatchResult r (λ reply. Answered op x.1 reply t) (IsRefusedAt x.0.slots op x.1 t)) (λ i. (e i, f i)) a)
+    (subst (λ (x : TableId × Seen). MatchResult r (λ reply. IsReply op x.1 reply t) (IsRefusedAt x.0.slots op x.1 t)) (λ i. (e i, f i)) a)
 
 -- the answer of all shards, at the store's own names
 pub all_answer : (r : Result Reply AskError) (n : ℕ) (store here : StoreView) (op : Op) (s s' t : Seen) → shard_of n op ≡ None → n ≡ store.id.slots → here ≡ store → s ≡ s'
-    → MatchResult r (λ reply. Answered FetchAll s reply t) (IsRefused here FetchAll s t) → StoreAnswer store op s' r t
+    → MatchResult r (λ reply. IsReply FetchAll s reply t) (IsRefused here FetchAll s t) → StoreAnswer store op s' r t
 all_answer r n store here op s s' t none size e f a = by_all r store op s' t (ap (λ (k : ℕ). shard_of k op) (sym size) ∙ none)
-    (subst (λ (x : StoreView × Seen). MatchResult r (λ reply. Answered FetchAll x.1 reply t) (IsRefused x.0 FetchAll x.1 t)) (λ i. (e i, f i)) a)
+    (subst (λ (x : StoreView × Seen). MatchResult r (λ reply. IsReply FetchAll x.1 reply t) (IsRefused x.0 FetchAll x.1 t)) (λ i. (e i, f i)) a)

@@ -7,13 +7,14 @@ use Rattle.std.proofs.lemmas.List.{append-nil}
 use Rattle.std.proofs.lemmas.List.Elements.{filter-append}
 use Rattle.std.proofs.lemmas.List.Sums.{fold-append, sum_by-append}
 use Rattle.map_core.specs.declared.op.Op.{Op}
-use Rattle.map_core.specs.PlainMap.{PlainMap, put, ask, home, shard_of, part}
+use Rattle.map_core.specs.PlainMap.{PlainMap, put, ask, home, shard_of, partition}
 use Rattle.map_core.specs.PlainMap.{name_of}
 use Rattle.map_core.proofs.Maps.{part-put_home, part-put_away}
 use Rattle.map_core.proofs.MapLaws.{part_home, home_of, asked_puts, now_of_part}
 use Rattle.shard_store.specs.declared.change.Change.{Change}
 use Rattle.shard_store.specs.declared.change.Seen.{Seen}
-use Rattle.shard_store.specs.Changes.{written, after, change_of, count, IsPart, HasNumber, AreOthers, Extends, IsNumbered, IsParted, own_count, without_last, just_last}
+use Rattle.shard_store.specs.Changes.{make_change, after, change_of, count, HasNumber, AreOthers, Extends, own_count, without_last, just_last}
+use Rattle.shard_store.specs.Private.Numbers.{IsPart, IsNumbered, IsParted}
 
 pub others_append : (r : List (ℕ × ℕ)) (a b : List Change) → AreOthers r a → AreOthers r b → AreOthers r (a ++ b)
 others_append r [] b p q = q
@@ -68,24 +69,24 @@ not_none true e z = omega arith
 not_none false e z = true≢false (sym e)
 
 -- changes at home elsewhere leave the part
-unwritten : (n i : ℕ) (m : PlainMap) (new : List Change) → count n new i ≡ 0 → part n (fold written m new) i ≡ part n m i
+unwritten : (n i : ℕ) (m : PlainMap) (new : List Change) → count n new i ≡ 0 → partition n (fold make_change m new) i ≡ partition n m i
 unwritten n i m [] e = refl
-unwritten n i m (c ∷ cs) e = unwritten n i (written m c) cs both.1 ∙ part-put_away n m i c.name c.now (λ here. not_none (nat_eq (home n c.name) i) (eq-eqb (home n c.name) i here) both.0)
+unwritten n i m (c ∷ cs) e = unwritten n i (make_change m c) cs both.1 ∙ part-put_away n m i c.name c.now (λ here. not_none (nat_eq (home n c.name) i) (eq-eqb (home n c.name) i here) both.0)
   where
     both : (weight (nat_eq (home n c.name) i) ≡ 0) × (count n cs i ≡ 0)
     both = let parts = zero_sum (count n (c ∷ []) i) (count n cs i) (sym (count_append n (c ∷ []) cs i) ∙ e) in ((zero_sum 0 (weight (nat_eq (home n c.name) i)) parts.0).1, parts.1)
 
-pub part_stays : (n i : ℕ) (log new : List Change) → count n new i ≡ 0 → part n (after (log ++ new)) i ≡ part n (after log) i
-part_stays n i log new e = ap (λ m. part n m i) (fold-append written finite.empty log new) ∙ unwritten n i (after log) new e
+pub part_stays : (n i : ℕ) (log new : List Change) → count n new i ≡ 0 → partition n (after (log ++ new)) i ≡ partition n (after log) i
+part_stays n i log new e = ap (λ m. partition n m i) (fold-append make_change finite.empty log new) ∙ unwritten n i (after log) new e
 
 pub is_part_stays : (n i : ℕ) (log new : List Change) (contents : PlainMap) → count n new i ≡ 0 → IsPart n i log contents → IsPart n i (log ++ new) contents
 is_part_stays n i log new contents e p = p ∙ sym (part_stays n i log new e)
 
 pub after_one : (log : List Change) (change : Change) → after (log ++ change ∷ []) ≡ put (after log) change.name change.now
-after_one log change = fold-append written finite.empty log (change ∷ [])
+after_one log change = fold-append make_change finite.empty log (change ∷ [])
 
-part_of_one : (n i : ℕ) (log : List Change) (change : Change) → home n change.name ≡ i → part n (after (log ++ change ∷ [])) i ≡ put (part n (after log) i) change.name change.now
-part_of_one n i log change here = ap (λ m. part n m i) (after_one log change) ∙ part-put_home n (after log) i change.name change.now here
+part_of_one : (n i : ℕ) (log : List Change) (change : Change) → home n change.name ≡ i → partition n (after (log ++ change ∷ [])) i ≡ put (partition n (after log) i) change.name change.now
+part_of_one n i log change here = ap (λ m. partition n m i) (after_one log change) ∙ part-put_home n (after log) i change.name change.now here
 
 -- what a change makes of the part follows from the part
 pub is_part_of_change : (n i : ℕ) (log new : List Change) (change : Change) (contents : PlainMap) → home n change.name ≡ i → count n new i ≡ 0 → IsPart n i (log ++ change ∷ []) contents → IsPart n i ((log ++ new) ++ change ∷ []) contents
@@ -104,7 +105,7 @@ same_change n i op log new number at e = ap (λ held. record { name = name_of op
 
 -- the contents that an operation leaves are the part after its change
 pub part_written : (n i : ℕ) (op : Op) (log : List Change) (number : ℕ) (old new : PlainMap) → shard_of n op ≡ Some i → IsPart n i log old → new ≡ (ask old op).map → IsPart n i (log ++ change_of op log number ∷ []) new
-part_written n i op log number old new at p e = e ∙ (ap (λ m. (ask m op).map) p ∙ (sym (part_home n (after log) op i at) ∙ ap (λ m. part n m i) (sym (after_change n i op log number at))))
+part_written n i op log number old new at p e = e ∙ (ap (λ m. (ask m op).map) p ∙ (sym (part_home n (after log) op i at) ∙ ap (λ m. partition n m i) (sym (after_change n i op log number at))))
 
 pub some_same : (i j : ℕ) → Some i ≡ Some j → i ≡ j
 some_same i j e = cc

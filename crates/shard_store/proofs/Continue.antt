@@ -10,12 +10,12 @@ use Rattle.shard_store.specs.declared.change.Change.{Change}
 use Rattle.shard_store.specs.declared.change.Seen.{Seen}
 use Rattle.shard_store.specs.Changes.{change_of, Extends, own_number}
 use Rattle.shard_store.specs.Pass.{StoreView}
-use Rattle.shard_store.specs.Promise.{IsLater, Answered, IsRefused, StoreAnswer}
+use Rattle.shard_store.specs.Promise.{IsLater, IsReply, IsRefused, StoreAnswer}
 use Rattle.shard_store.specs.Laws.{TellsNoChange, UnchangedIsLater, AnswersContinue, RepliesFollow}
 use Rattle.shard_store.proofs.Promise.{later_then, alone_later, extends_then, answered_since}
 use Rattle.shard_store.proofs.Readings.{moved_since}
 
-answered_later : (op : Op) (s t : Seen) (reply : Reply) → Answered op s reply t → is_change reply ≡ false → IsLater t s
+answered_later : (op : Op) (s t : Seen) (reply : Reply) → IsReply op s reply t → is_change reply ≡ false → IsLater t s
 answered_later op s t reply a same = (extends_then s a.0 t.log a.1 (a.5 same), a.3)
 
 pub refused_later : (store : StoreView) (op : Op) (s t : Seen) (e : AskError) → IsRefused store op s t e → IsLater t s

@@ -12,9 +12,10 @@ use Rattle.atomic_table.proofs.Lists.{at_set, set_here, set_else}
 use Rattle.shard_store.specs.declared.change.Change.{Change}
 use Rattle.shard_store.specs.declared.change.Seen.{Seen}
 use Rattle.shard_store.specs.declared.change.View.{View}
-use Rattle.shard_store.specs.Changes.{count, HasNumber, AreOthers, IsNumbered, IsParted}
-use Rattle.shard_store.specs.Rule.{joined_numbers, numbers, ExtendsEach, SlotValue, IsShard, IsView, MeetsRule}
-use Rattle.shard_store.specs.Steps.{updated, Sees, HasAllNumbers}
+use Rattle.shard_store.specs.Changes.{count, HasNumber, AreOthers}
+use Rattle.shard_store.specs.Private.Numbers.{IsNumbered, IsParted}
+use Rattle.shard_store.specs.Private.Rule.{numbers_of_joined, numbers, ExtendsEach, SlotValue, IsShard, IsView, MeetsRule}
+use Rattle.shard_store.specs.Private.Steps.{view_after, Sees, HasAllNumbers}
 use Rattle.shard_store.proofs.Changes.{others_fewer, has_number_left, has_number_right, has_number_either, numbered_append, extends_none, extends_more, count_append, is_part_stays}
 
 abbrev pub put : (ℕ → ℕ) → ℕ → ℕ → ℕ → ℕ
@@ -31,11 +32,11 @@ set_there [] i a b e = absurd (some-ne-none b (sym e))
 set_there (x ∷ xs) zero a b e = refl
 set_there (x ∷ xs) (suc i) a b e = set_there xs i a b e
 
-pub extends_each_more : (ts : List Seen) (list new : List Change) → ExtendsEach list ts → AreOthers (joined_numbers ts) new → ExtendsEach (list ++ new) ts
+pub extends_each_more : (ts : List Seen) (list new : List Change) → ExtendsEach list ts → AreOthers (numbers_of_joined ts) new → ExtendsEach (list ++ new) ts
 extends_each_more [] list new e o = tt
 extends_each_more (t ∷ ts) list new e o = (
-  extends_more t list new e.0 (others_fewer (t.ranges ++ joined_numbers ts) t.ranges new (has_number_left t.ranges (joined_numbers ts)) o),
-  extends_each_more ts list new e.1 (others_fewer (t.ranges ++ joined_numbers ts) (joined_numbers ts) new (has_number_right t.ranges (joined_numbers ts)) o),
+  extends_more t list new e.0 (others_fewer (t.ranges ++ numbers_of_joined ts) t.ranges new (has_number_left t.ranges (numbers_of_joined ts)) o),
+  extends_each_more ts list new e.1 (others_fewer (t.ranges ++ numbers_of_joined ts) (numbers_of_joined ts) new (has_number_right t.ranges (numbers_of_joined ts)) o),
 )
 
 pub no_more : (n : ℕ) (list new : List Change) (j : ℕ) → count n new j ≡ 0 → count n (list ++ new) j ≡ count n list j
@@ -52,8 +53,8 @@ module _ (Z : Type 0) where
   pub other_view : (n : ℕ) (words : List ℕ) (list new : List Change) (holder : ℕ → ℕ) (i x id j : ℕ) (u : View) → (u.held ≡ Some i → ⊥) → AreOthers (numbers u) new
       → IsView n words list holder j u → IsView n (set words i x) (list ++ new) (put holder i id) j u
   other_view n words list new holder i x id j u free o r = record {
-    sees = extends_more u.seen list new r.sees (others_fewer (numbers u) u.seen.ranges new (has_number_left u.seen.ranges (joined_numbers u.joined)) o);
-    joined = extends_each_more u.joined list new r.joined (others_fewer (numbers u) (joined_numbers u.joined) new (has_number_right u.seen.ranges (joined_numbers u.joined)) o);
+    sees = extends_more u.seen list new r.sees (others_fewer (numbers u) u.seen.ranges new (has_number_left u.seen.ranges (numbers_of_joined u.joined)) o);
+    joined = extends_each_more u.joined list new r.joined (others_fewer (numbers u) (numbers_of_joined u.joined) new (has_number_right u.seen.ranges (numbers_of_joined u.joined)) o);
     limited = r.limited;
     parted = r.parted;
     holds = λ k e. dite (ℕ_discrete k i) (λ same. absurd (free (e ∙ ap Some same)))
@@ -151,16 +152,16 @@ module _ (Z : Type 0) where
   abbrev pub Holding : ℕ → (words : List ℕ) → (ℕ → ℕ) → ℕ → View → ℕ → Type 0
   Holding n words holder seat v i = (seat ≡ holder i) × (i < n) × (get_or words i 0 % 2 ≡ 1) × (count n v.seen.log i ≡ get_or words i 0 / 2) × ((k : ℕ) × HasNumber (numbers v) k)
 
-  pub fewer_updated : (list : List Change) (v : View) (held : Option ℕ) (k : ℕ) → HasNumber (numbers (updated list v held)) k → HasNumber (numbers v) k
+  pub fewer_updated : (list : List Change) (v : View) (held : Option ℕ) (k : ℕ) → HasNumber (numbers (view_after list v held)) k → HasNumber (numbers v) k
   fewer_updated list v held k b = ⊎_elim (λ h. h) (λ h. absurd h) (has_number_either (numbers v) [] k b)
 
-  pub more_updated : (list : List Change) (v : View) (held : Option ℕ) (k : ℕ) → HasNumber (numbers v) k → HasNumber (numbers (updated list v held)) k
+  pub more_updated : (list : List Change) (v : View) (held : Option ℕ) (k : ℕ) → HasNumber (numbers v) k → HasNumber (numbers (view_after list v held)) k
   more_updated list v held k b = has_number_left (numbers v) [] k b
 
   pub updated_view : (n : ℕ) (words : List ℕ) (list : List Change) (holder holder' : ℕ → ℕ) (seat : ℕ) (words' : List ℕ) (v : View) (held : Option ℕ) → IsView n words list holder seat v
-      → ((i : ℕ) → held ≡ Some i → Holding n words' holder' seat (updated list v held) i) → IsView n words' list holder' seat (updated list v held)
+      → ((i : ℕ) → held ≡ Some i → Holding n words' holder' seat (view_after list v held) i) → IsView n words' list holder' seat (view_after list v held)
   updated_view n words list holder holder' seat words' v held r h = record {
-    sees = extends_none (updated list v held).seen;
+    sees = extends_none (view_after list v held).seen;
     joined = tt;
     limited = λ k b. r.limited k (fewer_updated list v held k b);
     parted = subst IsParted (sym (append-nil (numbers v))) r.parted;
@@ -168,9 +169,9 @@ module _ (Z : Type 0) where
   }
 
   -- the view of a seat catches up with the list, and it holds what it held
-  pub look_kept : (s : St) (r : MeetsRule s) (id : ℕ) (v : View) → get_elem? s.views id ≡ some v → MeetsRule record { words = s.words; homes = s.homes; views = set s.views id (updated r.list v v.held) }
+  pub look_kept : (s : St) (r : MeetsRule s) (id : ℕ) (v : View) → get_elem? s.views id ≡ some v → MeetsRule record { words = s.words; homes = s.homes; views = set s.views id (view_after r.list v v.held) }
   look_kept s r id v at = let mine = r.each_view id v at in
-      seat_looks s r id v (updated r.list v v.held) at (fewer_updated r.list v v.held) refl
+      seat_looks s r id v (view_after r.list v v.held) at (fewer_updated r.list v v.held) refl
       (updated_view (length s.homes) s.words r.list r.holder r.holder id s.words v v.held mine
       (λ i e. let h = mine.holds i e in (h.0, h.1, h.2, sym (r.each_shard i h.1).counted, (h.4.0, more_updated r.list v v.held h.4.0 h.4.1))))
 

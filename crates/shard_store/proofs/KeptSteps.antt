@@ -14,15 +14,16 @@ use Rattle.atomic_table.specs.Table.{step, keeps, takes, gives, rest, put_back, 
 use Rattle.map_core.specs.PlainMap.{PlainMap, home}
 use Rattle.shard_store.specs.declared.change.Change.{Change}
 use Rattle.shard_store.specs.declared.change.View.{View}
-use Rattle.shard_store.specs.Changes.{count, IsPart, HasNumber, IsParted}
-use Rattle.shard_store.specs.Rule.{numbers, SlotValue, IsShard, IsView, MeetsRule}
-use Rattle.shard_store.specs.Steps.{updated, looked, took, released, published}
+use Rattle.shard_store.specs.Changes.{count, HasNumber}
+use Rattle.shard_store.specs.Private.Numbers.{IsPart, IsParted}
+use Rattle.shard_store.specs.Private.Rule.{numbers, SlotValue, IsShard, IsView, MeetsRule}
+use Rattle.shard_store.specs.Private.Steps.{view_after, LoadsWord, TakesShard, ReleasesShard, PublishesChange}
 use Rattle.shard_store.proofs.Changes.{others_append, others_none, others_fewer, has_number_left, has_number_right, has_number_either, numbered_append, extends_none, extends_more, count_append, is_part_stays, is_part_of_change, kept_fewer, given_fewer, kept_parted, given_parted, kept_given_apart, parted_append, some_same, not_some, counts_one, counts_none}
 use Rattle.shard_store.proofs.Kept.{put, put_here, set_there, St, M, seat_steps, Holding, fewer_updated, more_updated, updated_view, look_kept, alone_holds, sees_list}
 
 module _ (Z : Type 0) where
-  pub looks : (slots id i : ℕ) (me : M Z) → i < slots → Allows MeetsRule slots id me i (λ n. n) (looked (step slots i 0 0 none) me)
-  looks slots id i me inside s r deep at _ = let here : i < length s.homes = omega arith in let w : View = updated r.list me.0 me.0.held in (
+  pub looks : (slots id i : ℕ) (me : M Z) → i < slots → Allows MeetsRule slots id me i (λ n. n) (LoadsWord (step slots i 0 0 none) me)
+  looks slots id i me inside s r deep at _ = let here : i < length s.homes = omega arith in let w : View = view_after r.list me.0 me.0.held in (
     w,
     keeps,
     tt,
@@ -35,10 +36,10 @@ module _ (Z : Type 0) where
   not_other s r id i j v u at holds apart there is = apart (((r.each_view j u there).holds i is).0 ∙ sym ((r.each_view id v at).holds i holds).0)
 
   pub takes_shard : (slots id i old new : ℕ) (me : M Z) → i < slots → old % 2 ≡ 0 → new ≡ old + 1 → me.0.held ≡ None → (k : ℕ) × HasNumber (numbers me.0) k
-      → Allows MeetsRule slots id me i (λ n. either (eqb n old) new n) (took (step slots i old new none) me)
+      → Allows MeetsRule slots id me i (λ n. either (eqb n old) new n) (TakesShard (step slots i old new none) me)
   takes_shard slots id i old new me inside even up empty someone s r deep at _ = let here : i < length s.homes = omega arith in let word : ℕ = get_or s.words i 0 in let t = r.each_shard i here in let v : View = me.0 in
       let counted : word / 2 ≡ count slots r.list i = subst (λ (n : ℕ). word / 2 ≡ count n r.list i) deep t.counted in dite (ℕ_discrete word old)
-      (λ hit. let still : word % 2 ≡ 0 = ap (λ (z : ℕ). z % 2) hit ∙ even in let f = t.free still in let w : View = updated r.list v (Some i) in (
+      (λ hit. let still : word % 2 ≡ 0 = ap (λ (z : ℕ). z % 2) hit ∙ even in let f = t.free still in let w : View = view_after r.list v (Some i) in (
         w,
         takes i (Some f.0),
         f.1,
@@ -49,7 +50,7 @@ module _ (Z : Type 0) where
             (subst (λ (l : List Change). IsView (length s.homes) (set s.words i new) l (put r.holder i id) id w) (sym (append-nil r.list)) (view_takes s r id i new v at here (omega (arith, t.counted)) (omega arith) someone))),
         (r.list, sees_list Z s r id v at, counted, (λ alone. even_of word still), (λ _. (f.0, refl, subst (λ (n : ℕ). IsPart n i r.list (arc_value f.0)) deep f.2)), λ miss. absurd (miss hit)),
       ))
-      (λ miss. let w : View = updated r.list v v.held in (
+      (λ miss. let w : View = view_after r.list v v.held in (
         w,
         keeps,
         tt,
@@ -61,7 +62,7 @@ module _ (Z : Type 0) where
           counted,
           (λ alone. not_odd word (λ odd. no_some i (sym empty ∙ alone_holds Z s r id i v at here alone odd))),
           (λ hit. absurd (miss hit)),
-          λ _. ap (λ (held : Option ℕ). (updated r.list v held, me.1)) empty,
+          λ _. ap (λ (held : Option ℕ). (view_after r.list v held, me.1)) empty,
         ),
       ))
     where
@@ -87,18 +88,18 @@ module _ (Z : Type 0) where
       }
 
       view_takes : (s : St Z) (r : MeetsRule s) (id i x : ℕ) (v : View) → get_elem? s.views id ≡ some v → i < length s.homes → x / 2 ≡ count (length s.homes) r.list i → x % 2 ≡ 1 → (k : ℕ) × HasNumber (numbers v) k
-          → IsView (length s.homes) (set s.words i x) r.list (put r.holder i id) id (updated r.list v (Some i))
+          → IsView (length s.homes) (set s.words i x) r.list (put r.holder i id) id (view_after r.list v (Some i))
       view_takes s r id i x v at inside counted odd someone = let wide : i < length s.words = let p : length s.words ≡ length s.homes = r.paired in omega arith in
           let now : get_or (set s.words i x) i 0 ≡ x = get_or-set_same s.words i x 0 wide in
           updated_view Z (length s.homes) s.words r.list r.holder (put r.holder i id) id (set s.words i x) v (Some i) (r.each_view id v at)
           (λ j e. let same : i ≡ j = Rattle.shard_store.proofs.Changes.some_same i j e in
-          subst (Holding Z (length s.homes) (set s.words i x) (put r.holder i id) id (updated r.list v (Some i))) same
+          subst (Holding Z (length s.homes) (set s.words i x) (put r.holder i id) id (view_after r.list v (Some i))) same
           (sym (put_here r.holder i id), inside, ap (λ (z : ℕ). z % 2) now ∙ odd, sym counted ∙ sym (ap (λ (z : ℕ). z / 2) now), (someone.0, more_updated Z r.list v (Some i) someone.0 someone.1)))
 
   view_moved : (n : ℕ) (words : List ℕ) (list list' : List Change) (holder holder' : ℕ → ℕ) (seat : ℕ) (words' : List ℕ) (v : View) → IsView n words list holder seat v
-      → IsView n words' list' holder' seat (updated list' v None)
+      → IsView n words' list' holder' seat (view_after list' v None)
   view_moved n words list list' holder holder' seat words' v r = record {
-    sees = extends_none (updated list' v None).seen;
+    sees = extends_none (view_after list' v None).seen;
     joined = tt;
     limited = λ k b. r.limited k (fewer_updated Z list' v None k b);
     parted = subst IsParted (sym (append-nil (numbers v))) r.parted;
@@ -122,7 +123,7 @@ module _ (Z : Type 0) where
   }
 
   pub releases : (slots id i x : ℕ) (me : M Z) (version : Arc PlainMap Z) → me.0.held ≡ Some i → me.1 ≡ (i, Some version) ∷ rest me.1 → IsPart slots i me.0.seen.log (arc_value version)
-      → x ≡ 2 * count slots me.0.seen.log i → Allows MeetsRule slots id me i (λ _. x) (λ _. released (step slots i x 0 none) me x)
+      → x ≡ 2 * count slots me.0.seen.log i → Allows MeetsRule slots id me i (λ _. x) (λ _. ReleasesShard (step slots i x 0 none) me x)
   releases slots id i x me version holds hand shows is s r deep at _ = let v : View = me.0 in let n : ℕ = length s.homes in let w : View = record v { held = None } in let mine = r.each_view id v at in let h = mine.holds i holds in
       let t = r.each_shard i h.1 in let word : ℕ = get_or s.words i 0 in let total : word / 2 ≡ count n r.list i = t.counted in let own : count n v.seen.log i ≡ word / 2 = h.3 in let small : word / 2 ≤ 2 ^ 62 = t.limited in
       let is' : x ≡ 2 * count n v.seen.log i = subst (λ (z : ℕ). x ≡ 2 * count z v.seen.log i) (sym deep) is in
@@ -144,9 +145,9 @@ module _ (Z : Type 0) where
 
   pub publishes : (slots id i x : ℕ) (me : M Z) (version : Arc PlainMap Z) (change : Change) → me.0.held ≡ Some i → me.1 ≡ (i, Some version) ∷ rest me.1
       → IsPart slots i (me.0.seen.log ++ change ∷ []) (arc_value version) → home slots change.name ≡ i → HasNumber (numbers me.0) change.number → count slots me.0.seen.log i < 2 ^ 62
-      → x ≡ 2 * count slots me.0.seen.log i + 2 → Allows MeetsRule slots id me i (λ _. x) (λ _. published change (step slots i x 0 none) me x)
+      → x ≡ 2 * count slots me.0.seen.log i + 2 → Allows MeetsRule slots id me i (λ _. x) (λ _. PublishesChange change (step slots i x 0 none) me x)
   publishes slots id i x me version change holds hand shows at_home own_number room is s r deep at _ =
-      let v : View = me.0 in let n : ℕ = length s.homes in let list : List Change = r.list ++ change ∷ [] in let w : View = updated list v None in let mine = r.each_view id v at in let h = mine.holds i holds in
+      let v : View = me.0 in let n : ℕ = length s.homes in let list : List Change = r.list ++ change ∷ [] in let w : View = view_after list v None in let mine = r.each_view id v at in let h = mine.holds i holds in
       let t = r.each_shard i h.1 in let word : ℕ = get_or s.words i 0 in let total : word / 2 ≡ count n r.list i = t.counted in let own : count n v.seen.log i ≡ word / 2 = h.3 in
       let is' : x ≡ 2 * count n v.seen.log i + 2 = subst (λ (z : ℕ). x ≡ 2 * count z v.seen.log i + 2) (sym deep) is in
       let room' : count n v.seen.log i < 2 ^ 62 = subst (λ (z : ℕ). count z v.seen.log i < 2 ^ 62) (sym deep) room in
@@ -171,9 +172,9 @@ module _ (Z : Type 0) where
   -- the same, once the new version is in hand
   pub publishes_new : (slots n id i x : ℕ) (m m' : M Z) (version : Arc PlainMap Z) (change change' : Change) → slots ≡ n → m' ≡ (m.0, (i, Some version) ∷ rest m.1) → change ≡ change' → m.0.held ≡ Some i
       → IsPart n i (m.0.seen.log ++ change' ∷ []) (arc_value version) → home n change'.name ≡ i → HasNumber (numbers m.0) change'.number → count n m.0.seen.log i < 2 ^ 62
-      → x ≡ 2 * count n m.0.seen.log i + 2 → Allows MeetsRule slots id m' i (λ _. x) (λ _. published change (step slots i x 0 none) m' x)
+      → x ≡ 2 * count n m.0.seen.log i + 2 → Allows MeetsRule slots id m' i (λ _. x) (λ _. PublishesChange change (step slots i x 0 none) m' x)
   publishes_new slots n id i x m m' version change change' same in_hand is holds shows at_home own room word =
-      subst (λ (k : ℕ). Allows MeetsRule k id m' i (λ _. x) (λ _. published change (step k i x 0 none) m' x)) (sym same)
-      (subst (λ (c : Change). Allows MeetsRule n id m' i (λ _. x) (λ _. published c (step n i x 0 none) m' x)) (sym is)
-      (subst (λ (k : M Z). Allows MeetsRule n id k i (λ _. x) (λ _. published change' (step n i x 0 none) k x)) (sym in_hand)
+      subst (λ (k : ℕ). Allows MeetsRule k id m' i (λ _. x) (λ _. PublishesChange change (step k i x 0 none) m' x)) (sym same)
+      (subst (λ (c : Change). Allows MeetsRule n id m' i (λ _. x) (λ _. PublishesChange c (step n i x 0 none) m' x)) (sym is)
+      (subst (λ (k : M Z). Allows MeetsRule n id k i (λ _. x) (λ _. PublishesChange change' (step n i x 0 none) k x)) (sym in_hand)
       (publishes n id i x (m.0, (i, Some version) ∷ rest m.1) version change' holds refl shows at_home own room word)))

@@ -20,21 +20,22 @@ use Rattle.map_core.proofs.MapLaws.{part_reply}
 use Rattle.shard_store.specs.declared.change.Change.{Change}
 use Rattle.shard_store.specs.declared.change.Seen.{Seen}
 use Rattle.shard_store.specs.declared.change.View.{View}
-use Rattle.shard_store.specs.Changes.{after, change_of, IsPart, count, HasNumber, Extends, own_count, own_number, without_last, just_last}
-use Rattle.shard_store.specs.Rule.{joined_numbers, numbers, SlotValue}
-use Rattle.shard_store.specs.Steps.{updated, Sees, HasAllNumbers}
-use Rattle.shard_store.specs.Promise.{IsLater, IsAlone, Concerns, Answered, IsRefusedAt, IsRefused}
+use Rattle.shard_store.specs.Changes.{after, change_of, count, HasNumber, Extends, own_count, own_number, without_last, just_last}
+use Rattle.shard_store.specs.Private.Numbers.{IsPart}
+use Rattle.shard_store.specs.Private.Rule.{numbers_of_joined, numbers, SlotValue}
+use Rattle.shard_store.specs.Private.Steps.{view_after, Sees, HasAllNumbers}
+use Rattle.shard_store.specs.Promise.{IsLater, IsAlone, Concerns, IsReply, IsRefusedAt, IsRefused}
 use Rattle.shard_store.specs.Pass.{StoreView}
-use Rattle.shard_store.specs.Seat.{IsIdle, IsHolding, Missed, Writes, change_by}
+use Rattle.shard_store.specs.Private.Seat.{IsIdle, IsHolding, Missed, Writes, change_by}
 use Rattle.shard_store.proofs.Changes.{count_append, none_by_others, others_append, has_number_left, not_some, is_part_stays, is_part_of_change, same_change, part_written, home_named}
 
 pub own_ranges : (v : View) → v.joined ≡ [] → numbers v ≡ v.seen.ranges
-own_ranges v e = ap (λ (t : List Seen). v.seen.ranges ++ joined_numbers t) e ∙ append-nil v.seen.ranges
+own_ranges v e = ap (λ (t : List Seen). v.seen.ranges ++ numbers_of_joined t) e ∙ append-nil v.seen.ranges
 
 pub all_alone : (v : View) → v.joined ≡ [] → IsAlone v.seen → HasAllNumbers v
 all_alone v e alone k l = subst (λ (r : List (ℕ × ℕ)). HasNumber r k) (sym (own_ranges v e)) (alone k l)
 
-pub later_updated : (v : View) (list : List Change) (held : Option ℕ) → v.joined ≡ [] → Sees v list → IsLater (updated list v held).seen v.seen
+pub later_updated : (v : View) (list : List Change) (held : Option ℕ) → v.joined ≡ [] → Sees v list → IsLater (view_after list v held).seen v.seen
 later_updated v list held e g = (g.0, own_ranges v e)
 
 -- who is alone has seen all
@@ -46,7 +47,7 @@ has_first_number [] l = absurd (omega arith)
 has_first_number (r ∷ rs) l = let a : ℕ = r.0 in let b : ℕ = r.1 in let l' : 0 < b = l in let le : a ≤ a = omega arith in let lt : a < a + b = omega arith in inl (le, lt)
 
 pub has_own_number : (v : View) → 0 < own_count v.seen.ranges → HasNumber (numbers v) (own_number v.seen.ranges)
-has_own_number v l = has_number_left v.seen.ranges (joined_numbers v.joined) (own_number v.seen.ranges) (has_first_number v.seen.ranges l)
+has_own_number v l = has_number_left v.seen.ranges (numbers_of_joined v.joined) (own_number v.seen.ranges) (has_first_number v.seen.ranges l)
 
 pub someone : (v : View) → 0 < own_count v.seen.ranges → (k : ℕ) × HasNumber (numbers v) k
 someone v l = (own_number v.seen.ranges, has_own_number v l)
@@ -95,7 +96,7 @@ missed n i word found s t l counted is miss even = (
 pub missed_odd : (n i found : ℕ) (s t : Seen) → IsLater t s → found / 2 ≡ count n t.log i → (IsAlone s → found % 2 ≡ 0) → found % 2 ≡ 1 → Missed n i s found t
 missed_odd n i found s t l counted even odd = ((λ alone. let e : found % 2 ≡ 0 = even alone in let never : ⊥ = omega arith in never), counted)
 
-updated_own : (v : View) (list : List Change) (held : Option ℕ) → v.joined ≡ [] → 0 < own_count v.seen.ranges → 0 < own_count (updated list v held).seen.ranges
+updated_own : (v : View) (list : List Change) (held : Option ℕ) → v.joined ≡ [] → 0 < own_count v.seen.ranges → 0 < own_count (view_after list v held).seen.ranges
 updated_own v list held e l = subst (λ (r : List (ℕ × ℕ)). 0 < own_count r) (sym (own_ranges v e)) l
 
 -- the same at slots that another equation names
@@ -103,10 +104,10 @@ pub at_slots : (f : TableId → Type 0) (a b : TableId) → a ≡ b → f b → 
 at_slots f a b e p = subst f (sym e) p
 
 pub missed_seat : {Z : Type 0} (n i word found : ℕ) (m m' : Me (SlotValue Z) View) (list : List Change) → IsIdle m → Sees m.0 list → found / 2 ≡ count n list i → word ≡ 2 * count n m.0.seen.log i → found ≢ word
-    → (HasAllNumbers m.0 → found % 2 ≡ 0) → m' ≡ (updated list m.0 None, m.1) → IsIdle m' × Missed n i m.0.seen found m'.0.seen
+    → (HasAllNumbers m.0 → found % 2 ≡ 0) → m' ≡ (view_after list m.0 None, m.1) → IsIdle m' × Missed n i m.0.seen found m'.0.seen
 missed_seat {Z} n i word found m m' list idle g counted is miss even e = subst (λ (x : Me (SlotValue Z) View). IsIdle x × Missed n i m.0.seen found x.0.seen) (sym e) (
   (idle.0, refl, refl, updated_own m.0 list None idle.1 idle.3),
-  missed n i word found m.0.seen (updated list m.0 None).seen (later_updated m.0 list None idle.1 g) counted is miss (λ alone. even (all_alone m.0 idle.1 alone)),
+  missed n i word found m.0.seen (view_after list m.0 None).seen (later_updated m.0 list None idle.1 g) counted is miss (λ alone. even (all_alone m.0 idle.1 alone)),
 )
 
 pub hand_rest : {S : Type 0} (c : List (ℕ × S)) (x : ℕ × S) → c ≡ x ∷ [] → c ≡ x ∷ rest c
@@ -142,7 +143,7 @@ reply_of_part : (n i : ℕ) (op : Op) (log : List Change) (contents : PlainMap) 
 reply_of_part n i op log contents at p = ap (λ (m : PlainMap). (ask m op).reply) p ∙ part_reply n (after log) op i at
 
 pub answered_by_write : (n i : ℕ) (op : Op) (s t u : Seen) (old : PlainMap) (reply : Reply) → shard_of n op ≡ Some i → IsLater t s → IsPart n i t.log old → reply ≡ (ask old op).reply
-    → is_change reply ≡ true → Writes n i op t u → Answered op s reply u
+    → is_change reply ≡ true → Writes n i op t u → IsReply op s reply u
 answered_by_write n i op s t u old reply at l p is write w = (
   w.0,
   extends_since s t w.0 l w.1,
@@ -158,7 +159,7 @@ pub changes_of_part : (n i : ℕ) (op : Op) (log : List Change) (contents : Plai
 changes_of_part n i op log contents reply at p is write = ap (λ (r : Reply). is_change r) (sym (reply_of_part n i op log contents at p)) ∙ (ap (λ (r : Reply). is_change r) (sym is) ∙ write)
 
 pub answered_by_read : (n i : ℕ) (op : Op) (s t : Seen) (old : PlainMap) (reply : Reply) → shard_of n op ≡ Some i → IsLater t s → IsPart n i t.log old
-    → reply ≡ (ask old op).reply → is_change reply ≡ false → Answered op s reply t
+    → reply ≡ (ask old op).reply → is_change reply ≡ false → IsReply op s reply t
 answered_by_read n i op s t old reply at l p is kept = (
   t.log,
   l.0,
@@ -175,7 +176,7 @@ with_new o new P Q e m = subst (λ (x : Option PlainMap). MatchOption x P Q) e m
 pub with_none : (o : Option PlainMap) (P : Type 0) (Q : PlainMap → Type 0) → o ≡ None → MatchOption o P Q → P
 with_none o P Q e m = subst (λ (x : Option PlainMap). MatchOption x P Q) e m
 
-pub answered_since : (op : Op) (s t u : Seen) (reply : Reply) → IsLater t s → Answered op t reply u → Answered op s reply u
+pub answered_since : (op : Op) (s t u : Seen) (reply : Reply) → IsLater t s → IsReply op t reply u → IsReply op s reply u
 answered_since op s t u reply l a = (
   a.0,
   extends_since s t a.0 l a.1,
@@ -200,7 +201,7 @@ refused_at store op s t (Held i k) r = r
 refused_at store op s t (Moved i k m) r = absurd r
 refused_at store op s t GateShut r = absurd r
 
-pub answered_ranges : (op : Op) (s t : Seen) (reply : Reply) → Answered op s reply t → t.ranges ≡ s.ranges
+pub answered_ranges : (op : Op) (s t : Seen) (reply : Reply) → IsReply op s reply t → t.ranges ≡ s.ranges
 answered_ranges op s t reply a = a.3
 
 pub refused_ranges : (store : StoreView) (op : Op) (s t : Seen) (e : AskError) → IsRefused store op s t e → t.ranges ≡ s.ranges
@@ -239,11 +240,11 @@ own_both (r ∷ rs) qs l = refl
 
 -- the exchange that took the shard left its version in hand
 pub taken_holds : {Z : Type 0} (n i : ℕ) (m m' : Me (SlotValue Z) View) (list : List Change) → IsIdle m
-    → (version : Arc PlainMap Z) × (m' ≡ (updated list m.0 (Some i), (i, Some version) ∷ m.1)) × IsPart n i list (arc_value version) → IsHolding n i m'
+    → (version : Arc PlainMap Z) × (m' ≡ (view_after list m.0 (Some i), (i, Some version) ∷ m.1)) × IsPart n i list (arc_value version) → IsHolding n i m'
 taken_holds {Z} n i m m' list idle t = subst (λ (x : Me (SlotValue Z) View). IsHolding n i x) (sym t.1)
     (t.0, ap (λ (h : List (ℕ × SlotValue Z)). (i, Some t.0) ∷ h) idle.0, t.2, refl, refl, updated_own m.0 list (Some i) idle.1 idle.3)
 
-pub taken_count : {Z : Type 0} (n i word found : ℕ) (m m' : Me (SlotValue Z) View) (list : List Change) (hand : List (ℕ × SlotValue Z)) (held : Option ℕ) → m' ≡ (updated list m.0 held, hand) → found / 2 ≡ count n list i
+pub taken_count : {Z : Type 0} (n i word found : ℕ) (m m' : Me (SlotValue Z) View) (list : List Change) (hand : List (ℕ × SlotValue Z)) (held : Option ℕ) → m' ≡ (view_after list m.0 held, hand) → found / 2 ≡ count n list i
     → word ≡ 2 * count n m.0.seen.log i → found ≡ word → count n m'.0.seen.log i ≡ count n m.0.seen.log i
 taken_count {Z} n i word found m m' list hand held e counted is hit = let now : count n m'.0.seen.log i ≡ count n list i = ap (λ (x : Me (SlotValue Z) View). count n x.0.seen.log i) e in omega arith
 

@@ -11,14 +11,15 @@ use Rattle.map_core.specs.declared.reply.AskError.{AskError}
 use Rattle.map_core.specs.declared.reply.AskError.TheVariants.{Memory}
 use Rattle.map_core.specs.declared.reply.Reply.{Reply}
 use Rattle.map_core.specs.Reply.{is_change}
-use Rattle.map_core.specs.PlainMap.{PlainMap, ask, part}
+use Rattle.map_core.specs.PlainMap.{PlainMap, ask, partition}
 use Rattle.map_core.proofs.Asks.{fetch_all}
 use Rattle.shard_store.specs.declared.change.Change.{Change}
 use Rattle.shard_store.specs.declared.change.Seen.{Seen}
 use Rattle.shard_store.specs.declared.fetch.Movement.{Movement}
-use Rattle.shard_store.specs.Changes.{after, count, IsPart, Extends}
+use Rattle.shard_store.specs.Changes.{after, count, Extends}
+use Rattle.shard_store.specs.Private.Numbers.{IsPart}
 use Rattle.shard_store.specs.Pass.{StoreView}
-use Rattle.shard_store.specs.Promise.{IsLater, IsAlone, HasMoved, Answered, IsRefused}
+use Rattle.shard_store.specs.Promise.{IsLater, IsAlone, HasMoved, IsReply, IsRefused}
 use Rattle.shard_store.specs.Private.Readings.{WasRead, WereRead, AreConfirmed, IsMovement, IsSnapshot}
 use Rattle.shard_store.proofs.Changes.{count_append, is_part_stays}
 use Rattle.shard_store.proofs.Promise.{counts_more, later_then, extends_then, extends_since, alone_same}
@@ -60,7 +61,7 @@ snapshot {Z} n s t u rs vs l m size were still = (
   m.1 ∙ l.1,
   size,
   λ k d inside. let long : length rs ≡ length vs = were.0 in
-      part_confirmed n k s.log t.log (get_or rs k 0) (get_or vs k d) (were.1 k d inside) (still k (omega arith)) ∙ ap (λ (j : ℕ). part j (after t.log) k) (sym size),
+      part_confirmed n k s.log t.log (get_or rs k 0) (get_or vs k d) (were.1 k d inside) (still k (omega arith)) ∙ ap (λ (j : ℕ). partition j (after t.log) k) (sym size),
 )
 
 -- a reading of one shard, if there is one
@@ -104,7 +105,7 @@ later_snapshot n s t vs x = (extends_then s x.0 t.log x.1 x.2, x.3)
 pub snapshot_since : {Z : Type 0} (n : ℕ) (s t u : Seen) (vs : List (Arc PlainMap Z)) → IsLater t s → IsSnapshot n t u vs → IsSnapshot n s u vs
 snapshot_since n s t u vs l x = (x.0, extends_since s t x.0 l x.1, subst (λ (r : List (ℕ × ℕ)). Extends u.log (record { log = x.0; ranges = r })) l.1 x.2, x.3 ∙ l.1, x.4, x.5)
 
-pub answered_all : {Z : Type 0} (n : ℕ) (s t : Seen) (vs : List (Arc PlainMap Z)) (all : PlainMap) (reply : Reply) (x : IsSnapshot n s t vs) → all ≡ after x.0 → reply ≡ (ask all FetchAll).reply → Answered FetchAll s reply t
+pub answered_all : {Z : Type 0} (n : ℕ) (s t : Seen) (vs : List (Arc PlainMap Z)) (all : PlainMap) (reply : Reply) (x : IsSnapshot n s t vs) → all ≡ after x.0 → reply ≡ (ask all FetchAll).reply → IsReply FetchAll s reply t
 answered_all n s t vs all reply x e is = (
   x.0,
   x.1,
@@ -116,7 +117,7 @@ answered_all n s t vs all reply x e is = (
 
 -- what the map of a snapshot answers to a fetch-all
 pub snapshot_answers : {Z : Type 0} (n : ℕ) (store : StoreView) (s t : Seen) (vs : List (Arc PlainMap Z)) (all : PlainMap) (r : Result Reply AskError) (x : IsSnapshot n s t vs) → all ≡ after x.0
-    → IfOk r (λ reply. reply ≡ (ask all FetchAll).reply) → IfErr r (λ e. e ≡ Memory) → MatchResult r (λ reply. Answered FetchAll s reply t) (IsRefused store FetchAll s t)
+    → IfOk r (λ reply. reply ≡ (ask all FetchAll).reply) → IfErr r (λ e. e ≡ Memory) → MatchResult r (λ reply. IsReply FetchAll s reply t) (IsRefused store FetchAll s t)
 snapshot_answers n store s t vs all (Ok reply) x e is memory = answered_all n s t vs all reply x e is
 snapshot_answers n store s t vs all (Err error) x e is memory = subst (λ (w : AskError). IsRefused store FetchAll s t w) (sym memory) (later_snapshot n s t vs x)
 

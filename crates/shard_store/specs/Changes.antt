@@ -1,19 +1,19 @@
 -- Changes of the map in the order in which they were made, and what one shard has of them.
-use Rattle.std.specs.Prelude.{◌≡◌, ◌⊎◌, ℕ, ◌+◌, ◌-◌, ◌<◌, ◌≤◌, List, [], ◌∷◌, ◌++◌, nat_eq}
+use Rattle.std.specs.Prelude.{◌≡◌, ◌⊎◌, ℕ, ◌+◌, ◌-◌, ◌<◌, ◌≤◌, List, ◌∷◌, ◌++◌, nat_eq, []}
 use Rattle.std.specs.List.{fold, count_by}
 use Rattle.std.specs.FinMap as finite
 use Rattle.map_core.specs.declared.op.Op.{Op}
-use Rattle.map_core.specs.PlainMap.{PlainMap, put, ask, home, part, name_of}
+use Rattle.map_core.specs.PlainMap.{PlainMap, put, ask, home, name_of}
 use Rattle.shard_store.specs.declared.change.Change.{Change}
 use Rattle.shard_store.specs.declared.change.Seen.{Seen}
 
 -- the map after one change more
-abbrev pub written : PlainMap → Change → PlainMap
-written m c = put m c.name c.now
+abbrev pub make_change : PlainMap → Change → PlainMap
+make_change m c = put m c.name c.now
 
 -- the map after a list of changes
 abbrev pub after : List Change → PlainMap
-after log = fold written finite.empty log
+after log = fold make_change finite.empty log
 
 -- the change that an operation makes of the map after the list
 abbrev pub change_of : Op → List Change → ℕ → Change
@@ -22,10 +22,6 @@ change_of op list number = record { name = name_of op; now = finite.get (ask (af
 -- how many of the changes are of names at home in the shard, of n
 abbrev pub count : ℕ → List Change → ℕ → ℕ
 count n log shard = count_by (λ c. nat_eq (home n c.name) shard) log
-
--- the contents are the shard's part of the map after the changes
-abbrev pub IsPart : ℕ → ℕ → List Change → PlainMap → Type 0
-IsPart n shard log contents = contents ≡ part n (after log) shard
 
 -- the number is in one of the ranges
 abbrev pub HasNumber : List (ℕ × ℕ) → ℕ → Type 0
@@ -40,16 +36,6 @@ AreOthers ranges (c ∷ cs) = (c.number < 4294967296) × (¬ HasNumber ranges c.
 -- the list begins with what was seen, and what is new in it are changes of others
 abbrev pub Extends : List Change → Seen → Type 0
 Extends list seen = (new : List Change) × (list ≡ seen.log ++ new) × AreOthers seen.ranges new
-
--- each change bears a number that a pass can have
-abbrev pub IsNumbered : List Change → Type 0
-IsNumbered [] = Unit {0}
-IsNumbered (c ∷ cs) = (c.number < 4294967296) × IsNumbered cs
-
--- no number is in two of the ranges
-abbrev pub IsParted : List (ℕ × ℕ) → Type 0
-IsParted [] = Unit {0}
-IsParted (r ∷ rs) = ((k : ℕ) → r.0 ≤ k → k < r.0 + r.1 → ¬ HasNumber rs k) × IsParted rs
 
 -- how many numbers the first range has: these are the pass's own, the other ranges were taken in
 abbrev pub own_count : List (ℕ × ℕ) → ℕ

@@ -49,8 +49,8 @@ AnswersContinue = (store : StoreView) (op : Op) (s t u : Seen) (answer : Result 
     → IsLater t s → StoreAnswer store op t answer u → StoreAnswer store op s answer u
 
 -- the change that the reply tells of, if any, which was made after the list under the number
-abbrev pub told : Reply → Op → List Change → ℕ → List Change
-told reply op list number = if is_change reply then change_of op list number ∷ [] else []
+abbrev pub change_reported : Reply → Op → List Change → ℕ → List Change
+change_reported reply op list number = if is_change reply then change_of op list number ∷ [] else []
 
 -- Two replies to a pass, one after the other, are replies of one history: the second is given after a list that
 -- begins with the first one's list and the change that the first reply told of, and else has only changes of others.
@@ -58,4 +58,4 @@ abbrev pub RepliesFollow : Type 0
 RepliesFollow = (store : StoreView) (first second : Op) (s t u : Seen) (one two : Reply)
     → StoreAnswer store first s (Ok one) t → StoreAnswer store second t (Ok two) u
     → (earlier : List Change) × (later : List Change) × Extends earlier s × (one ≡ (ask (after earlier) first).reply)
-    × Extends later (record s { log = earlier ++ told one first earlier (own_number s.ranges) }) × (two ≡ (ask (after later) second).reply)
+    × Extends later (record s { log = earlier ++ change_reported one first earlier (own_number s.ranges) }) × (two ≡ (ask (after later) second).reply)

@@ -2,9 +2,6 @@ pub mod Changes
 pub mod Pass
 pub mod Promise
 pub mod Close
-pub mod Rule
-pub mod Steps
-pub mod Seat
 pub mod Seated
 pub mod Laws
 pub mod Private

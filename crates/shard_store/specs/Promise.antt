@@ -21,8 +21,8 @@ IsAlone s = (k : ℕ) → k < 4294967296 → HasNumber s.ranges k
 
 -- The reply is the plain map's after a list that extends what was seen. If it tells of a change, the log is that
 -- list and the operation's change, under the pass's own number; else the log extends the list.
-abbrev pub Answered : Op → Seen → Reply → Seen → Type 0
-Answered op s reply t = (list : List Change) × Extends list s × (reply ≡ (ask (after list) op).reply) × (t.ranges ≡ s.ranges)
+abbrev pub IsReply : Op → Seen → Reply → Seen → Type 0
+IsReply op s reply t = (list : List Change) × Extends list s × (reply ≡ (ask (after list) op).reply) × (t.ranges ≡ s.ranges)
     × (is_change reply ≡ true → t.log ≡ list ++ change_of op list (own_number s.ranges) ∷ [])
     × (is_change reply ≡ false → Extends t.log (record { log = list; ranges = s.ranges }))
 
@@ -58,7 +58,7 @@ IsRefused store op s t GateShut = ⊥
 
 -- What the store answers to a pass that had seen s, and has seen t then.
 abbrev pub StoreAnswer : StoreView → Op → Seen → Result Reply AskError → Seen → Type 0
-StoreAnswer store op s (Ok reply) t = Answered op s reply t
+StoreAnswer store op s (Ok reply) t = IsReply op s reply t
 StoreAnswer store op s (Err e) t = IsRefused store op s t e
 
 -- The shard is held and has the revision that the log says; or another pass held it or changed it meanwhile, and the

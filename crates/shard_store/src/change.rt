@@ -1,12 +1,12 @@
 //! What a pass knows. No value of these types is made: they are what contracts and the rule speak of.
-use map_core::Held;
+use map_core::Holding;
 use spiffe_doc::TrustDomain;
 use std::collections::LinkedList;
 
 /// A name, what it holds from now on, and the number of the pass that wrote it.
 pub struct Change {
     pub name: TrustDomain,
-    pub now: Option<Held>,
+    pub now: Option<Holding>,
     pub number: u64,
 }
 

@@ -2,13 +2,9 @@
 ghost use Rattle.std.specs.Prelude.{◌≡◌, ℕ, ◌%◌, ◌<◌, ◌++◌, ◌∷◌, [], false, length, slice_index, IfOk, MatchOption};
 ghost use Rattle.std.specs.Mem.Slots.{slots_items, slots_len, IsFull};
 ghost use Rattle.map_core.specs.PlainMap.{PlainMap};
-ghost use Rattle.shard_store.specs.Close.{CloseAnswer};
-ghost use Rattle.shard_store.specs.Pass.{IsOf};
 ghost use Rattle.shard_store.specs.Private.Readings.{HoldPartsOf};
 
-use crate::pass::Pass;
 use crate::rule::Slot;
-use crate::store::Store;
 use atomic_table::Closed;
 use map_core::{Contents, Union};
 use std::alloc::{AllocError, Global};
@@ -49,31 +45,8 @@ impl From<AllocError> for CloseError {
     }
 }
 
-impl Store {
-    /// Ends the store and gives its map, unless a pass still holds a shard.
-    pub fn close(self, pass: Pass) -> Result<Contents, CloseError>
-        requires { IsOf pass self }
-        ensures { CloseAnswer self pass.seen result }
-    {
-        let Store {
-            alloc,
-            shards,
-            rounds: _,
-            tries: _,
-        } = self;
-        let Pass { seat, numbers: _ } = pass;
-        let closed = shards.close_with(seat);
-        if let Some(shard) = first_held(&closed) {
-            let _versions = take_all(alloc, closed);
-            return Err(CloseError::HeldAtEnd(shard));
-        }
-        let slots = take_all(alloc, closed)?;
-        Ok(join_slots(alloc, slots.as_slice())?)
-    }
-}
-
-// The first shard that some pass still holds.
-fn first_held(closed: &Closed<Slot, Global>) -> Option<usize>
+/// The first shard that some pass still holds.
+pub(crate) fn first_held(closed: &Closed<Slot, Global>) -> Option<usize>
     requires { IsFull closed.now.words × (slots_len closed.now.words ≡ slots_len closed.now.slots) }
     ensures { MatchOption result ((k : ℕ) → k < slots_len closed.now.slots → slice_index (slots_items closed.now.words) k % 2 ≡ 0) (λ i. (i < slots_len closed.now.slots) × (slice_index (slots_items closed.now.words) i % 2 ≡ 1)) }
 {
@@ -86,7 +59,10 @@ fn first_held(closed: &Closed<Slot, Global>) -> Option<usize>
 }
 
 // What stands in the slots, in order. All are taken out, even if there is no room for some.
-fn take_all(alloc: Global, mut closed: Closed<Slot, Global>) -> Result<Vec<Slot>, AllocError>
+pub(crate) fn take_all(
+    alloc: Global,
+    mut closed: Closed<Slot, Global>,
+) -> Result<Vec<Slot>, AllocError>
     requires { IsFull closed.slots }
     ensures { IfOk result (λ slots. slots.items ≡ slots_items closed.slots) }
 {
@@ -111,14 +87,14 @@ fn keep(slots: &mut Vec<Slot>, slot: Slot, is_short: bool) -> bool
 }
 
 // The map of which these slots hold the parts.
-fn join_slots(alloc: Global, slots: &[Slot]) -> Result<Contents, AllocError>
+pub(crate) fn join_slots(alloc: Global, slots: &[Slot]) -> Result<Contents, AllocError>
     requires { 0 < length slots.now }
     ensures { (m : PlainMap) → HoldPartsOf m slots.now → IfOk result (λ all. all ≡ m) }
 {
     let mut all = Union::new(alloc);
     for slot in slots {
         if let Some(version) = slot {
-            all = all.join(version)?;
+            all = all.add(version)?;
         }
     }
     all.into_contents()

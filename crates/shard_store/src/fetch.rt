@@ -2,15 +2,16 @@
 ghost use Rattle.std.specs.Prelude.{◌≡◌, ◌<◌, [], ◌∷◌, ◌++◌, length, OnOk, MatchResult, MatchOption};
 ghost use Rattle.std.specs.Arc.{arc_value};
 ghost use Rattle.map_core.specs.declared.op.Op.{Op};
-ghost use Rattle.shard_store.specs.Changes.{count, IsPart};
-ghost use Rattle.shard_store.specs.Promise.{IsLater, IsRefusedAt, IsRefused, Answered};
-ghost use Rattle.shard_store.specs.Seat.{IsAt, IsSameSeat, IsIdle};
+ghost use Rattle.shard_store.specs.Changes.{count};
+ghost use Rattle.shard_store.specs.Private.Numbers.{IsPart};
+ghost use Rattle.shard_store.specs.Promise.{IsLater, IsRefusedAt, IsRefused, IsReply};
+ghost use Rattle.shard_store.specs.Private.Seat.{IsAt, IsSameSeat, IsIdle};
 ghost use Rattle.shard_store.specs.Private.Readings.{WereRead, AreConfirmed, IsMovement, IsSnapshot, IsRound};
 
-use crate::holds::{look, try_hold};
-use crate::one_shard::{given_up, read_version};
+use crate::holds::{look, read_version, try_hold};
+use crate::one_shard::given_up;
 use crate::parts::{all_of, join_parts};
-use crate::rule::{Shards, StoreSeat};
+use crate::rule::{ShardTable, StoreSeat};
 use map_core::{AskError, Contents, Op, Reply};
 use std::alloc::{AllocError, Global};
 use std::sync::Arc;
@@ -71,7 +72,7 @@ pub(crate) enum Round {
 /// All bundles, as they stood together at one moment.
 pub(crate) fn ask_all(
     alloc: Global,
-    shards: &Shards,
+    shards: &ShardTable,
     seat: &mut StoreSeat,
     tries: u64,
     rounds: u64,
@@ -81,7 +82,7 @@ pub(crate) fn ask_all(
     requires tries { (0 < tries) × (0 < rounds) }
     ensures seat { IsSameSeat seat.old seat.new × IsIdle seat.new.me }
     ensures answer { MatchResult result
-        (λ reply. Answered Op.FetchAll seat.old.me.0.seen reply seat.new.me.0.seen)
+        (λ reply. IsReply Op.FetchAll seat.old.me.0.seen reply seat.new.me.0.seen)
         (IsRefused (record { id = seat.old.table_id; rounds = rounds; tries = tries }) Op.FetchAll seat.old.me.0.seen seat.new.me.0.seen) }
 {
     let parts = fetch_parts(alloc, shards, seat, tries, rounds)?;
@@ -92,7 +93,7 @@ pub(crate) fn ask_all(
 // Rounds until no shard has moved in one.
 fn fetch_parts(
     alloc: Global,
-    shards: &Shards,
+    shards: &ShardTable,
     seat: &mut StoreSeat,
     tries: u64,
     rounds: u64,
@@ -122,7 +123,7 @@ fn fetch_parts(
 // One round: the parts of the map after one list, or a shard that has moved.
 fn read_round(
     alloc: Global,
-    shards: &Shards,
+    shards: &ShardTable,
     seat: &mut StoreSeat,
     tries: u64,
 ) -> Result<Round, AskError>
@@ -147,7 +148,7 @@ fn read_round(
 /// Reads each shard, in order.
 pub(crate) fn collect_all(
     alloc: Global,
-    shards: &Shards,
+    shards: &ShardTable,
     seat: &mut StoreSeat,
     tries: u64,
 ) -> Result<Readings, AskError>
@@ -170,7 +171,7 @@ pub(crate) fn collect_all(
 
 // Reads one shard under a hold: its revision and its version.
 fn collect(
-    shards: &Shards,
+    shards: &ShardTable,
     seat: &mut StoreSeat,
     shard: usize,
     tries: u64,
@@ -202,7 +203,7 @@ fn collect(
 
 // Loads each word once. The first shard that has another revision ends it.
 pub(crate) fn confirm_all(
-    shards: &Shards,
+    shards: &ShardTable,
     seat: &mut StoreSeat,
     revisions: &[u64],
 ) -> Option<Movement>

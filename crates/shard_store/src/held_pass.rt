@@ -2,62 +2,33 @@
 ghost use Rattle.std.specs.Prelude.{◌≡◌, ◌<◌};
 ghost use Rattle.shard_store.specs.Changes.{count};
 ghost use Rattle.shard_store.specs.Pass.{IsOf};
-ghost use Rattle.shard_store.specs.Promise.{HoldAnswer};
 
-use crate::holds::{release, try_hold};
+use crate::holds::release;
 use crate::pass::Pass;
 use crate::rule::StoreSeat;
 use crate::store::Store;
-use map_core::AskError;
 use std::marker::Model;
 
 /// A pass that holds a shard. If it is dropped, the shard stays held.
 #[derive(Drop)]
 pub struct HeldPass {
-    seat: StoreSeat,
-    numbers: u64,
-    shard: usize,
-    word: u64,
+    pub(crate) seat: StoreSeat,
+    pub(crate) numbers: u64,
+    pub(crate) shard: usize,
+    pub(crate) word: u64,
 }
 
 impl Model for HeldPass {
     ghost use Rattle.std.specs.Prelude.{◌≡◌, ◌*◌, ◌<◌};
     ghost use Rattle.shard_store.specs.Pass.{HeldPassView};
     ghost use Rattle.shard_store.specs.Changes.{count, own_count};
-    ghost use Rattle.shard_store.specs.Seat.{IsPaired, IsHolding};
+    ghost use Rattle.shard_store.specs.Private.Seat.{IsPaired, IsHolding};
 
     ghost Value = { HeldPassView };
 
     ghost view = { λ h. record { store = h.seat.table_id; seen = h.seat.me.0.seen; shard = h.shard } };
 
     ghost invariant = { λ h. IsHolding h.seat.table_id.slots h.shard h.seat.me × (h.word ≡ 2 * count h.seat.table_id.slots h.seat.me.0.seen.log h.shard) × IsPaired h.seat.table_id × (h.shard < h.seat.table_id.slots) × (own_count h.seat.me.0.seen.ranges ≡ h.numbers) };
-}
-
-impl Store {
-    /// Takes the shard, by one try. Other passes are refused there until the shard is let go. If another pass has it,
-    /// this pass comes back, with the error `Held`.
-    pub fn hold(&self, pass: Pass, shard: usize) -> Result<HeldPass, (Pass, AskError)>
-        requires own { IsOf pass self.now }
-        requires shard { shard < self.now.id.slots }
-        ensures { HoldAnswer self.now shard pass.seen result }
-    {
-        let Pass { mut seat, numbers } = pass;
-        match try_hold(&self.shards, &mut seat, shard) {
-            Ok(word) => Ok(HeldPass {
-                seat,
-                numbers,
-                shard,
-                word,
-            }),
-            Err(found) => {
-                let error = AskError::Held {
-                    shard,
-                    revision: found / 2,
-                };
-                Err((Pass { seat, numbers }, error))
-            }
-        }
-    }
 }
 
 impl HeldPass {

@@ -2,18 +2,19 @@
 ghost use Rattle.std.specs.Prelude.{◌≡◌, ◌*◌, ◌+◌, ◌/◌, ◌%◌, ◌^◌, ◌<◌, ◌≤◌, [], ◌∷◌, ◌++◌, None, Some, IfOk, MatchResult};
 ghost use Rattle.std.specs.Arc.{arc_value};
 ghost use Rattle.map_core.specs.PlainMap.{shard_of};
-ghost use Rattle.shard_store.specs.Changes.{count, IsPart};
+ghost use Rattle.shard_store.specs.Changes.{count};
+ghost use Rattle.shard_store.specs.Private.Numbers.{IsPart};
 ghost use Rattle.shard_store.specs.Promise.{IsLater, IsAlone};
-ghost use Rattle.shard_store.specs.Seat.{IsAt, IsSameSeat, IsIdle, IsHolding, Missed, Writes, change_by};
+ghost use Rattle.shard_store.specs.Private.Seat.{IsAt, IsSameSeat, IsIdle, IsHolding, Missed, Writes, change_by};
 
 use crate::plays::{Look, NamesChange, Publish, Release, Take};
-use crate::rule::{Shards, StoreSeat};
+use crate::rule::{ShardTable, StoreSeat};
 use map_core::{Contents, Op};
 use std::alloc::AllocError;
 use std::sync::Arc;
 
 /// The shard's word: twice its revision, and one more while a pass holds it.
-pub(crate) fn look(shards: &Shards, seat: &mut StoreSeat, shard: usize) -> u64
+pub(crate) fn look(shards: &ShardTable, seat: &mut StoreSeat, shard: usize) -> u64
     requires own { IsAt seat.old shards.now.shared.table_id }
     requires shard { shard < seat.old.table_id.slots }
     requires idle { IsIdle seat.old.me }
@@ -27,7 +28,7 @@ pub(crate) fn look(shards: &Shards, seat: &mut StoreSeat, shard: usize) -> u64
 
 /// Takes the shard by one exchange from exactly this word. Otherwise gives the word found.
 pub(crate) fn hold_from(
-    shards: &Shards,
+    shards: &ShardTable,
     seat: &mut StoreSeat,
     shard: usize,
     word: u64,
@@ -49,7 +50,7 @@ pub(crate) fn hold_from(
 }
 
 /// One try: a load and, if the shard is free, an exchange. `Ok` is the word while it was free, `Err` the word found.
-pub(crate) fn try_hold(shards: &Shards, seat: &mut StoreSeat, shard: usize) -> Result<u64, u64>
+pub(crate) fn try_hold(shards: &ShardTable, seat: &mut StoreSeat, shard: usize) -> Result<u64, u64>
     requires own { IsAt seat.old shards.now.shared.table_id }
     requires shard { shard < seat.old.table_id.slots }
     requires idle { IsIdle seat.old.me }
@@ -69,7 +70,7 @@ pub(crate) fn try_hold(shards: &Shards, seat: &mut StoreSeat, shard: usize) -> R
 
 /// Another owner of the version in hand. If none can be had, the version is in its slot again all the same.
 pub(crate) fn copy_version(
-    shards: &Shards,
+    shards: &ShardTable,
     seat: &mut StoreSeat,
     shard: usize,
 ) -> Result<Arc<Contents>, AllocError>
@@ -86,7 +87,7 @@ pub(crate) fn copy_version(
 }
 
 /// Lets the shard go as it was taken.
-pub(crate) fn release(shards: &Shards, seat: &mut StoreSeat, shard: usize, word: u64)
+pub(crate) fn release(shards: &ShardTable, seat: &mut StoreSeat, shard: usize, word: u64)
     requires own { IsAt seat.old shards.now.shared.table_id }
     requires shard { shard < seat.old.table_id.slots }
     requires holds { IsHolding seat.old.table_id.slots shard seat.old.me }
@@ -97,9 +98,28 @@ pub(crate) fn release(shards: &Shards, seat: &mut StoreSeat, shard: usize, word:
     shards.shared.store::<Release>(seat, shard, word);
 }
 
+/// Reads the version of a shard that is held, and lets the shard go.
+pub(crate) fn read_version(
+    shards: &ShardTable,
+    seat: &mut StoreSeat,
+    shard: usize,
+    word: u64,
+) -> Result<Arc<Contents>, AllocError>
+    requires own { IsAt seat.old shards.now.shared.table_id }
+    requires shard { shard < seat.old.table_id.slots }
+    requires holds { IsHolding seat.old.table_id.slots shard seat.old.me }
+    requires word { word ≡ 2 * count seat.old.table_id.slots seat.old.me.0.seen.log shard }
+    ensures seat { IsSameSeat seat.old seat.new × IsIdle seat.new.me × (seat.new.me.0.seen ≡ seat.old.me.0.seen) }
+    ensures version { IfOk result (λ v. IsPart seat.old.table_id.slots shard seat.old.me.0.seen.log (arc_value v)) }
+{
+    let copy = copy_version(shards, seat, shard);
+    release(shards, seat, shard, word);
+    copy
+}
+
 /// Lets the shard go with a new version.
 pub(crate) fn publish<W: NamesChange>(
-    shards: &Shards,
+    shards: &ShardTable,
     seat: &mut StoreSeat,
     shard: usize,
     word: u64,

@@ -4,7 +4,6 @@
 //! the pass had seen; after a refusal nothing has changed.
 #![tactic(auto)]
 
-mod calls;
 mod change;
 mod close;
 mod fetch;

@@ -2,12 +2,13 @@
 ghost use Rattle.std.specs.Prelude.{◌≡◌, ◌*◌, ◌/◌, ◌^◌, ◌<◌, [], ◌∷◌, ◌++◌, Some, IfOk, MatchResult};
 ghost use Rattle.std.specs.Arc.{arc_value};
 ghost use Rattle.map_core.specs.PlainMap.{shard_of};
-ghost use Rattle.shard_store.specs.Changes.{count, IsPart};
-ghost use Rattle.shard_store.specs.Promise.{IsLater, Answered, IsRefusedAt};
-ghost use Rattle.shard_store.specs.Seat.{IsAt, IsSameSeat, IsIdle, IsHolding, Missed, Writes, Tried, change_by};
+ghost use Rattle.shard_store.specs.Changes.{count};
+ghost use Rattle.shard_store.specs.Private.Numbers.{IsPart};
+ghost use Rattle.shard_store.specs.Promise.{IsLater, IsReply, IsRefusedAt};
+ghost use Rattle.shard_store.specs.Private.Seat.{IsAt, IsSameSeat, IsIdle, IsHolding, Missed, Writes, Tried, change_by};
 
-use crate::holds::{copy_version, hold_from, publish, release, try_hold};
-use crate::rule::{Shards, StoreSeat};
+use crate::holds::{hold_from, publish, read_version, try_hold};
+use crate::rule::{ShardTable, StoreSeat};
 use map_core::{AskError, Contents, Op, Reply};
 use std::alloc::{AllocError, Global};
 use std::marker::Brand;
@@ -25,7 +26,7 @@ pub(crate) enum Attempt {
 /// Tries the operation as often as it may.
 pub(crate) fn ask_shard(
     alloc: Global,
-    shards: &Shards,
+    shards: &ShardTable,
     seat: &mut StoreSeat,
     tries: u64,
     shard: usize,
@@ -38,7 +39,7 @@ pub(crate) fn ask_shard(
     requires home { shard_of seat.old.table_id.slots op.now ≡ Some shard }
     ensures seat { IsSameSeat seat.old seat.new × IsIdle seat.new.me }
     ensures answer { MatchResult result
-        (λ reply. Answered op.now seat.old.me.0.seen reply seat.new.me.0.seen)
+        (λ reply. IsReply op.now seat.old.me.0.seen reply seat.new.me.0.seen)
         (IsRefusedAt seat.old.table_id.slots op.now seat.old.me.0.seen seat.new.me.0.seen) }
 {
     let mut word = 0;
@@ -69,7 +70,7 @@ pub(crate) fn given_up(tries: u64, failed: u64, shard: usize, word: u64) -> AskE
 // One try: the version is read, and the one after it made while nothing is held.
 fn try_once(
     alloc: Global,
-    shards: &Shards,
+    shards: &ShardTable,
     seat: &mut StoreSeat,
     shard: usize,
     op: &Op,
@@ -104,28 +105,9 @@ fn try_once(
     }
 }
 
-/// Reads the version of a shard that is held, and lets the shard go.
-pub(crate) fn read_version(
-    shards: &Shards,
-    seat: &mut StoreSeat,
-    shard: usize,
-    word: u64,
-) -> Result<Arc<Contents>, AllocError>
-    requires own { IsAt seat.old shards.now.shared.table_id }
-    requires shard { shard < seat.old.table_id.slots }
-    requires holds { IsHolding seat.old.table_id.slots shard seat.old.me }
-    requires word { word ≡ 2 * count seat.old.table_id.slots seat.old.me.0.seen.log shard }
-    ensures seat { IsSameSeat seat.old seat.new × IsIdle seat.new.me × (seat.new.me.0.seen ≡ seat.old.me.0.seen) }
-    ensures version { IfOk result (λ v. IsPart seat.old.table_id.slots shard seat.old.me.0.seen.log (arc_value v)) }
-{
-    let copy = copy_version(shards, seat, shard);
-    release(shards, seat, shard, word);
-    copy
-}
-
 // Takes the shard if its word is still the one from which the new version was made, and lets it go with that.
 fn store_version(
-    shards: &Shards,
+    shards: &ShardTable,
     seat: &mut StoreSeat,
     shard: usize,
     word: u64,

@@ -15,7 +15,7 @@ pub(crate) fn join_parts(alloc: Global, parts: &[Arc<Contents>]) -> Result<Union
 {
     let mut all = Union::new(alloc);
     for part in parts {
-        all = all.join(part)?;
+        all = all.add(part)?;
     }
     Ok(all)
 }

@@ -1,13 +1,11 @@
 //! What a thread asks a store with.
 ghost use Rattle.std.specs.Prelude.{◌≡◌, ℕ, ◌+◌, ◌-◌, ◌<◌, ◌≤◌, ◌++◌};
 ghost use Rattle.shard_store.specs.Changes.{Extends, own_count, without_last, just_last};
-ghost use Rattle.shard_store.specs.Seat.{IsAt, IsSameSeat, IsIdle};
-ghost use Rattle.shard_store.specs.Pass.{IsOf};
+ghost use Rattle.shard_store.specs.Private.Seat.{IsAt, IsSameSeat, IsIdle};
 
 use crate::plays::{Look, NamesShare, SplitOff, TakeIn};
-use crate::rule::{Shards, StoreSeat};
-use crate::store::Store;
-use std::marker::{Brand, Model};
+use crate::rule::{ShardTable, StoreSeat};
+use std::marker::Model;
 
 /// A thread's leave to ask its store. Contracts see a log of the changes that the pass has seen, and its numbers:
 /// a change that a call makes bears the first number of its pass.
@@ -21,7 +19,7 @@ impl Model for Pass {
     ghost use Rattle.std.specs.Prelude.{◌≡◌};
     ghost use Rattle.shard_store.specs.Pass.{PassView};
     ghost use Rattle.shard_store.specs.Changes.{own_count};
-    ghost use Rattle.shard_store.specs.Seat.{IsIdle};
+    ghost use Rattle.shard_store.specs.Private.Seat.{IsIdle};
 
     ghost Value = { PassView };
 
@@ -39,43 +37,12 @@ impl Pass {
     }
 }
 
-impl Store {
-    /// A pass for another thread. It has seen as much, and gets the last `share` numbers of this one.
-    pub fn split(&self, pass: &mut Pass, share: u64) -> Pass
-        requires own { IsOf pass.old self.now }
-        requires share { (0 < share) × (share < own_count pass.old.seen.ranges) }
-        ensures own { IsOf pass.new self.now × IsOf result self.now }
-        ensures logs { (pass.new.seen.log ≡ pass.old.seen.log) × (result.seen.log ≡ pass.old.seen.log) }
-        ensures numbers { (pass.new.seen.ranges ≡ without_last share pass.old.seen.ranges) × (result.seen.ranges ≡ just_last share pass.old.seen.ranges) }
-    {
-        let seat = split_off::<Brand>(&self.shards, &mut pass.seat, share);
-        pass.numbers -= share;
-        Pass {
-            seat,
-            numbers: share,
-        }
-    }
-
-    /// One pass in place of two. It has seen all that they have seen, has the first one's numbers, and has taken in
-    /// those of the other.
-    pub fn join(&self, pass: Pass, other: Pass) -> Pass
-        requires own { IsOf pass self.now × IsOf other self.now }
-        ensures own { IsOf result self.now }
-        ensures log { Extends result.seen.log pass.seen × Extends result.seen.log other.seen }
-        ensures numbers { result.seen.ranges ≡ pass.seen.ranges ++ other.seen.ranges }
-    {
-        let Pass { mut seat, numbers } = pass;
-        let Pass {
-            seat: other,
-            numbers: _,
-        } = other;
-        join_seats(&self.shards, &mut seat, other);
-        Pass { seat, numbers }
-    }
-}
-
 // Splits the last numbers off, for a new seat that has seen as much.
-fn split_off<N: NamesShare>(shards: &Shards, seat: &mut StoreSeat, share: u64) -> StoreSeat
+pub(crate) fn split_off<N: NamesShare>(
+    shards: &ShardTable,
+    seat: &mut StoreSeat,
+    share: u64,
+) -> StoreSeat
     requires own { IsAt seat.old shards.now.shared.table_id }
     requires idle { IsIdle seat.old.me }
     requires share { (N.share ≡ share) × (0 < share) × (share < own_count seat.old.me.0.seen.ranges) }
@@ -88,7 +55,7 @@ fn split_off<N: NamesShare>(shards: &Shards, seat: &mut StoreSeat, share: u64) -
 }
 
 // Takes in what the other seat has seen, and its numbers. The load shows a list that begins with both logs.
-fn join_seats(shards: &Shards, seat: &mut StoreSeat, other: StoreSeat)
+pub(crate) fn join_seats(shards: &ShardTable, seat: &mut StoreSeat, other: StoreSeat)
     requires own { IsAt seat.old shards.now.shared.table_id × IsAt other shards.now.shared.table_id }
     requires idle { IsIdle seat.old.me × IsIdle other.me }
     ensures seat { IsSameSeat seat.old seat.new × IsIdle seat.new.me }

@@ -1,8 +1,8 @@
 //! What each step on the shared table tells.
 ghost use Rattle.std.specs.Prelude.{ℕ};
 ghost use Rattle.shard_store.specs.declared.change.Change.{Change};
-ghost use Rattle.shard_store.specs.Steps.{looked, took, released, published};
-ghost use Rattle.shard_store.specs.Rule.{keeping, given, taking_in, spent};
+ghost use Rattle.shard_store.specs.Private.Steps.{LoadsWord, TakesShard, ReleasesShard, PublishesChange};
+ghost use Rattle.shard_store.specs.Private.Rule.{giver_view, receiver_view, joiner_view, empty_view};
 
 use crate::change::{Change, View};
 use crate::rule::Slot;
@@ -12,19 +12,19 @@ use std::marker::{Brand, PhantomData};
 pub(crate) struct Look;
 
 impl Play<Slot, View> for Look {
-    ghost then = { looked };
+    ghost then = { LoadsWord };
 }
 
 pub(crate) struct Take;
 
 impl Play<Slot, View> for Take {
-    ghost then = { took };
+    ghost then = { TakesShard };
 }
 
 pub(crate) struct Release;
 
 impl Play<Slot, View> for Release {
-    ghost then = { released };
+    ghost then = { ReleasesShard };
 }
 
 /// Names the change that a call makes.
@@ -33,7 +33,7 @@ pub(crate) trait NamesChange {
 }
 
 impl NamesChange for Brand {
-    ghost use Rattle.shard_store.specs.Rule.{no_change};
+    ghost use Rattle.shard_store.specs.Private.Rule.{no_change};
 
     ghost change = { no_change };
 }
@@ -43,7 +43,7 @@ pub(crate) struct Publish<W> {
 }
 
 impl<W: NamesChange> Play<Slot, View> for Publish<W> {
-    ghost then = { published W.change };
+    ghost then = { PublishesChange W.change };
 }
 
 /// Names how many numbers a call gives away.
@@ -60,15 +60,15 @@ pub(crate) struct SplitOff<N> {
 }
 
 impl<N: NamesShare> Split<View> for SplitOff<N> {
-    ghost left = { keeping N.share };
+    ghost left = { giver_view N.share };
 
-    ghost right = { given N.share };
+    ghost right = { receiver_view N.share };
 }
 
 pub(crate) struct TakeIn;
 
 impl Join<View> for TakeIn {
-    ghost both = { taking_in };
+    ghost both = { joiner_view };
 
-    ghost spent = { spent };
+    ghost spent = { empty_view };
 }

@@ -11,13 +11,13 @@ pub type Slot = Option<Arc<Contents>>;
 pub struct OneList;
 
 impl TableRule<Slot, View, ()> for OneList {
-    ghost use Rattle.shard_store.specs.Rule.{MeetsRule, first_view};
+    ghost use Rattle.shard_store.specs.Private.Rule.{MeetsRule, first_view};
 
     ghost holds = { λ _. MeetsRule };
 
     ghost first = { λ _. first_view };
 }
 
-pub type Shards = Table<Slot, View, (), OneList, Global>;
+pub type ShardTable = Table<Slot, View, (), OneList, Global>;
 
 pub type StoreSeat = Seat<Slot, View>;

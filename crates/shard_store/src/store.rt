@@ -1,22 +1,33 @@
-//! The store.
-ghost use Rattle.std.specs.Prelude.{◌≡◌, ◌<◌, ◌≤◌, [], ◌∷◌, length, replicate, IfOk};
+//! The store: what threads do with it, each with a pass of its own.
+ghost use Rattle.std.specs.Prelude.{◌≡◌, ◌<◌, ◌≤◌, ◌++◌, [], ◌∷◌, length, replicate, IfOk};
 ghost use Rattle.std.specs.List.{All};
-ghost use Rattle.shard_store.specs.Rule.{IsEmptyVersion};
+ghost use Rattle.map_core.specs.declared.op.Op.{Op};
+ghost use Rattle.shard_store.specs.Changes.{Extends, own_count, without_last, just_last};
+ghost use Rattle.shard_store.specs.Close.{CloseAnswer};
 ghost use Rattle.shard_store.specs.Pass.{IsOf};
+ghost use Rattle.shard_store.specs.Promise.{StoreAnswer, HoldAnswer};
+ghost use Rattle.shard_store.specs.Private.Rule.{IsEmptyVersion};
 
-use crate::pass::Pass;
-use crate::rule::{Shards, Slot};
+use crate::close::{CloseError, first_held, join_slots, take_all};
+use crate::fetch::ask_all;
+use crate::held_pass::HeldPass;
+use crate::holds::try_hold;
+use crate::one_shard::ask_shard;
+use crate::pass::{Pass, join_seats, split_off};
+use crate::rule::{ShardTable, Slot};
 use atomic_table::Table;
-use map_core::Contents;
+use map_core::{AskError, Contents, Expect, Op, Reply};
+use spiffe_doc::{Authority, Bundle, TrustDomain};
 use std::alloc::{AllocError, Global};
-use std::marker::Model;
+use std::marker::{Brand, Model};
 use std::sync::Arc;
+use step_core::home::shard_of;
 
 /// A map of trust bundles in shards, for threads that each have a pass.
 #[derive(Drop)]
 pub struct Store {
     pub(crate) alloc: Global,
-    pub(crate) shards: Shards,
+    pub(crate) shards: ShardTable,
     pub(crate) rounds: u64,
     pub(crate) tries: u64,
 }
@@ -24,7 +35,7 @@ pub struct Store {
 impl Model for Store {
     ghost use Rattle.std.specs.Prelude.{◌<◌};
     ghost use Rattle.shard_store.specs.Pass.{StoreView};
-    ghost use Rattle.shard_store.specs.Seat.{IsPaired};
+    ghost use Rattle.shard_store.specs.Private.Seat.{IsPaired};
 
     ghost Value = { StoreView };
 
@@ -67,6 +78,169 @@ impl Store {
             },
             pass,
         ))
+    }
+
+    /// A pass for another thread. It has seen as much, and gets the last `share` numbers of this one.
+    pub fn split(&self, pass: &mut Pass, share: u64) -> Pass
+        requires own { IsOf pass.old self.now }
+        requires share { (0 < share) × (share < own_count pass.old.seen.ranges) }
+        ensures own { IsOf pass.new self.now × IsOf result self.now }
+        ensures logs { (pass.new.seen.log ≡ pass.old.seen.log) × (result.seen.log ≡ pass.old.seen.log) }
+        ensures numbers { (pass.new.seen.ranges ≡ without_last share pass.old.seen.ranges) × (result.seen.ranges ≡ just_last share pass.old.seen.ranges) }
+    {
+        let seat = split_off::<Brand>(&self.shards, &mut pass.seat, share);
+        pass.numbers -= share;
+        Pass {
+            seat,
+            numbers: share,
+        }
+    }
+
+    /// One pass in place of two. It has seen all that they have seen, has the first one's numbers, and has taken in
+    /// those of the other.
+    pub fn join(&self, pass: Pass, other: Pass) -> Pass
+        requires own { IsOf pass self.now × IsOf other self.now }
+        ensures own { IsOf result self.now }
+        ensures log { Extends result.seen.log pass.seen × Extends result.seen.log other.seen }
+        ensures numbers { result.seen.ranges ≡ pass.seen.ranges ++ other.seen.ranges }
+    {
+        let Pass { mut seat, numbers } = pass;
+        let Pass {
+            seat: other,
+            numbers: _,
+        } = other;
+        join_seats(&self.shards, &mut seat, other);
+        Pass { seat, numbers }
+    }
+
+    /// Answers an operation as the plain map does, after some list of changes that begins with what the pass has
+    /// seen. After an error the pass has changed nothing.
+    pub(crate) fn ask(&self, pass: &mut Pass, op: Op) -> Result<Reply, AskError>
+        requires own { IsOf pass.old self.now }
+        ensures own { IsOf pass.new self.now }
+        ensures answer { StoreAnswer self.now op pass.old.seen result pass.new.seen }
+    {
+        let seat = &mut pass.seat;
+        match shard_of(&op, self.shards.slot_count()) {
+            Some(shard) => ask_shard(self.alloc, &self.shards, seat, self.tries, shard, &op),
+            None => ask_all(self.alloc, &self.shards, seat, self.tries, self.rounds),
+        }
+    }
+
+    /// Puts a bundle under the name.
+    pub fn set(
+        &self,
+        pass: &mut Pass,
+        domain: TrustDomain,
+        bundle: Bundle,
+    ) -> Result<Reply, AskError>
+        requires own { IsOf pass.old self.now }
+        ensures own { IsOf pass.new self.now }
+        ensures answer { StoreAnswer self.now (Op.Set domain bundle) pass.old.seen result pass.new.seen }
+    {
+        self.ask(pass, Op::Set(domain, bundle))
+    }
+
+    /// Puts a bundle under the name if what stands there is as expected.
+    pub fn set_if(
+        &self,
+        pass: &mut Pass,
+        domain: TrustDomain,
+        expect: Expect,
+        bundle: Bundle,
+    ) -> Result<Reply, AskError>
+        requires own { IsOf pass.old self.now }
+        ensures own { IsOf pass.new self.now }
+        ensures answer { StoreAnswer self.now (Op.SetIf domain expect bundle) pass.old.seen result pass.new.seen }
+    {
+        self.ask(pass, Op::SetIf(domain, expect, bundle))
+    }
+
+    /// Appends an authority to the bundle under the name.
+    pub fn append(
+        &self,
+        pass: &mut Pass,
+        domain: TrustDomain,
+        authority: Authority,
+    ) -> Result<Reply, AskError>
+        requires own { IsOf pass.old self.now }
+        ensures own { IsOf pass.new self.now }
+        ensures answer { StoreAnswer self.now (Op.Append domain authority) pass.old.seen result pass.new.seen }
+    {
+        self.ask(pass, Op::Append(domain, authority))
+    }
+
+    /// Removes the bundle under the name.
+    pub fn remove(&self, pass: &mut Pass, domain: TrustDomain) -> Result<Reply, AskError>
+        requires own { IsOf pass.old self.now }
+        ensures own { IsOf pass.new self.now }
+        ensures answer { StoreAnswer self.now (Op.Remove domain) pass.old.seen result pass.new.seen }
+    {
+        self.ask(pass, Op::Remove(domain))
+    }
+
+    /// Finds the bundle under the name.
+    pub fn get(&self, pass: &mut Pass, domain: TrustDomain) -> Result<Reply, AskError>
+        requires own { IsOf pass.old self.now }
+        ensures own { IsOf pass.new self.now }
+        ensures answer { StoreAnswer self.now (Op.Get domain) pass.old.seen result pass.new.seen }
+    {
+        self.ask(pass, Op::Get(domain))
+    }
+
+    /// All bundles, as they stood together at one moment.
+    pub fn fetch_all(&self, pass: &mut Pass) -> Result<Reply, AskError>
+        requires own { IsOf pass.old self.now }
+        ensures own { IsOf pass.new self.now }
+        ensures answer { StoreAnswer self.now Op.FetchAll pass.old.seen result pass.new.seen }
+    {
+        self.ask(pass, Op::FetchAll)
+    }
+
+    /// Takes the shard, by one try. Other passes are refused there until the shard is let go. If another pass has it,
+    /// this pass comes back, with the error `Held`.
+    pub fn hold(&self, pass: Pass, shard: usize) -> Result<HeldPass, (Pass, AskError)>
+        requires own { IsOf pass self.now }
+        requires shard { shard < self.now.id.slots }
+        ensures { HoldAnswer self.now shard pass.seen result }
+    {
+        let Pass { mut seat, numbers } = pass;
+        match try_hold(&self.shards, &mut seat, shard) {
+            Ok(word) => Ok(HeldPass {
+                seat,
+                numbers,
+                shard,
+                word,
+            }),
+            Err(found) => {
+                let error = AskError::Held {
+                    shard,
+                    revision: found / 2,
+                };
+                Err((Pass { seat, numbers }, error))
+            }
+        }
+    }
+
+    /// Ends the store and gives its map, unless a pass still holds a shard.
+    pub fn close(self, pass: Pass) -> Result<Contents, CloseError>
+        requires { IsOf pass self }
+        ensures { CloseAnswer self pass.seen result }
+    {
+        let Store {
+            alloc,
+            shards,
+            rounds: _,
+            tries: _,
+        } = self;
+        let Pass { seat, numbers: _ } = pass;
+        let closed = shards.close_with(seat);
+        if let Some(shard) = first_held(&closed) {
+            let _versions = take_all(alloc, closed);
+            return Err(CloseError::HeldAtEnd(shard));
+        }
+        let slots = take_all(alloc, closed)?;
+        Ok(join_slots(alloc, slots.as_slice())?)
     }
 }
 

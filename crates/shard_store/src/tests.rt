@@ -57,7 +57,7 @@ fn write_between(
     }
 }
 
-fn moved(shard: usize, first: u64, second: u64) -> Option<AskError> {
+fn moved_error(shard: usize, first: u64, second: u64) -> Option<AskError> {
     Some(AskError::Moved {
         shard,
         first,
@@ -71,10 +71,10 @@ fn a_write_between_reading_and_confirming_is_seen(rt: HostRuntime) -> Result<(),
     let one = [("a", FIRST)];
     let two = [("b", FIRST), ("a", SECOND)];
     let other = [("b", FIRST)];
-    assert!(rt; write_between(alloc, 1, &[], &one)? == moved(0, 0, 1));
-    assert!(rt; write_between(alloc, 1, &one, &two)? == moved(0, 1, 3));
+    assert!(rt; write_between(alloc, 1, &[], &one)? == moved_error(0, 0, 1));
+    assert!(rt; write_between(alloc, 1, &one, &two)? == moved_error(0, 1, 3));
     // The name `a` is at home in shard 1, and `b` in shard 0.
-    assert!(rt; write_between(alloc, 2, &other, &one)? == moved(1, 0, 1));
+    assert!(rt; write_between(alloc, 2, &other, &one)? == moved_error(1, 0, 1));
     assert!(rt; write_between(alloc, 2, &two, &[])? == None);
     Ok(())
 }

@@ -14,10 +14,10 @@ use Rattle.spiffe_doc.specs.declared.error.DocError.TheVariants.{TooLong, NotJso
 use Rattle.spiffe_doc.specs.Answer.{unless, ◌>>=◌}
 use Rattle.spiffe_doc.specs.Authority.{IsAuthority, BundleValue}
 use Rattle.spiffe_doc.specs.Bundle.{is_among, is_kid_taken, AreAuthorities, IsBundle}
-use Rattle.spiffe_doc.specs.Entry.{IsAtFault}
+use Rattle.spiffe_doc.specs.Entry.{IsMalformed}
 use Rattle.spiffe_doc.specs.Judgement.{judge}
 use Rattle.spiffe_doc.specs.Text.{text_of}
-use Rattle.spiffe_doc.specs.Document.{elements, outcome, given_by, given_before, distinct, fault_after, fault_at, least_fault, authorities_of, whole_number, within, json_tree, bundle_of, document, entry, place_of}
+use Rattle.spiffe_doc.specs.Document.{elements, verdict, authorities_by, authorities_before, distinct, fault_after, fault_at, least_fault, authorities_of, whole_number, within, json_tree, bundle_of, document, entry, place_of}
 use Rattle.spiffe_doc.proofs.AuthorityLists.{authorities_none, authorities_push}
 use Rattle.spiffe_doc.proofs.EntryLaws.{outcome_of}
 use Rattle.spiffe_doc.proofs.FirstPlaces.{list_any-firsts, firsts_push}
@@ -31,7 +31,7 @@ append-nothing (x ∷ xs) = ap (λ more. x ∷ more) (append-nothing xs)
 
 -- one entry more, of this outcome
 one_more : (place : ℕ) (before : List Authority) (v : Result (Option Authority) DocError) → AreAuthorities (distinct before) → ((a : Authority) → v ≡ Ok (Some a) → IsAuthority a)
-    → fault_after place before v ≡ None → AreAuthorities (distinct (before ++ given_by v))
+    → fault_after place before v ≡ None → AreAuthorities (distinct (before ++ authorities_by v))
 one_more place before (Err e) h is none = cc none
 one_more place before (Ok None) h is none = rw append-nothing h
 one_more place before (Ok (Some a)) h is none = elim (cases_Bool (is_kid_taken before a)) [
@@ -53,27 +53,27 @@ split_or : {A : Type 0} (a b : Option A) → option_or a b ≡ None → (a ≡ N
 split_or None b h = (refl, h)
 split_or (Some x) b h = cc h
 
-given_lawful : (entries : List Data) (place : ℕ) → least_fault entries place ≡ None → AreAuthorities (distinct (given_before entries place))
-unfolding least_fault given_before distinct
-given_lawful entries zero h = authorities_none
-given_lawful entries (suc place) h =
+given_valid : (entries : List Data) (place : ℕ) → least_fault entries place ≡ None → AreAuthorities (distinct (authorities_before entries place))
+unfolding least_fault authorities_before distinct
+given_valid entries zero h = authorities_none
+given_valid entries (suc place) h =
     let parts = split_or (least_fault entries place) (fault_at entries place) h in
-    one_more place (given_before entries place) (outcome entries place) (given_lawful entries place parts.0)
+    one_more place (authorities_before entries place) (verdict entries place) (given_valid entries place parts.0)
     (λ a is. (outcome_of place (slice_index_or entries place null) (Ok (Some a)) is).0) parts.1
 
-authorities_lawful : (entries : List Data) (authorities : List Authority) → authorities_of entries ≡ Ok authorities → AreAuthorities authorities
+authorities_valid : (entries : List Data) (authorities : List Authority) → authorities_of entries ≡ Ok authorities → AreAuthorities authorities
 unfolding authorities_of
-authorities_lawful entries authorities h = go (least_fault entries (length entries)) refl h
+authorities_valid entries authorities h = go (least_fault entries (length entries)) refl h
   where
-    go : (o : Option DocError) → least_fault entries (length entries) ≡ o → unless o (distinct (given_before entries (length entries))) ≡ Ok authorities → AreAuthorities authorities
+    go : (o : Option DocError) → least_fault entries (length entries) ≡ o → unless o (distinct (authorities_before entries (length entries))) ≡ Ok authorities → AreAuthorities authorities
     go (Some e) is h = cc h
     go None is h =
-        let same : distinct (given_before entries (length entries)) ≡ authorities = cc h in
-        rw (← same) (given_lawful entries (length entries) is)
+        let same : distinct (authorities_before entries (length entries)) ≡ authorities = cc h in
+        rw (← same) (given_valid entries (length entries) is)
 
 -- ---- the places
 
-fault_place : (place : ℕ) (tree : Data) (e : DocError) → IsAtFault place tree e → IfSome (place_of e) (λ at. at ≡ place)
+fault_place : (place : ℕ) (tree : Data) (e : DocError) → IsMalformed place tree e → IfSome (place_of e) (λ at. at ≡ place)
 fault_place place tree (BadEntry at) h = h.0
 fault_place place tree (BadKey at member) h = h.0
 fault_place place tree (BadX5c at) h = h.0
@@ -119,7 +119,7 @@ least_place entries (suc place) e h = go (least_fault entries place) (λ d is. l
     go : (o : Option DocError) → ((d : DocError) → least_fault entries place ≡ Some d → IfSome (place_of d) (λ at. at < place)) → least_fault entries place ≡ o
         → option_or o (fault_at entries place) ≡ Some e → IfSome (place_of e) (λ at. at < suc place)
     go None before is h =
-        at_below (place_of e) place (after_place place (given_before entries place) (outcome entries place) e (λ d err. judge_place place (slice_index_or entries place null) d err) h)
+        at_below (place_of e) place (after_place place (authorities_before entries place) (verdict entries place) e (λ d err. judge_place place (slice_index_or entries place null) d err) h)
     go (Some d) before is h =
         let same : d ≡ e = cc h in
         rw (← same) (below_more (place_of d) place (suc place) (omega arith) (before d is))
@@ -128,7 +128,7 @@ authorities_place : (entries : List Data) (e : DocError) → authorities_of entr
 unfolding authorities_of
 authorities_place entries e h = go (least_fault entries (length entries)) refl h
   where
-    go : (o : Option DocError) → least_fault entries (length entries) ≡ o → unless o (distinct (given_before entries (length entries))) ≡ Err e → IfSome (place_of e) (λ at. at < length entries)
+    go : (o : Option DocError) → least_fault entries (length entries) ≡ o → unless o (distinct (authorities_before entries (length entries))) ≡ Err e → IfSome (place_of e) (λ at. at < length entries)
     go None is h = cc h
     go (Some d) is h = let same : d ≡ e = cc h in rw (← same) (least_place entries (length entries) d is)
 
@@ -191,7 +191,7 @@ bundle_of-parts text tree bundle is h =
         last sequence hint (authorities_of (elements keys))
         (small_number (length text) _ sequence (member_small text tree (codes "spiffe_sequence") is) s_is)
         (small_number (length text) _ hint (member_small text tree (codes "spiffe_refresh_hint") is) r_is)
-        (authorities_lawful (elements keys)) h
+        (authorities_valid (elements keys)) h
 
 bundle_of-place : (text : List ℕ) (tree : Data) (e : DocError) → read text ≡ Some tree → bundle_of tree ≡ Err e → IfSome (place_of e) (λ at. at < length text)
 unfolding bundle_of

@@ -9,7 +9,7 @@ use Rattle.base64.specs.declared.decode.DecodeError.{DecodeError}
 use Rattle.base64.specs.declared.engine.general_purpose.GeneralPurpose.{GeneralPurpose}
 use Rattle.base64.specs.GeneralPurpose.{encode_of, decode_of, decoded_of, IsBytes, IsConsistent}
 use Rattle.base64.proofs.EngineFacts.{decode_of-encode_of}
-use Rattle.spiffe_doc.specs.Judgement.{filtered, is_encoding, encoded_bytes}
+use Rattle.spiffe_doc.specs.Judgement.{if_passes, is_encoding, encoded_bytes}
 
 pub IsBytes-list_all : (bytes : List ℕ) → list_all (λ byte. nat_lt byte 256) bytes ≡ true → IsBytes bytes
 IsBytes-list_all bytes h i = elim (cases_lt i (length bytes)) [
@@ -33,7 +33,7 @@ pub encoded_bytes-some : (e : GeneralPurpose) (text bytes : List ℕ) → encode
 unfolding encoded_bytes
 encoded_bytes-some e text bytes h = go (decoded_of e text) h
   where
-    go : (o : Option (List ℕ)) → filtered (is_encoding e text) o ≡ Some bytes → IsBytes bytes × (text ≡ encode_of e bytes)
+    go : (o : Option (List ℕ)) → if_passes (is_encoding e text) o ≡ Some bytes → IsBytes bytes × (text ≡ encode_of e bytes)
     go None h = cc h
     go (Some b) h = elim (cases_Bool (is_encoding e text b)) [
       | inl passes ↦

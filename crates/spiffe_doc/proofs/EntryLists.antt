@@ -5,9 +5,9 @@ use Rattle.serde_json.specs.Data.{Data, null}
 use Rattle.serde_json.specs.View.{view, items_view}
 use Rattle.serde_json.specs.declared.value.Value.{Value}
 use Rattle.spiffe_doc.specs.Judgement.{judge}
-use Rattle.spiffe_doc.specs.Document.{elements, distinct, given_by, outcome, given_before, fault_after, least_fault, authorities_of}
+use Rattle.spiffe_doc.specs.Document.{elements, distinct, authorities_by, verdict, authorities_before, fault_after, least_fault, authorities_of}
 use Rattle.spiffe_doc.specs.Bundle.{is_among, is_kid_taken}
-use Rattle.spiffe_doc.specs.Private.AuthoritySet.{taken}
+use Rattle.spiffe_doc.specs.Private.AuthoritySet.{take_in}
 use Rattle.spiffe_doc.specs.declared.authority.Authority.{Authority}
 use Rattle.spiffe_doc.specs.declared.error.DocError.{DocError}
 use Rattle.spiffe_doc.proofs.FirstPlaces.{list_any-firsts, firsts_push}
@@ -15,7 +15,7 @@ use Rattle.spiffe_doc.proofs.FirstPlaces.{list_any-firsts, firsts_push}
 -- ---- one entry, after those that gave the authorities before it
 
 taken_ok : (place : ℕ) (before : List Authority) (v : Result (Option Authority) DocError) (new : List Authority)
-    → taken place (distinct before) v ≡ Ok new → (fault_after place before v ≡ None) × (new ≡ distinct (before ++ given_by v))
+    → take_in place (distinct before) v ≡ Ok new → (fault_after place before v ≡ None) × (new ≡ distinct (before ++ authorities_by v))
 taken_ok place before (Err e) new h = cc h
 taken_ok place before (Ok None) new h = (refl, rw append-nil (cc h))
 taken_ok place before (Ok (Some a)) new h =
@@ -32,7 +32,7 @@ taken_ok place before (Ok (Some a)) new h =
     ]
 
 taken_err : (place : ℕ) (before : List Authority) (v : Result (Option Authority) DocError) (e : DocError)
-    → taken place (distinct before) v ≡ Err e → fault_after place before v ≡ Some e
+    → take_in place (distinct before) v ≡ Err e → fault_after place before v ≡ Some e
 taken_err place before (Err d) e h = cc h
 taken_err place before (Ok None) e h = cc h
 taken_err place before (Ok (Some a)) e h =
@@ -53,16 +53,16 @@ taken_err place before (Ok (Some a)) e h =
 -- no entry below the place stands out, and these are the authorities given there, each once
 pub record IsReadTo (entries : List Data) (place : ℕ) (kept : List Authority) : Type 0 where
   pub faultless : least_fault entries place ≡ None
-  pub once : kept ≡ distinct (given_before entries place)
+  pub once : kept ≡ distinct (authorities_before entries place)
 
 pub read_none : (entries : List Data) → IsReadTo entries 0 []
-unfolding least_fault given_before distinct
+unfolding least_fault authorities_before distinct
 read_none entries = record { faultless = refl; once = refl }
 
-pub read_one_more : (entries : List Data) (place : ℕ) (kept new : List Authority) → IsReadTo entries place kept → taken place kept (outcome entries place) ≡ Ok new → IsReadTo entries (place + 1) new
-unfolding least_fault given_before
+pub read_one_more : (entries : List Data) (place : ℕ) (kept new : List Authority) → IsReadTo entries place kept → take_in place kept (verdict entries place) ≡ Ok new → IsReadTo entries (place + 1) new
+unfolding least_fault authorities_before
 read_one_more entries place kept new h ok =
-    let step = taken_ok place (given_before entries place) (outcome entries place) new (rw h.once at ok) in
+    let step = taken_ok place (authorities_before entries place) (verdict entries place) new (rw h.once at ok) in
     rw add-one (record { faultless = rw (h.faultless) step.0; once = step.1 })
 
 fault_stays : (entries : List Data) (place more : ℕ) (e : DocError) → least_fault entries place ≡ Some e → least_fault entries (more + place) ≡ Some e
@@ -70,10 +70,10 @@ unfolding least_fault
 fault_stays entries place zero e h = rw (zero-add place) h
 fault_stays entries place (suc more) e h = rw (suc-add more place, fault_stays entries place more e h) refl
 
-pub read_to_fault : (entries : List Data) (place : ℕ) (kept : List Authority) (e : DocError) → IsReadTo entries place kept → place < length entries → taken place kept (outcome entries place) ≡ Err e → authorities_of entries ≡ Err e
+pub read_to_fault : (entries : List Data) (place : ℕ) (kept : List Authority) (e : DocError) → IsReadTo entries place kept → place < length entries → take_in place kept (verdict entries place) ≡ Err e → authorities_of entries ≡ Err e
 unfolding least_fault authorities_of
 read_to_fault entries place kept e h inside err =
-    let stands = taken_err place (given_before entries place) (outcome entries place) e (rw h.once at err) in
+    let stands = taken_err place (authorities_before entries place) (verdict entries place) e (rw h.once at err) in
     let here : least_fault entries (suc place) ≡ Some e = rw (h.faultless) stands in
     let reaches : (length entries - suc place) + suc place ≡ length entries = omega arith in
     rw (rw reaches at (fault_stays entries (suc place) (length entries - suc place) e here)) refl
@@ -83,7 +83,7 @@ unfolding authorities_of
 read_all entries kept h = rw (h.faultless, h.once) refl
 
 -- the entry that the code has in hand is judged as the list's
-pub outcome-view : (vs : List Value) (place : ℕ) (v : Value) → place < length vs → v ≡ get_or vs place v → outcome (map view vs) place ≡ judge place (view v)
+pub outcome-view : (vs : List Value) (place : ℕ) (v : Value) → place < length vs → v ≡ get_or vs place v → verdict (map view vs) place ≡ judge place (view v)
 outcome-view vs place v inside is = ap (judge place) (at vs place v inside ∙ ap view (sym is))
   where
     at : (vs : List Value) (i : ℕ) (v : Value) → i < length vs → get_or (map view vs) i null ≡ view (get_or vs i v)

@@ -5,7 +5,7 @@ use Rattle.std.specs.List.{list_any}
 use Rattle.std.proofs.lemmas.Bool.{cases_Bool}
 use Rattle.spiffe_doc.specs.declared.authority.Authority.{Authority}
 use Rattle.spiffe_doc.specs.Equal.{authority_eq}
-use Rattle.spiffe_doc.specs.Equality.{authority_decides}
+use Rattle.spiffe_doc.specs.Private.Equality.{authority_decides}
 use Rattle.spiffe_doc.specs.Bundle.{is_among}
 use Rattle.spiffe_doc.specs.Document.{distinct}
 

@@ -14,7 +14,7 @@ use Rattle.spiffe_doc.specs.declared.id.IdError.{IdError}
 use Rattle.spiffe_doc.specs.declared.id.IdError.TheVariants.{BadPath, Memory}
 use Rattle.spiffe_doc.specs.Name.{is_name_byte, name_fault}
 use Rattle.spiffe_doc.specs.Answer.{unless}
-use Rattle.spiffe_doc.specs.Id.{id_of, is_slash, is_segment_byte, is_segment, path_text, IdValue, IsId, id_text, of_name, first_bad, domain_of, segments_of, rest_fault, id_fault, spiffe_id}
+use Rattle.spiffe_doc.specs.Id.{id_of, is_slash, is_segment_byte, is_segment, path_text, IdValue, IsId, id_text, id_error, first_bad, domain_of, segments_of, rest_fault, id_fault, spiffe_id}
 use Rattle.spiffe_doc.proofs.NameLemmas.{IsName-from_no_fault, no_fault-IsName, name_fault-not_memory}
 use Rattle.spiffe_doc.proofs.IdLemmas.{split_first, path_is, none_bad, IsFaultless-from}
 
@@ -32,10 +32,10 @@ spiffe_id-IsId text id h = go (id_fault text) refl h
         let same : id_of rest ≡ id = cc h in
         let cut = sym (take-append-drop (position_or_len is_slash rest) rest) in
         rw (← same) (record {
-          spelled = faultless.scheme ∙ ap (λ bytes. codes "spiffe://" ++ bytes) cut;
+          is_text = faultless.scheme ∙ ap (λ bytes. codes "spiffe://" ++ bytes) cut;
           short = faultless.short;
-          named = IsName-from_no_fault _ faultless.named;
-          walked = faultless.walked;
+          has_name = IsName-from_no_fault _ faultless.has_name;
+          has_path = faultless.has_path;
         })
 
 name_byte_no_slash : (x : ℕ) → is_name_byte x ≡ true → is_slash x ≡ false
@@ -60,16 +60,16 @@ fits_limit n h = grind (arith, nat_tests)
 pub IsId-spiffe_id : (text : List ℕ) (id : IdValue) → IsId text id → spiffe_id text ≡ Ok id
 unfolding id_fault rest_fault
 IsId-spiffe_id text id h =
-    let rest = id.domain ++ path_text h.walked.0 in
-    let spelled : text ≡ codes "spiffe://" ++ rest = h.spelled ∙ ap (λ path. codes "spiffe://" ++ id.domain ++ path) h.walked.1 in
-    let parts : domain_of rest ∷ segments_of rest ≡ id.domain ∷ h.walked.0 =
-    sym (split_first rest) ∙ split_of id.domain h.walked.0 (λ k d inside. name_byte_no_slash _ (h.named.allowed k d inside)) h.walked.2 in
+    let rest = id.domain ++ path_text h.has_path.0 in
+    let is_text : text ≡ codes "spiffe://" ++ rest = h.is_text ∙ ap (λ path. codes "spiffe://" ++ id.domain ++ path) h.has_path.1 in
+    let parts : domain_of rest ∷ segments_of rest ≡ id.domain ∷ h.has_path.0 =
+    sym (split_first rest) ∙ split_of id.domain h.has_path.0 (λ k d inside. name_byte_no_slash _ (h.has_name.allowed k d inside)) h.has_path.2 in
     let domain : domain_of rest ≡ id.domain = cc parts in
-    let segments : segments_of rest ≡ h.walked.0 = cc parts in
-    let path : drop (position_or_len is_slash rest) rest ≡ id.path = path_is rest ∙ ap path_text segments ∙ sym h.walked.1 in
-    let fits : length (codes "spiffe://" ++ rest) ≤ 2048 = rw spelled at h.short in
+    let segments : segments_of rest ≡ h.has_path.0 = cc parts in
+    let path : drop (position_or_len is_slash rest) rest ≡ id.path = path_is rest ∙ ap path_text segments ∙ sym h.has_path.1 in
+    let fits : length (codes "spiffe://" ++ rest) ≤ 2048 = rw is_text at h.short in
     let short = fits_limit _ fits in
-    rw (spelled, short, domain, no_fault-IsName id.domain h.named, segments, none_bad 0 h.walked.0 h.walked.2) (ap (λ p. Ok (id_with id.domain p)) path)
+    rw (is_text, short, domain, no_fault-IsName id.domain h.has_name, segments, none_bad 0 h.has_path.0 h.has_path.2) (ap (λ p. Ok (id_with id.domain p)) path)
 
 -- ---- a text without a fault
 
@@ -78,7 +78,7 @@ IsId-from_no_fault text h = spiffe_id-IsId text (id_of (drop 9 text)) (rw h refl
 
 -- a SPIFFE ID is spelled by its parts
 pub IsId-id_text : (text : List ℕ) (id : IdValue) → IsId text id → IsId (id_text id) id
-IsId-id_text text id h = record { spelled = refl; short = rw h.spelled at h.short; named = h.named; walked = h.walked }
+IsId-id_text text id h = record { is_text = refl; short = rw h.is_text at h.short; has_name = h.has_name; has_path = h.has_path }
 
 -- the definition never runs out of memory
 pub id_fault-not_memory : (text : List ℕ) → id_fault text ≡ Some Memory → ⊥
@@ -91,7 +91,7 @@ id_fault-not_memory text h = elim (cases_Bool (nat_lt 2048 (length text))) [
   ]
 ]
   where
-    rest : (o : Option NameError) → name_fault (domain_of (drop 9 text)) ≡ o → (at : Option ℕ) → option_or (option_map of_name o) (option_map BadPath at) ≡ Some Memory → ⊥
+    rest : (o : Option NameError) → name_fault (domain_of (drop 9 text)) ≡ o → (at : Option ℕ) → option_or (option_map id_error o) (option_map BadPath at) ≡ Some Memory → ⊥
     rest None is None h = cc h
     rest None is (Some at) h = cc h
     rest (Some name.Empty) is at h = cc h

@@ -15,7 +15,7 @@ use Rattle.std.proofs.lemmas.List.Sums.{AllPass-from_list_all, fails_before_firs
 use Rattle.spiffe_doc.specs.declared.name.NameError.{NameError}
 use Rattle.spiffe_doc.specs.declared.id.IdError.TheVariants.{BadPath}
 use Rattle.spiffe_doc.specs.Name.{name_fault}
-use Rattle.spiffe_doc.specs.Id.{is_slash, is_segment_byte, is_segment, path_text, IsPath, domain_of, first_bad, segments_of, of_name, rest_fault, id_fault}
+use Rattle.spiffe_doc.specs.Id.{is_slash, is_segment_byte, is_segment, path_text, IsPath, domain_of, first_bad, segments_of, id_error, rest_fault, id_fault}
 
 -- ---- the parts
 
@@ -95,21 +95,21 @@ rest_parts : (rest : List ℕ) → rest_fault rest ≡ None → (name_fault (dom
 unfolding rest_fault
 rest_parts rest h = go (name_fault (domain_of rest)) refl h
   where
-    walked : (o : Option ℕ) → first_bad 0 (segments_of rest) ≡ o → option_map BadPath o ≡ None → IsPath (drop (position_or_len is_slash rest) rest)
-    walked None is h = (segments_of rest, path_is rest, are_good 0 (segments_of rest) is)
-    walked (Some place) is h = cc h
+    has_path : (o : Option ℕ) → first_bad 0 (segments_of rest) ≡ o → option_map BadPath o ≡ None → IsPath (drop (position_or_len is_slash rest) rest)
+    has_path None is h = (segments_of rest, path_is rest, are_good 0 (segments_of rest) is)
+    has_path (Some place) is h = cc h
 
-    go : (o : Option NameError) → name_fault (domain_of rest) ≡ o → option_or (option_map of_name o) (option_map BadPath (first_bad 0 (segments_of rest))) ≡ None
+    go : (o : Option NameError) → name_fault (domain_of rest) ≡ o → option_or (option_map id_error o) (option_map BadPath (first_bad 0 (segments_of rest))) ≡ None
         → (name_fault (domain_of rest) ≡ None) × IsPath (drop (position_or_len is_slash rest) rest)
-    go None named h = (named, walked (first_bad 0 (segments_of rest)) refl h)
-    go (Some e) named h = cc h
+    go None has_name h = (has_name, has_path (first_bad 0 (segments_of rest)) refl h)
+    go (Some e) has_name h = cc h
 
 pub record IsFaultless (text : List ℕ) : Type 0 where
   pub short : length text ≤ 2048
   pub scheme : text ≡ codes "spiffe://" ++ drop 9 text
   pub rest_faultless : rest_fault (drop 9 text) ≡ None
-  pub named : name_fault (domain_of (drop 9 text)) ≡ None
-  pub walked : IsPath (drop (position_or_len is_slash (drop 9 text)) (drop 9 text))
+  pub has_name : name_fault (domain_of (drop 9 text)) ≡ None
+  pub has_path : IsPath (drop (position_or_len is_slash (drop 9 text)) (drop 9 text))
 
 pub IsFaultless-from : (text : List ℕ) → id_fault text ≡ None → IsFaultless text
 unfolding id_fault
@@ -124,8 +124,8 @@ IsFaultless-from text h = elim (cases_Bool (nat_lt 2048 (length text))) [
           short = ltb-false _ _ short;
           scheme = sym (take-append-drop 9 text) ∙ ap (λ front. front ++ drop 9 text) (sym front);
           rest_faultless = rest;
-          named = parts.0;
-          walked = parts.1;
+          has_name = parts.0;
+          has_path = parts.1;
         }
     | inr other ↦ cc (rw (short, other) at h)
   ]

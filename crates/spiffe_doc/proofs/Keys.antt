@@ -111,10 +111,10 @@ key_of-rsa place key entry h n e =
 
 -- an entry with the members of a valid key has this key
 pub key_of-HasKey : (place : ℕ) (entry : Data) (kind : KeyType) (key : PublicKey) → key_type entry ≡ Some kind → IsPublicKey key → HasKey entry key → key_of place kind entry ≡ Ok (Some key)
-key_of-HasKey place entry types.Ec (Ec key) kty lawful has = key_of-ec place key entry lawful has.0.1 has.1 has.2
-key_of-HasKey place entry types.Rsa (Rsa key) kty lawful has = key_of-rsa place key entry lawful has.1 has.2
-key_of-HasKey place entry types.Ec (Rsa key) kty lawful has = cc (sym kty ∙ of_type entry types.Rsa has.0)
-key_of-HasKey place entry types.Rsa (Ec key) kty lawful has = cc (sym kty ∙ of_type entry types.Ec has.0.0)
+key_of-HasKey place entry types.Ec (Ec key) kty valid has = key_of-ec place key entry valid has.0.1 has.1 has.2
+key_of-HasKey place entry types.Rsa (Rsa key) kty valid has = key_of-rsa place key entry valid has.1 has.2
+key_of-HasKey place entry types.Ec (Rsa key) kty valid has = cc (sym kty ∙ of_type entry types.Rsa has.0)
+key_of-HasKey place entry types.Rsa (Ec key) kty valid has = cc (sym kty ∙ of_type entry types.Ec has.0.0)
 
 -- an entry of another curve has no key, and is not malformed
 pub key_of-other_curve : (place : ℕ) (entry : Data) (kind : KeyType) → key_type entry ≡ Some kind → HasOtherCurve entry → key_of place kind entry ≡ Ok None

@@ -17,10 +17,10 @@ use Rattle.spiffe_doc.specs.declared.entry.KeyUse.TheVariants as uses
 use Rattle.spiffe_doc.specs.Key.{curve_text, IsCoordinate, IsRsaMember}
 use Rattle.spiffe_doc.specs.Authority.{IsCertificate, IsKeyId}
 use Rattle.spiffe_doc.specs.Entry.{member_text, HasText, HasBytes, HasCertificate, HasKnownType, HasKnownUse, HasCoordinate, HasRsaMember, HasSomeCertificate, HasSomeKeyId}
-use Rattle.spiffe_doc.specs.Judgement.{filtered, encoded_bytes, key_type_named, key_use_named, curve_named, key_type, key_use, key_bytes, coordinate, rsa_member, only_text, der_bytes, certificate, key_id}
+use Rattle.spiffe_doc.specs.Judgement.{if_passes, encoded_bytes, key_type_named, key_use_named, curve_named, key_type, key_use, key_bytes, coordinate, rsa_member, only_text, der_bytes, certificate, key_id}
 use Rattle.spiffe_doc.proofs.EncodedLemmas.{encoded_bytes-some, encoded_bytes-encode_of}
 
-filtered-some : {A : Type 0} (test : A → Bool) (o : Option A) (x : A) → filtered test o ≡ Some x → (o ≡ Some x) × (test x ≡ true)
+filtered-some : {A : Type 0} (test : A → Bool) (o : Option A) (x : A) → if_passes test o ≡ Some x → (o ≡ Some x) × (test x ≡ true)
 filtered-some test None x h = cc h
 filtered-some test (Some y) x h = elim (cases_Bool (test y)) [
   | inl passes ↦

@@ -9,7 +9,7 @@ use Rattle.std.specs.Cmp.Lexicographic.{slice_cmp}
 use Rattle.std.specs.declared.cmp.Ordering.TheVariants.{Less, Equal, Greater}
 use Rattle.spiffe_doc.specs.Key.{AreBytes}
 use Rattle.spiffe_doc.specs.Name.{IsName}
-use Rattle.spiffe_doc.specs.Prefix.{prefix_number}
+use Rattle.spiffe_doc.specs.Private.Prefix.{prefix_number}
 use Rattle.spiffe_doc.proofs.NameLemmas.{IsAscii-IsName}
 
 -- what k bytes come to is below the k-th power

@@ -13,7 +13,7 @@ use Rattle.spiffe_doc.specs.Authority.{IsAuthority, BundleValue}
 use Rattle.spiffe_doc.specs.Judgement.{judge}
 use Rattle.spiffe_doc.specs.Text.{entry_trees, entry_text, document_tree, text_of}
 use Rattle.spiffe_doc.specs.Bundle.{is_among, is_kid_taken, AreApart, IsBundle}
-use Rattle.spiffe_doc.specs.Document.{distinct, elements, outcome, given_before, least_fault, authorities_of, bundle_of, document, entry}
+use Rattle.spiffe_doc.specs.Document.{distinct, elements, verdict, authorities_before, least_fault, authorities_of, bundle_of, document, entry}
 use Rattle.std.specs.Str.{IsUtf8}
 use Rattle.spiffe_doc.proofs.TreeLemmas.{read-compact_text}
 use Rattle.spiffe_doc.proofs.TextUtf8.{document_utf8, entry_utf8}
@@ -42,9 +42,9 @@ unfolding entry_list
 length-entry_list [] = refl
 length-entry_list (x ∷ xs) = ap suc (length-entry_list xs)
 
-outcome-entry_list : (xs : List Authority) (i : ℕ) (d : Authority) → AllByRecursion IsAuthority xs → i < length xs → outcome (entry_list xs) i ≡ Ok (Some (get_or xs i d))
+outcome-entry_list : (xs : List Authority) (i : ℕ) (d : Authority) → AllByRecursion IsAuthority xs → i < length xs → verdict (entry_list xs) i ≡ Ok (Some (get_or xs i d))
 unfolding entry_list
-outcome-entry_list xs i d lawful inside = at xs i lawful inside
+outcome-entry_list xs i d valid inside = at xs i valid inside
   where
     at : (ys : List Authority) (k : ℕ) → AllByRecursion IsAuthority ys → k < length ys → judge i (get_or (elements (entry_trees ys)) k null) ≡ Ok (Some (get_or ys k d))
     at [] k h less = absurd (omega arith)
@@ -54,18 +54,18 @@ outcome-entry_list xs i d lawful inside = at xs i lawful inside
 -- the first entries give the first authorities, and none stands out
 record IsSameTo (xs : List Authority) (place : ℕ) : Type 0 where
   faultless : least_fault (entry_list xs) place ≡ None
-  given : given_before (entry_list xs) place ≡ take place xs
+  given : authorities_before (entry_list xs) place ≡ take place xs
   once : distinct (take place xs) ≡ take place xs
 
 same_to : (xs : List Authority) (d : Authority) → AllByRecursion IsAuthority xs → AllPairs AreApart xs → length xs ≤ 1024 → (place : ℕ) → place ≤ length xs → IsSameTo xs place
-unfolding least_fault given_before distinct
-same_to xs d lawful apart few zero h = record { faultless = refl; given = refl; once = refl }
-same_to xs d lawful apart few (suc place) h =
-    let before = same_to xs d lawful apart few place (omega arith) in
+unfolding least_fault authorities_before distinct
+same_to xs d valid apart few zero h = record { faultless = refl; given = refl; once = refl }
+same_to xs d valid apart few (suc place) h =
+    let before = same_to xs d valid apart few place (omega arith) in
     let inside : place < length xs = omega arith in
     let a : Authority = get_or xs place d in
     let len : length (take place xs) ≡ place = length-take-le place xs (omega arith) in
-    let is = outcome-entry_list xs place d lawful inside in
+    let is = outcome-entry_list xs place d valid inside in
     let pair : (k : ℕ) (e : Authority) → k < length (take place xs) → AreApart (get_or (take place xs) k e) a =
     λ k e less. let low : k < place = omega arith in let there : k < length xs = omega arith in rw (get_or-take place xs k e low, get_or_default xs k e d there) (apart k place d low inside) in
     let new : is_among (take place xs) a ≡ false = any_none _ _ (λ k e less. (pair k e less).differ) in
@@ -78,8 +78,8 @@ same_to xs d lawful apart few (suc place) h =
     }
 
 entries_give : (xs : List Authority) (d : Authority) → AllByRecursion IsAuthority xs → AllPairs AreApart xs → length xs ≤ 1024 → authorities_of (entry_list xs) ≡ Ok xs
-entries_give xs d lawful apart few =
-    let whole = same_to xs d lawful apart few (length xs) (omega arith) in
+entries_give xs d valid apart few =
+    let whole = same_to xs d valid apart few (length xs) (omega arith) in
     let all = take_all (length xs) xs (omega arith) in
     read_all (entry_list xs) xs (record {
       faultless = rw length-entry_list whole.faultless;
@@ -88,9 +88,9 @@ entries_give xs d lawful apart few =
 
 -- the entries of valid authorities give them
 pub authorities_of-entry_trees : (xs : List Authority) → AllByRecursion IsAuthority xs → AllPairs AreApart xs → length xs ≤ 1024 → authorities_of (elements (entry_trees xs)) ≡ Ok xs
-unfolding entry_list least_fault given_before distinct
-authorities_of-entry_trees [] lawful apart few = read_all [] [] (record { faultless = refl; once = refl })
-authorities_of-entry_trees (x ∷ xs) lawful apart few = entries_give (x ∷ xs) x lawful apart few
+unfolding entry_list least_fault authorities_before distinct
+authorities_of-entry_trees [] valid apart few = read_all [] [] (record { faultless = refl; once = refl })
+authorities_of-entry_trees (x ∷ xs) valid apart few = entries_give (x ∷ xs) x valid apart few
 
 -- the tree of a valid bundle has its parts
 bundle_of-document_tree : (p : BundleValue) → IsBundle p → bundle_of (document_tree p) ≡ Ok p
@@ -99,14 +99,14 @@ bundle_of-document_tree p h = go p.sequence p.refresh_hint
   where
     go : (sequence hint : Option ℕ)
         → (let q : BundleValue = record { sequence = sequence; refresh_hint = hint; authorities = p.authorities } in bundle_of (document_tree q) ≡ Ok q)
-    go None None = rw (authorities_of-entry_trees p.authorities h.authorities.lawful h.authorities.apart h.authorities.few) refl
-    go (Some n) None = rw (authorities_of-entry_trees p.authorities h.authorities.lawful h.authorities.apart h.authorities.few) refl
-    go None (Some m) = rw (authorities_of-entry_trees p.authorities h.authorities.lawful h.authorities.apart h.authorities.few) refl
-    go (Some n) (Some m) = rw (authorities_of-entry_trees p.authorities h.authorities.lawful h.authorities.apart h.authorities.few) refl
+    go None None = rw (authorities_of-entry_trees p.authorities h.authorities.valid h.authorities.apart h.authorities.few) refl
+    go (Some n) None = rw (authorities_of-entry_trees p.authorities h.authorities.valid h.authorities.apart h.authorities.few) refl
+    go None (Some m) = rw (authorities_of-entry_trees p.authorities h.authorities.valid h.authorities.apart h.authorities.few) refl
+    go (Some n) (Some m) = rw (authorities_of-entry_trees p.authorities h.authorities.valid h.authorities.apart h.authorities.few) refl
 
 text_utf8 : (p : BundleValue) → IsBundle p → IsUtf8 (text_of p)
 unfolding text_of
-text_utf8 p h = document_utf8 p h.sequence_fits h.hint_fits h.authorities.lawful
+text_utf8 p h = document_utf8 p h.sequence_fits h.hint_fits h.authorities.valid
 
 text_reads : (p : BundleValue) → IsBundle p → read (text_of p) ≡ Some (document_tree p)
 unfolding text_of

@@ -10,10 +10,10 @@ use Rattle.spiffe_doc.specs.declared.authority.Authority.{Authority}
 use Rattle.spiffe_doc.specs.declared.authority.Authority.TheVariants.{X509, Jwt}
 use Rattle.spiffe_doc.specs.Authority.{IsAuthority}
 use Rattle.spiffe_doc.specs.Equal.{authority_eq}
-use Rattle.spiffe_doc.specs.Equality.{authority_decides}
+use Rattle.spiffe_doc.specs.Private.Equality.{authority_decides}
 use Rattle.spiffe_doc.specs.Judgement.{judge}
 use Rattle.spiffe_doc.specs.Bundle.{same_kid, is_among, is_kid_taken, AreApart, AreAuthorities}
-use Rattle.spiffe_doc.specs.Private.AuthoritySet.{admitted, has, has_some, is_some_of, has_kid, kid_of, AreIndexed}
+use Rattle.spiffe_doc.specs.Private.AuthoritySet.{admission, has, has_some, is_some_of, has_kid, kid_of, AreIndexed}
 use Rattle.spiffe_doc.specs.Text.{entry_tree, entry_text}
 use Rattle.spiffe_doc.specs.declared.error.DocError.TheVariants.{KidTwice, TooMany}
 use Rattle.spiffe_doc.proofs.TextLemmas.{entry_reads, entry_numbers, entry_depth}
@@ -45,8 +45,8 @@ same_text a b is_a is_b = elim (cases_Bool (authority_eq a b)) [
 
 -- its text is among theirs if and only if it is among them
 pub any_text : (xs : List Authority) (a : Authority) → AllByRecursion IsAuthority xs → IsAuthority a → list_any (λ x. bytes_eq (entry_text x) (entry_text a)) xs ≡ is_among xs a
-any_text [] a lawful is = refl
-any_text (x ∷ xs) a lawful is = rw (same_text x a lawful.0 is, any_text xs a lawful.1 is) refl
+any_text [] a valid is = refl
+any_text (x ∷ xs) a valid is = rw (same_text x a valid.0 is, any_text xs a valid.1 is) refl
 
 and_true : (b c : Bool) → (b || c) ≡ ((b && true) || c)
 and_true true c = refl
@@ -120,31 +120,31 @@ among_not_taken (x ∷ xs) a apart there = elim (cases_Bool (authority_eq x a)) 
 -- ---- what the sets say of one more
 
 has_any : (texts kids : BTreeSet (List ℕ)) (kept : List Authority) (a : Authority) (b : Bool) → AreAuthorities kept → AreIndexed texts kids kept → IsAuthority a → has texts (entry_text a) ≡ b → is_among kept a ≡ b
-has_any texts kids kept a b h index is has_text = sym (any_text kept a h.lawful is) ∙ sym (index.texts_are (entry_text a)) ∙ has_text
+has_any texts kids kept a b h index is has_text = sym (any_text kept a h.valid is) ∙ sym (index.texts_are (entry_text a)) ∙ has_text
 
 has_taken : (texts kids : BTreeSet (List ℕ)) (kept : List Authority) (a : Authority) (b : Bool) → AreIndexed texts kids kept → is_among kept a ≡ false → has_some kids (kid_of a) ≡ b → is_kid_taken kept a ≡ b
 has_taken texts kids kept (X509 key der) b index new h = no_kid kept key der ∙ h
 has_taken texts kids kept (Jwt kid key) b index new h = sym (any_kid kept kid key new) ∙ sym (index.kids_are kid) ∙ h
 
 pub admitted-there : (texts kids : BTreeSet (List ℕ)) (place : ℕ) (kept : List Authority) (a : Authority) → AreAuthorities kept → AreIndexed texts kids kept → IsAuthority a
-    → has texts (entry_text a) ≡ true → admitted place kept a ≡ Ok kept
+    → has texts (entry_text a) ≡ true → admission place kept a ≡ Ok kept
 admitted-there texts kids place kept a h index is has_text =
     let there = has_any texts kids kept a true h index is has_text in
     rw (among_not_taken kept a h.apart there, there) refl
 
 pub admitted-taken : (texts kids : BTreeSet (List ℕ)) (place : ℕ) (kept : List Authority) (a : Authority) → AreAuthorities kept → AreIndexed texts kids kept → IsAuthority a
-    → has texts (entry_text a) ≡ false → has_some kids (kid_of a) ≡ true → admitted place kept a ≡ Err (KidTwice place)
+    → has texts (entry_text a) ≡ false → has_some kids (kid_of a) ≡ true → admission place kept a ≡ Err (KidTwice place)
 admitted-taken texts kids place kept a h index is has_text has_kid =
     rw (has_taken texts kids kept a true index (has_any texts kids kept a false h index is has_text) has_kid) refl
 
 pub admitted-full : (texts kids : BTreeSet (List ℕ)) (place : ℕ) (kept : List Authority) (a : Authority) → AreAuthorities kept → AreIndexed texts kids kept → IsAuthority a
-    → has texts (entry_text a) ≡ false → has_some kids (kid_of a) ≡ false → 1024 ≤ length kept → admitted place kept a ≡ Err TooMany
+    → has texts (entry_text a) ≡ false → has_some kids (kid_of a) ≡ false → 1024 ≤ length kept → admission place kept a ≡ Err TooMany
 admitted-full texts kids place kept a h index is has_text has_kid full =
     let new = has_any texts kids kept a false h index is has_text in
     rw (has_taken texts kids kept a false index new has_kid, new, le-leb _ _ full) refl
 
 pub admitted-new : (texts kids : BTreeSet (List ℕ)) (place : ℕ) (kept : List Authority) (a : Authority) → AreAuthorities kept → AreIndexed texts kids kept → IsAuthority a
-    → has texts (entry_text a) ≡ false → has_some kids (kid_of a) ≡ false → length kept < 1024 → admitted place kept a ≡ Ok (kept ++ a ∷ [])
+    → has texts (entry_text a) ≡ false → has_some kids (kid_of a) ≡ false → length kept < 1024 → admission place kept a ≡ Ok (kept ++ a ∷ [])
 admitted-new texts kids place kept a h index is has_text has_kid room =
     let new = has_any texts kids kept a false h index is has_text in
     let not_full : nat_le 1024 (length kept) ≡ false = grind (arith, nat_tests) in

@@ -14,7 +14,7 @@ use Rattle.spiffe_doc.specs.declared.authority.Authority.{Authority}
 use Rattle.spiffe_doc.specs.declared.authority.Authority.TheVariants.{X509, Jwt}
 use Rattle.spiffe_doc.specs.Authority.{BundleValue}
 use Rattle.spiffe_doc.specs.Text.{number_member, entry_tree, entry_text, entry_trees, document_tree, text_of}
-use Rattle.spiffe_doc.specs.Writing.{entry_texts, front_text, number_text, rest_text}
+use Rattle.spiffe_doc.specs.Private.Writing.{entry_texts, front_text, number_text, rest_text}
 
 -- ---- the tree reads back
 

@@ -154,9 +154,9 @@ number_texts name (Some n) more key h rest = (key, IsUtf8-from_ascii _ (IsAscii-
 
 -- the canonical text is UTF-8
 pub document_utf8 : (p : BundleValue) → IfSome p.sequence (λ n. n < 2 ^ 64) → IfSome p.refresh_hint (λ n. n < 2 ^ 64) → AllByRecursion IsAuthority p.authorities → IsUtf8 (compact_text (document_tree p))
-document_utf8 p s h lawful =
+document_utf8 p s h valid =
     IsUtf8-compact_text (document_tree p) (
       ascii _ refl,
-      entries_texts p.authorities lawful,
+      entries_texts p.authorities valid,
       number_texts (codes "spiffe_refresh_hint") p.refresh_hint _ (ascii _ refl) h (number_texts (codes "spiffe_sequence") p.sequence _ (ascii _ refl) s tt),
     )

@@ -10,13 +10,13 @@ use Rattle.spiffe_doc.specs.Bundle.{is_among, is_kid_taken}
 use Rattle.spiffe_doc.specs.Text.{text_of}
 
 -- The sequence after a change: one more, if there is one. The greatest can't rise.
-abbrev pub risen : Option ℕ → Option (Option ℕ)
-risen None = Some None
-risen (Some n) = if n == 18446744073709551615 then None else Some (Some (n + 1))
+abbrev pub next_sequence : Option ℕ → Option (Option ℕ)
+next_sequence None = Some None
+next_sequence (Some n) = if n == 18446744073709551615 then None else Some (Some (n + 1))
 
 -- under this sequence, with one more authority at the end
-abbrev pub extended : BundleValue → Option ℕ → Authority → BundleValue
-extended bundle sequence authority =
+abbrev pub with_authority : BundleValue → Option ℕ → Authority → BundleValue
+with_authority bundle sequence authority =
     record { sequence = sequence; refresh_hint = bundle.refresh_hint; authorities = bundle.authorities ++ authority ∷ [] }
 
 abbrev pub unless_long : BundleValue → Result BundleValue AppendError
@@ -28,4 +28,4 @@ appended bundle authority =
     if is_among bundle.authorities authority then Err Present
     else if is_kid_taken bundle.authorities authority then Err KidTaken
     else if nat_le 1024 (length bundle.authorities) then Err TooMany
-    else ok_or (risen bundle.sequence) SequenceFull >>= (λ sequence. unless_long (extended bundle sequence authority))
+    else ok_or (next_sequence bundle.sequence) SequenceFull >>= (λ sequence. unless_long (with_authority bundle sequence authority))

@@ -27,7 +27,7 @@ pub record AreApart (a b : Authority) : Type 0 where
 
 -- the authorities of a valid bundle
 pub record AreAuthorities (authorities : List Authority) : Type 0 where
-  pub lawful : AllByRecursion IsAuthority authorities
+  pub valid : AllByRecursion IsAuthority authorities
   pub apart : AllPairs AreApart authorities
   pub few : length authorities ≤ 1024
 

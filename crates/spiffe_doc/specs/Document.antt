@@ -22,17 +22,17 @@ elements no_items = []
 elements (item entry more) = entry ∷ elements more
 
 -- what becomes of the entry at a place
-abbrev pub outcome : List Data → ℕ → Result (Option Authority) DocError
-outcome entries place = judge place (slice_index_or entries place null)
+abbrev pub verdict : List Data → ℕ → Result (Option Authority) DocError
+verdict entries place = judge place (slice_index_or entries place null)
 
-abbrev pub given_by : Result (Option Authority) DocError → List Authority
-given_by (Ok (Some authority)) = authority ∷ []
-given_by other = []
+abbrev pub authorities_by : Result (Option Authority) DocError → List Authority
+authorities_by (Ok (Some authority)) = authority ∷ []
+authorities_by other = []
 
 -- what the entries before a place give
-unfoldable pub given_before : List Data → ℕ → List Authority
-given_before entries zero = []
-given_before entries (suc place) = given_before entries place ++ given_by (outcome entries place)
+unfoldable pub authorities_before : List Data → ℕ → List Authority
+authorities_before entries zero = []
+authorities_before entries (suc place) = authorities_before entries place ++ authorities_by (verdict entries place)
 
 -- each authority once, at its first place
 unfoldable pub distinct : List Authority → List Authority
@@ -49,7 +49,7 @@ fault_after place before (Ok (Some authority)) =
     else None
 
 abbrev pub fault_at : List Data → ℕ → Option DocError
-fault_at entries place = fault_after place (given_before entries place) (outcome entries place)
+fault_at entries place = fault_after place (authorities_before entries place) (verdict entries place)
 
 -- the fault at the least place below the bound that has one
 unfoldable pub least_fault : List Data → ℕ → Option DocError
@@ -58,7 +58,7 @@ least_fault entries (suc place) = option_or (least_fault entries place) (fault_a
 
 -- the authorities that the entries give, each once, or the fault at the least place
 unfoldable pub authorities_of : List Data → Result (List Authority) DocError
-authorities_of entries = unless (least_fault entries (length entries)) (distinct (given_before entries (length entries)))
+authorities_of entries = unless (least_fault entries (length entries)) (distinct (authorities_before entries (length entries)))
 
 -- ---- the document
 

@@ -66,16 +66,16 @@ HasOtherCurve entry =
     HasText entry (codes "kty") (codes "EC") × ((text : List ℕ) × HasText entry (codes "crv") text × ((curve : Curve) → text ≢ curve_text curve))
 
 -- an object whose type or use isn't a known text, or an EC one whose curve is an unknown text
-abbrev pub IsPassedOver : Data → Type 0
-IsPassedOver entry = IsObject entry × ((¬ (HasKnownType entry)) ⊎ ((¬ (HasKnownUse entry)) ⊎ HasOtherCurve entry))
+abbrev pub IsIgnored : Data → Type 0
+IsIgnored entry = IsObject entry × ((¬ (HasKnownType entry)) ⊎ ((¬ (HasKnownUse entry)) ⊎ HasOtherCurve entry))
 
 -- ---- malformed
 
 -- an object that is not ignored
 pub record IsKnown (entry : Data) : Type 0 where
   pub object : IsObject entry
-  pub typed : HasKnownType entry
-  pub used : HasKnownUse entry
+  pub has_type : HasKnownType entry
+  pub has_use : HasKnownUse entry
   pub no_other_curve : ¬ (HasOtherCurve entry)
 
 abbrev pub HasCoordinate : Data → Curve → List ℕ → Type 0
@@ -102,23 +102,23 @@ LacksMember entry N = HasText entry (codes "kty") (codes "RSA") × ¬ (HasRsaMem
 LacksMember entry E = HasText entry (codes "kty") (codes "RSA") × HasRsaMember entry (codes "n") × ¬ (HasRsaMember entry (codes "e"))
 
 -- the entry at this place is malformed, and this is its first fault
-abbrev pub IsAtFault : ℕ → Data → DocError → Type 0
-IsAtFault place entry (BadEntry at) = (at ≡ place) × ¬ (IsObject entry)
-IsAtFault place entry (BadKey at member) = (at ≡ place) × IsKnown entry × LacksMember entry member
-IsAtFault place entry (BadX5c at) =
+abbrev pub IsMalformed : ℕ → Data → DocError → Type 0
+IsMalformed place entry (BadEntry at) = (at ≡ place) × ¬ (IsObject entry)
+IsMalformed place entry (BadKey at member) = (at ≡ place) × IsKnown entry × LacksMember entry member
+IsMalformed place entry (BadX5c at) =
     (at ≡ place) × IsKnown entry × HasSomeKey entry × HasText entry (codes "use") (codes "x509-svid") × ¬ (HasSomeCertificate entry)
-IsAtFault place entry (BadKid at) =
+IsMalformed place entry (BadKid at) =
     (at ≡ place) × IsKnown entry × HasSomeKey entry × HasText entry (codes "use") (codes "jwt-svid") × ¬ (HasSomeKeyId entry)
-IsAtFault place entry other = ⊥
+IsMalformed place entry other = ⊥
 
 -- what becomes of the entry at this place: its authority, nothing if it is ignored, or its first fault
-abbrev pub IsOutcome : ℕ → Data → Result (Option Authority) DocError → Type 0
-IsOutcome place entry (Ok (Some authority)) = GivesAuthority entry authority
-IsOutcome place entry (Ok None) = IsPassedOver entry
-IsOutcome place entry (Err fault) = IsAtFault place entry fault
+abbrev pub IsVerdict : ℕ → Data → Result (Option Authority) DocError → Type 0
+IsVerdict place entry (Ok (Some authority)) = GivesAuthority entry authority
+IsVerdict place entry (Ok None) = IsIgnored entry
+IsVerdict place entry (Err fault) = IsMalformed place entry fault
 
 -- it is one, and only one
-abbrev pub HasOneOutcome : ℕ → Data → Type 0
-HasOneOutcome place entry =
-    (outcome : Result (Option Authority) DocError) × IsOutcome place entry outcome
-    × ((other : Result (Option Authority) DocError) → IsOutcome place entry other → other ≡ outcome)
+abbrev pub HasOneVerdict : ℕ → Data → Type 0
+HasOneVerdict place entry =
+    (outcome : Result (Option Authority) DocError) × IsVerdict place entry outcome
+    × ((other : Result (Option Authority) DocError) → IsVerdict place entry other → other ≡ outcome)

@@ -38,10 +38,10 @@ id_text id = codes "spiffe://" ++ id.domain ++ id.path
 
 -- the text is the SPIFFE ID of this domain and this path
 pub record IsId (text : List ℕ) (id : IdValue) : Type 0 where
-  pub spelled : text ≡ id_text id
+  pub is_text : text ≡ id_text id
   pub short : length text ≤ 2048
-  pub named : IsName id.domain
-  pub walked : IsPath id.path
+  pub has_name : IsName id.domain
+  pub has_path : IsPath id.path
 
 -- ---- why a text is not a SPIFFE ID
 
@@ -59,16 +59,16 @@ segments_of rest = drop 1 (slice_split is_slash rest)
 abbrev pub first_bad : ℕ → List (List ℕ) → Option ℕ
 first_bad place segments = position_from (λ segment. not (is_segment segment)) place segments
 
-abbrev pub of_name : NameError → IdError
-of_name name.Empty = Empty
-of_name name.TooLong = TooLong
-of_name (name.BadChar at) = BadChar at
-of_name name.Memory = Memory
+abbrev pub id_error : NameError → IdError
+id_error name.Empty = Empty
+id_error name.TooLong = TooLong
+id_error (name.BadChar at) = BadChar at
+id_error name.Memory = Memory
 
 -- the first fault of the domain, or else the first that is not a segment
 unfoldable pub rest_fault : List ℕ → Option IdError
 rest_fault rest =
-    option_or (option_map of_name (name_fault (domain_of rest))) (option_map BadPath (first_bad 0 (segments_of rest)))
+    option_or (option_map id_error (name_fault (domain_of rest))) (option_map BadPath (first_bad 0 (segments_of rest)))
 
 unfoldable pub id_fault : List ℕ → Option IdError
 id_fault text =

@@ -28,8 +28,8 @@ use Rattle.spiffe_doc.specs.Entry.{member_text}
 -- ---- members
 
 -- the value, if it passes
-abbrev pub filtered : {A : Type 0} → (A → Bool) → Option A → Option A
-filtered test value = option_and_then (λ x. if test x then Some x else None) value
+abbrev pub if_passes : {A : Type 0} → (A → Bool) → Option A → Option A
+if_passes test value = option_and_then (λ x. if test x then Some x else None) value
 
 -- the text is the encoding of these, each of which is a byte
 abbrev pub is_encoding : GeneralPurpose → List ℕ → List ℕ → Bool
@@ -37,7 +37,7 @@ is_encoding engine text bytes = list_all (λ byte. nat_lt byte 256) bytes && byt
 
 -- The bytes whose encoding the text is. The decoder proposes them, the encoding decides.
 unfoldable pub encoded_bytes : GeneralPurpose → List ℕ → Option (List ℕ)
-encoded_bytes engine text = filtered (is_encoding engine text) (decoded_of engine text)
+encoded_bytes engine text = if_passes (is_encoding engine text) (decoded_of engine text)
 
 abbrev pub key_type_named : List ℕ → Option KeyType
 key_type_named text =
@@ -69,10 +69,10 @@ unfoldable pub key_bytes : List ℕ → Data → Option (List ℕ)
 key_bytes name entry = option_and_then (encoded_bytes url_safe_no_pad) (member_text name entry)
 
 abbrev pub coordinate : Curve → List ℕ → Data → Option (List ℕ)
-coordinate curve name entry = filtered (λ bytes. length bytes == coordinate_len curve) (key_bytes name entry)
+coordinate curve name entry = if_passes (λ bytes. length bytes == coordinate_len curve) (key_bytes name entry)
 
 abbrev pub rsa_member : List ℕ → Data → Option (List ℕ)
-rsa_member name entry = filtered (λ bytes. nat_lt 0 (length bytes) && nat_le (length bytes) 1024) (key_bytes name entry)
+rsa_member name entry = if_passes (λ bytes. nat_lt 0 (length bytes) && nat_le (length bytes) 1024) (key_bytes name entry)
 
 -- the one text of a list of one
 abbrev pub only_text : Items → Option (List ℕ)
@@ -87,10 +87,10 @@ der_bytes entry =
     (option_and_then only_text (option_and_then as_array (get (codes "x5c") entry)))
 
 abbrev pub certificate : Data → Option (List ℕ)
-certificate entry = filtered (λ bytes. nat_lt 0 (length bytes)) (der_bytes entry)
+certificate entry = if_passes (λ bytes. nat_lt 0 (length bytes)) (der_bytes entry)
 
 abbrev pub key_id : Data → Option (List ℕ)
-key_id entry = filtered (λ kid. nat_lt 0 (length kid) && nat_le (length kid) 255 && is_utf8 kid) (member_text (codes "kid") entry)
+key_id entry = if_passes (λ kid. nat_lt 0 (length kid) && nat_le (length kid) 255 && is_utf8 kid) (member_text (codes "kid") entry)
 
 -- ---- the entry
 

@@ -1,12 +1,10 @@
 pub mod Answer
 pub mod Name
-pub mod Prefix
 pub mod ShortText
 pub mod Id
 pub mod Key
 pub mod Authority
 pub mod Equal
-pub mod Equality
 pub mod Text
 pub mod Entry
 pub mod Judgement
@@ -14,5 +12,4 @@ pub mod Bundle
 pub mod Document
 pub mod Append
 pub mod Number
-pub mod Writing
 pub mod Private

@@ -1,8 +1,8 @@
 //! Appending an authority to a bundle.
 ghost use Rattle.std.specs.Prelude.{◌≡◌, ◌⊎◌, ◌++◌, ◌∷◌, [], ◌&&◌, not, Err, IsOk, IfOk};
 ghost use Rattle.spiffe_doc.specs.Answer.{Gives};
-ghost use Rattle.spiffe_doc.specs.Writing.{front_text};
-ghost use Rattle.spiffe_doc.specs.Append.{appended, risen as risen_sequence};
+ghost use Rattle.spiffe_doc.specs.Private.Writing.{front_text};
+ghost use Rattle.spiffe_doc.specs.Append.{appended, next_sequence as sequence_after};
 ghost use Rattle.spiffe_doc.specs.Bundle.{same_kid as under_one_kid, is_among as among, is_kid_taken as kid_taken};
 
 use crate::authority::Authority;
@@ -31,10 +31,10 @@ impl Bundle {
         if present.len() >= MAX_AUTHORITIES {
             return Err(AppendError::TooMany);
         }
-        let Some(sequence) = risen(self.sequence()) else {
+        let Some(sequence) = next_sequence(self.sequence()) else {
             return Err(AppendError::SequenceFull);
         };
-        authority.lawful();
+        authority.recall_valid();
         let front = front_and(alloc, self, authority)?;
         let authorities = copies_and(alloc, present, authority)?;
         match bundle_from(alloc, sequence, self.refresh_hint(), authorities, front)? {
@@ -55,8 +55,8 @@ fn front_and(alloc: Global, bundle: &Bundle, last: &Authority) -> Result<Vec<u8>
 }
 
 /// The sequence after a change, or `None` if it is the greatest.
-fn risen(sequence: Option<u64>) -> Option<Option<u64>>
-    ensures { result ≡ risen_sequence sequence }
+fn next_sequence(sequence: Option<u64>) -> Option<Option<u64>>
+    ensures { result ≡ sequence_after sequence }
 {
     match sequence {
         None => Some(None),

@@ -33,19 +33,19 @@ impl Certificate {
         Certificate { der }
     }
 
-    // It has a byte at least.
-    pub(crate) fn lawful(&self)
+    // Only for the prover: recalls that it has a byte at least.
+    pub(crate) fn recall_valid(&self)
         ensures { IsCertificate self.now }
     {
-        self.der.lawful();
+        self.der.recall_valid();
     }
 
     /// The DER bytes, at least one.
     pub fn der(&self) -> &Octets
         ensures value { result.now ≡ self.now }
-        ensures lawful { IsCertificate self.now }
+        ensures valid { IsCertificate self.now }
     {
-        self.lawful();
+        self.recall_valid();
         &self.der
     }
 
@@ -90,13 +90,13 @@ impl KeyId {
     /// The text.
     pub fn as_str(&self) -> &str
         ensures value { result.now ≡ self.now }
-        ensures lawful { IsKeyId self.now }
+        ensures valid { IsKeyId self.now }
     {
         self.text.as_str()
     }
 
-    // It is a short text.
-    pub(crate) fn lawful(&self)
+    // Only for the prover: recalls that it is a short text.
+    pub(crate) fn recall_valid(&self)
         ensures { IsKeyId self.now }
     {
         let _text = self.text.as_str();
@@ -123,18 +123,18 @@ pub enum Authority {
 impl Authority {
     ghost use Rattle.spiffe_doc.specs.Authority.{IsAuthority};
 
-    // Its parts have their lengths, and its key id is text.
-    pub(crate) fn lawful(&self)
+    // Only for the prover: recalls that its parts have their lengths, and that its key id is text.
+    pub(crate) fn recall_valid(&self)
         ensures { IsAuthority self.now }
     {
         match self {
             Authority::X509 { key, der } => {
-                key.lawful();
-                der.lawful();
+                key.recall_valid();
+                der.recall_valid();
             }
             Authority::Jwt { kid, key } => {
-                kid.lawful();
-                key.lawful();
+                kid.recall_valid();
+                key.recall_valid();
             }
         }
     }
@@ -159,7 +159,7 @@ impl Authority {
 impl PartialEq for Authority {
     ghost use Rattle.std.specs.Cmp.{partial_equiv_from_equiv, decided};
     ghost use Rattle.spiffe_doc.specs.Equal.{authority_eq};
-    ghost use Rattle.spiffe_doc.specs.Equality.{authority_decides};
+    ghost use Rattle.spiffe_doc.specs.Private.Equality.{authority_decides};
 
     ghost eq = { authority_eq };
 

@@ -2,8 +2,8 @@
 ghost use Rattle.std.specs.Prelude.{◌≡◌, ◌⊎◌, ◌||◌, ◌++◌, ◌∷◌, [], List, ℕ, bytes_eq, Ok, Err, IfOk, OnOk, MatchResult};
 ghost use Rattle.spiffe_doc.specs.Authority.{IsAuthority};
 ghost use Rattle.spiffe_doc.specs.Text.{entry_text};
-ghost use Rattle.spiffe_doc.specs.Writing.{front_text};
-ghost use Rattle.spiffe_doc.specs.Private.AuthoritySet.{AreIndexed, admitted, with_new, has, has_some as has_bytes, is_some_of, kid_of};
+ghost use Rattle.spiffe_doc.specs.Private.Writing.{front_text};
+ghost use Rattle.spiffe_doc.specs.Private.AuthoritySet.{AreIndexed, admission, with_new, has, has_some as has_bytes, is_some_of, kid_of};
 
 use crate::authority::Authority;
 use crate::bundle::MAX_AUTHORITIES;
@@ -46,11 +46,11 @@ impl AuthoritySet {
         authority: Authority,
     ) -> Result<(), DocError>
         requires whole { IsWhole self.old }
-        requires lawful { IsAuthority authority }
+        requires valid { IsAuthority authority }
         ensures whole { OnOk result (IsWhole self.new) }
         ensures exact { MatchResult result
-            (λ _. admitted place self.old.authorities.items authority ≡ Ok self.new.authorities.items)
-            (λ e. (e ≡ DocError.Memory) ⊎ (admitted place self.old.authorities.items authority ≡ Err e)) }
+            (λ _. admission place self.old.authorities.items authority ≡ Ok self.new.authorities.items)
+            (λ e. (e ≡ DocError.Memory) ⊎ (admission place self.old.authorities.items authority ≡ Err e)) }
     {
         let entry = Octets::new(write_entry(alloc, &authority)?);
         let kid = key_id_bytes(alloc, &authority)?;
@@ -69,12 +69,12 @@ impl AuthoritySet {
         kid: &Option<Octets>,
     ) -> Result<bool, DocError>
         requires whole { IsWhole self.now }
-        requires lawful { IsAuthority authority.now }
+        requires valid { IsAuthority authority.now }
         requires entry { entry.now ≡ entry_text authority.now }
         requires kid { kid.now ≡ kid_of authority.now }
         ensures { MatchResult result
-            (λ new. admitted place self.now.authorities.items authority.now ≡ Ok (with_new new self.now.authorities.items authority.now))
-            (λ e. admitted place self.now.authorities.items authority.now ≡ Err e) }
+            (λ new. admission place self.now.authorities.items authority.now ≡ Ok (with_new new self.now.authorities.items authority.now))
+            (λ e. admission place self.now.authorities.items authority.now ≡ Err e) }
     {
         if self.texts.contains(entry) {
             return Ok(false);

@@ -1,7 +1,7 @@
 //! Trust bundles (SPIFFE Trust Domain and Bundle, section 3).
 ghost use Rattle.spiffe_doc.specs.Bundle.{AreAuthorities};
 ghost use Rattle.spiffe_doc.specs.Text.{text_of};
-ghost use Rattle.spiffe_doc.specs.Writing.{front_text};
+ghost use Rattle.spiffe_doc.specs.Private.Writing.{front_text};
 ghost use Rattle.std.specs.Prelude.{◌≡◌, ◌<◌, ◌≤◌, length, IfOk, MatchOption};
 
 use crate::authority::Authority;
@@ -18,7 +18,7 @@ pub(crate) const MAX_AUTHORITIES: usize = 1024;
 
 /// What a bundle is made of, with its canonical text.
 #[derive(Drop)]
-pub(crate) struct Published {
+pub(crate) struct BundleParts {
     pub(crate) sequence: Option<u64>,
     pub(crate) refresh_hint: Option<u64>,
     pub(crate) authorities: Vec<Authority>,
@@ -32,13 +32,13 @@ pub(crate) struct Published {
 /// Copies share one allocation. Bundles are equal if their numbers are, and their authorities in order.
 #[derive(Drop)]
 pub struct Bundle {
-    pub(crate) published: Arc<Published>,
+    pub(crate) published: Arc<BundleParts>,
 }
 
 impl Model for Bundle {
     ghost use Rattle.std.specs.Arc.{arc_value};
     ghost use Rattle.spiffe_doc.specs.Authority.{BundleValue};
-    ghost use Rattle.spiffe_doc.specs.Writing.{IsKept};
+    ghost use Rattle.spiffe_doc.specs.Private.Writing.{IsKept};
 
     ghost Value = { BundleValue };
 
@@ -67,7 +67,7 @@ impl Bundle {
     /// The authorities, in the document's order.
     pub fn authorities(&self) -> &[Authority]
         ensures value { result.now ≡ self.now.authorities }
-        ensures lawful { IsBundle self.now }
+        ensures valid { IsBundle self.now }
     {
         self.published.authorities.as_slice()
     }
@@ -90,7 +90,7 @@ impl Bundle {
     pub(crate) fn front(&self) -> &[u8]
         ensures { result.now ≡ front_text self.now.authorities }
     {
-        let published: &Published = &self.published;
+        let published: &BundleParts = &self.published;
         let text = published.text.as_slice();
         &text[..published.front_len]
     }
@@ -113,7 +113,7 @@ pub(crate) fn bundle_from(
     authorities: Vec<Authority>,
     front: Vec<u8>,
 ) -> Result<Option<Bundle>, AllocError>
-    requires lawful { AreAuthorities authorities.items }
+    requires valid { AreAuthorities authorities.items }
     requires front { front.items ≡ front_text authorities.items }
     ensures { IfOk result (λ found. MatchOption found
         (1048576 < length (text_of (record { sequence = sequence; refresh_hint = refresh_hint; authorities = authorities.items })))
@@ -128,7 +128,7 @@ pub(crate) fn bundle_from(
     }
     let published = Arc::new(
         alloc,
-        Published {
+        BundleParts {
             sequence,
             refresh_hint,
             authorities,
@@ -142,7 +142,7 @@ pub(crate) fn bundle_from(
 impl PartialEq for Bundle {
     ghost use Rattle.std.specs.Cmp.{partial_equiv_from_equiv, decided};
     ghost use Rattle.spiffe_doc.specs.Equal.{bundle_eq};
-    ghost use Rattle.spiffe_doc.specs.Equality.{bundle_decides};
+    ghost use Rattle.spiffe_doc.specs.Private.Equality.{bundle_decides};
 
     ghost eq = { bundle_eq };
 

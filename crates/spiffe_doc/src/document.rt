@@ -5,7 +5,7 @@ ghost use Rattle.serde_json.specs.View.{view, items_view};
 ghost use Rattle.spiffe_doc.specs.Answer.{Gives};
 ghost use Rattle.spiffe_doc.specs.Judgement.{judge as judgement};
 ghost use Rattle.spiffe_doc.specs.Document.{json_tree, whole_number, elements, authorities_of, bundle_of, document, entry};
-ghost use Rattle.spiffe_doc.specs.Private.AuthoritySet.{taken};
+ghost use Rattle.spiffe_doc.specs.Private.AuthoritySet.{take_in};
 ghost use Rattle.spiffe_doc.specs.Private.WholeSet.{IsWhole};
 
 use crate::authority::Authority;
@@ -21,7 +21,7 @@ use std::alloc::Global;
 /// A document is a JWK set (RFC 7517, section 5) with the members `spiffe_sequence` and `spiffe_refresh_hint` (SPIFFE
 /// Trust Domain and Bundle, section 4), of at most 1,048,576 bytes. Entries of unknown `use` or `kty`, or of an unknown
 /// curve, are ignored; a known entry that is malformed refuses the document. A later entry that gives an equal authority
-/// is dropped. Memory may be wanting only for a document that is not over that limit.
+/// is dropped. Memory can run out only for a document that is not over that limit.
 #[tactic(auto, unfolding(crate::specs::Document::document))]
 pub fn read_document(alloc: Global, bytes: &[u8]) -> Result<Bundle, DocError>
     ensures value { Gives DocError.Memory result (document bytes.now) }
@@ -110,8 +110,8 @@ fn take_entry(
     requires whole { IsWhole set.old }
     ensures whole { OnOk result (IsWhole set.new) }
     ensures exact { MatchResult result
-        (λ _. taken place set.old.authorities.items (judgement place (view entry.now)) ≡ Ok set.new.authorities.items)
-        (λ e. (e ≡ DocError.Memory) ⊎ (taken place set.old.authorities.items (judgement place (view entry.now)) ≡ Err e)) }
+        (λ _. take_in place set.old.authorities.items (judgement place (view entry.now)) ≡ Ok set.new.authorities.items)
+        (λ e. (e ≡ DocError.Memory) ⊎ (take_in place set.old.authorities.items (judgement place (view entry.now)) ≡ Err e)) }
 {
     match judge(alloc, place, entry)? {
         Some(authority) => set.admit(alloc, place, authority),

@@ -61,9 +61,9 @@ impl From<AllocError> for IdError {
 
 impl From<NameError> for IdError {
     ghost use Rattle.std.specs.Prelude.{◌≡◌};
-    ghost use Rattle.spiffe_doc.specs.Id.{of_name};
+    ghost use Rattle.spiffe_doc.specs.Id.{id_error};
 
-    ghost from_gives = { λ fault e. e ≡ of_name fault };
+    ghost from_gives = { λ fault e. e ≡ id_error fault };
 
     fn from(fault: NameError) -> IdError {
         match fault {
@@ -94,7 +94,8 @@ impl Model for SpiffeId {
 }
 
 impl SpiffeId {
-    /// The SPIFFE ID that a text is, or the first reason why it is not one. Memory may be wanting only for a SPIFFE ID.
+    /// Parses a SPIFFE ID (SPIFFE-ID, section 2), or reports its first violation. Memory can run out only for a text
+    /// that is a SPIFFE ID.
     pub fn parse(alloc: Global, text: &str) -> Result<SpiffeId, IdError>
         ensures value { Gives IdError.Memory result (spiffe_id text.now) }
         ensures memory { result ≡ Err IdError.Memory → (id : IdValue) × IsId text.now id }
@@ -104,7 +105,7 @@ impl SpiffeId {
             return Err(fault);
         }
         let rest = after_scheme(bytes);
-        // The domain has no fault, so only memory can be wanting.
+        // The domain has no fault, so only memory can have run out.
         let Ok(domain) = TrustDomain::parse_bytes(alloc, before_slash(rest)) else {
             return Err(IdError::Memory);
         };
@@ -117,7 +118,7 @@ impl SpiffeId {
     /// The trust domain.
     pub fn domain(&self) -> &TrustDomain
         ensures value { result.now ≡ self.now.domain }
-        ensures lawful { IsId (id_text self.now) self.now }
+        ensures valid { IsId (id_text self.now) self.now }
     {
         &self.domain
     }
@@ -126,7 +127,7 @@ impl SpiffeId {
     pub fn path(&self) -> &str
         ensures value { result.now ≡ self.now.path }
         ensures path { IsPath result.now }
-        ensures lawful { IsId (id_text self.now) self.now }
+        ensures valid { IsId (id_text self.now) self.now }
     {
         self.path.as_str()
     }

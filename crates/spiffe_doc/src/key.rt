@@ -110,7 +110,7 @@ impl EcKey {
     /// The first coordinate.
     pub fn x(&self) -> &Octets
         ensures value { result.now ≡ self.now.x }
-        ensures lawful { IsEcKey self.now }
+        ensures valid { IsEcKey self.now }
     {
         &self.x
     }
@@ -118,7 +118,7 @@ impl EcKey {
     /// The second coordinate.
     pub fn y(&self) -> &Octets
         ensures value { result.now ≡ self.now.y }
-        ensures lawful { IsEcKey self.now }
+        ensures valid { IsEcKey self.now }
     {
         &self.y
     }
@@ -138,7 +138,7 @@ impl EcKey {
 impl PartialEq for EcKey {
     ghost use Rattle.std.specs.Cmp.{partial_equiv_from_equiv, decided};
     ghost use Rattle.spiffe_doc.specs.Equal.{ec_eq};
-    ghost use Rattle.spiffe_doc.specs.Equality.{ec_decides};
+    ghost use Rattle.spiffe_doc.specs.Private.Equality.{ec_decides};
 
     ghost eq = { ec_eq };
 
@@ -183,7 +183,7 @@ impl RsaKey {
     /// The modulus.
     pub fn n(&self) -> &Octets
         ensures value { result.now ≡ self.now.n }
-        ensures lawful { IsRsaKey self.now }
+        ensures valid { IsRsaKey self.now }
     {
         &self.n
     }
@@ -191,7 +191,7 @@ impl RsaKey {
     /// The exponent.
     pub fn e(&self) -> &Octets
         ensures value { result.now ≡ self.now.e }
-        ensures lawful { IsRsaKey self.now }
+        ensures valid { IsRsaKey self.now }
     {
         &self.e
     }
@@ -210,7 +210,7 @@ impl RsaKey {
 impl PartialEq for RsaKey {
     ghost use Rattle.std.specs.Cmp.{partial_equiv_from_equiv, decided};
     ghost use Rattle.spiffe_doc.specs.Equal.{rsa_eq};
-    ghost use Rattle.spiffe_doc.specs.Equality.{rsa_decides};
+    ghost use Rattle.spiffe_doc.specs.Private.Equality.{rsa_decides};
 
     ghost eq = { rsa_eq };
 
@@ -231,8 +231,8 @@ pub enum PublicKey {
 impl PublicKey {
     ghost use Rattle.spiffe_doc.specs.Authority.{IsPublicKey};
 
-    // Its members have their lengths.
-    pub(crate) fn lawful(&self)
+    // Only for the prover: recalls that its members have their lengths.
+    pub(crate) fn recall_valid(&self)
         ensures { IsPublicKey self.now }
     {
         match self {
@@ -259,7 +259,7 @@ impl PublicKey {
 impl PartialEq for PublicKey {
     ghost use Rattle.std.specs.Cmp.{partial_equiv_from_equiv, decided};
     ghost use Rattle.spiffe_doc.specs.Equal.{key_eq};
-    ghost use Rattle.spiffe_doc.specs.Equality.{key_decides};
+    ghost use Rattle.spiffe_doc.specs.Private.Equality.{key_decides};
 
     ghost eq = { key_eq };
 

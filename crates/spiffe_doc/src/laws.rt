@@ -10,7 +10,7 @@ ghost use Rattle.spiffe_doc.specs.Key.{EcKeyValue, RsaKeyValue};
 ghost use Rattle.spiffe_doc.specs.Authority.{IsAuthority, BundleValue};
 ghost use Rattle.spiffe_doc.specs.Equal.{ec_eq, rsa_eq, key_eq, authority_eq, bundle_eq};
 ghost use Rattle.spiffe_doc.specs.Text.{entry_text, text_of};
-ghost use Rattle.spiffe_doc.specs.Entry.{GivesAuthority, IsPassedOver, IsAtFault, IsOutcome, HasOneOutcome};
+ghost use Rattle.spiffe_doc.specs.Entry.{GivesAuthority, IsIgnored, IsMalformed, IsVerdict, HasOneVerdict};
 ghost use Rattle.spiffe_doc.specs.Judgement.{judge};
 ghost use Rattle.spiffe_doc.specs.Bundle.{IsBundle};
 ghost use Rattle.spiffe_doc.specs.Document.{document, entry, place_of};
@@ -48,34 +48,34 @@ pub fn entries_give_what_they_encode()
 {}
 
 /// A text reads as a SPIFFE ID if and only if it is the one of that domain and that path.
-pub fn ids_are_read_as_they_are_spelled()
+pub fn ids_are_read_as_they_stand()
     ensures { (text : List ℕ) (id : IdValue) → (spiffe_id text ≡ Ok id) ↔ IsId text id }
 {}
 
 /// An entry is judged to give nothing if and only if it is ignored.
-pub fn entries_are_passed_over()
-    ensures { (place : ℕ) (entry : Data) → (judge place entry ≡ Ok None) ↔ IsPassedOver entry }
+pub fn entries_are_ignored()
+    ensures { (place : ℕ) (entry : Data) → (judge place entry ≡ Ok None) ↔ IsIgnored entry }
 {}
 
 /// An entry is judged to be malformed if and only if it is, with its first fault.
-pub fn entries_are_at_fault()
-    ensures { (place : ℕ) (entry : Data) (fault : DocError) → (judge place entry ≡ Err fault) ↔ IsAtFault place entry fault }
+pub fn entries_are_malformed()
+    ensures { (place : ℕ) (entry : Data) (fault : DocError) → (judge place entry ≡ Err fault) ↔ IsMalformed place entry fault }
 {}
 
 /// Exactly one of three holds of an entry: it gives one authority, it is ignored, or it is malformed, with one first fault. It is judged so.
-pub fn entries_have_one_outcome()
-    ensures one { (place : ℕ) (entry : Data) → HasOneOutcome place entry }
-    ensures judged { (place : ℕ) (entry : Data) (outcome : Result (Option Authority) DocError) → (judge place entry ≡ outcome) ↔ IsOutcome place entry outcome }
+pub fn entries_have_one_verdict()
+    ensures one { (place : ℕ) (entry : Data) → HasOneVerdict place entry }
+    ensures judged { (place : ℕ) (entry : Data) (outcome : Result (Option Authority) DocError) → (judge place entry ≡ outcome) ↔ IsVerdict place entry outcome }
 {}
 
 /// Appending a valid authority to a valid bundle gives a valid bundle.
-pub fn appended_bundles_are_lawful()
+pub fn appended_bundles_are_valid()
     ensures { (bundle : BundleValue) (more : BundleValue) (authority : Authority) →
         IsBundle bundle → IsAuthority authority → appended bundle authority ≡ Ok more → IsBundle more }
 {}
 
 /// A document gives a valid bundle.
-pub fn documents_give_lawful_bundles()
+pub fn documents_give_valid_bundles()
     ensures { (text : List ℕ) (bundle : BundleValue) → document text ≡ Ok bundle → IsBundle bundle }
 {}
 
@@ -85,7 +85,7 @@ pub fn places_are_within_the_document()
     ensures entries { (text : List ℕ) (fault : DocError) → entry text ≡ Err fault → IfSome (place_of fault) (λ place. place ≡ 0) }
 {}
 
-/// Lawful bundles are equal exactly if their canonical texts are.
+/// Valid bundles are equal if and only if their canonical texts are.
 pub fn texts_tell_bundles_apart()
     ensures { (a b : BundleValue) → IsBundle a → IsBundle b → (text_of a ≡ text_of b) ↔ (a ≡ b) }
 {}

@@ -6,17 +6,17 @@
 #![tactic(auto)]
 
 mod append;
-pub mod authority;
+mod authority;
 mod authority_set;
-pub mod bundle;
+mod bundle;
 mod document;
 mod entry;
-pub mod error;
-pub mod id;
-pub mod key;
+mod error;
+mod id;
+mod key;
 pub mod laws;
-pub mod name;
-pub mod octets;
+mod name;
+mod octets;
 mod short_text;
 mod text;
 

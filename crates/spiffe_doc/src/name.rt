@@ -3,7 +3,7 @@ ghost use Rattle.std.specs.Prelude.{◌≡◌, ◌<◌, length, Err, MatchResult
 ghost use Rattle.spiffe_doc.specs.Answer.{Gives};
 ghost use Rattle.spiffe_doc.specs.Name.{IsName, is_name_byte as name_byte, name_fault as fault, trust_domain};
 ghost use Rattle.spiffe_doc.specs.Number.{name_number};
-ghost use Rattle.spiffe_doc.specs.Prefix.{prefix_number};
+ghost use Rattle.spiffe_doc.specs.Private.Prefix.{prefix_number};
 
 use crate::short_text::ShortText;
 use std::alloc::{AllocError, Global};
@@ -54,8 +54,9 @@ pub struct TrustDomain {
 impl Model for TrustDomain {
     ghost use Rattle.std.specs.Prelude.{◌≡◌, List, ℕ};
     ghost use Rattle.spiffe_doc.specs.Name.{IsName};
-    ghost use Rattle.spiffe_doc.specs.Prefix.{prefix_number};
-    ghost use Rattle.spiffe_doc.specs.ShortText.{bytes_of, IsPlaced};
+    ghost use Rattle.spiffe_doc.specs.Private.Prefix.{prefix_number};
+    ghost use Rattle.spiffe_doc.specs.ShortText.{bytes_of};
+    ghost use Rattle.spiffe_doc.specs.Private.Texts.{IsPlaced};
 
     ghost Value = { List ℕ };
 
@@ -65,8 +66,8 @@ impl Model for TrustDomain {
 }
 
 impl TrustDomain {
-    /// The name that a text is, or the first reason why it is not one. Memory may be wanting only for a name of over 24
-    /// bytes.
+    /// Parses a trust domain name (SPIFFE-ID, section 2.1), or reports its first violation. Memory can run out only for
+    /// a name of over 24 bytes.
     pub fn parse(alloc: Global, text: &str) -> Result<TrustDomain, NameError>
         ensures value { Gives NameError.Memory result (trust_domain text.now) }
         ensures memory { result ≡ Err NameError.Memory → IsName text.now × (24 < length text.now) }
@@ -74,8 +75,8 @@ impl TrustDomain {
         Self::parse_bytes(alloc, text.as_bytes())
     }
 
-    /// The name that bytes are, or the first reason why they are not one. Memory may be wanting only for a name of over 24
-    /// bytes.
+    /// Parses a trust domain name from bytes, or reports its first violation. Memory can run out only for a name of over
+    /// 24 bytes.
     pub fn parse_bytes(alloc: Global, bytes: &[u8]) -> Result<TrustDomain, NameError>
         ensures value { Gives NameError.Memory result (trust_domain bytes.now) }
         ensures memory { result ≡ Err NameError.Memory → IsName bytes.now × (24 < length bytes.now) }

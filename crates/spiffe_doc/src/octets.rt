@@ -45,8 +45,8 @@ impl Octets {
         self.bytes.len()
     }
 
-    // Each is a byte.
-    pub(crate) fn lawful(&self)
+    // Only for the prover: recalls that each is a byte.
+    pub(crate) fn recall_valid(&self)
         ensures { AreBytes self.now }
     {
         let _bytes = &self.bytes;

@@ -1,6 +1,7 @@
 //! Texts that lie in the value itself if they are short.
 ghost use Rattle.std.specs.Prelude.{◌≡◌, ◌<◌, length, MatchResult};
-ghost use Rattle.spiffe_doc.specs.ShortText.{bytes_of, IsPlaced};
+ghost use Rattle.spiffe_doc.specs.ShortText.{bytes_of};
+ghost use Rattle.spiffe_doc.specs.Private.Texts.{IsPlaced};
 
 use arrayvec::ArrayString;
 use std::alloc::{AllocError, Global};

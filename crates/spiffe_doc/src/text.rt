@@ -6,7 +6,7 @@ ghost use Rattle.base64.specs.Engines.{standard, url_safe_no_pad};
 ghost use Rattle.base64.specs.GeneralPurpose.{encode_of};
 ghost use Rattle.spiffe_doc.specs.Key.{curve_text};
 ghost use Rattle.spiffe_doc.specs.Text.{entry_tree, entry_text, text_of};
-ghost use Rattle.spiffe_doc.specs.Writing.{number_text, rest_text};
+ghost use Rattle.spiffe_doc.specs.Private.Writing.{number_text, rest_text};
 
 use crate::authority::{Authority, Certificate, KeyId};
 use crate::bundle::Bundle;

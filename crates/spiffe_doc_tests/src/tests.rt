@@ -1,4 +1,4 @@
-//! Worked examples and real bundles, whose expected answers are written out. Want of memory ends a test by an error and
+//! Worked examples and real bundles, whose expected answers are written out. Running out of memory ends a test by an error and
 //! never changes an answer, so each may be run with any allocation refused.
 mod bundles;
 mod documents;

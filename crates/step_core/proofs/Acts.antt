@@ -5,19 +5,19 @@ use Rattle.map_core.specs.declared.reply.AskError.{AskError}
 use Rattle.map_core.specs.declared.reply.Reply.{Reply}
 use Rattle.step_core.specs.declared.event.Event.{Event}
 use Rattle.step_core.specs.declared.event.Event.TheVariants.{Begin, Step, Quit, End}
-use Rattle.step_core.specs.World.{Turn, turn, refusal, moved, started, to_phase}
-use Rattle.step_core.specs.Phase.{Phase, Idle, Waiting, Collecting, Confirming, Done, begun, is_idle, is_open, is_done}
+use Rattle.step_core.specs.World.{Turn, turn, refusal, after_turn, with_operation, to_phase}
+use Rattle.step_core.specs.Phase.{Phase, Idle, Waiting, Collecting, Confirming, Done, start_phase, is_idle, is_open, is_done}
 use Rattle.step_core.specs.Run.{Run, in_world}
 use Rattle.step_core.specs.Run as notes
 
 abbrev pub begin : ℕ → Run → ℕ → Op → Run
-begin n run c op = in_world (started run.world c op (begun n op)) (notes.begin run c op)
+begin n run c op = in_world (with_operation run.world c op (start_phase n op)) (notes.begin run c op)
 
 abbrev pub pass : Run → ℕ → Turn → Run
-pass run c t = in_world (moved run.world c t) (notes.pass run c t.phase)
+pass run c t = in_world (after_turn run.world c t) (notes.pass run c t.phase)
 
 abbrev pub finish : Run → ℕ → Result Reply AskError → Run
-finish run c reply = in_world (moved run.world c (to_phase run.world Idle)) (notes.finish run c reply)
+finish run c reply = in_world (after_turn run.world c (to_phase run.world Idle)) (notes.finish run c reply)
 
 abbrev pub give_up : Run → ℕ → AskError → Run
 give_up run c why = finish (pass run c (to_phase run.world (Done (Err why)))) c (Err why)
@@ -40,12 +40,12 @@ covered true x y z = refl
 covered false x y z = refl
 
 -- a world that gives up has its phases at once
-given_up : (run : Run) (c : ℕ) (why : AskError) → in_world (moved run.world c (to_phase run.world Idle)) (notes.give_up run c why) ≡ give_up run c why
+given_up : (run : Run) (c : ℕ) (why : AskError) → in_world (after_turn run.world c (to_phase run.world Idle)) (notes.give_up run c why) ≡ give_up run c why
 given_up run c why = λ i. in_world
     (record { shards = run.world.shards; ops = run.world.ops; phases = λ q. sym (covered (q == c) Idle (Done (Err why)) (run.world.phases q)) i })
     (notes.give_up run c why)
 
-ended : (run : Run) (c : ℕ) (phase : Phase) → in_world (cond (is_done phase) (moved run.world c (to_phase run.world Idle)) run.world) (notes.end_at run c phase) ≡ end_at run c phase
+ended : (run : Run) (c : ℕ) (phase : Phase) → in_world (cond (is_done phase) (after_turn run.world c (to_phase run.world Idle)) run.world) (notes.end_at run c phase) ≡ end_at run c phase
 ended run c Idle = refl
 ended run c (Waiting i) = refl
 ended run c (Collecting round readings) = refl
@@ -54,12 +54,12 @@ ended run c (Done reply) = refl
 
 pub act_is : (n rounds : ℕ) (run : Run) (event : Event) → notes.act n rounds run event ≡ acted n rounds run event
 act_is n rounds run (Begin c op) =
-    elim (is_idle (run.world.phases c)) as (λ b. in_world (cond b (started run.world c op (begun n op)) run.world) (cond b (notes.begin run c op) run) ≡ cond b (begin n run c op) run) [ true ↦ refl | false ↦ refl ]
+    elim (is_idle (run.world.phases c)) as (λ b. in_world (cond b (with_operation run.world c op (start_phase n op)) run.world) (cond b (notes.begin run c op) run) ≡ cond b (begin n run c op) run) [ true ↦ refl | false ↦ refl ]
 act_is n rounds run (Step c) =
     let t : Turn = turn n rounds run.world.shards (run.world.ops c) (run.world.phases c) in
-    elim (is_open (run.world.phases c)) as (λ b. in_world (cond b (moved run.world c t) run.world) (cond b (notes.pass run c t.phase) run) ≡ cond b (pass run c t) run) [ true ↦ refl | false ↦ refl ]
+    elim (is_open (run.world.phases c)) as (λ b. in_world (cond b (after_turn run.world c t) run.world) (cond b (notes.pass run c t.phase) run) ≡ cond b (pass run c t) run) [ true ↦ refl | false ↦ refl ]
 act_is n rounds run (Quit c reason) =
-    elim (is_open (run.world.phases c)) as (λ b. in_world (cond b (moved run.world c (to_phase run.world Idle)) run.world) (cond b (notes.give_up run c (refusal reason)) run) ≡ cond b (give_up run c (refusal reason)) run) [
+    elim (is_open (run.world.phases c)) as (λ b. in_world (cond b (after_turn run.world c (to_phase run.world Idle)) run.world) (cond b (notes.give_up run c (refusal reason)) run) ≡ cond b (give_up run c (refusal reason)) run) [
       | true ↦ given_up run c (refusal reason)
       | false ↦ refl
     ]

@@ -8,21 +8,21 @@ use Rattle.map_core.specs.declared.reply.AskError.{AskError}
 use Rattle.map_core.specs.declared.reply.AskError.TheVariants.{Memory}
 use Rattle.map_core.specs.Table.{meaning}
 use Rattle.map_core.specs.PlainMap.{shard_of}
-use Rattle.step_core.specs.Shard.{Version, reading}
+use Rattle.step_core.specs.Shard.{ShardVersion, reading}
 use Rattle.step_core.specs.declared.task.Want.TheVariants as want
-use Rattle.step_core.specs.Phase.{Phase, Idle, Waiting, Collecting, Confirming, Done, wants, Told, Seen, Revision, begun, fetched, collected, confirmed, disturbed, give, is_done}
+use Rattle.step_core.specs.Phase.{Phase, Idle, Waiting, Collecting, Confirming, Done, wants, Observation, Seen, Revision, start_phase, snapshot_reply, after_reading, after_confirming, after_disturbance, give, is_done}
 use Rattle.step_core.specs.TaskView.{TaskView}
 use Rattle.step_core.specs.Task.{out_of_memory}
 use Rattle.step_core.proofs.Parts.{item_here}
 use Rattle.step_core.proofs.Points.{same_number, number_itself, numbers_apart}
 
 -- with k shards read
-abbrev pub gathering : List Version → ℕ → Phase
+abbrev pub gathering : List ShardVersion → ℕ → Phase
 gathering vs k = cond (k == length vs) (Confirming 1 vs 0) (Collecting 1 (take k vs))
 
 -- with k shards confirmed
-abbrev pub confirming : List Version → ℕ → Phase
-confirming vs k = cond (k == length vs) (Done (Ok (fetched (length vs) vs))) (Confirming 1 vs k)
+abbrev pub confirming : List ShardVersion → ℕ → Phase
+confirming vs k = cond (k == length vs) (Done (Ok (snapshot_reply (length vs) vs))) (Confirming 1 vs k)
 
 -- the task is in this phase, unless there was no memory
 pub record IsAt (n : ℕ) (task : TaskView) (there : Phase) : Type 0 where
@@ -30,11 +30,11 @@ pub record IsAt (n : ℕ) (task : TaskView) (there : Phase) : Type 0 where
   pub rounds : task.rounds ≡ 1
   pub phase : (task.phase ≡ there) ⊎ (task.phase ≡ out_of_memory)
 
-begins : (n : ℕ) → begun n FetchAll ≡ Collecting 1 []
+begins : (n : ℕ) → start_phase n FetchAll ≡ Collecting 1 []
 unfolding shard_of meaning
 begins n = refl
 
-pub begun_at_none : (n : ℕ) (vs : List Version) (task : TaskView) → 0 < length vs → n ≡ length vs → task ≡ record { shards = n; rounds = 1; phase = begun n FetchAll } → IsAt (length vs) task (gathering vs 0)
+pub begun_at_none : (n : ℕ) (vs : List ShardVersion) (task : TaskView) → 0 < length vs → n ≡ length vs → task ≡ record { shards = n; rounds = 1; phase = start_phase n FetchAll } → IsAt (length vs) task (gathering vs 0)
 begun_at_none n vs task some size is =
     record {
       shards = ap (λ (t : TaskView). t.shards) is ∙ size;
@@ -42,39 +42,39 @@ begun_at_none n vs task some size is =
       phase = inl (ap (λ (t : TaskView). t.phase) is ∙ begins n ∙ sym (ap (λ b. cond b (Confirming 1 vs 0) (Collecting 1 (take 0 vs))) (numbers_apart 0 (length vs) (λ e. let never : ⊥ = omega (arith, some, e) in never)) ∙ ap (Collecting 1) (none_taken vs)));
     }
   where
-    none_taken : (xs : List Version) → take 0 xs ≡ []
+    none_taken : (xs : List ShardVersion) → take 0 xs ≡ []
     none_taken xs = grind (arith, elements)
 
 -- ---- a reading
-taken_size : (vs : List Version) (k : ℕ) → k < length vs → length (take (k + 1) vs) ≡ k + 1
+taken_size : (vs : List ShardVersion) (k : ℕ) → k < length vs → length (take (k + 1) vs) ≡ k + 1
 taken_size vs k l = grind (arith, elements)
 
-taken_all : (vs : List Version) (k : ℕ) → k ≡ length vs → take k vs ≡ vs
+taken_all : (vs : List ShardVersion) (k : ℕ) → k ≡ length vs → take k vs ≡ vs
 taken_all vs k is = grind (arith, elements)
 
-whole : (vs : List Version) (k : ℕ) → cond (k == length vs) (Confirming 1 (take k vs) 0) (Collecting 1 (take k vs)) ≡ gathering vs k
+whole : (vs : List ShardVersion) (k : ℕ) → cond (k == length vs) (Confirming 1 (take k vs) 0) (Collecting 1 (take k vs)) ≡ gathering vs k
 whole vs k =
     elim (k == length vs) as (λ b. (k == length vs) ≡ b → cond b (Confirming 1 (take k vs) 0) (Collecting 1 (take k vs)) ≡ cond b (Confirming 1 vs 0) (Collecting 1 (take k vs))) [
-      | true ↦ λ e. ap (λ (xs : List Version). Confirming 1 xs 0) (taken_all vs k (same_number k (length vs) e))
+      | true ↦ λ e. ap (λ (xs : List ShardVersion). Confirming 1 xs 0) (taken_all vs k (same_number k (length vs) e))
       | false ↦ λ e. refl
     ] refl
 
-read_one : (vs : List Version) (k : ℕ) (v : Version) → v ≡ get_or vs k v → k < length vs → give (length vs) 1 (gathering vs k) (Seen v) ≡ gathering vs (k + 1)
+read_one : (vs : List ShardVersion) (k : ℕ) (v : ShardVersion) → v ≡ get_or vs k v → k < length vs → give (length vs) 1 (gathering vs k) (Seen v) ≡ gathering vs (k + 1)
 read_one vs k v is l =
     ap (λ b. give (length vs) 1 (cond b (Confirming 1 vs 0) (Collecting 1 (take k vs))) (Seen v)) (numbers_apart k (length vs) (λ e. let never : ⊥ = omega (arith, l, e) in never))
-    ∙ ap (collected (length vs) 1) (sym (take_more vs k v l ∙ ap (λ (x : Version). take k vs ++ x ∷ []) (sym is)))
+    ∙ ap (after_reading (length vs) 1) (sym (take_more vs k v l ∙ ap (λ (x : ShardVersion). take k vs ++ x ∷ []) (sym is)))
     ∙ ap (λ (m : ℕ). cond (m == length vs) (Confirming 1 (take (k + 1) vs) 0) (Collecting 1 (take (k + 1) vs))) (taken_size vs k l)
     ∙ whole vs (k + 1)
 
 -- ---- a confirm
-confirm_one : (vs : List Version) (k now : ℕ) → now ≡ (reading vs k).revision → k < length vs → give (length vs) 1 (confirming vs k) (Revision now) ≡ confirming vs (k + 1)
+confirm_one : (vs : List ShardVersion) (k now : ℕ) → now ≡ (reading vs k).revision → k < length vs → give (length vs) 1 (confirming vs k) (Revision now) ≡ confirming vs (k + 1)
 confirm_one vs k now is l =
     let read = (reading vs k).revision in
-    ap (λ b. give (length vs) 1 (cond b (Done (Ok (fetched (length vs) vs))) (Confirming 1 vs k)) (Revision now)) (numbers_apart k (length vs) (λ e. let never : ⊥ = omega (arith, l, e) in never))
-    ∙ ap (λ b. cond b (confirmed (length vs) 1 vs (k + 1)) (disturbed 1 1 k read now)) (ap (λ (x : ℕ). read == x) is ∙ number_itself read)
+    ap (λ b. give (length vs) 1 (cond b (Done (Ok (snapshot_reply (length vs) vs))) (Confirming 1 vs k)) (Revision now)) (numbers_apart k (length vs) (λ e. let never : ⊥ = omega (arith, l, e) in never))
+    ∙ ap (λ b. cond b (after_confirming (length vs) 1 vs (k + 1)) (after_disturbance 1 1 k read now)) (ap (λ (x : ℕ). read == x) is ∙ number_itself read)
 
 -- what a task is after an answer, if it was at a phase
-given_at : (n : ℕ) (x new : TaskView) (p q : Phase) (a : Told) → IsAt n x p → new.shards ≡ x.shards → new.rounds ≡ x.rounds → (new.phase ≡ give x.shards x.rounds x.phase a) ⊎ (new.phase ≡ out_of_memory) → give n 1 p a ≡ q → IsAt n new q
+given_at : (n : ℕ) (x new : TaskView) (p q : Phase) (a : Observation) → IsAt n x p → new.shards ≡ x.shards → new.rounds ≡ x.rounds → (new.phase ≡ give x.shards x.rounds x.phase a) ⊎ (new.phase ≡ out_of_memory) → give n 1 p a ≡ q → IsAt n new q
 given_at n x new p q a h s r given is =
     record {
       shards = s ∙ h.shards;
@@ -86,27 +86,27 @@ given_at n x new p q a h s r given is =
           (λ (e : new.phase ≡ out_of_memory). inr e) given;
     }
 
-pub read_next : (vs : List Version) (k : ℕ) (x new : TaskView) (v w : Version) → IsAt (length vs) x (gathering vs k) → v ≡ get_or vs k v → k < length vs → w ≡ v
+pub read_next : (vs : List ShardVersion) (k : ℕ) (x new : TaskView) (v w : ShardVersion) → IsAt (length vs) x (gathering vs k) → v ≡ get_or vs k v → k < length vs → w ≡ v
     → new.shards ≡ x.shards → new.rounds ≡ x.rounds → (new.phase ≡ give x.shards x.rounds x.phase (Seen w)) ⊎ (new.phase ≡ out_of_memory) → IsAt (length vs) new (gathering vs (k + 1))
-read_next vs k x new v w h is l same s r given = given_at (length vs) x new (gathering vs k) (gathering vs (k + 1)) (Seen w) h s r given (ap (λ (y : Version). give (length vs) 1 (gathering vs k) (Seen y)) same ∙ read_one vs k v is l)
+read_next vs k x new v w h is l same s r given = given_at (length vs) x new (gathering vs k) (gathering vs (k + 1)) (Seen w) h s r given (ap (λ (y : ShardVersion). give (length vs) 1 (gathering vs k) (Seen y)) same ∙ read_one vs k v is l)
 
-pub all_read : (vs : List Version) (k : ℕ) (x : TaskView) → 0 < length vs → k ≤ length vs → length vs ≤ k → IsAt (length vs) x (gathering vs k) → IsAt (length vs) x (confirming vs 0)
+pub all_read : (vs : List ShardVersion) (k : ℕ) (x : TaskView) → 0 < length vs → k ≤ length vs → length vs ≤ k → IsAt (length vs) x (gathering vs k) → IsAt (length vs) x (confirming vs 0)
 all_read vs k x some a b h =
     let full : k ≡ length vs = omega (arith, a, b) in
     let at : gathering vs k ≡ Confirming 1 vs 0 = ap (λ b. cond b (Confirming 1 vs 0) (Collecting 1 (take k vs))) (ap (λ (m : ℕ). k == m) (sym full) ∙ number_itself k) in
-    let start : confirming vs 0 ≡ Confirming 1 vs 0 = ap (λ b. cond b (Done (Ok (fetched (length vs) vs))) (Confirming 1 vs 0)) (numbers_apart 0 (length vs) (λ e. let never : ⊥ = omega (arith, some, e) in never)) in
+    let start : confirming vs 0 ≡ Confirming 1 vs 0 = ap (λ b. cond b (Done (Ok (snapshot_reply (length vs) vs))) (Confirming 1 vs 0)) (numbers_apart 0 (length vs) (λ e. let never : ⊥ = omega (arith, some, e) in never)) in
     subst (IsAt (length vs) x) (at ∙ sym start) h
 
-pub confirm_next : (vs : List Version) (k : ℕ) (x new : TaskView) (v : Version) (now : ℕ) → IsAt (length vs) x (confirming vs k) → v ≡ get_or vs k v → k < length vs → now ≡ v.revision
+pub confirm_next : (vs : List ShardVersion) (k : ℕ) (x new : TaskView) (v : ShardVersion) (now : ℕ) → IsAt (length vs) x (confirming vs k) → v ≡ get_or vs k v → k < length vs → now ≡ v.revision
     → new.shards ≡ x.shards → new.rounds ≡ x.rounds → (new.phase ≡ give x.shards x.rounds x.phase (Revision now)) ⊎ (new.phase ≡ out_of_memory) → IsAt (length vs) new (confirming vs (k + 1))
 confirm_next vs k x new v now h is l same s r given =
-    given_at (length vs) x new (confirming vs k) (confirming vs (k + 1)) (Revision now) h s r given (confirm_one vs k now (same ∙ ap (λ (y : Version). y.revision) (item_here vs k v is l)) l)
+    given_at (length vs) x new (confirming vs k) (confirming vs (k + 1)) (Revision now) h s r given (confirm_one vs k now (same ∙ ap (λ (y : ShardVersion). y.revision) (item_here vs k v is l)) l)
 
 -- ---- the end
-pub ended_at : (vs : List Version) (k : ℕ) (x : TaskView) → k ≤ length vs → length vs ≤ k → IsAt (length vs) x (confirming vs k) → (x.phase ≡ Done (Ok (fetched (length vs) vs))) ⊎ (x.phase ≡ out_of_memory)
+pub ended_at : (vs : List ShardVersion) (k : ℕ) (x : TaskView) → k ≤ length vs → length vs ≤ k → IsAt (length vs) x (confirming vs k) → (x.phase ≡ Done (Ok (snapshot_reply (length vs) vs))) ⊎ (x.phase ≡ out_of_memory)
 ended_at vs k x a b h =
     let full : k ≡ length vs = omega (arith, a, b) in
-    let at : confirming vs k ≡ Done (Ok (fetched (length vs) vs)) = ap (λ b. cond b (Done (Ok (fetched (length vs) vs))) (Confirming 1 vs k)) (ap (λ (m : ℕ). k == m) (sym full) ∙ number_itself k) in
+    let at : confirming vs k ≡ Done (Ok (snapshot_reply (length vs) vs)) = ap (λ b. cond b (Done (Ok (snapshot_reply (length vs) vs))) (Confirming 1 vs k)) (ap (λ (m : ℕ). k == m) (sym full) ∙ number_itself k) in
     ⊎_elim (λ (e : x.phase ≡ confirming vs k). inl (e ∙ at)) (λ (e : x.phase ≡ out_of_memory). inr e) h.phase
 
 pub ended_done : (reply : Reply) (p : Phase) → (p ≡ Done (Ok reply)) ⊎ (p ≡ out_of_memory) → wants p ≡ want.Done

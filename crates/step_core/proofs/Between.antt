@@ -3,37 +3,37 @@ use Rattle.std.proofs.Common.{◌≡◌, ℕ, ◌+◌, ◌<◌, ◌≤◌, ◌==
 use Rattle.map_core.specs.declared.op.Op.{Op}
 use Rattle.map_core.specs.declared.reply.AskError.TheVariants.{Worn}
 use Rattle.map_core.specs.Reply.{is_change}
-use Rattle.map_core.specs.PlainMap.{Asked, ask}
+use Rattle.map_core.specs.PlainMap.{AskResult, ask}
 use Rattle.step_core.specs.declared.event.Event.{Event}
 use Rattle.step_core.specs.declared.event.Event.TheVariants.{Begin, Step, Quit, End}
-use Rattle.step_core.specs.World.{with_at, World, turn, next, moved, started, to_phase, world_from}
-use Rattle.step_core.specs.Shard.{Version, Stepped, step_on, last_revision}
-use Rattle.step_core.specs.Phase.{Phase, Idle, Waiting, Collecting, Confirming, Done, begun, is_idle, is_open, is_done}
+use Rattle.step_core.specs.World.{with_at, World, turn, next, after_turn, with_operation, to_phase, world_from}
+use Rattle.step_core.specs.Shard.{ShardVersion, StepResult, step_on, last_revision}
+use Rattle.step_core.specs.Phase.{Phase, Idle, Waiting, Collecting, Confirming, Done, start_phase, is_idle, is_open, is_done}
 use Rattle.step_core.proofs.Points.{same_number}
 use Rattle.step_core.proofs.Claims.{Advance, Fresh}
 
-Advances : (ℕ → Version) → (ℕ → Version) → Type 0
+Advances : (ℕ → ShardVersion) → (ℕ → ShardVersion) → Type 0
 Advances s t = (j : ℕ) → Advance (s j) (t j)
 
-stay : (s : ℕ → Version) → Advances s s
+stay : (s : ℕ → ShardVersion) → Advances s s
 unfolding Advances
 stay s j = inl refl
 
 -- the shard after a step of its own is as it was, or was changed
-step_advance : (v : Version) (op : Op) → Advance v (step_on v op).shard
+step_advance : (v : ShardVersion) (op : Op) → Advance v (step_on v op).shard
 step_advance v op =
-    let asked : Asked = ask v.part op in
-    elim (is_change asked.reply) as (λ b. Advance v ((let t : Stepped = cond b (cond (v.revision == last_revision) (record { answer = Err (Worn 0); shard = v }) (record { answer = Ok asked.reply; shard = record { revision = v.revision + 1; part = asked.map } })) (record { answer = Ok asked.reply; shard = v }) in t).shard)) [
-      | true ↦ elim (v.revision == last_revision) as (λ b. Advance v ((let t : Stepped = cond b (record { answer = Err (Worn 0); shard = v }) (record { answer = Ok asked.reply; shard = record { revision = v.revision + 1; part = asked.map } }) in t).shard)) [ true ↦ inl refl | false ↦ inr (let l : v.revision < v.revision + 1 = omega arith in l) ]
+    let asked : AskResult = ask v.part op in
+    elim (is_change asked.reply) as (λ b. Advance v ((let t : StepResult = cond b (cond (v.revision == last_revision) (record { answer = Err (Worn 0); shard = v }) (record { answer = Ok asked.reply; shard = record { revision = v.revision + 1; part = asked.map } })) (record { answer = Ok asked.reply; shard = v }) in t).shard)) [
+      | true ↦ elim (v.revision == last_revision) as (λ b. Advance v ((let t : StepResult = cond b (record { answer = Err (Worn 0); shard = v }) (record { answer = Ok asked.reply; shard = record { revision = v.revision + 1; part = asked.map } }) in t).shard)) [ true ↦ inl refl | false ↦ inr (let l : v.revision < v.revision + 1 = omega arith in l) ]
       | false ↦ inl refl
     ]
 
-stepped_advances : (s : ℕ → Version) (i : ℕ) (t : Version) → Advance (s i) t → Advances s (with_at s i t)
+stepped_advances : (s : ℕ → ShardVersion) (i : ℕ) (t : ShardVersion) → Advance (s i) t → Advances s (with_at s i t)
 unfolding Advances
 stepped_advances s i t h j =
     elim (j == i) as (λ b. (j == i) ≡ b → Advance (s j) (cond b t (s j))) [ true ↦ λ e. subst (λ (k : ℕ). Advance (s k) t) (sym (same_number j i e)) h | false ↦ λ e. inl refl ] refl
 
-turn_advances : (n rounds : ℕ) (s : ℕ → Version) (op : Op) (phase : Phase) → Advances s (turn n rounds s op phase).shards
+turn_advances : (n rounds : ℕ) (s : ℕ → ShardVersion) (op : Op) (phase : Phase) → Advances s (turn n rounds s op phase).shards
 turn_advances n rounds s op Idle = stay s
 turn_advances n rounds s op (Waiting i) = stepped_advances s i (step_on (s i) op).shard (step_advance (s i) op)
 turn_advances n rounds s op (Collecting round readings) = stay s
@@ -41,14 +41,14 @@ turn_advances n rounds s op (Confirming round readings k) = stay s
 turn_advances n rounds s op (Done reply) = stay s
 
 next_advances : (n rounds : ℕ) (w : World) (event : Event) → Advances w.shards (next n rounds w event).shards
-next_advances n rounds w (Begin c op) = elim (is_idle (w.phases c)) as (λ b. Advances w.shards (let x : World = cond b (started w c op (begun n op)) w in x).shards) [ true ↦ stay w.shards | false ↦ stay w.shards ]
-next_advances n rounds w (Step c) = elim (is_open (w.phases c)) as (λ b. Advances w.shards (let x : World = cond b (moved w c (turn n rounds w.shards (w.ops c) (w.phases c))) w in x).shards) [ true ↦ turn_advances n rounds w.shards (w.ops c) (w.phases c) | false ↦ stay w.shards ]
-next_advances n rounds w (Quit c reason) = elim (is_open (w.phases c)) as (λ b. Advances w.shards (let x : World = cond b (moved w c (to_phase w Idle)) w in x).shards) [ true ↦ stay w.shards | false ↦ stay w.shards ]
-next_advances n rounds w (End c) = elim (is_done (w.phases c)) as (λ b. Advances w.shards (let x : World = cond b (moved w c (to_phase w Idle)) w in x).shards) [ true ↦ stay w.shards | false ↦ stay w.shards ]
+next_advances n rounds w (Begin c op) = elim (is_idle (w.phases c)) as (λ b. Advances w.shards (let x : World = cond b (with_operation w c op (start_phase n op)) w in x).shards) [ true ↦ stay w.shards | false ↦ stay w.shards ]
+next_advances n rounds w (Step c) = elim (is_open (w.phases c)) as (λ b. Advances w.shards (let x : World = cond b (after_turn w c (turn n rounds w.shards (w.ops c) (w.phases c))) w in x).shards) [ true ↦ turn_advances n rounds w.shards (w.ops c) (w.phases c) | false ↦ stay w.shards ]
+next_advances n rounds w (Quit c reason) = elim (is_open (w.phases c)) as (λ b. Advances w.shards (let x : World = cond b (after_turn w c (to_phase w Idle)) w in x).shards) [ true ↦ stay w.shards | false ↦ stay w.shards ]
+next_advances n rounds w (End c) = elim (is_done (w.phases c)) as (λ b. Advances w.shards (let x : World = cond b (after_turn w c (to_phase w Idle)) w in x).shards) [ true ↦ stay w.shards | false ↦ stay w.shards ]
 
-reached : (s t u : Version) → Advance s t → Fresh t u u.part → Fresh s u u.part
+reached : (s t u : ShardVersion) → Advance s t → Fresh t u u.part → Fresh s u u.part
 reached s t u go h =
-    ⊎_elim (λ e. subst (λ (x : Version). Fresh x u u.part) e h)
+    ⊎_elim (λ e. subst (λ (x : ShardVersion). Fresh x u u.part) e h)
     (λ l. record { grown = omega (arith, l, h.grown); same = λ is. let never : ⊥ = omega (arith, l, h.grown, is) in absurd never }) go
 
 pub reaches : (n rounds : ℕ) (events : List Event) (w : World) (j : ℕ) → let v = (world_from n rounds w events).shards j in Fresh (w.shards j) v v.part

@@ -5,10 +5,10 @@ use Rattle.map_core.specs.declared.reply.AskError.{AskError}
 use Rattle.map_core.specs.declared.reply.Reply.{Reply}
 use Rattle.map_core.specs.PlainMap.{shard_of}
 use Rattle.step_core.specs.World.{with_at, Turn}
-use Rattle.step_core.specs.Shard.{Version}
-use Rattle.step_core.specs.Phase.{Phase, Idle, Waiting, Collecting, Confirming, Done, is_written, begun, begun_at, is_idle, has_point}
+use Rattle.step_core.specs.Shard.{ShardVersion}
+use Rattle.step_core.specs.Phase.{Phase, Idle, Waiting, Collecting, Confirming, Done, wrote_shard, start_phase, start_phase_at, is_idle, has_point}
 use Rattle.step_core.specs.declared.trace.OpRecord.{OpRecord}
-use Rattle.step_core.specs.Run.{Run, repointed}
+use Rattle.step_core.specs.Run.{Run, update_points}
 use Rattle.step_core.proofs.Acts.{begin, pass, finish}
 use Rattle.step_core.proofs.Points.{same_number, other_number, with_at_same, with_at_other, with_at_keep}
 use Rattle.step_core.proofs.Claims.{IsPhaseOf}
@@ -43,13 +43,13 @@ pub record Inv (n limit : ℕ) (run : Run) : Type 0 where
   pub core : Core n limit run.count run.world.shards (λ q. (run.records q).op) (λ q. (run.records q).first) (λ q. (run.records q).last) (states run) run.points
   pub open_one : (q : ℕ) → q < run.count → (run.records q).reply ≡ None → IsCurrent run q
   pub busy : (c : ℕ) → is_idle (run.world.phases c) ≡ false → IsBusy run c
-  pub wrote : (q : ℕ) → q < run.count → (run.records q).wrote ≡ is_written (states run q)
+  pub wrote : (q : ℕ) → q < run.count → (run.records q).wrote ≡ wrote_shard (states run q)
 
 same_where_open : (reply : Option (Result Reply AskError)) (a b : Phase) → (reply ≡ None → a ≡ b) → phase_by reply a ≡ phase_by reply b
 same_where_open (Some reply) a b h = refl
 same_where_open None a b h = h refl
 
-not_idle : (n : ℕ) (s : ℕ → Version) (op : Op) (phase : Phase) → IsPhaseOf n s op phase → is_idle phase ≡ false
+not_idle : (n : ℕ) (s : ℕ → ShardVersion) (op : Op) (phase : Phase) → IsPhaseOf n s op phase → is_idle phase ≡ false
 not_idle n s op Idle h = absurd h
 not_idle n s op (Waiting i) h = refl
 not_idle n s op (Collecting round readings) h = refl
@@ -61,7 +61,7 @@ cases_number a b = elim (a == b) as (λ v. (a == b) ≡ v → (a ≡ b) ⊎ (a �
 
 -- the records of passed and finished operations
 abbrev passed : OpRecord → Phase → OpRecord
-passed old phase = record { caller = old.caller; op = old.op; first = old.first; last = old.last; reply = old.reply; wrote = is_written phase }
+passed old phase = record { caller = old.caller; op = old.op; first = old.first; last = old.last; reply = old.reply; wrote = wrote_shard phase }
 
 abbrev finished : OpRecord → ℕ → Result Reply AskError → OpRecord
 finished old event reply = record { caller = old.caller; op = old.op; first = old.first; last = Some event; reply = Some reply; wrote = old.wrote }
@@ -92,7 +92,7 @@ module _ (n limit : ℕ) (run : Run) (inv : Inv n limit run) (c : ℕ) (busy_now
     core_after : Core n (suc run.events) run.count t.shards (λ q. (run.records q).op) (λ q. (run.records q).first) (λ q. (run.records q).last) (with_at (states run) (run.current c) t.phase) (pass run c t).points
     core_after =
         subst (λ (x : Phase). Core n (suc run.events) run.count t.shards (λ q. (run.records q).op) (λ q. (run.records q).first) (λ q. (run.records q).last) (with_at (states run) (run.current c) t.phase)
-        (repointed (has_point x) (has_point t.phase) (record { number = run.current c; op = (run.records (run.current c)).op; event = run.events }) run.points)) own_phase
+        (update_points (has_point x) (has_point t.phase) (record { number = run.current c; op = (run.records (run.current c)).op; event = run.events }) run.points)) own_phase
         (core_pass n limit run.count run.world.shards (λ q. (run.records q).op) (λ q. (run.records q).first) (λ q. (run.records q).last) (states run) run.points inv.core
         (run.current c) run.events b.known late b.no_last t (subst (λ (x : Phase). Move n run.world.shards (run.records (run.current c)).op x t) (sym own_phase) move))
 
@@ -109,12 +109,12 @@ module _ (n limit : ℕ) (run : Run) (inv : Inv n limit run) (c : ℕ) (busy_now
         ⊎_elim (λ (is : d ≡ c). ap is_idle (with_at_same run.world.phases c t.phase d is) ∙ not_idle n t.shards (run.records (run.current c)).op t.phase move.ok)
         (λ (ne : d ≢ c). ap is_idle (with_at_other run.world.phases c t.phase d ne) ∙ h) (cases_number d c)
 
-    wrote_after : (q : ℕ) → q < run.count → ((pass run c t).records q).wrote ≡ is_written (states (pass run c t) q)
+    wrote_after : (q : ℕ) → q < run.count → ((pass run c t).records q).wrote ≡ wrote_shard (states (pass run c t) q)
     wrote_after q k =
-        elim (q == run.current c) as (λ v. (q == run.current c) ≡ v → (let x : OpRecord = cond v (passed (run.records (run.current c)) t.phase) (run.records q) in x).wrote ≡ is_written (cond v t.phase (states run q))) [
+        elim (q == run.current c) as (λ v. (q == run.current c) ≡ v → (let x : OpRecord = cond v (passed (run.records (run.current c)) t.phase) (run.records q) in x).wrote ≡ wrote_shard (cond v t.phase (states run q))) [
           | true ↦ λ e. refl
           | false ↦ λ e. inv.wrote q k
-        ] refl ∙ sym (ap is_written (states_after q k))
+        ] refl ∙ sym (ap wrote_shard (states_after q k))
 
     pub inv_pass : Inv n (suc run.events) (pass run c t)
     inv_pass =
@@ -184,19 +184,19 @@ module _ (n limit : ℕ) (run : Run) (inv : Inv n limit run) (c : ℕ) (busy_now
               (λ q k. keep_ended (λ x. x.op) refl q) (λ q k. keep_ended (λ x. x.first) refl q) (λ q k. last_ended q) states_ended;
           open_one = open_ended;
           busy = busy_ended;
-          wrote = λ q k. keep_ended (λ x. x.wrote) refl q ∙ inv.wrote q k ∙ sym (ap is_written (states_ended q k));
+          wrote = λ q k. keep_ended (λ x. x.wrote) refl q ∙ inv.wrote q k ∙ sym (ap wrote_shard (states_ended q k));
         }
 
 -- ---- an operation begins
-begun_phase : (n : ℕ) (s : ℕ → Version) (op : Op) (at : Option ℕ) → 0 < n → shard_of n op ≡ at → IsPhaseOf n s op (begun_at at)
+begun_phase : (n : ℕ) (s : ℕ → ShardVersion) (op : Op) (at : Option ℕ) → 0 < n → shard_of n op ≡ at → IsPhaseOf n s op (start_phase_at at)
 begun_phase n s op (Some i) h is = is
 begun_phase n s op None h is = (is, h, λ j l. let never : ⊥ = omega (arith, l) in absurd never)
 
-begun_point : (at : Option ℕ) → has_point (begun_at at) ≡ false
+begun_point : (at : Option ℕ) → has_point (start_phase_at at) ≡ false
 begun_point (Some i) = refl
 begun_point None = refl
 
-begun_written : (at : Option ℕ) → false ≡ is_written (begun_at at)
+begun_written : (at : Option ℕ) → false ≡ wrote_shard (start_phase_at at)
 begun_written (Some i) = refl
 begun_written None = refl
 
@@ -220,12 +220,12 @@ module _ (n limit : ℕ) (some : 0 < n) (run : Run) (inv : Inv n limit run) (lat
   unfolding new
   new_record q is = with_at_same run.records run.count (record { caller = c; op = op; first = run.events; last = None; reply = None; wrote = false }) q is
 
-  pub states_begun : (q : ℕ) → q < suc run.count → states (begin n run c op) q ≡ with_at (states run) run.count (begun n op) q
+  pub states_begun : (q : ℕ) → q < suc run.count → states (begin n run c op) q ≡ with_at (states run) run.count (start_phase n op) q
   unfolding new
   states_begun q k =
-      elim (q == run.count) as (λ v. (q == run.count) ≡ v → phase_of (with_at run.world.phases c (begun n op)) (cond v (record { caller = c; op = op; first = run.events; last = None; reply = None; wrote = false }) (run.records q)) ≡ cond v (begun n op) (states run q)) [
-        | true ↦ λ e. with_at_same run.world.phases c (begun n op) c refl
-        | false ↦ λ e. same_where_open (run.records q).reply _ _ (λ none. with_at_other run.world.phases c (begun n op) (run.records q).caller (idle_caller q (old_one q k (other_number q run.count e)) none))
+      elim (q == run.count) as (λ v. (q == run.count) ≡ v → phase_of (with_at run.world.phases c (start_phase n op)) (cond v (record { caller = c; op = op; first = run.events; last = None; reply = None; wrote = false }) (run.records q)) ≡ cond v (start_phase n op) (states run q)) [
+        | true ↦ λ e. with_at_same run.world.phases c (start_phase n op) c refl
+        | false ↦ λ e. same_where_open (run.records q).reply _ _ (λ none. with_at_other run.world.phases c (start_phase n op) (run.records q).caller (idle_caller q (old_one q k (other_number q run.count e)) none))
       ] refl
 
   field_begun : {Y : Type 0} → (f : OpRecord → Y) (y : Y) → f (record { caller = c; op = op; first = run.events; last = None; reply = None; wrote = false }) ≡ y → (q : ℕ) → f ((begin n run c op).records q) ≡ with_at (λ x. f (run.records x)) run.count y q
@@ -239,7 +239,7 @@ module _ (n limit : ℕ) (some : 0 < n) (run : Run) (inv : Inv n limit run) (lat
       let same = new_record q is in
       record {
         number = ap (λ x. with_at run.current c run.count x.caller) same ∙ with_at_same run.current c run.count c refl ∙ sym is;
-        busy = ap (λ x. is_idle (with_at run.world.phases c (begun n op) x.caller)) same ∙ ap is_idle (with_at_same run.world.phases c (begun n op) c refl) ∙ not_idle n run.world.shards op (begun n op) (begun_phase n run.world.shards op (shard_of n op) some refl);
+        busy = ap (λ x. is_idle (with_at run.world.phases c (start_phase n op) x.caller)) same ∙ ap is_idle (with_at_same run.world.phases c (start_phase n op) c refl) ∙ not_idle n run.world.shards op (start_phase n op) (begun_phase n run.world.shards op (shard_of n op) some refl);
       })
       (λ (ne : q ≢ run.count).
       let same = same_record q ne in
@@ -249,7 +249,7 @@ module _ (n limit : ℕ) (some : 0 < n) (run : Run) (inv : Inv n limit run) (lat
       let other = idle_caller q k' none_before in
       record {
         number = ap (λ x. with_at run.current c run.count x.caller) same ∙ with_at_other run.current c run.count (run.records q).caller other ∙ one.number;
-        busy = ap (λ x. is_idle (with_at run.world.phases c (begun n op) x.caller)) same ∙ ap is_idle (with_at_other run.world.phases c (begun n op) (run.records q).caller other) ∙ one.busy;
+        busy = ap (λ x. is_idle (with_at run.world.phases c (start_phase n op) x.caller)) same ∙ ap is_idle (with_at_other run.world.phases c (start_phase n op) (run.records q).caller other) ∙ one.busy;
       }) (cases_number q run.count)
 
   busy_begun : (d : ℕ) → is_idle ((begin n run c op).world.phases d) ≡ false → IsBusy (begin n run c op) d
@@ -260,25 +260,25 @@ module _ (n limit : ℕ) (some : 0 < n) (run : Run) (inv : Inv n limit run) (lat
       let same = new_record ((begin n run c op).current d) now in
       record { known = omega (arith, now); caller = ap (λ x. x.caller) same ∙ sym is; op = with_at_same run.world.ops c op d is ∙ sym (ap (λ x. x.op) same); no_reply = ap (λ x. x.reply) same; no_last = ap (λ x. x.last) same })
       (λ (ne : d ≢ c).
-      let one = inv.busy d (ap is_idle (sym (with_at_other run.world.phases c (begun n op) d ne)) ∙ h) in
+      let one = inv.busy d (ap is_idle (sym (with_at_other run.world.phases c (start_phase n op) d ne)) ∙ h) in
       let now : (begin n run c op).current d ≡ run.current d = with_at_other run.current c run.count d ne in
       let known : (begin n run c op).current d < run.count = subst (λ (x : ℕ). x < run.count) (sym now) one.known in
       let same = same_record ((begin n run c op).current d) (below_count ((begin n run c op).current d) known) in
       record { known = omega (arith, known); caller = ap (λ x. x.caller) same ∙ ap (λ x. (run.records x).caller) now ∙ one.caller; op = with_at_other run.world.ops c op d ne ∙ one.op ∙ sym (ap (λ x. x.op) same ∙ ap (λ x. (run.records x).op) now); no_reply = ap (λ x. x.reply) same ∙ ap (λ x. (run.records x).reply) now ∙ one.no_reply; no_last = ap (λ x. x.last) same ∙ ap (λ x. (run.records x).last) now ∙ one.no_last }) (cases_number d c)
 
-  wrote_begun : (q : ℕ) → q < suc run.count → ((begin n run c op).records q).wrote ≡ is_written (states (begin n run c op) q)
+  wrote_begun : (q : ℕ) → q < suc run.count → ((begin n run c op).records q).wrote ≡ wrote_shard (states (begin n run c op) q)
   unfolding new
   wrote_begun q k =
-      elim (q == run.count) as (λ v. (q == run.count) ≡ v → (let x : OpRecord = cond v (record { caller = c; op = op; first = run.events; last = None; reply = None; wrote = false }) (run.records q) in x).wrote ≡ is_written (cond v (begun n op) (states run q))) [
+      elim (q == run.count) as (λ v. (q == run.count) ≡ v → (let x : OpRecord = cond v (record { caller = c; op = op; first = run.events; last = None; reply = None; wrote = false }) (run.records q) in x).wrote ≡ wrote_shard (cond v (start_phase n op) (states run q))) [
         | true ↦ λ e. begun_written (shard_of n op)
         | false ↦ λ e. inv.wrote q (old_one q k (other_number q run.count e))
-      ] refl ∙ sym (ap is_written (states_begun q k))
+      ] refl ∙ sym (ap wrote_shard (states_begun q k))
 
   pub inv_begin : Inv n (suc run.events) (begin n run c op)
   inv_begin =
       record {
-        core = core_same n (suc run.events) (suc run.count) run.world.shards (with_at (λ q. (run.records q).op) run.count op) (with_at (λ q. (run.records q).first) run.count run.events) (with_at (λ q. (run.records q).last) run.count None) (with_at (states run) run.count (begun n op)) run.points
-            (core_begin n limit run.count run.world.shards (λ q. (run.records q).op) (λ q. (run.records q).first) (λ q. (run.records q).last) (states run) run.points inv.core op run.events (begun n op) late (begun_point (shard_of n op)) (begun_phase n run.world.shards op (shard_of n op) some refl))
+        core = core_same n (suc run.events) (suc run.count) run.world.shards (with_at (λ q. (run.records q).op) run.count op) (with_at (λ q. (run.records q).first) run.count run.events) (with_at (λ q. (run.records q).last) run.count None) (with_at (states run) run.count (start_phase n op)) run.points
+            (core_begin n limit run.count run.world.shards (λ q. (run.records q).op) (λ q. (run.records q).first) (λ q. (run.records q).last) (states run) run.points inv.core op run.events (start_phase n op) late (begun_point (shard_of n op)) (begun_phase n run.world.shards op (shard_of n op) some refl))
             (λ q. ((begin n run c op).records q).op) (λ q. ((begin n run c op).records q).first) (λ q. ((begin n run c op).records q).last) (states (begin n run c op))
             (λ q k. field_begun (λ x. x.op) op refl q) (λ q k. field_begun (λ x. x.first) run.events refl q) (λ q k. field_begun (λ x. x.last) None refl q) states_begun;
         open_one = open_begun;

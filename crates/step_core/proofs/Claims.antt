@@ -4,30 +4,30 @@ use Rattle.std.proofs.lemmas.Grind.{elements}
 use Rattle.map_core.specs.declared.op.Op.{Op}
 use Rattle.map_core.specs.declared.op.Op.TheVariants.{FetchAll}
 use Rattle.map_core.specs.Reply.{is_change}
-use Rattle.map_core.specs.PlainMap.{PlainMap, ask, shard_of, part}
+use Rattle.map_core.specs.PlainMap.{PlainMap, ask, shard_of, partition}
 use Rattle.map_core.proofs.MapLaws.{ask_keeps, part_reply, part_home, part_away, fetch_keeps, together_is, fetch_reply}
 use Rattle.step_core.specs.World.{with_at}
-use Rattle.step_core.specs.Shard.{Version, reading}
-use Rattle.step_core.specs.Phase.{Phase, Idle, Waiting, Collecting, Confirming, Done, fetched, is_written, has_point}
+use Rattle.step_core.specs.Shard.{ShardVersion, reading}
+use Rattle.step_core.specs.Phase.{Phase, Idle, Waiting, Collecting, Confirming, Done, snapshot_reply, wrote_shard, has_point}
 use Rattle.step_core.proofs.Points.{same_number, other_number}
 
 -- the reading v of a shard that stands at s: its revision has not gone back since, and if it is the same, v has this part
-pub record Fresh (v s : Version) (q : PlainMap) : Type 0 where
+pub record Fresh (v s : ShardVersion) (q : PlainMap) : Type 0 where
   pub grown : v.revision ≤ s.revision
   pub same : v.revision ≡ s.revision → v.part ≡ q
 
 -- a shard is as it was, or was changed
-abbrev pub Advance : Version → Version → Type 0
+abbrev pub Advance : ShardVersion → ShardVersion → Type 0
 Advance s t = (t ≡ s) ⊎ (s.revision < t.revision)
 
 -- of a fetch-all whose point stands where the map is m: shard j was read as m has it, if the first k are confirmed and it is one of
 -- them, or if its revision is still the one that was read
-pub record Seen (n k : ℕ) (shards : ℕ → Version) (readings : List Version) (m : PlainMap) (j : ℕ) : Type 0 where
-  pub sure : j < k → (reading readings j).part ≡ part n m j
-  pub fresh : Fresh (reading readings j) (shards j) (part n m j)
+pub record Seen (n k : ℕ) (shards : ℕ → ShardVersion) (readings : List ShardVersion) (m : PlainMap) (j : ℕ) : Type 0 where
+  pub sure : j < k → (reading readings j).part ≡ partition n m j
+  pub fresh : Fresh (reading readings j) (shards j) (partition n m j)
 
 -- what holds of an operation in this phase, at the map that stands before its point
-abbrev pub Claim : ℕ → (ℕ → Version) → PlainMap → Op → Phase → Type 0
+abbrev pub Claim : ℕ → (ℕ → ShardVersion) → PlainMap → Op → Phase → Type 0
 Claim n shards m op Idle = ⊥
 Claim n shards m op (Waiting i) = ⊥
 Claim n shards m op (Collecting round readings) = ⊥
@@ -35,11 +35,11 @@ Claim n shards m op (Confirming round readings k) = (j : ℕ) → j < n → Seen
 Claim n shards m op (Done (Ok reply)) = reply ≡ (ask m op).reply
 Claim n shards m op (Done (Err why)) = ⊥
 
-abbrev pub ReadSoFar : (ℕ → Version) → List Version → Type 0
+abbrev pub ReadSoFar : (ℕ → ShardVersion) → List ShardVersion → Type 0
 ReadSoFar shards readings = (j : ℕ) → j < length readings → Fresh (reading readings j) (shards j) (shards j).part
 
 -- what holds of an operation in this phase, wherever its point is
-abbrev pub IsPhaseOf : ℕ → (ℕ → Version) → Op → Phase → Type 0
+abbrev pub IsPhaseOf : ℕ → (ℕ → ShardVersion) → Op → Phase → Type 0
 IsPhaseOf n shards op Idle = ⊥
 IsPhaseOf n shards op (Waiting i) = shard_of n op ≡ Some i
 IsPhaseOf n shards op (Collecting round readings) = (shard_of n op ≡ None) × (length readings < n) × ReadSoFar shards readings
@@ -47,35 +47,35 @@ IsPhaseOf n shards op (Confirming round readings k) = (shard_of n op ≡ None) �
 IsPhaseOf n shards op (Done reply) = Unit {0}
 
 -- the shards stand as the map is
-abbrev pub Shows : ℕ → (ℕ → Version) → PlainMap → Type 0
-Shows n shards m = (i : ℕ) → part n m i ≡ (shards i).part
+abbrev pub Shows : ℕ → (ℕ → ShardVersion) → PlainMap → Type 0
+Shows n shards m = (i : ℕ) → partition n m i ≡ (shards i).part
 
-pub fresh_on : (v s t : Version) (q : PlainMap) → Advance s t → Fresh v s q → Fresh v t q
+pub fresh_on : (v s t : ShardVersion) (q : PlainMap) → Advance s t → Fresh v s q → Fresh v t q
 fresh_on v s t q go h =
-    ⊎_elim (λ e. subst (λ (x : Version). Fresh v x q) (sym e) h)
+    ⊎_elim (λ e. subst (λ (x : ShardVersion). Fresh v x q) (sym e) h)
     (λ l. record { grown = omega (arith, l, h.grown); same = λ e. absurd (omega (arith, l, h.grown, e)) }) go
 
-pub fresh_reading_on : (v s t : Version) → Advance s t → Fresh v s s.part → Fresh v t t.part
+pub fresh_reading_on : (v s t : ShardVersion) → Advance s t → Fresh v s s.part → Fresh v t t.part
 fresh_reading_on v s t go h =
-    ⊎_elim (λ e. subst (λ (x : Version). Fresh v x x.part) (sym e) h)
+    ⊎_elim (λ e. subst (λ (x : ShardVersion). Fresh v x x.part) (sym e) h)
     (λ l. record { grown = omega (arith, l, h.grown); same = λ e. absurd (omega (arith, l, h.grown, e)) }) go
 
-pub claim_on : (n : ℕ) (s t : ℕ → Version) → ((j : ℕ) → Advance (s j) (t j)) → (m : PlainMap) (op : Op) (phase : Phase) → Claim n s m op phase → Claim n t m op phase
+pub claim_on : (n : ℕ) (s t : ℕ → ShardVersion) → ((j : ℕ) → Advance (s j) (t j)) → (m : PlainMap) (op : Op) (phase : Phase) → Claim n s m op phase → Claim n t m op phase
 claim_on n s t go m op Idle h = h
 claim_on n s t go m op (Waiting i) h = h
 claim_on n s t go m op (Collecting round readings) h = h
-claim_on n s t go m op (Confirming round readings k) h = λ j l. record { sure = (h j l).sure; fresh = fresh_on (reading readings j) (s j) (t j) (part n m j) (go j) (h j l).fresh }
+claim_on n s t go m op (Confirming round readings k) h = λ j l. record { sure = (h j l).sure; fresh = fresh_on (reading readings j) (s j) (t j) (partition n m j) (go j) (h j l).fresh }
 claim_on n s t go m op (Done (Ok reply)) h = h
 claim_on n s t go m op (Done (Err why)) h = h
 
-pub phase_on : (n : ℕ) (s t : ℕ → Version) → ((j : ℕ) → Advance (s j) (t j)) → (op : Op) (phase : Phase) → IsPhaseOf n s op phase → IsPhaseOf n t op phase
+pub phase_on : (n : ℕ) (s t : ℕ → ShardVersion) → ((j : ℕ) → Advance (s j) (t j)) → (op : Op) (phase : Phase) → IsPhaseOf n s op phase → IsPhaseOf n t op phase
 phase_on n s t go op Idle h = h
 phase_on n s t go op (Waiting i) h = h
 phase_on n s t go op (Collecting round readings) h = (h.0, h.1, λ j l. fresh_reading_on (reading readings j) (s j) (t j) (go j) (h.2 j l))
 phase_on n s t go op (Confirming round readings k) h = h
 phase_on n s t go op (Done reply) h = h
 
-pub no_claim : (n : ℕ) (s : ℕ → Version) (m : PlainMap) (op : Op) (phase : Phase) → has_point phase ≡ false → Claim n s m op phase → ⊥
+pub no_claim : (n : ℕ) (s : ℕ → ShardVersion) (m : PlainMap) (op : Op) (phase : Phase) → has_point phase ≡ false → Claim n s m op phase → ⊥
 no_claim n s m op Idle e h = h
 no_claim n s m op (Waiting i) e h = h
 no_claim n s m op (Collecting round readings) e h = h
@@ -84,7 +84,7 @@ no_claim n s m op (Done (Ok reply)) e h = cc
 no_claim n s m op (Done (Err why)) e h = h
 
 -- an operation that has its point and has not written leaves the map there
-pub claim_keeps : (n : ℕ) (s : ℕ → Version) (m : PlainMap) (op : Op) (phase : Phase) → IsPhaseOf n s op phase → Claim n s m op phase → is_written phase ≡ false → (ask m op).map ≡ m
+pub claim_keeps : (n : ℕ) (s : ℕ → ShardVersion) (m : PlainMap) (op : Op) (phase : Phase) → IsPhaseOf n s op phase → Claim n s m op phase → wrote_shard phase ≡ false → (ask m op).map ≡ m
 claim_keeps n s m op Idle ok h w = absurd h
 claim_keeps n s m op (Waiting i) ok h w = absurd h
 claim_keeps n s m op (Collecting round readings) ok h w = absurd h
@@ -94,18 +94,18 @@ claim_keeps n s m op (Done (Err why)) ok h w = absurd h
 
 -- ---- the steps
 -- a step on one name that changes nothing
-pub still_claim : (n : ℕ) (s : ℕ → Version) (m : PlainMap) (op : Op) (i : ℕ) → shard_of n op ≡ Some i → Shows n s m → (ask (s i).part op).reply ≡ (ask m op).reply
+pub still_claim : (n : ℕ) (s : ℕ → ShardVersion) (m : PlainMap) (op : Op) (i : ℕ) → shard_of n op ≡ Some i → Shows n s m → (ask (s i).part op).reply ≡ (ask m op).reply
 still_claim n s m op i at shows = ap (λ (q : PlainMap). (ask q op).reply) (sym (shows i)) ∙ part_reply n m op i at
 
-pub still_shows : (n : ℕ) (s : ℕ → Version) (m : PlainMap) (op : Op) (i : ℕ) → shard_of n op ≡ Some i → Shows n s m → is_change (ask (s i).part op).reply ≡ false → Shows n s (ask m op).map
+pub still_shows : (n : ℕ) (s : ℕ → ShardVersion) (m : PlainMap) (op : Op) (i : ℕ) → shard_of n op ≡ Some i → Shows n s m → is_change (ask (s i).part op).reply ≡ false → Shows n s (ask m op).map
 still_shows n s m op i at shows quiet =
     let same : (ask m op).map ≡ m = ask_keeps m op (ap is_change (sym (still_claim n s m op i at shows)) ∙ quiet) in
     subst (Shows n s) (sym same) shows
 
-abbrev pub changed : (ℕ → Version) → Op → ℕ → ℕ → Version
+abbrev pub changed : (ℕ → ShardVersion) → Op → ℕ → ℕ → ShardVersion
 changed s op i = with_at s i (record { revision = (s i).revision + 1; part = (ask (s i).part op).map })
 
-pub changed_advance : (s : ℕ → Version) (op : Op) (i j : ℕ) → Advance (s j) (changed s op i j)
+pub changed_advance : (s : ℕ → ShardVersion) (op : Op) (i j : ℕ) → Advance (s j) (changed s op i j)
 changed_advance s op i j =
     elim (j == i) as (λ b. (j == i) ≡ b → Advance (s j) (cond b (record { revision = (s i).revision + 1; part = (ask (s i).part op).map }) (s j))) [
       | true ↦ λ e. let is : (s j).revision ≡ (s i).revision = ap (λ k. (s k).revision) (same_number j i e) in inr (omega (arith, is))
@@ -113,35 +113,35 @@ changed_advance s op i j =
     ] refl
 
 -- a step on one name that is stored
-pub changed_shows : (n : ℕ) (s : ℕ → Version) (m : PlainMap) (op : Op) (i : ℕ) → shard_of n op ≡ Some i → Shows n s m → Shows n (changed s op i) (ask m op).map
+pub changed_shows : (n : ℕ) (s : ℕ → ShardVersion) (m : PlainMap) (op : Op) (i : ℕ) → shard_of n op ≡ Some i → Shows n s m → Shows n (changed s op i) (ask m op).map
 changed_shows n s m op i at shows j =
-    elim (j == i) as (λ b. (j == i) ≡ b → part n (ask m op).map j ≡ (let r : Version = cond b (record { revision = (s i).revision + 1; part = (ask (s i).part op).map }) (s j) in r).part) [
-      | true ↦ λ e. ap (part n (ask m op).map) (same_number j i e) ∙ part_home n m op i at ∙ ap (λ (q : PlainMap). (ask q op).map) (shows i)
+    elim (j == i) as (λ b. (j == i) ≡ b → partition n (ask m op).map j ≡ (let r : ShardVersion = cond b (record { revision = (s i).revision + 1; part = (ask (s i).part op).map }) (s j) in r).part) [
+      | true ↦ λ e. ap (partition n (ask m op).map) (same_number j i e) ∙ part_home n m op i at ∙ ap (λ (q : PlainMap). (ask q op).map) (shows i)
       | false ↦ λ e. part_away n m op i j at (other_number j i e) ∙ shows j
     ] refl
 
 -- one more reading
-old_reading : (readings : List Version) (v : Version) (j : ℕ) → j < length readings → reading (readings ++ v ∷ []) j ≡ reading readings j
+old_reading : (readings : List ShardVersion) (v : ShardVersion) (j : ℕ) → j < length readings → reading (readings ++ v ∷ []) j ≡ reading readings j
 old_reading readings v j l = grind (arith, elements)
 
-new_reading : (readings : List Version) (v : Version) (j : ℕ) → j ≡ length readings → reading (readings ++ v ∷ []) j ≡ v
+new_reading : (readings : List ShardVersion) (v : ShardVersion) (j : ℕ) → j ≡ length readings → reading (readings ++ v ∷ []) j ≡ v
 new_reading readings v j is = grind (arith, elements)
 
-pub read_more : (s : ℕ → Version) (readings : List Version) → ReadSoFar s readings → ReadSoFar s (readings ++ s (length readings) ∷ [])
+pub read_more : (s : ℕ → ShardVersion) (readings : List ShardVersion) → ReadSoFar s readings → ReadSoFar s (readings ++ s (length readings) ∷ [])
 read_more s readings h j l =
     let v = s (length readings) in
-    let cases : (j < length readings) ⊎ (j ≡ length readings) = grind (arith, length-append {A = Version}, l) in
-    ⊎_elim (λ (before : j < length readings). subst (λ (x : Version). Fresh x (s j) (s j).part) (sym (old_reading readings v j before)) (h j before))
-    (λ (at : j ≡ length readings). subst (λ (x : Version). Fresh x (s j) (s j).part) (sym (new_reading readings v j at ∙ ap s (sym at))) (record { grown = omega arith; same = λ _. refl })) cases
+    let cases : (j < length readings) ⊎ (j ≡ length readings) = grind (arith, length-append {A = ShardVersion}, l) in
+    ⊎_elim (λ (before : j < length readings). subst (λ (x : ShardVersion). Fresh x (s j) (s j).part) (sym (old_reading readings v j before)) (h j before))
+    (λ (at : j ≡ length readings). subst (λ (x : ShardVersion). Fresh x (s j) (s j).part) (sym (new_reading readings v j at ∙ ap s (sym at))) (record { grown = omega arith; same = λ _. refl })) cases
 
 -- the last reading of a round
-pub read_all : (n : ℕ) (s : ℕ → Version) (m : PlainMap) (readings : List Version) → length readings ≡ n → ReadSoFar s readings → Shows n s m → (j : ℕ) → j < n → Seen n 0 s readings m j
+pub read_all : (n : ℕ) (s : ℕ → ShardVersion) (m : PlainMap) (readings : List ShardVersion) → length readings ≡ n → ReadSoFar s readings → Shows n s m → (j : ℕ) → j < n → Seen n 0 s readings m j
 read_all n s m readings full h shows j l =
     let here : j < length readings = omega (arith, l, full) in
     record { sure = λ (none : j < 0). absurd (omega (arith, none)); fresh = subst (Fresh (reading readings j) (s j)) (sym (shows j)) (h j here) }
 
 -- a reading is confirmed
-pub sure_more : (n k : ℕ) (s : ℕ → Version) (readings : List Version) (m : PlainMap) → k < n → (reading readings k).revision ≡ (s k).revision → ((j : ℕ) → j < n → Seen n k s readings m j) → (j : ℕ) → j < n → Seen n (k + 1) s readings m j
+pub sure_more : (n k : ℕ) (s : ℕ → ShardVersion) (readings : List ShardVersion) (m : PlainMap) → k < n → (reading readings k).revision ≡ (s k).revision → ((j : ℕ) → j < n → Seen n k s readings m j) → (j : ℕ) → j < n → Seen n (k + 1) s readings m j
 sure_more n k s readings m small is h j l =
     record {
       sure = λ (below : j < k + 1).
@@ -152,13 +152,13 @@ sure_more n k s readings m small is h j l =
     }
 
 -- all readings are confirmed
-pub all_sure : (n : ℕ) (s : ℕ → Version) (readings : List Version) (m : PlainMap) (op : Op) → 0 < n → shard_of n op ≡ None → ((j : ℕ) → j < n → Seen n n s readings m j) → fetched n readings ≡ (ask m op).reply
+pub all_sure : (n : ℕ) (s : ℕ → ShardVersion) (readings : List ShardVersion) (m : PlainMap) (op : Op) → 0 < n → shard_of n op ≡ None → ((j : ℕ) → j < n → Seen n n s readings m j) → snapshot_reply n readings ≡ (ask m op).reply
 all_sure n s readings m op h none seen =
     ap (λ (q : PlainMap). (ask q FetchAll).reply) (together_is n m (λ j. (reading readings j).part) h (λ j l. (seen j l).sure l)) ∙ sym (fetch_reply n m op none)
 
 -- a shard that is put back
-put_back_at : (s : ℕ → Version) (i j : ℕ) → with_at s i (s i) j ≡ s j
+put_back_at : (s : ℕ → ShardVersion) (i j : ℕ) → with_at s i (s i) j ≡ s j
 put_back_at s i j = elim (j == i) as (λ b. (j == i) ≡ b → cond b (s i) (s j) ≡ s j) [ true ↦ λ e. ap s (sym (same_number j i e)) | false ↦ λ e. refl ] refl
 
-pub put_back : (s : ℕ → Version) (i : ℕ) → with_at s i (s i) ≡ s
+pub put_back : (s : ℕ → ShardVersion) (i : ℕ) → with_at s i (s i) ≡ s
 put_back s i = λ x j. put_back_at s i j x

@@ -6,16 +6,16 @@ use Rattle.map_core.specs.declared.op.Op.{Op}
 use Rattle.map_core.specs.PlainMap.{PlainMap, ask, shard_of}
 use Rattle.map_core.proofs.MapLaws.{fetch_keeps}
 use Rattle.step_core.specs.World.{with_at, Turn}
-use Rattle.step_core.specs.Shard.{Version}
+use Rattle.step_core.specs.Shard.{ShardVersion}
 use Rattle.step_core.specs.Phase.{Phase, has_point}
-use Rattle.step_core.specs.Run.{Point, repointed, numbers}
+use Rattle.step_core.specs.Run.{Point, update_points, numbers}
 use Rattle.step_core.proofs.Legal.{times}
 use Rattle.step_core.proofs.Points.{same_number, other_number, with_at_same, with_at_other, Along, along_map, along_push, along_without, times-push, times-filter}
 use Rattle.step_core.proofs.Claims.{Claim, IsPhaseOf, Shows, claim_on, phase_on, no_claim}
 use Rattle.step_core.proofs.Moves.{Move, PointMove}
 
 -- a point is that of an operation that was begun, lies between its first and its last event, and what is known there holds
-pub record IsPoint (n limit count : ℕ) (s : ℕ → Version) (ops : ℕ → Op) (firsts : ℕ → ℕ) (lasts : ℕ → Option ℕ) (st : ℕ → Phase) (p : Point) (m : PlainMap) : Type 0 where
+pub record IsPoint (n limit count : ℕ) (s : ℕ → ShardVersion) (ops : ℕ → Op) (firsts : ℕ → ℕ) (lasts : ℕ → Option ℕ) (st : ℕ → Phase) (p : Point) (m : PlainMap) : Type 0 where
   pub known : p.number < count
   pub op_is : ops p.number ≡ p.op
   pub after_first : firsts p.number ≤ p.event
@@ -24,18 +24,18 @@ pub record IsPoint (n limit count : ℕ) (s : ℕ → Version) (ops : ℕ → Op
   pub claim : Claim n s m p.op (st p.number)
 
 -- after all points the map is what the shards show
-pub record AtEnd (n limit : ℕ) (s : ℕ → Version) (from : ℕ) (m : PlainMap) : Type 0 where
+pub record AtEnd (n limit : ℕ) (s : ℕ → ShardVersion) (from : ℕ) (m : PlainMap) : Type 0 where
   pub in_time : from ≤ limit
   pub shown : Shows n s m
 
 -- st is the phase of each operation, that of a finished one being done
-pub record Core (n limit count : ℕ) (s : ℕ → Version) (ops : ℕ → Op) (firsts : ℕ → ℕ) (lasts : ℕ → Option ℕ) (st : ℕ → Phase) (points : List Point) : Type 0 where
+pub record Core (n limit count : ℕ) (s : ℕ → ShardVersion) (ops : ℕ → Op) (firsts : ℕ → ℕ) (lasts : ℕ → Option ℕ) (st : ℕ → Phase) (points : List Point) : Type 0 where
   pub ok : (q : ℕ) → q < count → IsPhaseOf n s (ops q) (st q)
   pub started : (q : ℕ) → q < count → firsts q < limit
   pub once : (q : ℕ) → times q (numbers points) ≡ cond (nat_lt q count && has_point (st q)) 1 0
   pub fits : Along (IsPoint n limit count s ops firsts lasts st) (AtEnd n limit s) 0 finite.empty points
 
-at_end_lower : (n limit : ℕ) (s : ℕ → Version) (a b : ℕ) (m : PlainMap) → a ≤ b → AtEnd n limit s b m → AtEnd n limit s a m
+at_end_lower : (n limit : ℕ) (s : ℕ → ShardVersion) (a b : ℕ) (m : PlainMap) → a ≤ b → AtEnd n limit s b m → AtEnd n limit s a m
 at_end_lower n limit s a b m l h = record { in_time = omega (arith, l, h.in_time); shown = h.shown }
 
 -- ---- how often an operation has its point
@@ -54,7 +54,7 @@ less q count l = grind (arith, nat_tests)
 turned : (a b : ℕ) → (a == b) ≡ (b == a)
 turned a b = grind (arith, nat_tests)
 
-module _ (n limit count : ℕ) (s : ℕ → Version) (ops : ℕ → Op) (firsts : ℕ → ℕ) (lasts : ℕ → Option ℕ) (st : ℕ → Phase) (points : List Point)
+module _ (n limit count : ℕ) (s : ℕ → ShardVersion) (ops : ℕ → Op) (firsts : ℕ → ℕ) (lasts : ℕ → Option ℕ) (st : ℕ → Phase) (points : List Point)
     (core : Core n limit count s ops firsts lasts st points) (r event : ℕ) (known : r < count) (late : limit ≤ event) (unended : lasts r ≡ None) (t : Turn) where
   after : ℕ → Phase
   after = with_at st r t.phase
@@ -73,7 +73,7 @@ module _ (n limit count : ℕ) (s : ℕ → Version) (ops : ℕ → Op) (firsts 
   point : Point
   point = record { number = r; op = ops r; event = event }
 
-  once_after : (a b : Bool) → has_point (st r) ≡ a → has_point t.phase ≡ b → (q : ℕ) → times q (numbers (repointed a b point points)) ≡ cond (nat_lt q count && has_point (after q)) 1 0
+  once_after : (a b : Bool) → has_point (st r) ≡ a → has_point t.phase ≡ b → (q : ℕ) → times q (numbers (update_points a b point points)) ≡ cond (nat_lt q count && has_point (after q)) 1 0
   unfolding point
   once_after false false was is q =
       once_same (nat_lt q count) (has_point (st q)) (has_point (after q)) _ _ refl
@@ -159,7 +159,7 @@ module _ (n limit count : ℕ) (s : ℕ → Version) (ops : ℕ → Op) (firsts 
         let op_here : p.op ≡ ops r = sym h.op_is ∙ ap ops is in
         fetch_keeps n m p.op (ap (shard_of n) op_here ∙ none)
 
-    fits_after : (a b : Bool) → has_point (st r) ≡ a → has_point t.phase ≡ b → PointMove a b n s (ops r) (st r) t → Along New (AtEnd n (suc event) t.shards) 0 finite.empty (repointed a b point points)
+    fits_after : (a b : Bool) → has_point (st r) ≡ a → has_point t.phase ≡ b → PointMove a b n s (ops r) (st r) t → Along New (AtEnd n (suc event) t.shards) 0 finite.empty (update_points a b point points)
     unfolding point
     fits_after false false was is go = along_map Old New (AtEnd n limit s) (AtEnd n (suc event) t.shards) (λ p m h. other_point p m h (no_point was p m h)) (end_after go) 0 finite.empty points core.fits
     fits_after true true was is go = along_map Old New (AtEnd n limit s) (AtEnd n (suc event) t.shards) (any_point go.0) (end_after go.1) 0 finite.empty points core.fits
@@ -171,7 +171,7 @@ module _ (n limit count : ℕ) (s : ℕ → Version) (ops : ℕ → Op) (firsts 
         along_without Old New (AtEnd n (suc event) t.shards) r other_point (idle_point go.0) (at_end_lower n (suc event) t.shards) 0 finite.empty points
         (along_map Old Old (AtEnd n limit s) (AtEnd n (suc event) t.shards) (λ p m h. h) (end_after go.1) 0 finite.empty points core.fits)
 
-    pub core_pass : Core n (suc event) count t.shards ops firsts lasts (with_at st r t.phase) (repointed (has_point (st r)) (has_point t.phase) (record { number = r; op = ops r; event = event }) points)
+    pub core_pass : Core n (suc event) count t.shards ops firsts lasts (with_at st r t.phase) (update_points (has_point (st r)) (has_point t.phase) (record { number = r; op = ops r; event = event }) points)
     unfolding after point
     core_pass =
         record {
@@ -185,7 +185,7 @@ module _ (n limit count : ℕ) (s : ℕ → Version) (ops : ℕ → Op) (firsts 
 begun_once : (q count : ℕ) (h x : Bool) (now : ℕ) → (q ≡ count → x ≡ false) → (q ≢ count → x ≡ h) → now ≡ cond (nat_lt q count && h) 1 0 → now ≡ cond (nat_lt q (suc count) && x) 1 0
 begun_once q count h x now e same is = grind (arith, nat_tests)
 
-module _ (n limit count : ℕ) (s : ℕ → Version) (ops : ℕ → Op) (firsts : ℕ → ℕ) (lasts : ℕ → Option ℕ) (st : ℕ → Phase) (points : List Point)
+module _ (n limit count : ℕ) (s : ℕ → ShardVersion) (ops : ℕ → Op) (firsts : ℕ → ℕ) (lasts : ℕ → Option ℕ) (st : ℕ → Phase) (points : List Point)
     (core : Core n limit count s ops firsts lasts st points) where
   -- only what is below the count matters
   pub core_same : (ops' : ℕ → Op) (firsts' : ℕ → ℕ) (lasts' : ℕ → Option ℕ) (st' : ℕ → Phase) → ((q : ℕ) → q < count → ops' q ≡ ops q) → ((q : ℕ) → q < count → firsts' q ≡ firsts q)

@@ -7,10 +7,10 @@ use Rattle.map_core.specs.declared.reply.AskError.{AskError}
 use Rattle.map_core.specs.declared.reply.AskError.TheVariants.{Worn, Moved}
 use Rattle.map_core.specs.declared.reply.Reply.{Reply}
 use Rattle.map_core.specs.Reply.{is_change}
-use Rattle.map_core.specs.PlainMap.{Asked, ask, shard_of}
+use Rattle.map_core.specs.PlainMap.{AskResult, ask, shard_of}
 use Rattle.step_core.specs.World.{with_at, Turn, turn, to_phase, refusal}
-use Rattle.step_core.specs.Shard.{Version, reading, last_revision, Stepped, step_on, of_shard}
-use Rattle.step_core.specs.Phase.{Phase, Idle, Waiting, Collecting, Confirming, Done, collected, confirmed, fetched, disturbed, confirm, is_written, is_open, begun, begun_at, is_idle}
+use Rattle.step_core.specs.Shard.{ShardVersion, reading, last_revision, StepResult, step_on, of_shard}
+use Rattle.step_core.specs.Phase.{Phase, Idle, Waiting, Collecting, Confirming, Done, after_reading, after_confirming, snapshot_reply, after_disturbance, confirm, wrote_shard, is_open, start_phase, start_phase_at, is_idle}
 use Rattle.step_core.specs.declared.event.Event.{Event}
 use Rattle.step_core.specs.declared.event.Event.TheVariants.{Begin, Step, Quit, End}
 use Rattle.step_core.specs.Run.{Run, act, tick, fresh_run, run_from, run_of}
@@ -19,7 +19,7 @@ use Rattle.map_core.specs.declared.reply.AskError.TheVariants as refused
 use Rattle.step_core.specs.declared.event.Why.{Why}
 use Rattle.step_core.specs.declared.event.Why.TheVariants as why
 use Rattle.std.proofs.lemmas.Grind.{elements}
-use Rattle.step_core.specs.Disturbance.{is_write_by_other, is_running, counted, disturbances_from, disturbances}
+use Rattle.step_core.specs.Disturbance.{is_write_by_other, is_running, count_disturbed, disturbances_from, disturbances}
 use Rattle.step_core.proofs.Points.{same_number, other_number, with_at_same}
 use Rattle.step_core.proofs.Book.{Inv, phase_by, states, other_caller, own_phase, states_after, states_ended, states_begun}
 use Rattle.step_core.proofs.Runs.{inv_next, inv_fresh, open_busy, phase_here, step_moves}
@@ -32,12 +32,12 @@ pub record Bounded (base count : ℕ) (read now : ℕ) : Type 0 where
   pub grown : read ≤ now
   pub risen : now + base ≤ read + count
 
-pub record Round (round count : ℕ) (s : ℕ → Version) (readings : List Version) (taken : ℕ) (base : ℕ) : Type 0 where
+pub record Round (round count : ℕ) (s : ℕ → ShardVersion) (readings : List ShardVersion) (taken : ℕ) (base : ℕ) : Type 0 where
   pub earlier : round ≤ base + 1
   pub since : base ≤ count
   pub bounded : (j : ℕ) → j < taken → Bounded base count (reading readings j).revision (s j).revision
 
-abbrev pub Scan : ℕ → ℕ → (ℕ → Version) → ℕ → Phase → Type 0
+abbrev pub Scan : ℕ → ℕ → (ℕ → ShardVersion) → ℕ → Phase → Type 0
 Scan n rounds s count Idle = Unit {0}
 Scan n rounds s count (Waiting op) = Unit {0}
 Scan n rounds s count (Collecting round readings) = (base : ℕ) × Round round count s readings (length readings) base
@@ -53,12 +53,12 @@ Scan n rounds s count (Done (Err refused.GateShut)) = Unit {0}
 bounded_on : (base count more read now later : ℕ) → now ≤ later → later ≤ now + more → Bounded base count read now → Bounded base (count + more) read later
 bounded_on base count more read now later up by h = record { grown = omega (arith, h.grown, up); risen = omega (arith, h.risen, by) }
 
-round_on : (round count more : ℕ) (s t : ℕ → Version) (readings : List Version) (taken base : ℕ) → ((j : ℕ) → (s j).revision ≤ (t j).revision) → ((j : ℕ) → (t j).revision ≤ (s j).revision + more)
+round_on : (round count more : ℕ) (s t : ℕ → ShardVersion) (readings : List ShardVersion) (taken base : ℕ) → ((j : ℕ) → (s j).revision ≤ (t j).revision) → ((j : ℕ) → (t j).revision ≤ (s j).revision + more)
     → Round round count s readings taken base → Round round (count + more) t readings taken base
 round_on round count more s t readings taken base up by h =
     record { earlier = h.earlier; since = omega (arith, h.since); bounded = λ j l. bounded_on base count more (reading readings j).revision (s j).revision (t j).revision (up j) (by j) (h.bounded j l) }
 
-scan_on : (n rounds : ℕ) (s t : ℕ → Version) (count more : ℕ) → ((j : ℕ) → (s j).revision ≤ (t j).revision) → ((j : ℕ) → (t j).revision ≤ (s j).revision + more)
+scan_on : (n rounds : ℕ) (s t : ℕ → ShardVersion) (count more : ℕ) → ((j : ℕ) → (s j).revision ≤ (t j).revision) → ((j : ℕ) → (t j).revision ≤ (s j).revision + more)
     → (phase : Phase) → Scan n rounds s count phase → Scan n rounds t (count + more) phase
 scan_on n rounds s t count more up by Idle h = tt
 scan_on n rounds s t count more up by (Waiting op) h = tt
@@ -72,7 +72,7 @@ scan_on n rounds s t count more up by (Done (Err (refused.Held shard revision)))
 scan_on n rounds s t count more up by (Done (Err refused.GateShut)) h = tt
 
 -- what is done does not look at the shards
-scan_done : (n rounds : ℕ) (s t : ℕ → Version) (count more : ℕ) (x : Result Reply AskError) → Scan n rounds s count (Done x) → Scan n rounds t (count + more) (Done x)
+scan_done : (n rounds : ℕ) (s t : ℕ → ShardVersion) (count more : ℕ) (x : Result Reply AskError) → Scan n rounds s count (Done x) → Scan n rounds t (count + more) (Done x)
 scan_done n rounds s t count more (Ok reply) h = tt
 scan_done n rounds s t count more (Err refused.Memory) h = tt
 scan_done n rounds s t count more (Err (refused.Worn shard)) h = tt
@@ -81,13 +81,13 @@ scan_done n rounds s t count more (Err (refused.Held shard revision)) h = tt
 scan_done n rounds s t count more (Err refused.GateShut) h = tt
 
 -- ---- its own steps
-old_reading : (readings : List Version) (v : Version) (j : ℕ) → j < length readings → reading (readings ++ v ∷ []) j ≡ reading readings j
+old_reading : (readings : List ShardVersion) (v : ShardVersion) (j : ℕ) → j < length readings → reading (readings ++ v ∷ []) j ≡ reading readings j
 old_reading readings v j l = grind (arith, elements)
 
-new_reading : (readings : List Version) (v : Version) (j : ℕ) → j ≡ length readings → reading (readings ++ v ∷ []) j ≡ v
+new_reading : (readings : List ShardVersion) (v : ShardVersion) (j : ℕ) → j ≡ length readings → reading (readings ++ v ∷ []) j ≡ v
 new_reading readings v j is = grind (arith, elements)
 
-round_more : (round count : ℕ) (s : ℕ → Version) (readings : List Version) (base : ℕ) → Round round count s readings (length readings) base
+round_more : (round count : ℕ) (s : ℕ → ShardVersion) (readings : List ShardVersion) (base : ℕ) → Round round count s readings (length readings) base
     → Round round count s (readings ++ s (length readings) ∷ []) (length (readings ++ s (length readings) ∷ [])) base
 round_more round count s readings base h =
     let v = s (length readings) in
@@ -95,13 +95,13 @@ round_more round count s readings base h =
       earlier = h.earlier;
       since = h.since;
       bounded = λ j l.
-          let cases : (j < length readings) ⊎ (j ≡ length readings) = grind (arith, length-append {A = Version}, l) in
-          ⊎_elim (λ (before : j < length readings). subst (λ (x : Version). Bounded base count x.revision (s j).revision) (sym (old_reading readings v j before)) (h.bounded j before))
-          (λ (at : j ≡ length readings). subst (λ (x : Version). Bounded base count x.revision (s j).revision) (sym (new_reading readings v j at ∙ ap s (sym at)))
+          let cases : (j < length readings) ⊎ (j ≡ length readings) = grind (arith, length-append {A = ShardVersion}, l) in
+          ⊎_elim (λ (before : j < length readings). subst (λ (x : ShardVersion). Bounded base count x.revision (s j).revision) (sym (old_reading readings v j before)) (h.bounded j before))
+          (λ (at : j ≡ length readings). subst (λ (x : ShardVersion). Bounded base count x.revision (s j).revision) (sym (new_reading readings v j at ∙ ap s (sym at)))
           (record { grown = omega arith; risen = omega (arith, h.since) })) cases;
     }
 
-scan_collects : (n rounds : ℕ) (s : ℕ → Version) (count round : ℕ) (now : List Version) (base : ℕ) → 0 < n → Round round count s now (length now) base → Scan n rounds s count (collected n round now)
+scan_collects : (n rounds : ℕ) (s : ℕ → ShardVersion) (count round : ℕ) (now : List ShardVersion) (base : ℕ) → 0 < n → Round round count s now (length now) base → Scan n rounds s count (after_reading n round now)
 scan_collects n rounds s count round now base some h =
     elim (length now == n) as (λ b. (length now == n) ≡ b → Scan n rounds s count (cond b (Confirming round now 0) (Collecting round now))) [
       | true ↦ λ e. (some, base, subst (λ (x : ℕ). Round round count s now x base) (same_number (length now) n e) h)
@@ -111,43 +111,43 @@ scan_collects n rounds s count round now base some h =
 later : (k n : ℕ) → k < n → k + 1 ≢ n → k + 1 < n
 later k n small ne = omega arith
 
-scan_confirmed : (n rounds : ℕ) (s : ℕ → Version) (count round : ℕ) (readings : List Version) (k base : ℕ) → k < n → Round round count s readings n base → Scan n rounds s count (confirmed n round readings (k + 1))
+scan_confirmed : (n rounds : ℕ) (s : ℕ → ShardVersion) (count round : ℕ) (readings : List ShardVersion) (k base : ℕ) → k < n → Round round count s readings n base → Scan n rounds s count (after_confirming n round readings (k + 1))
 scan_confirmed n rounds s count round readings k base small h =
-    elim ((k + 1) == n) as (λ b. ((k + 1) == n) ≡ b → Scan n rounds s count (cond b (Done (Ok (fetched n readings))) (Confirming round readings (k + 1)))) [
+    elim ((k + 1) == n) as (λ b. ((k + 1) == n) ≡ b → Scan n rounds s count (cond b (Done (Ok (snapshot_reply n readings))) (Confirming round readings (k + 1)))) [
       | true ↦ λ e. tt
       | false ↦ λ e. (later k n small (other_number (k + 1) n e), base, h)
     ] refl
 
-no_reading : (count base round : ℕ) (s : ℕ → Version) → round ≤ count → Round (round + 1) count s [] 0 count
+no_reading : (count base round : ℕ) (s : ℕ → ShardVersion) → round ≤ count → Round (round + 1) count s [] 0 count
 no_reading count base round s l = record { earlier = omega (arith, l); since = omega arith; bounded = λ j k. let never : ⊥ = omega (arith, k) in absurd never }
 
-scan_disturbed : (n rounds : ℕ) (s : ℕ → Version) (count round : ℕ) (readings : List Version) (k base first second : ℕ) → round ≤ count → Scan n rounds s count (disturbed rounds round k first second)
+scan_disturbed : (n rounds : ℕ) (s : ℕ → ShardVersion) (count round : ℕ) (readings : List ShardVersion) (k base first second : ℕ) → round ≤ count → Scan n rounds s count (after_disturbance rounds round k first second)
 scan_disturbed n rounds s count round readings k base first second l =
     elim (round == rounds) as (λ b. (round == rounds) ≡ b → Scan n rounds s count (cond b (Done (Err (Moved k first second))) (Collecting (round + 1) []))) [
       | true ↦ λ e. let is = same_number round rounds e in let done : rounds ≤ count = omega (arith, is, l) in done
       | false ↦ λ e. (count, no_reading count base round s l)
     ] refl
 
-scan_confirm : (n rounds : ℕ) (s : ℕ → Version) (count round : ℕ) (readings : List Version) (k base : ℕ) → k < n → Round round count s readings n base → Scan n rounds s count (confirm n rounds round readings k (s k).revision)
+scan_confirm : (n rounds : ℕ) (s : ℕ → ShardVersion) (count round : ℕ) (readings : List ShardVersion) (k base : ℕ) → k < n → Round round count s readings n base → Scan n rounds s count (confirm n rounds round readings k (s k).revision)
 scan_confirm n rounds s count round readings k base small h =
     let read = (reading readings k).revision in
     let now = (s k).revision in
-    elim (read == now) as (λ b. (read == now) ≡ b → Scan n rounds s count (cond b (confirmed n round readings (k + 1)) (disturbed rounds round k read now))) [
+    elim (read == now) as (λ b. (read == now) ≡ b → Scan n rounds s count (cond b (after_confirming n round readings (k + 1)) (after_disturbance rounds round k read now))) [
       | true ↦ λ e. scan_confirmed n rounds s count round readings k base small h
       | false ↦ λ e. let ne = other_number read now e in let one = h.bounded k small in
           scan_disturbed n rounds s count round readings k base read now (let l : round ≤ count = omega (arith, ne, one.grown, one.risen, h.earlier) in l)
     ] refl
 
 -- a step on one shard is not refused as moved
-scan_answer : (n rounds : ℕ) (t : ℕ → Version) (count : ℕ) (i : ℕ) (v : Version) (op : Op) → Scan n rounds t count (Done (of_shard i (step_on v op).answer))
+scan_answer : (n rounds : ℕ) (t : ℕ → ShardVersion) (count : ℕ) (i : ℕ) (v : ShardVersion) (op : Op) → Scan n rounds t count (Done (of_shard i (step_on v op).answer))
 scan_answer n rounds t count i v op =
-    let asked : Asked = ask v.part op in
-    elim (is_change asked.reply) as (λ b. Scan n rounds t count (Done (of_shard i (let x : Stepped = cond b (cond (v.revision == last_revision) (record { answer = Err (Worn 0); shard = v }) (record { answer = Ok asked.reply; shard = record { revision = v.revision + 1; part = asked.map } })) (record { answer = Ok asked.reply; shard = v }) in x).answer))) [
-      | true ↦ elim (v.revision == last_revision) as (λ b. Scan n rounds t count (Done (of_shard i (let x : Stepped = cond b (record { answer = Err (Worn 0); shard = v }) (record { answer = Ok asked.reply; shard = record { revision = v.revision + 1; part = asked.map } }) in x).answer))) [ true ↦ tt | false ↦ tt ]
+    let asked : AskResult = ask v.part op in
+    elim (is_change asked.reply) as (λ b. Scan n rounds t count (Done (of_shard i (let x : StepResult = cond b (cond (v.revision == last_revision) (record { answer = Err (Worn 0); shard = v }) (record { answer = Ok asked.reply; shard = record { revision = v.revision + 1; part = asked.map } })) (record { answer = Ok asked.reply; shard = v }) in x).answer))) [
+      | true ↦ elim (v.revision == last_revision) as (λ b. Scan n rounds t count (Done (of_shard i (let x : StepResult = cond b (record { answer = Err (Worn 0); shard = v }) (record { answer = Ok asked.reply; shard = record { revision = v.revision + 1; part = asked.map } }) in x).answer))) [ true ↦ tt | false ↦ tt ]
       | false ↦ tt
     ]
 
-scan_turn : (n rounds : ℕ) (s : ℕ → Version) (op : Op) (count : ℕ) (phase : Phase) → 0 < n → Scan n rounds s count phase → Scan n rounds (turn n rounds s op phase).shards count (turn n rounds s op phase).phase
+scan_turn : (n rounds : ℕ) (s : ℕ → ShardVersion) (op : Op) (count : ℕ) (phase : Phase) → 0 < n → Scan n rounds s count phase → Scan n rounds (turn n rounds s op phase).shards count (turn n rounds s op phase).phase
 scan_turn n rounds s op count Idle some h = tt
 scan_turn n rounds s op count (Waiting i) some h = scan_answer n rounds (with_at s i (step_on (s i) op).shard) count i (s i) op
 scan_turn n rounds s op count (Collecting round readings) some h = scan_collects n rounds s count round (readings ++ s (length readings) ∷ []) h.0 some (round_more round count s readings h.0 h.1)
@@ -155,37 +155,37 @@ scan_turn n rounds s op count (Confirming round readings k) some h = scan_confir
 scan_turn n rounds s op count (Done reply) some h = h
 
 -- ---- a step raises a revision by one at most, and only if it writes
-abbrev Rises : (ℕ → Version) → Turn → Type 0
-Rises s t = (j : ℕ) → ((s j).revision ≤ (t.shards j).revision) × ((t.shards j).revision ≤ (s j).revision + cond (is_written t.phase) 1 0)
+abbrev Rises : (ℕ → ShardVersion) → Turn → Type 0
+Rises s t = (j : ℕ) → ((s j).revision ≤ (t.shards j).revision) × ((t.shards j).revision ≤ (s j).revision + cond (wrote_shard t.phase) 1 0)
 
-level : (s : ℕ → Version) (phase : Phase) → Rises s (record { shards = s; phase = phase })
+level : (s : ℕ → ShardVersion) (phase : Phase) → Rises s (record { shards = s; phase = phase })
 level s phase j = (omega arith, omega arith)
 
-shard_rise : (v : Version) (op : Op) (i : ℕ) → (v.revision ≤ (step_on v op).shard.revision) × ((step_on v op).shard.revision ≤ v.revision + cond (is_written (Done (of_shard i (step_on v op).answer))) 1 0)
+shard_rise : (v : ShardVersion) (op : Op) (i : ℕ) → (v.revision ≤ (step_on v op).shard.revision) × ((step_on v op).shard.revision ≤ v.revision + cond (wrote_shard (Done (of_shard i (step_on v op).answer))) 1 0)
 shard_rise v op i =
-    let asked : Asked = ask v.part op in
-    elim (is_change asked.reply) as (λ b. is_change asked.reply ≡ b → let t : Stepped = cond b (cond (v.revision == last_revision) (record { answer = Err (Worn 0); shard = v }) (record { answer = Ok asked.reply; shard = record { revision = v.revision + 1; part = asked.map } })) (record { answer = Ok asked.reply; shard = v }) in (v.revision ≤ t.shard.revision) × (t.shard.revision ≤ v.revision + cond (is_written (Done (of_shard i t.answer))) 1 0)) [
+    let asked : AskResult = ask v.part op in
+    elim (is_change asked.reply) as (λ b. is_change asked.reply ≡ b → let t : StepResult = cond b (cond (v.revision == last_revision) (record { answer = Err (Worn 0); shard = v }) (record { answer = Ok asked.reply; shard = record { revision = v.revision + 1; part = asked.map } })) (record { answer = Ok asked.reply; shard = v }) in (v.revision ≤ t.shard.revision) × (t.shard.revision ≤ v.revision + cond (wrote_shard (Done (of_shard i t.answer))) 1 0)) [
       | true ↦ λ change.
           let one : ◌≡◌ {A = ℕ} (cond (is_change asked.reply) 1 0) 1 = ap (λ b. cond b 1 0) change in
-          elim (v.revision == last_revision) as (λ b. let t : Stepped = cond b (record { answer = Err (Worn 0); shard = v }) (record { answer = Ok asked.reply; shard = record { revision = v.revision + 1; part = asked.map } }) in (v.revision ≤ t.shard.revision) × (t.shard.revision ≤ v.revision + cond (is_written (Done (of_shard i t.answer))) 1 0)) [
+          elim (v.revision == last_revision) as (λ b. let t : StepResult = cond b (record { answer = Err (Worn 0); shard = v }) (record { answer = Ok asked.reply; shard = record { revision = v.revision + 1; part = asked.map } }) in (v.revision ≤ t.shard.revision) × (t.shard.revision ≤ v.revision + cond (wrote_shard (Done (of_shard i t.answer))) 1 0)) [
             | true ↦ (omega arith, omega arith)
             | false ↦ (omega arith, omega (arith, one))
           ]
       | false ↦ λ e. (omega arith, omega arith)
     ] refl
 
-step_rise : (s : ℕ → Version) (op : Op) (i : ℕ) → Rises s (record { shards = with_at s i (step_on (s i) op).shard; phase = Done (of_shard i (step_on (s i) op).answer) })
+step_rise : (s : ℕ → ShardVersion) (op : Op) (i : ℕ) → Rises s (record { shards = with_at s i (step_on (s i) op).shard; phase = Done (of_shard i (step_on (s i) op).answer) })
 step_rise s op i j =
-    let more = cond (is_written (Done (of_shard i (step_on (s i) op).answer))) 1 0 in
-    elim (j == i) as (λ b. (j == i) ≡ b → let v : Version = cond b (step_on (s i) op).shard (s j) in ((s j).revision ≤ v.revision) × (v.revision ≤ (s j).revision + more)) [
+    let more = cond (wrote_shard (Done (of_shard i (step_on (s i) op).answer))) 1 0 in
+    elim (j == i) as (λ b. (j == i) ≡ b → let v : ShardVersion = cond b (step_on (s i) op).shard (s j) in ((s j).revision ≤ v.revision) × (v.revision ≤ (s j).revision + more)) [
       | true ↦ λ e. subst (λ (k : ℕ). ((s k).revision ≤ (step_on (s i) op).shard.revision) × ((step_on (s i) op).shard.revision ≤ (s k).revision + more)) (sym (same_number j i e)) (shard_rise (s i) op i)
       | false ↦ λ e. (omega arith, omega arith)
     ] refl
 
-turn_rise : (n rounds : ℕ) (s : ℕ → Version) (op : Op) (phase : Phase) → Rises s (turn n rounds s op phase)
+turn_rise : (n rounds : ℕ) (s : ℕ → ShardVersion) (op : Op) (phase : Phase) → Rises s (turn n rounds s op phase)
 turn_rise n rounds s op Idle = level s Idle
 turn_rise n rounds s op (Waiting i) = step_rise s op i
-turn_rise n rounds s op (Collecting round readings) = level s (collected n round (readings ++ s (length readings) ∷ []))
+turn_rise n rounds s op (Collecting round readings) = level s (after_reading n round (readings ++ s (length readings) ∷ []))
 turn_rise n rounds s op (Confirming round readings k) = level s (confirm n rounds round readings k (s k).revision)
 turn_rise n rounds s op (Done reply) = level s (Done reply)
 
@@ -193,10 +193,10 @@ turn_rise n rounds s op (Done reply) = level s (Done reply)
 abbrev ScanAll : ℕ → ℕ → Run → (ℕ → ℕ) → Type 0
 ScanAll n rounds run counts = (q : ℕ) → q < run.count → Scan n rounds run.world.shards (counts q) (states run q)
 
-scan_same : (n rounds : ℕ) (s : ℕ → Version) (count more : ℕ) (phase : Phase) → Scan n rounds s count phase → Scan n rounds s (count + more) phase
+scan_same : (n rounds : ℕ) (s : ℕ → ShardVersion) (count more : ℕ) (phase : Phase) → Scan n rounds s count phase → Scan n rounds s (count + more) phase
 scan_same n rounds s count more phase h = scan_on n rounds s s count more (λ j. omega arith) (λ j. omega arith) phase h
 
-scan_other : (n rounds : ℕ) (s t : ℕ → Version) (count more : ℕ) (reply : Option (Result Reply AskError)) (phase : Phase) → ((j : ℕ) → (s j).revision ≤ (t j).revision)
+scan_other : (n rounds : ℕ) (s t : ℕ → ShardVersion) (count more : ℕ) (reply : Option (Result Reply AskError)) (phase : Phase) → ((j : ℕ) → (s j).revision ≤ (t j).revision)
     → (reply ≡ None → (j : ℕ) → (t j).revision ≤ (s j).revision + more) → Scan n rounds s count (phase_by reply phase) → Scan n rounds t (count + more) (phase_by reply phase)
 scan_other n rounds s t count more (Some x) phase up by h = scan_done n rounds s t count more x h
 scan_other n rounds s t count more None phase up by h = scan_on n rounds s t count more up (by refl) phase h
@@ -207,11 +207,11 @@ own_zero a b c d is = grind (arith, nat_tests)
 other_one : (q count : ℕ) (reply : Option (Result Reply AskError)) (o w : Bool) (c d : ℕ) → q < count → reply ≡ None → o ≡ true → d ≢ c → ◌≡◌ {A = ℕ} (cond ((nat_lt q count && is_none reply) && ((o && w) && not (c == d))) 1 0) (cond w 1 0)
 other_one q count reply o w c d l none opened ne = grind (arith, nat_tests)
 
-refusal_scan : (n rounds : ℕ) (s : ℕ → Version) (count : ℕ) (reason : Why) → Scan n rounds s count (Done (Err (refusal reason)))
+refusal_scan : (n rounds : ℕ) (s : ℕ → ShardVersion) (count : ℕ) (reason : Why) → Scan n rounds s count (Done (Err (refusal reason)))
 refusal_scan n rounds s count (why.Held shard revision) = tt
 refusal_scan n rounds s count why.Memory = tt
 
-begun_scan : (n rounds : ℕ) (s : ℕ → Version) (count : ℕ) (at : Option ℕ) → Scan n rounds s count (begun_at at)
+begun_scan : (n rounds : ℕ) (s : ℕ → ShardVersion) (count : ℕ) (at : Option ℕ) → Scan n rounds s count (start_phase_at at)
 begun_scan n rounds s count (Some i) = tt
 begun_scan n rounds s count None = (0, record { earlier = omega arith; since = omega arith; bounded = λ j k. let never : ⊥ = omega (arith, k) in absurd never })
 
@@ -219,7 +219,7 @@ module _ (n rounds : ℕ) (some : 0 < n) (run : Run) (inv : Inv n run.events run
   abbrev more : Event → ℕ → ℕ
   more event q = cond (is_running run q && is_write_by_other n rounds run event (run.records q).caller) 1 0
 
-  scan_step : (c : ℕ) → is_open (run.world.phases c) ≡ true → ScanAll n rounds (pass run c (turn n rounds run.world.shards (run.world.ops c) (run.world.phases c))) (counted n rounds run (Step c) counts)
+  scan_step : (c : ℕ) → is_open (run.world.phases c) ≡ true → ScanAll n rounds (pass run c (turn n rounds run.world.shards (run.world.ops c) (run.world.phases c))) (count_disturbed n rounds run (Step c) counts)
   scan_step c opened q l =
       let h = open_busy (run.world.phases c) opened in
       let r = run.current c in
@@ -234,12 +234,12 @@ module _ (n rounds : ℕ) (some : 0 < n) (run : Run) (inv : Inv n run.events run
         | false ↦ λ e.
             scan_other n rounds run.world.shards t.shards (counts q) (more (Step c) q) (run.records q).reply (run.world.phases (run.records q).caller) (λ j. (turn_rise n rounds run.world.shards (run.world.ops c) (run.world.phases c) j).0)
             (λ none j.
-            let one = other_one q run.count (run.records q).reply (is_open (run.world.phases c)) (is_written t.phase) c (run.records q).caller l none opened (other_caller n run.events run inv c h q l (other_number q r e) none) in
+            let one = other_one q run.count (run.records q).reply (is_open (run.world.phases c)) (wrote_shard t.phase) c (run.records q).caller l none opened (other_caller n run.events run inv c h q l (other_number q r e) none) in
             let up = (turn_rise n rounds run.world.shards (run.world.ops c) (run.world.phases c) j).1 in
             subst (λ (x : ℕ). (t.shards j).revision ≤ (run.world.shards j).revision + x) (sym one) up) (scans q l)
       ] refl)
 
-  scan_quit : (c : ℕ) (reason : Why) → is_open (run.world.phases c) ≡ true → ScanAll n rounds (give_up run c (refusal reason)) (counted n rounds run (Quit c reason) counts)
+  scan_quit : (c : ℕ) (reason : Why) → is_open (run.world.phases c) ≡ true → ScanAll n rounds (give_up run c (refusal reason)) (count_disturbed n rounds run (Quit c reason) counts)
   scan_quit c reason opened q l =
       let h = open_busy (run.world.phases c) opened in
       let r = run.current c in
@@ -255,7 +255,7 @@ module _ (n rounds : ℕ) (some : 0 < n) (run : Run) (inv : Inv n run.events run
         | false ↦ scan_same n rounds run.world.shards (counts q) (more (Quit c reason) q) (states run q) (scans q l)
       ])
 
-  scan_end : (c : ℕ) (phase : Phase) → run.world.phases c ≡ phase → ScanAll n rounds (end_at run c phase) (counted n rounds run (End c) counts)
+  scan_end : (c : ℕ) (phase : Phase) → run.world.phases c ≡ phase → ScanAll n rounds (end_at run c phase) (count_disturbed n rounds run (End c) counts)
   scan_end c Idle is q l = scan_same n rounds run.world.shards (counts q) (more (End c) q) (states run q) (scans q l)
   scan_end c (Waiting op) is q l = scan_same n rounds run.world.shards (counts q) (more (End c) q) (states run q) (scans q l)
   scan_end c (Collecting round readings) is q l = scan_same n rounds run.world.shards (counts q) (more (End c) q) (states run q) (scans q l)
@@ -264,45 +264,45 @@ module _ (n rounds : ℕ) (some : 0 < n) (run : Run) (inv : Inv n run.events run
       subst (Scan n rounds run.world.shards (counts q + more (End c) q)) (sym (states_ended n run.events run inv c (ap is_idle is) (omega arith) reply is q l))
       (scan_same n rounds run.world.shards (counts q) (more (End c) q) (states run q) (scans q l))
 
-  scan_begin : (c : ℕ) (op : Op) → is_idle (run.world.phases c) ≡ true → ScanAll n rounds (begin n run c op) (counted n rounds run (Begin c op) counts)
+  scan_begin : (c : ℕ) (op : Op) → is_idle (run.world.phases c) ≡ true → ScanAll n rounds (begin n run c op) (count_disturbed n rounds run (Begin c op) counts)
   scan_begin c op idle q l =
       subst (Scan n rounds run.world.shards (counts q + more (Begin c op) q)) (sym (states_begun n run.events some run inv (omega arith) c op idle q l))
-      (elim (q == run.count) as (λ b. (q == run.count) ≡ b → Scan n rounds run.world.shards (counts q + more (Begin c op) q) (cond b (begun n op) (states run q))) [
+      (elim (q == run.count) as (λ b. (q == run.count) ≡ b → Scan n rounds run.world.shards (counts q + more (Begin c op) q) (cond b (start_phase n op) (states run q))) [
         | true ↦ λ e. begun_scan n rounds run.world.shards (counts q + more (Begin c op) q) (shard_of n op)
         | false ↦ λ e. scan_same n rounds run.world.shards (counts q) (more (Begin c op) q) (states run q) (scans q (let ne = other_number q run.count e in let k : q < run.count = omega (arith, l, ne) in k))
       ] refl)
 
-  scan_still : (event : Event) → ScanAll n rounds run (counted n rounds run event counts)
+  scan_still : (event : Event) → ScanAll n rounds run (count_disturbed n rounds run event counts)
   scan_still event q l = scan_same n rounds run.world.shards (counts q) (more event q) (states run q) (scans q l)
 
-scan_acted : (n rounds : ℕ) → 0 < n → (run : Run) → Inv n run.events run → (counts : ℕ → ℕ) → ScanAll n rounds run counts → (event : Event) → ScanAll n rounds (acted n rounds run event) (counted n rounds run event counts)
+scan_acted : (n rounds : ℕ) → 0 < n → (run : Run) → Inv n run.events run → (counts : ℕ → ℕ) → ScanAll n rounds run counts → (event : Event) → ScanAll n rounds (acted n rounds run event) (count_disturbed n rounds run event counts)
 scan_acted n rounds some run inv counts scans (Begin c op) =
-    elim (is_idle (run.world.phases c)) as (λ b. is_idle (run.world.phases c) ≡ b → ScanAll n rounds (cond b (begin n run c op) run) (counted n rounds run (Begin c op) counts)) [
+    elim (is_idle (run.world.phases c)) as (λ b. is_idle (run.world.phases c) ≡ b → ScanAll n rounds (cond b (begin n run c op) run) (count_disturbed n rounds run (Begin c op) counts)) [
       | true ↦ λ e. scan_begin n rounds some run inv counts scans c op e
       | false ↦ λ e. scan_still n rounds some run inv counts scans (Begin c op)
     ] refl
 scan_acted n rounds some run inv counts scans (Step c) =
-    elim (is_open (run.world.phases c)) as (λ b. is_open (run.world.phases c) ≡ b → ScanAll n rounds (cond b (pass run c (turn n rounds run.world.shards (run.world.ops c) (run.world.phases c))) run) (counted n rounds run (Step c) counts)) [
+    elim (is_open (run.world.phases c)) as (λ b. is_open (run.world.phases c) ≡ b → ScanAll n rounds (cond b (pass run c (turn n rounds run.world.shards (run.world.ops c) (run.world.phases c))) run) (count_disturbed n rounds run (Step c) counts)) [
       | true ↦ λ e. scan_step n rounds some run inv counts scans c e
       | false ↦ λ e. scan_still n rounds some run inv counts scans (Step c)
     ] refl
 scan_acted n rounds some run inv counts scans (Quit c reason) =
-    elim (is_open (run.world.phases c)) as (λ b. is_open (run.world.phases c) ≡ b → ScanAll n rounds (cond b (give_up run c (refusal reason)) run) (counted n rounds run (Quit c reason) counts)) [
+    elim (is_open (run.world.phases c)) as (λ b. is_open (run.world.phases c) ≡ b → ScanAll n rounds (cond b (give_up run c (refusal reason)) run) (count_disturbed n rounds run (Quit c reason) counts)) [
       | true ↦ λ e. scan_quit n rounds some run inv counts scans c reason e
       | false ↦ λ e. scan_still n rounds some run inv counts scans (Quit c reason)
     ] refl
 scan_acted n rounds some run inv counts scans (End c) = scan_end n rounds some run inv counts scans c (run.world.phases c) refl
 
-scan_act : (n rounds : ℕ) → 0 < n → (run : Run) → Inv n run.events run → (counts : ℕ → ℕ) → ScanAll n rounds run counts → (event : Event) → ScanAll n rounds (act n rounds run event) (counted n rounds run event counts)
+scan_act : (n rounds : ℕ) → 0 < n → (run : Run) → Inv n run.events run → (counts : ℕ → ℕ) → ScanAll n rounds run counts → (event : Event) → ScanAll n rounds (act n rounds run event) (count_disturbed n rounds run event counts)
 scan_act n rounds some run inv counts scans event =
-    subst (λ (x : Run). ScanAll n rounds x (counted n rounds run event counts)) (sym (act_is n rounds run event)) (scan_acted n rounds some run inv counts scans event)
+    subst (λ (x : Run). ScanAll n rounds x (count_disturbed n rounds run event counts)) (sym (act_is n rounds run event)) (scan_acted n rounds some run inv counts scans event)
 
 scan_from : (n rounds : ℕ) → 0 < n → (events : List Event) (run : Run) (counts : ℕ → ℕ) → Inv n run.events run → ScanAll n rounds run counts → ScanAll n rounds (run_from n rounds run events) (disturbances_from n rounds run counts events)
 scan_from n rounds some [] run counts inv scans = scans
 scan_from n rounds some (event ∷ events) run counts inv scans =
-    scan_from n rounds some events (tick (act n rounds run event)) (counted n rounds run event counts) (inv_next n rounds some run inv event) (scan_act n rounds some run inv counts scans event)
+    scan_from n rounds some events (tick (act n rounds run event)) (count_disturbed n rounds run event counts) (inv_next n rounds some run inv event) (scan_act n rounds some run inv counts scans event)
 
-moved_scan : (n rounds : ℕ) (s : ℕ → Version) (count : ℕ) (reply : Option (Result Reply AskError)) (phase : Phase) (shard first second : ℕ) → reply ≡ Some (Err (Moved shard first second)) → Scan n rounds s count (phase_by reply phase) → rounds ≤ count
+moved_scan : (n rounds : ℕ) (s : ℕ → ShardVersion) (count : ℕ) (reply : Option (Result Reply AskError)) (phase : Phase) (shard first second : ℕ) → reply ≡ Some (Err (Moved shard first second)) → Scan n rounds s count (phase_by reply phase) → rounds ≤ count
 moved_scan n rounds s count reply phase shard first second is h = subst (λ x. Scan n rounds s count (phase_by x phase)) is h
 
 pub moved_was_disturbed : (n rounds : ℕ) (events : List Event) → 0 < n → (r shard first second : ℕ) → r < (run_of n rounds events).count

@@ -16,7 +16,7 @@ use Rattle.step_core.specs.Run.{Point, Run, numbers, act, tick, fresh_run, run_f
 use Rattle.step_core.specs.Records.{no_record, took_effect}
 use Rattle.step_core.proofs.Legal.{times}
 use Rattle.step_core.specs.Trace.{records_of}
-use Rattle.step_core.specs.Private.Driver.{taken, holds}
+use Rattle.step_core.specs.Private.Driver.{positions, holds}
 use Rattle.step_core.specs.Private.Shown.{IsCaller, IsShown}
 use Rattle.step_core.specs.declared.driver.Running.{Running}
 use Rattle.step_core.specs.declared.driver.Driver.{Driver}
@@ -34,7 +34,7 @@ fresh_shown n rounds driver r size fresh callers ops points =
       shards = record { size = size; each = fresh };
       callers = λ c. subst (IsCaller n rounds fresh_run driver.points.items c) (sym (get-empty driver.callers c callers)) refl;
       records = record { size = ap (λ l. length l) ops; each = λ q l. let never : ⊥ = omega (arith, l) in absurd never };
-      points = ap taken points;
+      points = ap positions points;
       known = λ i q is. let none : false ≡ true = sym (ap (λ (xs : List (Option ℕ)). holds (get_or xs i None) q) points ∙ nothing_held i q) ∙ is in let never : ⊥ = cc in absurd never;
     }
   where
@@ -104,7 +104,7 @@ counted_below : (t q count : ℕ) (h : Bool) → t ≡ cond (nat_lt q count && h
 counted_below t q count h is l = grind (arith, nat_tests)
 
 pub shown_order : (n rounds : ℕ) (driver : Driver) (events : List Event) → 0 < n → IsShown n rounds driver (run_of n rounds events)
-    → filter (λ q. took_effect (get_or driver.ops.items q no_record)) (taken driver.points.items) ≡ order_of (run_of n rounds events)
+    → filter (λ q. took_effect (get_or driver.ops.items q no_record)) (positions driver.points.items) ≡ order_of (run_of n rounds events)
 shown_order n rounds driver events some h =
     let run = run_of n rounds events in
     let list = driver.ops.items in

@@ -6,8 +6,8 @@ use Rattle.map_core.specs.declared.op.Op.{Op}
 use Rattle.map_core.specs.declared.reply.AskError.{AskError}
 use Rattle.map_core.specs.declared.reply.Reply.{Reply}
 use Rattle.map_core.specs.PlainMap.{PlainMap, ask}
-use Rattle.step_core.specs.Shard.{Version}
-use Rattle.step_core.specs.Phase.{Phase, Idle, Waiting, Collecting, Confirming, Done, is_written, has_point}
+use Rattle.step_core.specs.Shard.{ShardVersion}
+use Rattle.step_core.specs.Phase.{Phase, Idle, Waiting, Collecting, Confirming, Done, wrote_shard, has_point}
 use Rattle.step_core.specs.declared.event.Event.{Event}
 use Rattle.step_core.specs.declared.trace.OpRecord.{OpRecord}
 use Rattle.step_core.specs.Run.{Point, Run, numbers, run_of, order_of}
@@ -20,7 +20,7 @@ use Rattle.step_core.proofs.Points.{Along, times-filter}
 use Rattle.step_core.proofs.Book.{Inv, phase_by, states}
 use Rattle.step_core.proofs.Runs.{inv_run, events_of}
 
-written_point : (phase : Phase) → is_written phase ≡ true → has_point phase ≡ true
+written_point : (phase : Phase) → wrote_shard phase ≡ true → has_point phase ≡ true
 written_point Idle h = cc
 written_point (Waiting op) h = cc
 written_point (Collecting round readings) h = cc
@@ -28,7 +28,7 @@ written_point (Confirming round readings k) h = refl
 written_point (Done (Ok reply)) h = refl
 written_point (Done (Err why)) h = cc
 
-effective_point : (reply : Option (Result Reply AskError)) (wrote : Bool) (phase : Phase) → wrote ≡ is_written (phase_by reply phase) → took_effect_by reply wrote ≡ true → has_point (phase_by reply phase) ≡ true
+effective_point : (reply : Option (Result Reply AskError)) (wrote : Bool) (phase : Phase) → wrote ≡ wrote_shard (phase_by reply phase) → took_effect_by reply wrote ≡ true → has_point (phase_by reply phase) ≡ true
 effective_point (Some (Ok reply)) wrote phase w h = refl
 effective_point (Some (Err why)) wrote phase w h = cc
 effective_point None wrote phase w h = written_point phase (sym w ∙ h)
@@ -43,12 +43,12 @@ rises_lower : (events : ℕ) (records : ℕ → OpRecord) (a b : ℕ) (rs : List
 rises_lower events records a b [] l h = tt
 rises_lower events records a b (r ∷ rs) l h = (h.0, (let first : a ≤ h.0 = omega (arith, l, h.1) in first), h.2, h.3)
 
-answered : (n : ℕ) (s : ℕ → Version) (m : PlainMap) (op : Op) (reply : Option (Result Reply AskError)) (phase : Phase) → Claim n s m op (phase_by reply phase) → IfSome reply (λ x. x ≡ Ok (ask m op).reply)
+answered : (n : ℕ) (s : ℕ → ShardVersion) (m : PlainMap) (op : Op) (reply : Option (Result Reply AskError)) (phase : Phase) → Claim n s m op (phase_by reply phase) → IfSome reply (λ x. x ≡ Ok (ask m op).reply)
 answered n s m op (Some (Ok reply)) phase h = ap Ok h
 answered n s m op (Some (Err why)) phase h = absurd h
 answered n s m op None phase h = tt
 
-unwritten : (n : ℕ) (s : ℕ → Version) (m : PlainMap) (op : Op) (reply : Option (Result Reply AskError)) (wrote : Bool) (phase : Phase) → wrote ≡ is_written (phase_by reply phase) → took_effect_by reply wrote ≡ false → Claim n s m op (phase_by reply phase) → is_written (phase_by reply phase) ≡ false
+unwritten : (n : ℕ) (s : ℕ → ShardVersion) (m : PlainMap) (op : Op) (reply : Option (Result Reply AskError)) (wrote : Bool) (phase : Phase) → wrote ≡ wrote_shard (phase_by reply phase) → took_effect_by reply wrote ≡ false → Claim n s m op (phase_by reply phase) → wrote_shard (phase_by reply phase) ≡ false
 unwritten n s m op (Some (Ok reply)) wrote phase w down h = cc
 unwritten n s m op (Some (Err why)) wrote phase w down h = absurd h
 unwritten n s m op None wrote phase w down h = sym w ∙ down

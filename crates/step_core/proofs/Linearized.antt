@@ -12,7 +12,7 @@ use Rattle.map_core.specs.PlainMap.{PlainMap, ask}
 use Rattle.step_core.specs.declared.event.Event.{Event}
 use Rattle.step_core.specs.declared.trace.OpRecord.{OpRecord}
 use Rattle.step_core.specs.Linearization.{Operation, HavePoints, GiveReplies}
-use Rattle.step_core.specs.Records.{took_effect, given, no_record, operation, operations, all_operations, apply, IsLinearized}
+use Rattle.step_core.specs.Records.{took_effect, reply_of, no_record, operation, operations, all_operations, apply, IsLinearized}
 use Rattle.step_core.specs.Trace.{records_of}
 use Rattle.step_core.specs.Run.{run_of, order_of}
 use Rattle.step_core.specs.Laws.{is_fetch_all, only, HasPlaces, AreAnswered, NamesAreAnswered, FetchesAreAnswered, HasOneOrder}
@@ -125,7 +125,7 @@ module _ (records : List OpRecord) where
   have_points events from [] h = tt
   have_points events from (q ∷ order) h = (h.0, h.1, h.2, have_points events (h.0 + 1) order h.3)
 
-  told : (o : Option (Result Reply AskError)) (asked : Reply) → IfSome o (λ reply. reply ≡ Ok asked) → IfSome (given o) (λ reply. reply ≡ asked)
+  told : (o : Option (Result Reply AskError)) (asked : Reply) → IfSome o (λ reply. reply ≡ Ok asked) → IfSome (reply_of o) (λ reply. reply ≡ asked)
   told (Some (Ok reply)) asked h = cc
   told (Some (Err error)) asked h = tt
   told None asked h = tt
@@ -142,7 +142,7 @@ module _ (records : List OpRecord) where
   give_only kind m [] h = tt
   give_only kind m (q ∷ order) h =
       let asked = ask m (at q).op in
-      (told_if (kind (at q).op) (given (at q).reply) asked.reply (told (at q).reply asked.reply h.0), give_only kind asked.map order h.1)
+      (told_if (kind (at q).op) (reply_of (at q).reply) asked.reply (told (at q).reply asked.reply h.0), give_only kind asked.map order h.1)
 
   pub linearized : (events : ℕ) (order : List ℕ) → IsLegal events (length records) at order → IsLinearized events records order
   linearized events order legal = record {

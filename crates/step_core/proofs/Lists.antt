@@ -3,12 +3,12 @@ use Rattle.std.proofs.Common.{◌≡◌, ◌≢◌, ℕ, suc, ◌<◌, ◌==◌,
 use Rattle.std.proofs.lemmas.Grind.{elements}
 use Rattle.map_core.specs.declared.op.Op.{Op}
 use Rattle.step_core.specs.World.{with_at, turn}
-use Rattle.step_core.specs.Shard.{Version, fresh_shard, reading, step_on}
-use Rattle.step_core.specs.Phase.{confirmed, disturbed, fetched, Phase, Idle, Waiting, Collecting, Confirming, Done, wants, give, begun, begun_at, is_idle, is_open, is_done, is_written, Told, has_point}
+use Rattle.step_core.specs.Shard.{ShardVersion, fresh_shard, reading, step_on}
+use Rattle.step_core.specs.Phase.{after_confirming, after_disturbance, snapshot_reply, Phase, Idle, Waiting, Collecting, Confirming, Done, wants, give, start_phase, start_phase_at, is_idle, is_open, is_done, wrote_shard, Observation, has_point}
 use Rattle.step_core.specs.declared.trace.OpRecord.{OpRecord}
 use Rattle.step_core.specs.Records.{no_record}
 use Rattle.step_core.specs.Task.{IsWantOf}
-use Rattle.step_core.specs.Private.Driver.{told_by, left_by}
+use Rattle.step_core.specs.Private.Driver.{observation_by, left_by}
 use Rattle.step_core.specs.Private.Shown.{ShowsShards, ShowsRecords}
 use Rattle.step_core.proofs.Points.{same_number, other_number}
 
@@ -51,16 +51,16 @@ records_set list count records k r below h =
     set_there xs i j x ne = grind (arith, elements)
 
 -- ---- the shards
-shard_here : (xs : List Version) (i j : ℕ) (x : Version) → j ≡ i → i < length xs → reading (set xs i x) j ≡ x
+shard_here : (xs : List ShardVersion) (i j : ℕ) (x : ShardVersion) → j ≡ i → i < length xs → reading (set xs i x) j ≡ x
 shard_here xs i j x is l = grind (arith, elements)
 
-shard_there : (xs : List Version) (i j : ℕ) (x : Version) → j ≢ i → reading (set xs i x) j ≡ reading xs j
+shard_there : (xs : List ShardVersion) (i j : ℕ) (x : ShardVersion) → j ≢ i → reading (set xs i x) j ≡ reading xs j
 shard_there xs i j x ne = grind (arith, elements)
 
-shard_size : (xs : List Version) (i : ℕ) (x : Version) → length (set xs i x) ≡ length xs
+shard_size : (xs : List ShardVersion) (i : ℕ) (x : ShardVersion) → length (set xs i x) ≡ length xs
 shard_size xs i x = grind (arith, elements)
 
-shard_set : (n : ℕ) (list : List Version) (s : ℕ → Version) (i : ℕ) (v w : Version) → v ≡ w → i < n → ShowsShards n list s → ShowsShards n (set list i v) (with_at s i w)
+shard_set : (n : ℕ) (list : List ShardVersion) (s : ℕ → ShardVersion) (i : ℕ) (v w : ShardVersion) → v ≡ w → i < n → ShowsShards n list s → ShowsShards n (set list i v) (with_at s i w)
 shard_set n list s i v w is small h =
     record {
       size = shard_size list i v ∙ h.size;
@@ -72,20 +72,20 @@ shard_set n list s i v w is small h =
     }
 
 -- what the list of shards tells is what the machine's step tells
-pub told_alike : (n rounds : ℕ) (list : List Version) (s : ℕ → Version) (op : Op) (phase : Phase) → ShowsShards n list s → IsWantOf n (wants phase) → is_done phase ≡ false
-    → give n rounds phase (told_by list op (wants phase)) ≡ (turn n rounds s op phase).phase
+pub told_alike : (n rounds : ℕ) (list : List ShardVersion) (s : ℕ → ShardVersion) (op : Op) (phase : Phase) → ShowsShards n list s → IsWantOf n (wants phase) → is_done phase ≡ false
+    → give n rounds phase (observation_by list op (wants phase)) ≡ (turn n rounds s op phase).phase
 told_alike n rounds list s op Idle h inside open_now = refl
-told_alike n rounds list s op (Waiting i) h inside open_now = ap (λ (v : Version). give n rounds (Waiting i) (Rattle.step_core.specs.Phase.Replied (Rattle.step_core.specs.Shard.of_shard i (step_on v op).answer))) (h.each i inside)
+told_alike n rounds list s op (Waiting i) h inside open_now = ap (λ (v : ShardVersion). give n rounds (Waiting i) (Rattle.step_core.specs.Phase.Replied (Rattle.step_core.specs.Shard.of_shard i (step_on v op).answer))) (h.each i inside)
 told_alike n rounds list s op (Collecting round readings) h inside open_now =
-    ap (λ (v : Version). give n rounds (Collecting round readings) (Rattle.step_core.specs.Phase.Seen v)) (h.each (length readings) inside)
+    ap (λ (v : ShardVersion). give n rounds (Collecting round readings) (Rattle.step_core.specs.Phase.Seen v)) (h.each (length readings) inside)
 told_alike n rounds list s op (Confirming round readings k) h inside open_now =
-    ap (λ (v : Version). give n rounds (Confirming round readings k) (Rattle.step_core.specs.Phase.Revision v.revision)) (h.each k inside)
+    ap (λ (v : ShardVersion). give n rounds (Confirming round readings k) (Rattle.step_core.specs.Phase.Revision v.revision)) (h.each k inside)
 told_alike n rounds list s op (Done reply) h inside open_now = refl
 
-pub left_alike : (n rounds : ℕ) (list : List Version) (s : ℕ → Version) (op : Op) (phase : Phase) → ShowsShards n list s → IsWantOf n (wants phase)
+pub left_alike : (n rounds : ℕ) (list : List ShardVersion) (s : ℕ → ShardVersion) (op : Op) (phase : Phase) → ShowsShards n list s → IsWantOf n (wants phase)
     → ShowsShards n (left_by list op (wants phase)) (turn n rounds s op phase).shards
 left_alike n rounds list s op Idle h inside = h
-left_alike n rounds list s op (Waiting i) h inside = shard_set n list s i (step_on (reading list i) op).shard (step_on (s i) op).shard (ap (λ (v : Version). (step_on v op).shard) (h.each i inside)) inside h
+left_alike n rounds list s op (Waiting i) h inside = shard_set n list s i (step_on (reading list i) op).shard (step_on (s i) op).shard (ap (λ (v : ShardVersion). (step_on v op).shard) (h.each i inside)) inside h
 left_alike n rounds list s op (Collecting round readings) h inside = h
 left_alike n rounds list s op (Confirming round readings k) h inside = h
 left_alike n rounds list s op (Done reply) h inside = h

@@ -3,8 +3,8 @@ use Rattle.std.proofs.Common.{◌≡◌, ◌≢◌, ℕ, zero, suc, ◌<◌, ◌
 use Rattle.std.proofs.lemmas.Bool.Decides.{nat_tests}
 use Rattle.std.proofs.lemmas.Grind.{elements}
 use Rattle.std.specs.Prelude.{filter}
-use Rattle.step_core.specs.Run.{Point, repointed, numbers, without}
-use Rattle.step_core.specs.Private.Driver.{taken, holds, IsPlaced, repointed_list, place_after}
+use Rattle.step_core.specs.Run.{Point, update_points, numbers, without}
+use Rattle.step_core.specs.Private.Driver.{positions, holds, IsPlaced, update_positions, place_after}
 use Rattle.step_core.proofs.Points.{same_number, other_number, number_itself, numbers_apart}
 
 -- ---- the points of the run, as numbers
@@ -62,12 +62,12 @@ cleared xs k i =
     ] refl
 
 -- ---- the numbers in the list
-pub taken-push : (xs : List (Option ℕ)) (q : ℕ) → taken (xs ++ Some q ∷ []) ≡ taken xs ++ q ∷ []
+pub taken-push : (xs : List (Option ℕ)) (q : ℕ) → positions (xs ++ Some q ∷ []) ≡ positions xs ++ q ∷ []
 taken-push [] q = refl
 taken-push (None ∷ xs) q = taken-push xs q
 taken-push (Some x ∷ xs) q = ap (λ (r : List ℕ). x ∷ r) (taken-push xs q)
 
-pub taken-skip : (xs : List (Option ℕ)) → taken (xs ++ None ∷ []) ≡ taken xs
+pub taken-skip : (xs : List (Option ℕ)) → positions (xs ++ None ∷ []) ≡ positions xs
 taken-skip [] = refl
 taken-skip (None ∷ xs) = taken-skip xs
 taken-skip (Some x ∷ xs) = ap (λ (r : List ℕ). x ∷ r) (taken-skip xs)
@@ -81,10 +81,10 @@ drop_other x number rest ys ne is = ap (λ (r : List ℕ). x ∷ r) is ∙ sym (
 drop_one : (x number : ℕ) (rest ys : List ℕ) → (x == number) ≡ true → rest ≡ dropped number ys → rest ≡ dropped number (x ∷ ys)
 drop_one x number rest ys same is = is ∙ sym (ap (λ b. cond (not b) (x ∷ dropped number ys) (dropped number ys)) same)
 
-none_dropped : (xs : List (Option ℕ)) (number : ℕ) → ((i : ℕ) → holds (get_or xs i None) number ≡ false) → taken xs ≡ dropped number (taken xs)
+none_dropped : (xs : List (Option ℕ)) (number : ℕ) → ((i : ℕ) → holds (get_or xs i None) number ≡ false) → positions xs ≡ dropped number (positions xs)
 none_dropped [] number h = refl
 none_dropped (None ∷ xs) number h = none_dropped xs number (λ i. h (suc i))
-none_dropped (Some x ∷ xs) number h = drop_other x number (taken xs) (taken xs) (h 0) (none_dropped xs number (λ i. h (suc i)))
+none_dropped (Some x ∷ xs) number h = drop_other x number (positions xs) (positions xs) (h 0) (none_dropped xs number (λ i. h (suc i)))
 
 after_first : (i : ℕ) → (suc i == 0) ≡ false
 after_first i = numbers_apart (suc i) 0 (λ e. let never : ⊥ = omega (arith, e) in never)
@@ -95,17 +95,17 @@ before_next k = numbers_apart 0 (suc k) (λ e. let never : ⊥ = omega (arith, e
 both_next : (i k : ℕ) → (suc i == suc k) ≡ (i == k)
 both_next i k = grind (arith, nat_tests)
 
-cleared_taken : (xs : List (Option ℕ)) (number place : ℕ) → ((i : ℕ) → holds (get_or xs i None) number ≡ (i == place)) → taken (set xs place None) ≡ dropped number (taken xs)
+cleared_taken : (xs : List (Option ℕ)) (number place : ℕ) → ((i : ℕ) → holds (get_or xs i None) number ≡ (i == place)) → positions (set xs place None) ≡ dropped number (positions xs)
 cleared_taken [] number place h = refl
 cleared_taken (None ∷ xs) number zero h = none_dropped xs number (λ i. h (suc i) ∙ after_first i)
-cleared_taken (Some x ∷ xs) number zero h = drop_one x number (taken xs) (taken xs) (h 0 ∙ number_itself 0) (none_dropped xs number (λ i. h (suc i) ∙ after_first i))
+cleared_taken (Some x ∷ xs) number zero h = drop_one x number (positions xs) (positions xs) (h 0 ∙ number_itself 0) (none_dropped xs number (λ i. h (suc i) ∙ after_first i))
 cleared_taken (None ∷ xs) number (suc place) h = cleared_taken xs number place (λ i. h (suc i) ∙ both_next i place)
 cleared_taken (Some x ∷ xs) number (suc place) h =
-    drop_other x number (taken (set xs place None)) (taken xs) (h 0 ∙ before_next place) (cleared_taken xs number place (λ i. h (suc i) ∙ both_next i place))
+    drop_other x number (positions (set xs place None)) (positions xs) (h 0 ∙ before_next place) (cleared_taken xs number place (λ i. h (suc i) ∙ both_next i place))
 
 -- the numbers are those of the run's points
-pub repointed_numbers : (had has : Bool) (xs : List (Option ℕ)) (place : ℕ) (p : Point) (ps : List Point) → IsPlaced xs p.number had place → taken xs ≡ numbers ps
-    → taken (repointed_list had has p.number place xs) ≡ numbers (repointed had has p ps)
+pub repointed_numbers : (had has : Bool) (xs : List (Option ℕ)) (place : ℕ) (p : Point) (ps : List Point) → IsPlaced xs p.number had place → positions xs ≡ numbers ps
+    → positions (update_positions had has p.number place xs) ≡ numbers (update_points had has p ps)
 repointed_numbers false false xs place p ps h is = is
 repointed_numbers false true xs place p ps h is = taken-push xs p.number ∙ ap (λ (r : List ℕ). r ++ p.number ∷ []) is ∙ sym (numbers-push ps p)
 repointed_numbers true false xs place p ps h is = cleared_taken xs p.number place h ∙ ap (dropped p.number) is ∙ sym (numbers-without p.number ps)
@@ -120,7 +120,7 @@ loses_own : (here : Bool) (number : ℕ) (x : Option ℕ) → holds x number ≡
 loses_own true number x h = refl
 loses_own false number x h = h
 
-pub own_placed : (had has : Bool) (xs : List (Option ℕ)) (number place : ℕ) → IsPlaced xs number had place → IsPlaced (repointed_list had has number place xs) number has (place_after had has place xs)
+pub own_placed : (had has : Bool) (xs : List (Option ℕ)) (number place : ℕ) → IsPlaced xs number had place → IsPlaced (update_positions had has number place xs) number has (place_after had has place xs)
 own_placed false false xs number place h = h
 own_placed false true xs number place h = λ i. ap (λ (x : Option ℕ). holds x number) (gained xs (Some number) i) ∙ gains_own (i == length xs) number (get_or xs i None) (λ e. h i)
 own_placed true false xs number place h = λ i. ap (λ (x : Option ℕ). holds x number) (cleared xs place i) ∙ loses_own (i == place) number (get_or xs i None) (h i)
@@ -139,7 +139,7 @@ loses_other true number q x t ne own is = sym (not_both x number q ne own) ∙ i
 loses_other false number q x t ne own is = is
 
 pub other_placed : (had has : Bool) (xs : List (Option ℕ)) (number place q : ℕ) (h : Bool) (k : ℕ) → number ≢ q → IsPlaced xs number had place → IsPlaced xs q h k
-    → IsPlaced (repointed_list had has number place xs) q h k
+    → IsPlaced (update_positions had has number place xs) q h k
 other_placed false false xs number place q h k ne own is = is
 other_placed false true xs number place q h k ne own is =
     λ i. ap (λ (x : Option ℕ). holds x q) (gained xs (Some number) i) ∙ gains_other (i == length xs) number q (get_or xs i None) (h && (i == k)) ne (λ e. let at : i ≡ length xs = same_number i (length xs) e in past_end xs i None (omega (arith, at))) (is i)
@@ -159,7 +159,7 @@ known_cleared : (here : Bool) (q count : ℕ) (x : Option ℕ) → (holds x q �
 known_cleared true q count x h is = let never : ⊥ = cc in absurd never
 known_cleared false q count x h is = h is
 
-pub still_known : (had has : Bool) (xs : List (Option ℕ)) (number place count : ℕ) → number < count → AreKnown xs count → AreKnown (repointed_list had has number place xs) count
+pub still_known : (had has : Bool) (xs : List (Option ℕ)) (number place count : ℕ) → number < count → AreKnown xs count → AreKnown (update_positions had has number place xs) count
 still_known false false xs number place count l h = h
 still_known false true xs number place count l h = λ i q is. known_gained (i == length xs) number q count (get_or xs i None) l (h i q) (sym (ap (λ (x : Option ℕ). holds x q) (gained xs (Some number) i)) ∙ is)
 still_known true false xs number place count l h = λ i q is. known_cleared (i == place) q count (get_or xs i None) (h i q) (sym (ap (λ (x : Option ℕ). holds x q) (cleared xs place i)) ∙ is)

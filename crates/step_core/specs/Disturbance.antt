@@ -3,13 +3,13 @@ use Rattle.std.specs.Prelude.{◌≡◌, ℕ, ◌+◌, ◌<◌, ◌≤◌, ◌==
 use Rattle.map_core.specs.declared.reply.AskError.TheVariants.{Moved}
 use Rattle.step_core.specs.declared.event.Event.{Event}
 use Rattle.step_core.specs.declared.event.Event.TheVariants.{Step}
-use Rattle.step_core.specs.Phase.{is_open, is_written}
+use Rattle.step_core.specs.Phase.{is_open, wrote_shard}
 use Rattle.step_core.specs.World.{turn}
 use Rattle.step_core.specs.Run.{Run, act, tick, fresh_run, run_of}
 
 -- whether the event is a step by which a caller other than this one changes a shard
 abbrev pub is_write_by_other : ℕ → ℕ → Run → Event → ℕ → Bool
-is_write_by_other n rounds run (Step c) caller = (is_open (run.world.phases c) && is_written (turn n rounds run.world.shards (run.world.ops c) (run.world.phases c)).phase) && not (c == caller)
+is_write_by_other n rounds run (Step c) caller = (is_open (run.world.phases c) && wrote_shard (turn n rounds run.world.shards (run.world.ops c) (run.world.phases c)).phase) && not (c == caller)
 is_write_by_other n rounds run event caller = false
 
 -- whether an operation was begun and is not finished
@@ -17,12 +17,12 @@ abbrev pub is_running : Run → ℕ → Bool
 is_running run q = nat_lt q run.count && is_none (run.records q).reply
 
 -- one more for each operation that the event disturbs
-abbrev pub counted : ℕ → ℕ → Run → Event → (ℕ → ℕ) → ℕ → ℕ
-counted n rounds run event counts q = counts q + cond (is_running run q && is_write_by_other n rounds run event (run.records q).caller) 1 0
+abbrev pub count_disturbed : ℕ → ℕ → Run → Event → (ℕ → ℕ) → ℕ → ℕ
+count_disturbed n rounds run event counts q = counts q + cond (is_running run q && is_write_by_other n rounds run event (run.records q).caller) 1 0
 
 abbrev pub disturbances_from : ℕ → ℕ → Run → (ℕ → ℕ) → List Event → ℕ → ℕ
 disturbances_from n rounds run counts [] = counts
-disturbances_from n rounds run counts (event ∷ events) = disturbances_from n rounds (tick (act n rounds run event)) (counted n rounds run event counts) events
+disturbances_from n rounds run counts (event ∷ events) = disturbances_from n rounds (tick (act n rounds run event)) (count_disturbed n rounds run event counts) events
 
 -- of each operation, by its number
 abbrev pub disturbances : ℕ → ℕ → List Event → ℕ → ℕ

@@ -10,7 +10,7 @@ use Rattle.step_core.specs.declared.trace.OpRecord.{OpRecord}
 use Rattle.step_core.specs.declared.event.Event.{Event}
 use Rattle.step_core.specs.declared.event.Event.TheVariants.{Begin, Step}
 use Rattle.step_core.specs.World.{World, next, fresh_world, world_from}
-use Rattle.step_core.specs.Shard.{Version, reading}
+use Rattle.step_core.specs.Shard.{ShardVersion, reading}
 use Rattle.step_core.specs.Phase.{Collecting, Confirming}
 use Rattle.step_core.specs.Run.{run_of, order_of}
 use Rattle.step_core.specs.Trace.{records_of}
@@ -88,7 +88,7 @@ BeginsNothing c (event ∷ events) = BeginsNothing c events
 -- part that was read at every moment between.
 abbrev pub ConfirmedStood : Type 0
 ConfirmedStood =
-    (n rounds : ℕ) (start : World) (c round : ℕ) (readings all : List Version) (before after : List Event) →
+    (n rounds : ℕ) (start : World) (c round : ℕ) (readings all : List ShardVersion) (before after : List Event) →
     let shard = length readings in
     let middle = world_from n rounds (next n rounds start (Step c)) before in
     let later = world_from n rounds middle after in

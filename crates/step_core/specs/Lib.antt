@@ -1,5 +1,4 @@
 pub mod Shard
-pub mod Codes
 pub mod Phase
 pub mod TaskView
 pub mod Task

@@ -6,10 +6,10 @@ use Rattle.map_core.specs.declared.reply.Reply.{Reply}
 use Rattle.map_core.specs.declared.reply.AskError.{AskError}
 use Rattle.map_core.specs.declared.reply.AskError.TheVariants.{Moved}
 use Rattle.map_core.specs.Reply.{is_change}
-use Rattle.map_core.specs.PlainMap.{ask, shard_of, together}
+use Rattle.map_core.specs.PlainMap.{ask, shard_of, merge}
 use Rattle.step_core.specs.declared.task.Want.{Want}
 use Rattle.step_core.specs.declared.task.Want.TheVariants as want
-use Rattle.step_core.specs.Shard.{Version, reading}
+use Rattle.step_core.specs.Shard.{ShardVersion, reading}
 
 -- how far an operation is
 pub data Phase : Type 0 where
@@ -17,24 +17,24 @@ pub data Phase : Type 0 where
   -- it waits for a step of this shard
   Waiting : ℕ → Phase
   -- the round, and the readings so far
-  Collecting : ℕ → List Version → Phase
+  Collecting : ℕ → List ShardVersion → Phase
   -- the round, all readings, and how many are confirmed
-  Confirming : ℕ → List Version → ℕ → Phase
+  Confirming : ℕ → List ShardVersion → ℕ → Phase
   Done : Result Reply AskError → Phase
 
 -- what an operation under way is told: the answer of its step, a shard as it was read, or a shard's revision
-pub data Told : Type 0 where
-  Replied : Result Reply AskError → Told
-  Seen : Version → Told
-  Revision : ℕ → Told
+pub data Observation : Type 0 where
+  Replied : Result Reply AskError → Observation
+  Seen : ShardVersion → Observation
+  Revision : ℕ → Observation
 
 -- how an operation begins: one on a name at its shard, a fetch-all in the first round
-abbrev pub begun_at : Option ℕ → Phase
-begun_at (Some i) = Waiting i
-begun_at None = Collecting 1 []
+abbrev pub start_phase_at : Option ℕ → Phase
+start_phase_at (Some i) = Waiting i
+start_phase_at None = Collecting 1 []
 
-abbrev pub begun : ℕ → Op → Phase
-begun n op = begun_at (shard_of n op)
+abbrev pub start_phase : ℕ → Op → Phase
+start_phase n op = start_phase_at (shard_of n op)
 
 -- what it wants to be told next
 abbrev pub wants : Phase → Want
@@ -44,29 +44,29 @@ wants (Confirming round readings k) = want.Confirm k
 wants phase = want.Done
 
 -- after one more reading: with n readings all are to be confirmed
-abbrev pub collected : ℕ → ℕ → List Version → Phase
-collected n round readings = cond (length readings == n) (Confirming round readings 0) (Collecting round readings)
+abbrev pub after_reading : ℕ → ℕ → List ShardVersion → Phase
+after_reading n round readings = cond (length readings == n) (Confirming round readings 0) (Collecting round readings)
 
 -- the reply of a fetch-all that was confirmed: the plain map's, on the parts together
-abbrev pub fetched : ℕ → List Version → Reply
-fetched n readings = (ask (together n (λ j. (reading readings j).part)) FetchAll).reply
+abbrev pub snapshot_reply : ℕ → List ShardVersion → Reply
+snapshot_reply n readings = (ask (merge n (λ j. (reading readings j).part)) FetchAll).reply
 
-abbrev pub confirmed : ℕ → ℕ → List Version → ℕ → Phase
-confirmed n round readings k = cond (k == n) (Done (Ok (fetched n readings))) (Confirming round readings k)
+abbrev pub after_confirming : ℕ → ℕ → List ShardVersion → ℕ → Phase
+after_confirming n round readings k = cond (k == n) (Done (Ok (snapshot_reply n readings))) (Confirming round readings k)
 
 -- a round that met another revision: all readings are thrown away, and the last round ends the operation
-abbrev pub disturbed : ℕ → ℕ → ℕ → ℕ → ℕ → Phase
-disturbed rounds round k first second = cond (round == rounds) (Done (Err (Moved k first second))) (Collecting (round + 1) [])
+abbrev pub after_disturbance : ℕ → ℕ → ℕ → ℕ → ℕ → Phase
+after_disturbance rounds round k first second = cond (round == rounds) (Done (Err (Moved k first second))) (Collecting (round + 1) [])
 
 -- the revision of shard k is compared with the one that was read
-abbrev pub confirm : ℕ → ℕ → ℕ → List Version → ℕ → ℕ → Phase
+abbrev pub confirm : ℕ → ℕ → ℕ → List ShardVersion → ℕ → ℕ → Phase
 confirm n rounds round readings k now =
-    cond ((reading readings k).revision == now) (confirmed n round readings (k + 1)) (disturbed rounds round k (reading readings k).revision now)
+    cond ((reading readings k).revision == now) (after_confirming n round readings (k + 1)) (after_disturbance rounds round k (reading readings k).revision now)
 
 -- after it was told what it wanted; anything else changes nothing
-abbrev pub give : ℕ → ℕ → Phase → Told → Phase
+abbrev pub give : ℕ → ℕ → Phase → Observation → Phase
 give n rounds (Waiting i) (Replied reply) = Done reply
-give n rounds (Collecting round readings) (Seen v) = collected n round (readings ++ v ∷ [])
+give n rounds (Collecting round readings) (Seen v) = after_reading n round (readings ++ v ∷ [])
 give n rounds (Confirming round readings k) (Revision now) = confirm n rounds round readings k now
 give n rounds phase told = phase
 
@@ -85,9 +85,9 @@ is_done (Done reply) = true
 is_done phase = false
 
 -- whether it has changed its shard
-abbrev pub is_written : Phase → Bool
-is_written (Done (Ok reply)) = is_change reply
-is_written phase = false
+abbrev pub wrote_shard : Phase → Bool
+wrote_shard (Done (Ok reply)) = is_change reply
+wrote_shard phase = false
 
 -- whether it has its linearization point: an operation on a name from its step on, a fetch-all from the last reading of a round on, unless
 -- that round is thrown away

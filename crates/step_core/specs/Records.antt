@@ -20,14 +20,14 @@ abbrev pub took_effect : OpRecord → Bool
 took_effect r = took_effect_by r.reply r.wrote
 
 -- the reply, if there is one and it is not an error
-abbrev pub given : Option (Result Reply AskError) → Option Reply
-given (Some (Ok reply)) = Some reply
-given (Some (Err error)) = None
-given None = None
+abbrev pub reply_of : Option (Result Reply AskError) → Option Reply
+reply_of (Some (Ok reply)) = Some reply
+reply_of (Some (Err error)) = None
+reply_of None = None
 
 -- the operation that this record tells of, under this number
 abbrev pub operation : ℕ → OpRecord → Operation Op Reply
-operation q r = record { id = q; op = r.op; invoked = r.first; responded = r.last; reply = given r.reply; took_effect = took_effect r }
+operation q r = record { id = q; op = r.op; invoked = r.first; responded = r.last; reply = reply_of r.reply; took_effect = took_effect r }
 
 -- stands for a record that is not there
 abbrev pub no_record : OpRecord

@@ -6,7 +6,7 @@ use Rattle.map_core.specs.declared.reply.Reply.{Reply}
 use Rattle.step_core.specs.declared.event.Event.{Event}
 use Rattle.step_core.specs.declared.event.Event.TheVariants.{Begin, Step, Quit, End}
 use Rattle.step_core.specs.World.{with_at, World, turn, refusal, fresh_world, next}
-use Rattle.step_core.specs.Phase.{Phase, Done, has_point, is_idle, is_open, is_written}
+use Rattle.step_core.specs.Phase.{Phase, Done, has_point, is_idle, is_open, wrote_shard}
 use Rattle.step_core.specs.declared.trace.OpRecord.{OpRecord}
 use Rattle.step_core.specs.Records.{no_record, took_effect}
 
@@ -30,10 +30,10 @@ abbrev pub without : ℕ → List Point → List Point
 without number points = filter (λ p. not (p.number == number)) points
 
 -- the points after an operation has gone from one phase to another
-abbrev pub repointed : Bool → Bool → Point → List Point → List Point
-repointed false true p points = points ++ p ∷ []
-repointed true false p points = without p.number points
-repointed before after p points = points
+abbrev pub update_points : Bool → Bool → Point → List Point → List Point
+update_points false true p points = points ++ p ∷ []
+update_points true false p points = without p.number points
+update_points before after p points = points
 
 -- ---- what is noted of an event; the world is left to the machine
 -- a caller begins
@@ -49,8 +49,8 @@ pass run c phase =
     let old = run.records number in
     let point : Point = record { number = number; op = old.op; event = run.events } in
     record run {
-      records = with_at run.records number (record old { wrote = is_written phase });
-      points = repointed (has_point (run.world.phases c)) (has_point phase) point run.points;
+      records = with_at run.records number (record old { wrote = wrote_shard phase });
+      points = update_points (has_point (run.world.phases c)) (has_point phase) point run.points;
     }
 
 -- the caller's operation ends

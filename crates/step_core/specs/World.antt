@@ -10,8 +10,8 @@ use Rattle.step_core.specs.declared.event.Why.{Why}
 use Rattle.step_core.specs.declared.event.Why.TheVariants as why
 use Rattle.step_core.specs.declared.task.Want.{Want}
 use Rattle.step_core.specs.declared.task.Want.TheVariants as want
-use Rattle.step_core.specs.Shard.{Version, fresh_shard, step_on, of_shard}
-use Rattle.step_core.specs.Phase.{Phase, Idle, Replied, Seen, Revision, begun, wants, give, is_idle, is_open, is_done}
+use Rattle.step_core.specs.Shard.{ShardVersion, fresh_shard, step_on, of_shard}
+use Rattle.step_core.specs.Phase.{Phase, Idle, Replied, Seen, Revision, start_phase, wants, give, is_idle, is_open, is_done}
 
 -- f, with x at k
 abbrev pub with_at : {X : Type 0} → (ℕ → X) → ℕ → X → ℕ → X
@@ -19,17 +19,17 @@ with_at f k x q = cond (q == k) x (f q)
 
 -- the shards, the operation that each caller began last, and how far it is
 pub record World : Type 0 where
-  pub shards : ℕ → Version
+  pub shards : ℕ → ShardVersion
   pub ops : ℕ → Op
   pub phases : ℕ → Phase
 
 -- what a step of a caller leaves: the shards, and the caller's phase
 pub record Turn : Type 0 where
-  pub shards : ℕ → Version
+  pub shards : ℕ → ShardVersion
   pub phase : Phase
 
 -- the operation is told what it wants of the shards
-abbrev pub turn_by : ℕ → ℕ → (ℕ → Version) → Op → Phase → Want → Turn
+abbrev pub turn_by : ℕ → ℕ → (ℕ → ShardVersion) → Op → Phase → Want → Turn
 turn_by n rounds shards op phase (want.Do i) =
     let stepped = step_on (shards i) op in record { shards = with_at shards i stepped.shard; phase = give n rounds phase (Replied (of_shard i stepped.answer)) }
 turn_by n rounds shards op phase (want.Collect i) = record { shards = shards; phase = give n rounds phase (Seen (shards i)) }
@@ -37,7 +37,7 @@ turn_by n rounds shards op phase (want.Confirm i) = record { shards = shards; ph
 turn_by n rounds shards op phase want.Done = record { shards = shards; phase = phase }
 
 -- one step of a caller
-abbrev pub turn : ℕ → ℕ → (ℕ → Version) → Op → Phase → Turn
+abbrev pub turn : ℕ → ℕ → (ℕ → ShardVersion) → Op → Phase → Turn
 turn n rounds shards op phase = turn_by n rounds shards op phase (wants phase)
 
 -- why an operation that is given up gets no reply
@@ -50,22 +50,22 @@ abbrev pub fresh_world : World
 fresh_world = record { shards = λ i. fresh_shard; ops = λ c. FetchAll; phases = λ c. Idle }
 
 -- the caller has made a step
-abbrev pub moved : World → ℕ → Turn → World
-moved w c t = record w { shards = t.shards; phases = with_at w.phases c t.phase }
+abbrev pub after_turn : World → ℕ → Turn → World
+after_turn w c t = record w { shards = t.shards; phases = with_at w.phases c t.phase }
 
 -- a caller begins
-abbrev pub started : World → ℕ → Op → Phase → World
-started w c op phase = record w { ops = with_at w.ops c op; phases = with_at w.phases c phase }
+abbrev pub with_operation : World → ℕ → Op → Phase → World
+with_operation w c op phase = record w { ops = with_at w.ops c op; phases = with_at w.phases c phase }
 
 abbrev pub to_phase : World → Phase → Turn
 to_phase w phase = record { shards = w.shards; phase = phase }
 
 -- what an event does; one that does not fit changes nothing
 abbrev pub next : ℕ → ℕ → World → Event → World
-next n rounds w (Begin c op) = cond (is_idle (w.phases c)) (started w c op (begun n op)) w
-next n rounds w (Step c) = cond (is_open (w.phases c)) (moved w c (turn n rounds w.shards (w.ops c) (w.phases c))) w
-next n rounds w (Quit c reason) = cond (is_open (w.phases c)) (moved w c (to_phase w Idle)) w
-next n rounds w (End c) = cond (is_done (w.phases c)) (moved w c (to_phase w Idle)) w
+next n rounds w (Begin c op) = cond (is_idle (w.phases c)) (with_operation w c op (start_phase n op)) w
+next n rounds w (Step c) = cond (is_open (w.phases c)) (after_turn w c (turn n rounds w.shards (w.ops c) (w.phases c))) w
+next n rounds w (Quit c reason) = cond (is_open (w.phases c)) (after_turn w c (to_phase w Idle)) w
+next n rounds w (End c) = cond (is_done (w.phases c)) (after_turn w c (to_phase w Idle)) w
 
 -- the world after a list of events
 abbrev pub world_from : ℕ → ℕ → World → List Event → World

@@ -4,8 +4,8 @@ ghost use Rattle.step_core.specs.World.{refusal};
 ghost use Rattle.step_core.specs.Shard.{of_shard, step_on, reading, fresh_shard};
 ghost use Rattle.step_core.specs.Run.{Run, act, fresh_run};
 ghost use Rattle.step_core.specs.Records.{no_record};
-ghost use Rattle.step_core.specs.Task.{told_of, IsWantOf};
-ghost use Rattle.step_core.specs.Private.Driver.{told_by, left_by, repointed_list, place_after, marked, ended};
+ghost use Rattle.step_core.specs.Task.{observation_of, IsWantOf};
+ghost use Rattle.step_core.specs.Private.Driver.{observation_by, left_by, update_positions, place_after, with_wrote, with_end};
 ghost use Rattle.step_core.specs.Private.Shown.{IsShown};
 ghost use Rattle.step_core.specs.declared.event.Event.TheVariants.{Begin, Step, Quit, End};
 
@@ -38,14 +38,14 @@ pub(crate) struct Driver {
 }
 
 // What the shards tell to the operation.
-fn told(shards: &mut [Shard], op: &Op, want: Want) -> Result<Answer, AllocError>
+fn observe(shards: &mut [Shard], op: &Op, want: Want) -> Result<Answer, AllocError>
     requires { IsWantOf (length shards.old) want }
     ensures left { OnOk result (shards.new ≡ left_by shards.old op.now want) }
-    ensures told { IfOk result (λ answer. told_of answer ≡ told_by shards.old op.now want) }
+    ensures observed { IfOk result (λ answer. observation_of answer ≡ observation_by shards.old op.now want) }
 {
     match want {
         Want::Do(place) => {
-            let reply = stepped(&mut shards[place], op.copy()?)?;
+            let reply = step_shard(&mut shards[place], op.copy()?)?;
             Ok(Answer::Replied(at_shard(place, reply)))
         }
         Want::Collect(place) => {
@@ -61,7 +61,7 @@ fn told(shards: &mut [Shard], op: &Op, want: Want) -> Result<Answer, AllocError>
 }
 
 // The answer of one shard's step, unless there is no memory.
-fn stepped(shard: &mut Shard, op: Op) -> Result<Result<Reply, AskError>, AllocError>
+fn step_shard(shard: &mut Shard, op: Op) -> Result<Result<Reply, AskError>, AllocError>
     ensures answer { IfOk result (λ answer. answer ≡ (step_on shard.old op).answer) }
     ensures shard { OnOk result (shard.new ≡ (step_on shard.old op).shard) }
 {
@@ -94,7 +94,7 @@ fn repoint(
     number: usize,
     place: usize,
 ) -> Result<usize, AllocError>
-    ensures points { OnOk result (points.new.items ≡ repointed_list had_point has_point number place points.old.items) }
+    ensures points { OnOk result (points.new.items ≡ update_positions had_point has_point number place points.old.items) }
     ensures place { IfOk result (λ now. now ≡ place_after had_point has_point place points.old.items) }
 {
     if had_point {
@@ -122,7 +122,7 @@ fn clear(points: &mut [Option<usize>], place: usize)
 // The operation has gone on.
 fn mark(ops: &mut [OpRecord], number: usize, wrote: bool)
     requires { number < length ops.old }
-    ensures marked { ops.new ≡ slice_set ops.old number (marked (get_or ops.old number no_record) wrote) }
+    ensures marked { ops.new ≡ slice_set ops.old number (with_wrote (get_or ops.old number no_record) wrote) }
 {
     ops[number].wrote = wrote;
 }
@@ -130,14 +130,14 @@ fn mark(ops: &mut [OpRecord], number: usize, wrote: bool)
 // The operation has ended.
 fn finish(ops: &mut [OpRecord], number: usize, now: u64, reply: Result<Reply, AskError>)
     requires { number < length ops.old }
-    ensures ended { ops.new ≡ slice_set ops.old number (ended (get_or ops.old number no_record) now reply) }
+    ensures ended { ops.new ≡ slice_set ops.old number (with_end (get_or ops.old number no_record) now reply) }
 {
     let entry = &mut ops[number];
     entry.last = Some(now);
     entry.reply = Some(reply);
 }
 
-fn refused(why: Why) -> AskError
+fn refusal_of(why: Why) -> AskError
     ensures { result ≡ refusal why }
 {
     match why {
@@ -223,7 +223,7 @@ impl Driver {
         let number = running.number;
         let had_point = running.task.has_point();
         let want = running.task.wants();
-        let answer = told(&mut self.shards, &self.ops[number].op, want)?;
+        let answer = observe(&mut self.shards, &self.ops[number].op, want)?;
         running.task.give(answer);
         if running.task.is_out_of_memory() {
             return Err(AllocError);
@@ -258,7 +258,7 @@ impl Driver {
         let had_point = running.task.has_point();
         repoint(&mut self.points, had_point, false, number, running.place)?;
         mark(&mut self.ops, number, false);
-        finish(&mut self.ops, number, now, Err(refused(why)));
+        finish(&mut self.ops, number, now, Err(refusal_of(why)));
         Ok(())
     }
 

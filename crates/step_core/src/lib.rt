@@ -6,15 +6,15 @@
 #![tactic(auto)]
 
 mod driver;
-pub mod event;
+mod event;
 pub mod home;
 pub mod laws;
 mod round;
-pub mod run;
-pub mod shard;
-pub mod shards;
-pub mod task;
-pub mod trace;
+mod run;
+mod shard;
+mod shards;
+mod task;
+mod trace;
 
 pub use event::{Event, Why};
 pub use run::run_events;

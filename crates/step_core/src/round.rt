@@ -1,8 +1,9 @@
 //! One round of a fetch-all: it collects all shards, and then confirms each.
 ghost use Rattle.std.specs.Prelude.{◌≡◌, ◌<◌, ◌≤◌, ◌⊎◌, ◌++◌, ◌∷◌, ◌==◌, [], false, length, vec_capacity, IfOk};
 ghost use Rattle.std.specs.Arc.{arc_value};
-ghost use Rattle.step_core.specs.Phase.{Confirming, Revision, collected, confirm, confirmed, fetched};
-ghost use Rattle.step_core.specs.Task.{phase_of, IsInside, HasRoom, is_last_confirm, out_of_memory};
+ghost use Rattle.step_core.specs.Phase.{Confirming, Revision, after_reading, confirm, after_confirming, snapshot_reply};
+ghost use Rattle.step_core.specs.Task.{phase_of, is_last_confirm, out_of_memory};
+ghost use Rattle.step_core.specs.Private.Progress.{IsInside, HasRoom};
 
 use crate::task::State;
 use map_core::{AskError, Contents, Reply, Union};
@@ -19,10 +20,10 @@ pub(crate) struct Reading {
 
 impl Model for Reading {
     ghost use Rattle.std.specs.Arc.{arc_value};
-    ghost use Rattle.step_core.specs.Shard.{Version};
-    ghost use Rattle.step_core.specs.Codes.{version_code};
+    ghost use Rattle.step_core.specs.Shard.{ShardVersion};
+    ghost use Rattle.step_core.specs.Private.Codes.{version_code};
 
-    ghost Value = { Version };
+    ghost Value = { ShardVersion };
 
     ghost coded = { version_code };
 
@@ -50,7 +51,7 @@ impl Reading {
 }
 
 /// One more reading, for which there is room.
-pub(crate) fn collected(
+pub(crate) fn after_reading(
     shards: usize,
     rounds: usize,
     round: usize,
@@ -62,7 +63,7 @@ pub(crate) fn collected(
     requires round { round ≤ rounds }
     ensures inside { IsInside shards rounds (phase_of result) }
     ensures room { HasRoom shards result }
-    ensures phase { phase_of result ≡ collected shards round (readings.items ++ reading ∷ []) }
+    ensures phase { phase_of result ≡ after_reading shards round (readings.items ++ reading ∷ []) }
 {
     if readings.push(reading).is_err() {
         return State::Done(Err(AskError::Memory));
@@ -75,7 +76,7 @@ pub(crate) fn collected(
 }
 
 /// The revision that the shard at this place has now is compared with the one that was read.
-pub(crate) fn compared(
+pub(crate) fn compare(
     alloc: Global,
     shards: usize,
     rounds: usize,
@@ -95,7 +96,7 @@ pub(crate) fn compared(
 {
     let read = readings[place].revision();
     if read == now {
-        return confirmed(alloc, shards, rounds, round, readings, place + 1);
+        return after_confirming(alloc, shards, rounds, round, readings, place + 1);
     }
     if round == rounds {
         let moved = AskError::Moved {
@@ -110,7 +111,7 @@ pub(crate) fn compared(
 }
 
 // This many readings are confirmed.
-fn confirmed(
+fn after_confirming(
     alloc: Global,
     shards: usize,
     rounds: usize,
@@ -124,25 +125,25 @@ fn confirmed(
     requires round { round ≤ rounds }
     ensures inside { IsInside shards rounds (phase_of result) }
     ensures room { HasRoom shards result }
-    ensures phase { (phase_of result ≡ confirmed shards round readings.items count) ⊎ (phase_of result ≡ out_of_memory) }
-    ensures exact { (count == shards) ≡ false → phase_of result ≡ confirmed shards round readings.items count }
+    ensures phase { (phase_of result ≡ after_confirming shards round readings.items count) ⊎ (phase_of result ≡ out_of_memory) }
+    ensures exact { (count == shards) ≡ false → phase_of result ≡ after_confirming shards round readings.items count }
 {
     if count != shards {
         return State::Confirming(round, readings, count);
     }
-    match merged(alloc, &readings) {
+    match merge_readings(alloc, &readings) {
         Ok(reply) => State::Done(Ok(reply)),
         Err(_) => State::Done(Err(AskError::Memory)),
     }
 }
 
 // The reply of a fetch-all on these readings, together.
-fn merged(alloc: Global, readings: &[Reading]) -> Result<Reply, AskError>
-    ensures { IfOk result (λ r. r ≡ fetched (length readings.now) readings.now) }
+fn merge_readings(alloc: Global, readings: &[Reading]) -> Result<Reply, AskError>
+    ensures { IfOk result (λ r. r ≡ snapshot_reply (length readings.now) readings.now) }
 {
     let mut all = Union::new(alloc);
     for reading in readings {
-        all = all.join(reading.contents())?;
+        all = all.add(reading.contents())?;
     }
     Ok(Reply::All(all.into_snapshot()?))
 }

@@ -2,7 +2,7 @@
 ghost use Rattle.std.specs.Prelude.{◌≡◌, ◌<◌, IfOk, length, filter, get_or};
 ghost use Rattle.step_core.specs.Run.{run_of, order_of};
 ghost use Rattle.step_core.specs.Records.{no_record, took_effect, IsLinearized};
-ghost use Rattle.step_core.specs.Private.Driver.{taken};
+ghost use Rattle.step_core.specs.Private.Driver.{positions};
 ghost use Rattle.step_core.specs.Trace.{records_of};
 
 use crate::driver::Driver;
@@ -54,7 +54,7 @@ fn traced(
 
 // The numbers at the points.
 fn numbers(alloc: Global, points: &[Option<usize>]) -> Result<Vec<usize>, AllocError>
-    ensures { IfOk result (λ numbers. numbers.items ≡ taken points.now) }
+    ensures { IfOk result (λ numbers. numbers.items ≡ positions points.now) }
 {
     let mut numbers = Vec::new(alloc);
     for point in points {

@@ -23,10 +23,10 @@ pub struct Shard {
 impl Model for Shard {
     ghost use Rattle.std.specs.Prelude.{◌≤◌};
     ghost use Rattle.std.specs.Arc.{arc_value};
-    ghost use Rattle.step_core.specs.Shard.{Version, last_revision};
-    ghost use Rattle.step_core.specs.Codes.{version_code};
+    ghost use Rattle.step_core.specs.Shard.{ShardVersion, last_revision};
+    ghost use Rattle.step_core.specs.Private.Codes.{version_code};
 
-    ghost Value = { Version };
+    ghost Value = { ShardVersion };
 
     ghost coded = { version_code };
 

@@ -4,7 +4,7 @@ ghost use Rattle.std.specs.FinMap as finite;
 ghost use Rattle.map_core.specs.PlainMap.{ask, shard_of};
 ghost use Rattle.map_core.specs.declared.op.Op.TheVariants.{FetchAll};
 ghost use Rattle.step_core.specs.Shard.{fresh_shard, reading};
-ghost use Rattle.step_core.specs.Shards.{map_of, stepped, stepped_at, IsWorn, Refuses};
+ghost use Rattle.step_core.specs.Shards.{map_of, after_step, after_step_at, IsWorn, Refuses};
 
 use crate::home::shard_of;
 use crate::shard::{Shard, at_shard, fresh_shards};
@@ -23,11 +23,11 @@ pub struct Shards {
 impl Model for Shards {
     ghost use Rattle.std.specs.Prelude.{List};
     ghost use Rattle.std.specs.Coded.{coded_list};
-    ghost use Rattle.step_core.specs.Shard.{Version};
-    ghost use Rattle.step_core.specs.Codes.{version_code};
-    ghost use Rattle.step_core.specs.Shards.{AreParts};
+    ghost use Rattle.step_core.specs.Shard.{ShardVersion};
+    ghost use Rattle.step_core.specs.Private.Codes.{version_code};
+    ghost use Rattle.step_core.specs.Private.Parts.{AreParts};
 
-    ghost Value = { List Version };
+    ghost Value = { List ShardVersion };
 
     ghost coded = { coded_list version_code };
 
@@ -53,7 +53,7 @@ impl Shards {
     pub fn ask(&mut self, op: Op) -> Result<Reply, AskError>
         ensures reply { IfOk result (λ reply. reply ≡ (ask (map_of self.old) op).reply) }
         ensures left { OnOk result (map_of self.new ≡ (ask (map_of self.old) op).map) }
-        ensures shards { OnOk result (self.new ≡ stepped self.old op) }
+        ensures shards { OnOk result (self.new ≡ after_step self.old op) }
         ensures fit { OnOk result ((i : ℕ) → IsWorn self.old op i → ⊥) }
         ensures refused { IfErr result (λ e. Refuses self.old op e) }
         ensures err { OnErr result (self.new ≡ self.old) }
@@ -70,7 +70,7 @@ impl Shards {
         requires place { place < length self.old }
         ensures reply { IfOk result (λ reply. reply ≡ (ask (map_of self.old) op).reply) }
         ensures left { OnOk result (map_of self.new ≡ (ask (map_of self.old) op).map) }
-        ensures shards { OnOk result (self.new ≡ stepped_at self.old op (Some place)) }
+        ensures shards { OnOk result (self.new ≡ after_step_at self.old op (Some place)) }
         ensures fit { OnOk result ((i : ℕ) → IsWorn self.old op i → ⊥) }
         ensures refused { IfErr result (λ e. Refuses self.old op e) }
         ensures err { OnErr result (self.new ≡ self.old) }

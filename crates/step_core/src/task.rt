@@ -1,7 +1,8 @@
 //! One operation, one step at a time.
 ghost use Rattle.std.specs.Prelude.{◌≡◌, ◌<◌, ◌⊎◌, IfOk, true, false};
-ghost use Rattle.step_core.specs.Phase.{begun, wants, give, is_done, is_written, has_point, Done};
-ghost use Rattle.step_core.specs.Task.{phase_of, told_of, IsInside, HasRoom, IsWantOf, is_last_confirm, is_out_of_memory, out_of_memory};
+ghost use Rattle.step_core.specs.Phase.{start_phase, wants, give, is_done, wrote_shard, has_point, Done};
+ghost use Rattle.step_core.specs.Task.{phase_of, observation_of, IsWantOf, is_last_confirm, out_of_memory};
+ghost use Rattle.step_core.specs.Private.Progress.{IsInside, HasRoom, is_out_of_memory};
 
 use crate::home::shard_of;
 use crate::round;
@@ -59,9 +60,10 @@ pub struct Task {
 
 impl Model for Task {
     ghost use Rattle.std.specs.Coded.{codes};
-    ghost use Rattle.map_core.specs.Codes.{plain_map_code};
+    ghost use Rattle.map_core.specs.Private.Codes.{plain_map_code};
     ghost use Rattle.step_core.specs.TaskView.{TaskView};
-    ghost use Rattle.step_core.specs.Task.{phase_of, IsInside, HasRoom};
+    ghost use Rattle.step_core.specs.Task.{phase_of};
+    ghost use Rattle.step_core.specs.Private.Progress.{IsInside, HasRoom};
 
     ghost Value = { TaskView };
 
@@ -77,7 +79,7 @@ impl Task {
     pub fn begin(alloc: Global, op: &Op, shards: usize, rounds: usize) -> Result<Task, AllocError>
         requires shards { 0 < shards }
         requires rounds { 0 < rounds }
-        ensures { IfOk result (λ task. task ≡ record { shards = shards; rounds = rounds; phase = begun shards op.now }) }
+        ensures { IfOk result (λ task. task ≡ record { shards = shards; rounds = rounds; phase = start_phase shards op.now }) }
     {
         let state = match shard_of(op, shards) {
             Some(shard) => State::Waiting(shard),
@@ -109,11 +111,11 @@ impl Task {
     pub fn give(&mut self, answer: Answer)
         ensures shards { self.new.shards ≡ self.old.shards }
         ensures rounds { self.new.rounds ≡ self.old.rounds }
-        ensures phase { (self.new.phase ≡ give self.old.shards self.old.rounds self.old.phase (told_of answer)) ⊎ (self.new.phase ≡ out_of_memory) }
-        ensures exact { is_last_confirm self.old.shards self.old.phase (told_of answer) ≡ false → self.new.phase ≡ give self.old.shards self.old.rounds self.old.phase (told_of answer) }
+        ensures phase { (self.new.phase ≡ give self.old.shards self.old.rounds self.old.phase (observation_of answer)) ⊎ (self.new.phase ≡ out_of_memory) }
+        ensures exact { is_last_confirm self.old.shards self.old.phase (observation_of answer) ≡ false → self.new.phase ≡ give self.old.shards self.old.rounds self.old.phase (observation_of answer) }
     {
         let state = std::mem::replace(&mut self.state, State::Done(Err(AskError::Memory)));
-        self.state = given(self.alloc, self.shards, self.rounds, state, answer);
+        self.state = give(self.alloc, self.shards, self.rounds, state, answer);
     }
 
     /// Whether the operation has its place among all operations.
@@ -131,7 +133,7 @@ impl Task {
 
     /// Whether the operation has changed its shard.
     pub(crate) fn has_written(&self) -> bool
-        ensures { result ≡ is_written self.now.phase }
+        ensures { result ≡ wrote_shard self.now.phase }
     {
         match &self.state {
             State::Waiting(_) => false,
@@ -186,18 +188,18 @@ impl Task {
 }
 
 // The state after an answer.
-fn given(alloc: Global, shards: usize, rounds: usize, state: State, answer: Answer) -> State
+fn give(alloc: Global, shards: usize, rounds: usize, state: State, answer: Answer) -> State
     requires inside { IsInside shards rounds (phase_of state) }
     requires room { HasRoom shards state }
     ensures inside { IsInside shards rounds (phase_of result) }
     ensures room { HasRoom shards result }
-    ensures phase { (phase_of result ≡ give shards rounds (phase_of state) (told_of answer)) ⊎ (phase_of result ≡ out_of_memory) }
-    ensures exact { is_last_confirm shards (phase_of state) (told_of answer) ≡ false → phase_of result ≡ give shards rounds (phase_of state) (told_of answer) }
+    ensures phase { (phase_of result ≡ give shards rounds (phase_of state) (observation_of answer)) ⊎ (phase_of result ≡ out_of_memory) }
+    ensures exact { is_last_confirm shards (phase_of state) (observation_of answer) ≡ false → phase_of result ≡ give shards rounds (phase_of state) (observation_of answer) }
 {
     match (state, answer) {
         (State::Waiting(_), Answer::Replied(reply)) => State::Done(reply),
         (State::Collecting(round, readings), Answer::Seen { revision, contents }) => {
-            round::collected(
+            round::after_reading(
                 shards,
                 rounds,
                 round,
@@ -206,7 +208,7 @@ fn given(alloc: Global, shards: usize, rounds: usize, state: State, answer: Answ
             )
         }
         (State::Confirming(round, readings, place), Answer::Revision(now)) => {
-            round::compared(alloc, shards, rounds, round, readings, place, now)
+            round::compare(alloc, shards, rounds, round, readings, place, now)
         }
         (state, _) => state,
     }

@@ -3,7 +3,7 @@ use Rattle.std.proofs.Common.{◌≡◌, ◌+◌, ℕ, zero, suc, List, [], ◌+
 use Rattle.std.specs.Prelude.{Option, Some, Result, Ok}
 use Rattle.std.proofs.lemmas.List.{append_cancel_left}
 use Rattle.map_core.specs.declared.reply.Reply.TheVariants.{Stored}
-use Rattle.frame_front.specs.Reply.{coded_reply, version_frame}
+use Rattle.frame_front.specs.Reply.{reply_frames, version_frame}
 use Rattle.frame_front.specs.declared.request.Version.TheVariants.{Two}
 use Rattle.frame_front.specs.Transcript.{Transcript}
 use Rattle.frame_front.specs.declared.error.FrontError.{FrontError}
@@ -12,38 +12,38 @@ use Rattle.shard_store.specs.Pass.{StoreView, SeatedView}
 use Rattle.shard_store.specs.Seated.{SeatedAnswer}
 use Rattle.workers.proofs.KeptAlong.{served_keeps}
 use Rattle.workers.proofs.PassLaws.{StaysSeated, seated_same, seated_then, seated_answer}
-use Rattle.workers.specs.Filling.{Fills, NotFills, IsNotFilled, most_reads, seated, stored_replies}
+use Rattle.workers.specs.Filling.{Fills, NotFills, IsNotFilled, most_reads, seated_view, stored_replies}
 use Rattle.workers.specs.declared.filling.FillError.{FillError}
 
 pub session_by : (result : Result ℕ FrontError) (requests replies : List ℕ) (store : StoreView) (old new : Seen) (a b c d : Option (List ℕ)) (s t : SeatedView)
-    → a ≡ Some requests → c ≡ Some [] → d ≡ Some replies → s ≡ seated store old → t ≡ seated store new
+    → a ≡ Some requests → c ≡ Some [] → d ≡ Some replies → s ≡ seated_view store old → t ≡ seated_view store new
     → Transcript SeatedAnswer result most_reads a b c d s t
-    → Transcript SeatedAnswer result most_reads (Some requests) b (Some []) (Some replies) (seated store old) (seated store new)
+    → Transcript SeatedAnswer result most_reads (Some requests) b (Some []) (Some replies) (seated_view store old) (seated_view store new)
 session_by result requests replies store old new a b c d s t from none to begun done session =
     let with_from = subst (λ (x : Option (List ℕ)). Transcript SeatedAnswer result most_reads x b c d s t) from session in
     let with_none = subst (λ (x : Option (List ℕ)). Transcript SeatedAnswer result most_reads (Some requests) b x d s t) none with_from in
     let with_to = subst (λ (x : Option (List ℕ)). Transcript SeatedAnswer result most_reads (Some requests) b (Some []) x s t) to with_none in
     let with_begun = subst (λ (x : SeatedView). Transcript SeatedAnswer result most_reads (Some requests) b (Some []) (Some replies) x t) begun with_to in
-    subst (λ (x : SeatedView). Transcript SeatedAnswer result most_reads (Some requests) b (Some []) (Some replies) (seated store old) x) done with_begun
+    subst (λ (x : SeatedView). Transcript SeatedAnswer result most_reads (Some requests) b (Some []) (Some replies) (seated_view store old) x) done with_begun
 
 pub fills_by : (requests : List ℕ) (store : StoreView) (old new : Seen) (count answered : ℕ) (left : Option (List ℕ))
     → answered ≡ suc count
-    → Transcript SeatedAnswer (Ok answered) most_reads (Some requests) left (Some []) (Some (stored_replies count)) (seated store old) (seated store new)
+    → Transcript SeatedAnswer (Ok answered) most_reads (Some requests) left (Some []) (Some (stored_replies count)) (seated_view store old) (seated_view store new)
     → Fills requests store old new
 fills_by requests store old new count answered left all session = record {
   count = count;
   left = left;
-  session = subst (λ (n : ℕ). Transcript SeatedAnswer (Ok n) most_reads (Some requests) left (Some []) (Some (stored_replies count)) (seated store old) (seated store new)) all session;
+  session = subst (λ (n : ℕ). Transcript SeatedAnswer (Ok n) most_reads (Some requests) left (Some []) (Some (stored_replies count)) (seated_view store old) (seated_view store new)) all session;
 }
 
 -- what a session that does not fill a store shows of itself: the pass stays at its store
 pub not_fills_by : (error : FillError) (result : Result ℕ FrontError) (requests replies : List ℕ) (store : StoreView) (old : Seen) (a b c d : Option (List ℕ)) (s t : SeatedView)
-    → a ≡ Some requests → c ≡ Some [] → d ≡ Some replies → s ≡ seated store old → IsNotFilled result replies error
+    → a ≡ Some requests → c ≡ Some [] → d ≡ Some replies → s ≡ seated_view store old → IsNotFilled result replies error
     → Transcript SeatedAnswer result most_reads a b c d s t → NotFills requests store old error
 not_fills_by error result requests replies store old a b c d s t from none to begun why session =
     let stays = served_keeps SeatedAnswer StaysSeated seated_same seated_then seated_answer result s t
     (record { turns = _; left_old = _; left_new = _; held_old = _; held_new = _; transcript = session }) in
-    let done : t ≡ seated store t.seen = ap (λ (x : StoreView). seated x t.seen) (stays.0 ∙ ap (λ (x : SeatedView). x.store) begun) in
+    let done : t ≡ seated_view store t.seen = ap (λ (x : StoreView). seated_view x t.seen) (stays.0 ∙ ap (λ (x : SeatedView). x.store) begun) in
     record {
       result = result;
       left = b;
@@ -56,27 +56,27 @@ not_fills_by error result requests replies store old a b c d s t from none to be
 -- ---- replies that tell of bundles that were stored
 
 -- one more reply follows if more bundles were stored
-one_more : (n more : ℕ) → (rest : List ℕ) × (stored_replies (suc (n + more)) ≡ stored_replies n ++ (coded_reply Stored ++ rest))
+one_more : (n more : ℕ) → (rest : List ℕ) × (stored_replies (suc (n + more)) ≡ stored_replies n ++ (reply_frames Stored ++ rest))
 one_more n zero =
     let none_more : suc (n + 0) ≡ suc n = omega arith in
-    ([], ap stored_replies none_more ∙ ap (λ (xs : List ℕ). stored_replies n ++ xs) (sym (append-nil (coded_reply Stored))))
+    ([], ap stored_replies none_more ∙ ap (λ (xs : List ℕ). stored_replies n ++ xs) (sym (append-nil (reply_frames Stored))))
 one_more n (suc more) =
     let (rest, same) = one_more n more in
-    let before = coded_reply Stored ++ rest in
+    let before = reply_frames Stored ++ rest in
     let moved : suc (n + suc more) ≡ suc (suc (n + more)) = omega arith in (
-      rest ++ coded_reply Stored,
-      ap stored_replies moved ∙ (ap (λ (xs : List ℕ). xs ++ coded_reply Stored) same
-          ∙ (append_assoc (stored_replies n) before (coded_reply Stored)
-          ∙ ap (λ (xs : List ℕ). stored_replies n ++ xs) (append_assoc (coded_reply Stored) rest (coded_reply Stored)))),
+      rest ++ reply_frames Stored,
+      ap stored_replies moved ∙ (ap (λ (xs : List ℕ). xs ++ reply_frames Stored) same
+          ∙ (append_assoc (stored_replies n) before (reply_frames Stored)
+          ∙ ap (λ (xs : List ℕ). stored_replies n ++ xs) (append_assoc (reply_frames Stored) rest (reply_frames Stored)))),
     )
 
 -- if all are told of, one reply stands after fewer
 pub next_stored : (n count : ℕ) (left : List ℕ) → n < count → stored_replies count ≡ stored_replies n ++ left
-    → (rest : List ℕ) × (left ≡ coded_reply Stored ++ rest)
+    → (rest : List ℕ) × (left ≡ reply_frames Stored ++ rest)
 next_stored n count left less same =
     let (rest, more) = one_more n (count - suc n) in
     let all : suc (n + (count - suc n)) ≡ count = omega (arith, less) in
-    (rest, append_cancel_left (stored_replies n) left (coded_reply Stored ++ rest) (sym same ∙ (ap stored_replies (sym all) ∙ more)))
+    (rest, append_cancel_left (stored_replies n) left (reply_frames Stored ++ rest) (sym same ∙ (ap stored_replies (sym all) ∙ more)))
 
 -- all replies leave none over
 pub none_over : (count : ℕ) (left : List ℕ) → stored_replies count ≡ stored_replies count ++ left → left ≡ []
@@ -87,4 +87,4 @@ pub version_first : (count : ℕ) → (rest : List ℕ) × (stored_replies count
 version_first zero = ([], sym (append-nil (version_frame Two)))
 version_first (suc count) =
     let (rest, same) = version_first count in
-    (rest ++ coded_reply Stored, ap (λ (xs : List ℕ). xs ++ coded_reply Stored) same ∙ append_assoc (version_frame Two) rest (coded_reply Stored))
+    (rest ++ reply_frames Stored, ap (λ (xs : List ℕ). xs ++ reply_frames Stored) same ∙ append_assoc (version_frame Two) rest (reply_frames Stored))

@@ -6,7 +6,7 @@ use Rattle.map_core.specs.declared.reply.Reply.{Reply}
 use Rattle.map_core.specs.declared.reply.AskError.{AskError}
 use Rattle.frame_front.specs.declared.error.FrontError.{FrontError}
 use Rattle.frame_front.specs.declared.request.Request.{Request}
-use Rattle.frame_front.specs.declared.request.Request.TheVariants.{Ask, Speak}
+use Rattle.frame_front.specs.declared.request.Request.TheVariants.{Ask, SetVersion}
 use Rattle.frame_front.specs.declared.refusal.Refusal.{Refusal}
 use Rattle.frame_front.specs.Request.{request_of}
 use Rattle.frame_front.specs.Session.{SessionState, AnswersRequest, Answers, AnswersAll}
@@ -22,7 +22,7 @@ module _ {S : Type 0} (answers : S → Op → Result Reply AskError → S → Ty
 
   request_keeps : (r : Result Request Refusal) (old : SessionState S) (text : List ℕ) (new : SessionState S) → AnswersRequest answers r old text new → Keeps old.1 new.1
   request_keeps (Err refusal) old text new a = kept_where_same old.1 new.1 (ap (λ (s : SessionState S). s.1) a.1)
-  request_keeps (Ok (Speak version)) old text new a = kept_where_same old.1 new.1 (ap (λ (s : SessionState S). s.1) a.1)
+  request_keeps (Ok (SetVersion version)) old text new a = kept_where_same old.1 new.1 (ap (λ (s : SessionState S). s.1) a.1)
   request_keeps (Ok (Ask op)) old text new a = each old.1 op a.0 new.1 a.1
 
   answer_keeps : (old : SessionState S) (payload text : List ℕ) (new : SessionState S) → Answers answers old payload text new → Keeps old.1 new.1

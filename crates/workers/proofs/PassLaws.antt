@@ -11,7 +11,7 @@ use Rattle.shard_store.specs.declared.change.Change.{Change}
 use Rattle.shard_store.specs.declared.change.Seen.{Seen}
 use Rattle.shard_store.specs.Changes.{change_of, own_number}
 use Rattle.shard_store.specs.Pass.{StoreView, SeatedView}
-use Rattle.shard_store.specs.Promise.{IsLater, Answered, StoreAnswer}
+use Rattle.shard_store.specs.Promise.{IsLater, IsReply, StoreAnswer}
 use Rattle.shard_store.specs.Seated.{SeatedAnswer}
 use Rattle.workers.specs.Gate.{AnsweredBehind, GatedAnswer}
 use Rattle.workers.specs.Workers.{IsFurther}
@@ -25,7 +25,7 @@ further_then s t u p q = (q.0 ∙ p.0, p.1 ++ q.1, q.2 ∙ (ap (λ (l : List Cha
 further_later : (s t : Seen) → IsLater t s → IsFurther t s
 further_later s t l = (l.1, l.0.0, l.0.1)
 
-further_answered : (op : Op) (s : Seen) (reply : Reply) (t : Seen) → Answered op s reply t → IsFurther t s
+further_answered : (op : Op) (s : Seen) (reply : Reply) (t : Seen) → IsReply op s reply t → IsFurther t s
 further_answered op s reply t a = let more = by_kind (is_change reply) refl in (a.3, more.0, more.1)
   where
     by_kind : (b : Bool) → is_change reply ≡ b → (new : List Change) × (t.log ≡ s.log ++ new)

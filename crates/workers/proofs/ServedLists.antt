@@ -6,7 +6,8 @@ use Rattle.map_core.specs.declared.reply.Reply.{Reply}
 use Rattle.map_core.specs.declared.reply.AskError.{AskError}
 use Rattle.workers.specs.declared.sessions.SessionFault.{SessionFault}
 use Rattle.workers.specs.declared.sessions.SessionFault.TheVariants.{Front, Listen}
-use Rattle.workers.specs.Sessions.{AllCame, ServedAll}
+use Rattle.workers.specs.Sessions.{ServedAll}
+use Rattle.workers.specs.Private.Sessions.{AllCame}
 
 pub came_more : (results more : List (Result ℕ SessionFault)) → AllCame results → AllCame more → AllCame (results ++ more)
 came_more [] more c d = d

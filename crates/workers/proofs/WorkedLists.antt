@@ -5,7 +5,8 @@ use Rattle.std.specs.List.{flat_map}
 use Rattle.workers.specs.Closing.{ranges_of}
 use Rattle.std.proofs.lemmas.List.{get_or-map, length-map, map_push}
 use Rattle.std.proofs.lemmas.List.Elements.{All-cons}
-use Rattle.workers.specs.Workers.{AreNumbered, HasWorked, AllWorked}
+use Rattle.workers.specs.Workers.{HasWorked, AllWorked}
+use Rattle.workers.specs.Private.Numbers.{AreNumbered}
 use Rattle.shard_store.specs.Pass.{StoreView, PassView, IsOf}
 use Rattle.workers.specs.declared.run.Worker.{Worker}
 use Rattle.workers.specs.declared.run.Worked.{Worked}

@@ -1,7 +1,7 @@
 -- A store that is filled before its workers begin.
 use Rattle.std.specs.Prelude.{◌≡◌, ◌≢◌, ℕ, zero, suc, List, [], ◌++◌, Option, Some, Result, Ok, Err}
 use Rattle.map_core.specs.declared.reply.Reply.TheVariants.{Stored}
-use Rattle.frame_front.specs.Reply.{coded_reply, version_frame}
+use Rattle.frame_front.specs.Reply.{reply_frames, version_frame}
 use Rattle.frame_front.specs.Transcript.{Transcript}
 use Rattle.frame_front.specs.declared.error.FrontError.{FrontError}
 use Rattle.frame_front.specs.declared.request.Version.TheVariants.{Two}
@@ -14,10 +14,10 @@ use Rattle.workers.specs.declared.filling.FillError.TheVariants.{Front, NotStore
 -- the replies to the request for version 2 and to so many requests of which each stored a bundle
 abbrev pub stored_replies : ℕ → List ℕ
 stored_replies zero = version_frame Two
-stored_replies (suc count) = stored_replies count ++ coded_reply Stored
+stored_replies (suc count) = stored_replies count ++ reply_frames Stored
 
-abbrev pub seated : StoreView → Seen → SeatedView
-seated store seen = record { store = store; seen = seen }
+abbrev pub seated_view : StoreView → Seen → SeatedView
+seated_view store seen = record { store = store; seen = seen }
 
 -- the most reads that the requests may take
 abbrev pub most_reads : ℕ
@@ -27,7 +27,7 @@ most_reads = 1000000
 pub record Fills (requests : List ℕ) (store : StoreView) (old new : Seen) : Type 0 where
   pub count : ℕ
   pub left : Option (List ℕ)
-  pub session : Transcript SeatedAnswer (Ok (suc count)) most_reads (Some requests) left (Some []) (Some (stored_replies count)) (seated store old) (seated store new)
+  pub session : Transcript SeatedAnswer (Ok (suc count)) most_reads (Some requests) left (Some []) (Some (stored_replies count)) (seated_view store old) (seated_view store new)
 
 -- what a session's end and its replies say of a store that is not filled: the session failed; or it answered nothing, or not so
 abbrev pub IsNotFilled : Result ℕ FrontError → List ℕ → FillError → Type 0
@@ -41,5 +41,5 @@ pub record NotFills (requests : List ℕ) (store : StoreView) (old : Seen) (erro
   pub left : Option (List ℕ)
   pub replies : List ℕ
   pub new : Seen
-  pub session : Transcript SeatedAnswer result most_reads (Some requests) left (Some []) (Some replies) (seated store old) (seated store new)
+  pub session : Transcript SeatedAnswer result most_reads (Some requests) left (Some []) (Some replies) (seated_view store old) (seated_view store new)
   pub why : IsNotFilled result replies error

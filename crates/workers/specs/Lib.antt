@@ -4,3 +4,4 @@ pub mod Workers
 pub mod Closing
 pub mod Retrying
 pub mod Filling
+pub mod Private

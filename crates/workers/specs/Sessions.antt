@@ -13,13 +13,6 @@ abbrev pub session_number : SessionFault → ℕ
 session_number (Front error) = front_number error
 session_number Listen = 57
 
--- a session came for each of these results
-abbrev pub AllCame : List (Result ℕ SessionFault) → Type 0
-AllCame [] = Unit {0}
-AllCame (Ok count ∷ results) = AllCame results
-AllCame (Err (Front error) ∷ results) = AllCame results
-AllCame (Err Listen ∷ results) = ⊥
-
 module _ {S : Type 0} (answers : S → Op → Result Reply AskError → S → Type 0) where
   -- A session was served over some reader and writer, and ended so.
   pub record Served (result : Result ℕ FrontError) (old new : S) : Type 0 where
@@ -29,14 +22,6 @@ module _ {S : Type 0} (answers : S → Op → Result Reply AskError → S → Ty
     pub held_old : Option (List ℕ)
     pub held_new : Option (List ℕ)
     pub transcript : Transcript answers result turns left_old left_new held_old held_new old new
-
-  -- One session was served over these ends, and ended so.
-  abbrev pub ServedOver : ℕ → Option (List ℕ) → Option (List ℕ) → Result ℕ SessionFault → S → S → Type 0
-  ServedOver turns left held (Ok count) old new =
-      (left_new : Option (List ℕ)) × (held_new : Option (List ℕ)) × Transcript answers (Ok count) turns left left_new held held_new old new
-  ServedOver turns left held (Err (Front error)) old new =
-      (left_new : Option (List ℕ)) × (held_new : Option (List ℕ)) × Transcript answers (Err error) turns left left_new held held_new old new
-  ServedOver turns left held (Err Listen) old new = ⊥
 
   -- Sessions were served one after the other, and ended so. No other follows if the listener failed.
   abbrev pub ServedAll : List (Result ℕ SessionFault) → S → S → Type 0

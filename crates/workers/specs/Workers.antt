@@ -43,8 +43,3 @@ module _ (opens : ℕ → ℕ → Bool → Type 0) where
   AllWorked store first (pass ∷ passes) (worked ∷ all) = HasWorked store first pass worked × AllWorked store (suc first) passes all
   AllWorked store first [] (worked ∷ all) = ⊥
   AllWorked store first (pass ∷ passes) [] = ⊥
-
--- workers are numbered in their order; the first has this number
-abbrev pub AreNumbered : ℕ → List ℕ → Type 0
-AreNumbered first [] = Unit {0}
-AreNumbered first (number ∷ numbers) = (number ≡ first) × AreNumbered (suc first) numbers

@@ -2,7 +2,8 @@
 ghost use Rattle.std.specs.Prelude.{◌≡◌, ◌++◌, ◌∷◌, [], Ok, map, IfOk, OnOk, vec_len};
 ghost use Rattle.std.specs.List.{All};
 ghost use Rattle.shard_store.specs.Pass.{IsOf};
-ghost use Rattle.workers.specs.Workers.{AllWorked, AreNumbered, HasWorked};
+ghost use Rattle.workers.specs.Workers.{AllWorked, HasWorked};
+ghost use Rattle.workers.specs.Private.Numbers.{AreNumbered};
 
 use crate::gate::Gate;
 use crate::gated::Gated;

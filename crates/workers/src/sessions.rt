@@ -1,6 +1,7 @@
 //! Sessions that come to a worker, one after the other.
 ghost use Rattle.std.specs.Prelude.{◌≡◌, ◌≤◌, ◌<◌, [], ◌∷◌, IfOk, IfSome};
-ghost use Rattle.workers.specs.Sessions.{AllCame, ServedAll, ServedOver};
+ghost use Rattle.workers.specs.Sessions.{ServedAll};
+ghost use Rattle.workers.specs.Private.Sessions.{AllCame, ServedOver};
 
 use crate::log::Log;
 use frame_front::{Counted, FrontError, serve};

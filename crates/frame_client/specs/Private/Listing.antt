@@ -5,8 +5,9 @@ use Rattle.std.specs.Io.KnownBytes.{IsAtEnd}
 use Rattle.map_core.specs.declared.reply.AskError.{AskError}
 use Rattle.frame_front.specs.Frame.{HasFrames, IsBadLength}
 use Rattle.frame_front.specs.Reply.{item_frame}
-use Rattle.frame_front.specs.Dump.{Domains, AreValid, Ascends}
-use Rattle.frame_client.specs.Answer.{number_of, error_of}
+use Rattle.frame_front.specs.Dump.{Domains, AreValid}
+use Rattle.map_core.specs.Laws.{Ascends}
+use Rattle.frame_client.specs.Private.Payloads.{number_of, error_of}
 use Rattle.frame_client.specs.declared.client_error.ClientError.{ClientError}
 use Rattle.frame_client.specs.declared.client_error.ClientError.TheVariants.{Memory, BadLength, BadReply, Truncated, ReadFault, WriteFault}
 

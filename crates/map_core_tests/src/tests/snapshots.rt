@@ -82,7 +82,7 @@ fn changes_a_copy(alloc: Global, map: &Contents) -> Result<(), Fail> {
 }
 
 fn union_of(alloc: Global, first: &Contents, second: &Contents) -> Result<Union, AllocError> {
-    Union::new(alloc).join(first)?.join(second)
+    Union::new(alloc).add(first)?.add(second)
 }
 
 /// The two maps joined show the first bundle of `a`, the second of `b`, and the mark of `c`.

@@ -2,23 +2,24 @@
 use Rattle.std.specs.Prelude.{◌≡◌, ◌≢◌, ℕ, ◌<◌, ◌≤◌, List, ◌++◌, length, slice_index_or, Some}
 use Rattle.std.specs.Arc.{arc_value}
 use Rattle.std.specs.declared.sync.Arc.{Arc}
-use Rattle.map_core.specs.PlainMap.{PlainMap, part}
+use Rattle.map_core.specs.PlainMap.{PlainMap, partition}
 use Rattle.shard_store.specs.declared.change.Change.{Change}
 use Rattle.shard_store.specs.declared.change.Seen.{Seen}
 use Rattle.shard_store.specs.declared.fetch.Movement.{Movement}
 use Rattle.shard_store.specs.declared.fetch.Round.{Round}
 use Rattle.shard_store.specs.declared.fetch.Round.TheVariants.{Confirmed, Moved}
 use Rattle.shard_store.specs.Promise.{IsLater, HasMoved}
-use Rattle.shard_store.specs.Rule.{SlotValue}
-use Rattle.shard_store.specs.Changes.{after, count, IsPart, Extends}
+use Rattle.shard_store.specs.Private.Rule.{SlotValue}
+use Rattle.shard_store.specs.Changes.{after, count, Extends}
+use Rattle.shard_store.specs.Private.Numbers.{IsPart}
 
 -- the versions are the map's parts, in order
 abbrev pub ArePartsOf : {Z : Type 0} → PlainMap → List (Arc PlainMap Z) → Type 0
-ArePartsOf {Z} m parts = (k : ℕ) (d : Arc PlainMap Z) → k < length parts → arc_value (slice_index_or parts k d) ≡ part (length parts) m k
+ArePartsOf {Z} m parts = (k : ℕ) (d : Arc PlainMap Z) → k < length parts → arc_value (slice_index_or parts k d) ≡ partition (length parts) m k
 
 -- so are those that the slots hold
 abbrev pub HoldPartsOf : {Z : Type 0} → PlainMap → List (SlotValue Z) → Type 0
-HoldPartsOf {Z} m slots = (k : ℕ) (d : SlotValue Z) → k < length slots → (version : Arc PlainMap Z) × (slice_index_or slots k d ≡ Some version) × (arc_value version ≡ part (length slots) m k)
+HoldPartsOf {Z} m slots = (k : ℕ) (d : SlotValue Z) → k < length slots → (version : Arc PlainMap Z) × (slice_index_or slots k d ≡ Some version) × (arc_value version ≡ partition (length slots) m k)
 
 -- the version of the shard, of n, was read with this revision, after the first pass's log and before the second's
 abbrev pub WasRead : {Z : Type 0} → ℕ → ℕ → List Change → List Change → ℕ → Arc PlainMap Z → Type 0

@@ -13,18 +13,18 @@ use Rattle.spiffe_doc.specs.Bundle.{is_among, is_kid_taken}
 use Rattle.spiffe_doc.specs.Text.{entry_text}
 
 -- the list with one more authority, as an entry at this place gives it
-abbrev pub admitted : ℕ → List Authority → Authority → Result (List Authority) DocError
-admitted place before authority =
+abbrev pub admission : ℕ → List Authority → Authority → Result (List Authority) DocError
+admission place before authority =
     if is_kid_taken before authority then Err (KidTwice place)
     else if is_among before authority then Ok before
     else if nat_le 1024 (length before) then Err TooMany
     else Ok (before ++ authority ∷ [])
 
 -- the list after one more entry of this outcome
-abbrev pub taken : ℕ → List Authority → Result (Option Authority) DocError → Result (List Authority) DocError
-taken place before (Err e) = Err e
-taken place before (Ok None) = Ok before
-taken place before (Ok (Some authority)) = admitted place before authority
+abbrev pub take_in : ℕ → List Authority → Result (Option Authority) DocError → Result (List Authority) DocError
+take_in place before (Err e) = Err e
+take_in place before (Ok None) = Ok before
+take_in place before (Ok (Some authority)) = admission place before authority
 
 -- the list, with the authority at its end if it is new
 abbrev pub with_new : Bool → List Authority → Authority → List Authority

@@ -4,28 +4,28 @@ use Rattle.map_core.specs.declared.reply.AskError.{AskError}
 use Rattle.map_core.specs.declared.reply.Reply.{Reply}
 use Rattle.step_core.specs.declared.trace.OpRecord.{OpRecord}
 use Rattle.map_core.specs.declared.op.Op.{Op}
-use Rattle.step_core.specs.Shard.{Version, reading, step_on, of_shard}
-use Rattle.step_core.specs.Phase.{Told, Replied, Seen, Revision}
+use Rattle.step_core.specs.Shard.{ShardVersion, reading, step_on, of_shard}
+use Rattle.step_core.specs.Phase.{Observation, Replied, Seen, Revision}
 use Rattle.step_core.specs.declared.task.Want.{Want}
 use Rattle.step_core.specs.declared.task.Want.TheVariants as want
 
-abbrev pub told_by : List Version → Op → Want → Told
-told_by shards op (want.Do i) = Replied (of_shard i (step_on (reading shards i) op).answer)
-told_by shards op (want.Collect i) = Seen (reading shards i)
-told_by shards op (want.Confirm i) = Revision (reading shards i).revision
-told_by shards op want.Done = Revision 0
+abbrev pub observation_by : List ShardVersion → Op → Want → Observation
+observation_by shards op (want.Do i) = Replied (of_shard i (step_on (reading shards i) op).answer)
+observation_by shards op (want.Collect i) = Seen (reading shards i)
+observation_by shards op (want.Confirm i) = Revision (reading shards i).revision
+observation_by shards op want.Done = Revision 0
 
-abbrev pub left_by : List Version → Op → Want → List Version
+abbrev pub left_by : List ShardVersion → Op → Want → List ShardVersion
 left_by shards op (want.Do i) = slice_set shards i (step_on (reading shards i) op).shard
 left_by shards op (want.Collect i) = shards
 left_by shards op (want.Confirm i) = shards
 left_by shards op want.Done = shards
 
 -- the numbers that stand in the list; an operation that gave up its point has left its place empty
-abbrev pub taken : List (Option ℕ) → List ℕ
-taken [] = []
-taken (None ∷ points) = taken points
-taken (Some number ∷ points) = number ∷ taken points
+abbrev pub positions : List (Option ℕ) → List ℕ
+positions [] = []
+positions (None ∷ points) = positions points
+positions (Some number ∷ points) = number ∷ positions points
 
 -- whether the number stands here
 abbrev pub holds : Option ℕ → ℕ → Bool
@@ -37,11 +37,11 @@ abbrev pub IsPlaced : List (Option ℕ) → ℕ → Bool → ℕ → Type 0
 IsPlaced points number has place = (i : ℕ) → holds (get_or points i None) number ≡ (has && (i == place))
 
 -- the points after an operation has gone on, whose own stood at this place
-abbrev pub repointed_list : Bool → Bool → ℕ → ℕ → List (Option ℕ) → List (Option ℕ)
-repointed_list false false number place points = points
-repointed_list false true number place points = points ++ Some number ∷ []
-repointed_list true false number place points = slice_set points place None
-repointed_list true true number place points = points
+abbrev pub update_positions : Bool → Bool → ℕ → ℕ → List (Option ℕ) → List (Option ℕ)
+update_positions false false number place points = points
+update_positions false true number place points = points ++ Some number ∷ []
+update_positions true false number place points = slice_set points place None
+update_positions true true number place points = points
 
 -- and the place of its own
 abbrev pub place_after : Bool → Bool → ℕ → List (Option ℕ) → ℕ
@@ -49,9 +49,9 @@ place_after false true place points = length points
 place_after had has place points = place
 
 -- a record of an operation that has gone on
-abbrev pub marked : OpRecord → Bool → OpRecord
-marked r wrote = record { caller = r.caller; op = r.op; first = r.first; last = r.last; reply = r.reply; wrote = wrote }
+abbrev pub with_wrote : OpRecord → Bool → OpRecord
+with_wrote r wrote = record { caller = r.caller; op = r.op; first = r.first; last = r.last; reply = r.reply; wrote = wrote }
 
 -- a record of an operation that has ended
-abbrev pub ended : OpRecord → ℕ → Result Reply AskError → OpRecord
-ended r now reply = record { caller = r.caller; op = r.op; first = r.first; last = Some now; reply = Some reply; wrote = r.wrote }
+abbrev pub with_end : OpRecord → ℕ → Result Reply AskError → OpRecord
+with_end r now reply = record { caller = r.caller; op = r.op; first = r.first; last = Some now; reply = Some reply; wrote = r.wrote }

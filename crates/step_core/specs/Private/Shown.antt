@@ -2,17 +2,17 @@
 use Rattle.std.specs.Prelude.{◌≡◌, ℕ, ◌<◌, true, false, List, length, get_or, Option, Some, None}
 use Rattle.std.specs.Ordering.{nat_cmp}
 use Rattle.std.specs.BTreeMap as tree
-use Rattle.step_core.specs.Shard.{Version, reading}
+use Rattle.step_core.specs.Shard.{ShardVersion, reading}
 use Rattle.step_core.specs.Phase.{Idle, has_point, is_idle}
 use Rattle.step_core.specs.declared.trace.OpRecord.{OpRecord}
 use Rattle.step_core.specs.Run.{Run, numbers}
 use Rattle.step_core.specs.Records.{no_record}
-use Rattle.step_core.specs.Private.Driver.{taken, holds, IsPlaced}
+use Rattle.step_core.specs.Private.Driver.{positions, holds, IsPlaced}
 use Rattle.step_core.specs.declared.driver.Running.{Running}
 use Rattle.step_core.specs.declared.driver.Driver.{Driver}
 
 -- the list shows the shards of a world
-pub record ShowsShards (n : ℕ) (shards : List Version) (world : ℕ → Version) : Type 0 where
+pub record ShowsShards (n : ℕ) (shards : List ShardVersion) (world : ℕ → ShardVersion) : Type 0 where
   pub size : length shards ≡ n
   pub each : (i : ℕ) → i < n → reading shards i ≡ world i
 
@@ -41,5 +41,5 @@ pub record IsShown (n rounds : ℕ) (driver : Driver) (run : Run) : Type 0 where
   pub shards : ShowsShards n driver.shards.items run.world.shards
   pub callers : (c : ℕ) → IsCaller n rounds run driver.points.items c (tree.get nat_cmp driver.callers c)
   pub records : ShowsRecords driver.ops.items run.count run.records
-  pub points : taken driver.points.items ≡ numbers run.points
+  pub points : positions driver.points.items ≡ numbers run.points
   pub known : (i q : ℕ) → holds (get_or driver.points.items i None) q ≡ true → q < run.count

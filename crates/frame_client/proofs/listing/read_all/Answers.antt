@@ -34,14 +34,14 @@ returns-in_ok-items-in-Some-Ok-clause-ok g c =
     let count = c.in-Some-Ok.count in
     let head = rw c.in-Some-Ok.field-0-is at c.in-Some-Ok.ensures.count in
     let items = c.in_ok-items-in-Some-Ok.items.items in
-    let lawful = c.in_ok-items-in-Some-Ok.ensures.lawful in
+    let valid = c.in_ok-items-in-Some-Ok.ensures.valid in
     let frames = flat_map item_frame items in
     let first = frame (97 ∷ to_be_bytes w64 count) in
     let took = Consumes-trans _ _ _ first frames (subst (Consumes _ _) (ap frame head.0) c.in_ok-size.ensures.ok.2) c.in_ok-items-in-Some-Ok.ensures.ok in
     rw c.from_pairs.ensures (
       may_all items,
-      (lawful.0, lawful.1, omega (arith, lawful.2, head.1)),
-      subst (Consumes _ _) (ap (λ n. frame (97 ∷ to_be_bytes w64 n) ++ frames) (sym lawful.2)) took,
+      (valid.0, valid.1, omega (arith, valid.2, head.1)),
+      subst (Consumes _ _) (ap (λ n. frame (97 ∷ to_be_bytes w64 n) ++ frames) (sym valid.2)) took,
     )
 
 pub returns-in-Some-Err-clause-ok : goal.returns-in-Some-Err-clause-ok

@@ -6,7 +6,8 @@ use Rattle.std.proofs.KnownBytes.{Consumes-trans}
 use Rattle.map_core.specs.Name.{Name}
 use Rattle.frame_front.specs.Frame.{frame}
 use Rattle.frame_front.specs.Reply.{item_frame}
-use Rattle.frame_front.specs.Dump.{IsAfter, Domains}
+use Rattle.frame_front.specs.Dump.{Domains}
+use Rattle.map_core.specs.Laws.{IsAfter}
 use Rattle.frame_client.proofs.ListingLemmas.{Listed, Listed-one, listing_breaks, listing_bad}
 use Rattle.frame_client.proofs.listing.read_listing.Goals as goal
 
@@ -33,7 +34,7 @@ returns-in-Ok-None-clause-err g c =
       flat_map item_frame items ++ frame payload,
       Consumes-trans _ _ _ (flat_map item_frame items) (frame payload) so_far.consumed read.2,
       listing_bad c.args.count items so_far.valid (omega (arith, so_far.size)) payload read.1
-          (λ item name lawful after. none item name lawful (subst (λ (l : Option Name). IsAfter l item.0) (sym so_far.last_is) after)),
+          (λ item name valid after. none item name valid (subst (λ (l : Option Name). IsAfter l item.0) (sym so_far.last_is) after)),
     )
 
 pub returns-in-Err-clause-err : goal.returns-in-Err-clause-err

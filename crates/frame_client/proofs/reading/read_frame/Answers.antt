@@ -16,18 +16,18 @@ returns-in_err-fill-2-clause-err g c =
     rw is_fault (
       field ++ cut.0,
       Consumes-trans _ _ _ field cut.0 c.in_ok-fill.ensures.ok cut.1,
-      NoFrame-payload _ _ field cut.0 c.spelled_length-size.result c.in_ok-fill.ensures.len c.spelled_length-size.ensures.value (omega arith) (omega arith)
-          (omega (arith, cut.2, length-take-le c.spelled_length-size.result c.args.buffer.now (omega arith))) cut.3,
+      NoFrame-payload _ _ field cut.0 c.length_field-size.result c.in_ok-fill.ensures.len c.length_field-size.ensures.value (omega arith) (omega arith)
+          (omega (arith, cut.2, length-take-le c.length_field-size.result c.args.buffer.now (omega arith))) cut.3,
     )
 
 pub returns-clause-ok : goal.returns-clause-ok
 returns-clause-ok g c =
     let field = c.fill.new.buffer in
     let payload = c.fill-2.new.buffer in
-    let size = c.spelled_length-size.result in
+    let size = c.length_field-size.result in
     let long : length payload ≡ size = search rules in
     let front : take size (payload ++ drop size c.args.buffer.now) ≡ payload = take_at payload (drop size c.args.buffer.now) size long in
-    let whole = frame_whole field payload size c.in_ok-fill.ensures.len c.spelled_length-size.ensures.bytes long in (
+    let whole = frame_whole field payload size c.in_ok-fill.ensures.len c.length_field-size.ensures.bytes long in (
       ap length front ∙ long,
       (omega (arith, ap length front), omega (arith, ap length front)),
       subst (Consumes _ _) (whole ∙ ap frame (sym front)) (Consumes-trans _ _ _ field payload c.in_ok-fill.ensures.ok c.in_ok-fill-2.ensures.ok),

@@ -1,7 +1,7 @@
 use Rattle.std.proofs.Common.{sym, ◌∙◌, subst, refl}
 use Rattle.spiffe_doc.specs.Authority.{BundleValue}
 use Rattle.map_core.specs.Name.{Name}
-use Rattle.frame_front.specs.Dump.{IsAfter}
+use Rattle.map_core.specs.Laws.{IsAfter}
 use Rattle.frame_front.proofs.DumpLemmas.{no_item}
 use Rattle.frame_front.proofs.DomainLists.{some_item, none_item}
 use Rattle.frame_front.proofs.dump.next_item.Goals as goal

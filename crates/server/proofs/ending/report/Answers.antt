@@ -2,7 +2,7 @@ use Rattle.std.proofs.Common.{◌≡◌, ℕ, List, ◌++◌, ◌&&◌, Bool, fa
 use Rattle.std.specs.Prelude.{min, if◌then◌else◌}
 use Rattle.server.specs.declared.lines.Said.TheVariants.{Served, Domains}
 use Rattle.workers.specs.declared.run.Worked.{Worked}
-use Rattle.server.specs.Serve.{IsOffered, said_line, untaken, begun, have_come, session_lines, results_of}
+use Rattle.server.specs.Serve.{IsOffered, said_line, write_fault, session_count, all_came, session_lines, results_of}
 use Rattle.commands.specs.Streams.{TellsUnlessFailed, end_of}
 use Rattle.commands.proofs.Telling.{told_more}
 use Rattle.server.proofs.ReportLemmas.{all_three, not_all}
@@ -15,11 +15,11 @@ returns-in-Ok g c =
     let said = c.say-domains_taken.result in
     let start = end_of g.W.Write.contents c.args.out.now in
     let between = end_of g.W.Write.contents c.say-served_taken.new.out in
-    let count : c.count_begun.result ≡ min (begun (results_of worked)) 18446744073709551615 =
-    c.count_begun.ensures ∙ ap (λ (ws : List Worked). min (begun (results_of ws)) 18446744073709551615) c.as_slice.ensures.value in
-    let told = subst (λ (ws : List Worked). TellsUnlessFailed c.args.before (end_of g.E.Write.contents c.say-served_taken.new.err) (end_of g.E.Write.contents c.tell_faults-have_come.new.err) (session_lines (results_of ws)))
-    c.as_slice-2.ensures.value c.tell_faults-have_come.ensures.told in
-    let came = c.tell_faults-have_come.ensures.came ∙ ap (λ (ws : List Worked). have_come (results_of ws)) c.as_slice-2.ensures.value in
+    let count : c.count_begun.result ≡ min (session_count (results_of worked)) 18446744073709551615 =
+    c.count_begun.ensures ∙ ap (λ (ws : List Worked). min (session_count (results_of ws)) 18446744073709551615) c.as_slice.ensures.value in
+    let tells = subst (λ (ws : List Worked). TellsUnlessFailed c.args.before (end_of g.E.Write.contents c.say-served_taken.new.err) (end_of g.E.Write.contents c.tell_faults-have_come.new.err) (session_lines (results_of ws)))
+    c.as_slice-2.ensures.value c.tell_faults-have_come.ensures.tells in
+    let came = c.tell_faults-have_come.ensures.came ∙ ap (λ (ws : List Worked). all_came (results_of ws)) c.as_slice-2.ensures.value in
     record {
       served_taken = taken;
       between = between;
@@ -28,11 +28,11 @@ returns-in-Ok g c =
       closes = c.in-Ok.ensures;
       domains_taken = said;
       domains = subst (λ (n : ℕ). IsOffered said (said_line (Domains n)) between (end_of g.W.Write.contents c.say-domains_taken.new.out)) c.len.ensures c.say-domains_taken.ensures.offered;
-      told = told_more c.args.before _ _ _ (untaken taken) (session_lines (results_of worked) ++ untaken said) c.say-served_taken.ensures.told
-          (told_more c.args.before _ _ _ (session_lines (results_of worked)) (untaken said) told c.say-domains_taken.ensures.told);
+      tells = told_more c.args.before _ _ _ (write_fault taken) (session_lines (results_of worked) ++ write_fault said) c.say-served_taken.ensures.tells
+          (told_more c.args.before _ _ _ (session_lines (results_of worked)) (write_fault said) tells c.say-domains_taken.ensures.tells);
       has_status = c.status_of.ensures
           ∙ ap (λ (b : Bool). if (taken && b) && said then 0 else 1) came
-          ∙ ap (λ (b : Bool). if b then 0 else 1) (all_three taken (have_come (results_of worked)) said);
+          ∙ ap (λ (b : Bool). if b then 0 else 1) (all_three taken (all_came (results_of worked)) said);
     }
 
 pub returns-in-Err : goal.returns-in-Err
@@ -41,10 +41,10 @@ returns-in-Err g c =
     let taken = c.say-served_taken.result in
     let start = end_of g.W.Write.contents c.args.out.now in
     let between = end_of g.W.Write.contents c.say-served_taken.new.out in
-    let count : c.count_begun.result ≡ min (begun (results_of worked)) 18446744073709551615 =
-    c.count_begun.ensures ∙ ap (λ (ws : List Worked). min (begun (results_of ws)) 18446744073709551615) c.as_slice.ensures.value in
-    let told = subst (λ (ws : List Worked). TellsUnlessFailed c.args.before (end_of g.E.Write.contents c.say-served_taken.new.err) (end_of g.E.Write.contents c.tell_faults-have_come.new.err) (session_lines (results_of ws)))
-    c.as_slice-2.ensures.value c.tell_faults-have_come.ensures.told in
+    let count : c.count_begun.result ≡ min (session_count (results_of worked)) 18446744073709551615 =
+    c.count_begun.ensures ∙ ap (λ (ws : List Worked). min (session_count (results_of ws)) 18446744073709551615) c.as_slice.ensures.value in
+    let tells = subst (λ (ws : List Worked). TellsUnlessFailed c.args.before (end_of g.E.Write.contents c.say-served_taken.new.err) (end_of g.E.Write.contents c.tell_faults-have_come.new.err) (session_lines (results_of ws)))
+    c.as_slice-2.ensures.value c.tell_faults-have_come.ensures.tells in
     record {
       served_taken = taken;
       between = between;
@@ -53,7 +53,7 @@ returns-in-Err g c =
       closes = c.in-Err.ensures;
       domains_taken = false;
       domains = (refl, refl);
-      told = told_more c.args.before _ _ _ (untaken taken) _ c.say-served_taken.ensures.told
-          (told_more c.args.before _ _ _ (session_lines (results_of worked)) _ told c.tell_unless_failed.ensures);
-      has_status = not_all taken (have_come (results_of worked));
+      tells = told_more c.args.before _ _ _ (write_fault taken) _ c.say-served_taken.ensures.tells
+          (told_more c.args.before _ _ _ (session_lines (results_of worked)) _ tells c.tell_unless_failed.ensures);
+      has_status = not_all taken (all_came (results_of worked));
     }

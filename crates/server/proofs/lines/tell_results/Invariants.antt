@@ -1,5 +1,5 @@
 use Rattle.std.proofs.Common.{◌≡◌, take}
-use Rattle.server.specs.Serve.{have_come as all_came, session_lines}
+use Rattle.server.specs.Serve.{all_came as all_came, session_lines}
 use Rattle.commands.specs.Streams.{TellsUnlessFailed, end_of}
 use Rattle.server.proofs.lines.tell_results.Given as goal
 

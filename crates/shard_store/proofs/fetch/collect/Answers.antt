@@ -3,9 +3,10 @@ use Rattle.map_core.specs.declared.reply.AskError.TheVariants.{Memory}
 use Rattle.std.proofs.Common.{◌≡◌, ℕ, ◌+◌, ◌*◌, ◌/◌, arith, sym, ap, ◌∙◌, subst}
 use Rattle.std.specs.Arc.{arc_value}
 use Rattle.shard_store.specs.declared.change.Seen.{Seen}
-use Rattle.shard_store.specs.Changes.{count, IsPart}
+use Rattle.shard_store.specs.Changes.{count}
+use Rattle.shard_store.specs.Private.Numbers.{IsPart}
 use Rattle.shard_store.specs.Promise.{IsRefusedAt}
-use Rattle.shard_store.specs.Seat.{Missed, IsHolding}
+use Rattle.shard_store.specs.Private.Seat.{Missed, IsHolding}
 use Rattle.shard_store.proofs.Promise.{later_then, later_same, missed_then, at_slots, error_passed, at_each, fetch_has_no_home}
 use Rattle.shard_store.proofs.fetch.collect.Goals as goal
 

@@ -1,6 +1,6 @@
 use Rattle.std.proofs.Common.{◌≡◌, ◌<◌}
 use Rattle.shard_store.specs.Promise.{IsLater}
-use Rattle.shard_store.specs.Seat.{Missed, IsIdle, IsSameSeat}
+use Rattle.shard_store.specs.Private.Seat.{Missed, IsIdle, IsSameSeat}
 use Rattle.shard_store.proofs.fetch.collect.Given as goal
 
 abbrev pub invariant-loop : goal.invariant-loop

@@ -1,6 +1,6 @@
 use Rattle.std.proofs.Common.{◌≡◌, length}
 use Rattle.shard_store.specs.Promise.{IsLater}
-use Rattle.shard_store.specs.Seat.{IsIdle, IsSameSeat}
+use Rattle.shard_store.specs.Private.Seat.{IsIdle, IsSameSeat}
 use Rattle.shard_store.specs.Private.Readings.{WereRead}
 use Rattle.shard_store.proofs.fetch.collect_all.Given as goal
 

@@ -1,7 +1,7 @@
 use Rattle.std.proofs.Common.{ℕ, ◌<◌, ◌≤◌, get_or}
 use Rattle.shard_store.specs.Changes.{count}
 use Rattle.shard_store.specs.Promise.{IsLater}
-use Rattle.shard_store.specs.Seat.{IsIdle, IsSameSeat}
+use Rattle.shard_store.specs.Private.Seat.{IsIdle, IsSameSeat}
 use Rattle.shard_store.proofs.fetch.confirm_all.Given as goal
 
 abbrev pub invariant-loop-shard : goal.invariant-loop-shard

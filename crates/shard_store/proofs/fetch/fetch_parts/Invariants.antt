@@ -1,6 +1,6 @@
 use Rattle.std.proofs.Common.{◌<◌, ◌≤◌, ◌+◌, length}
 use Rattle.shard_store.specs.Promise.{IsLater, HasMoved}
-use Rattle.shard_store.specs.Seat.{IsIdle, IsSameSeat}
+use Rattle.shard_store.specs.Private.Seat.{IsIdle, IsSameSeat}
 use Rattle.shard_store.proofs.fetch.fetch_parts.Given as goal
 
 abbrev pub invariant-loop : goal.invariant-loop

@@ -1,6 +1,6 @@
 use Rattle.std.proofs.Common.{◌≡◌, ◌/◌, rules, refl, arith}
 use Rattle.shard_store.specs.Changes.{count}
-use Rattle.shard_store.specs.Seat.{IsHolding}
+use Rattle.shard_store.specs.Private.Seat.{IsHolding}
 use Rattle.shard_store.proofs.KeptSteps.{takes_shard}
 use Rattle.shard_store.proofs.Promise.{someone, missed_seat, taken_holds, taken_count, at_slots}
 use Rattle.shard_store.proofs.holds.hold_from.Goals as goal

@@ -1,6 +1,6 @@
 use Rattle.std.proofs.Common.{◌≡◌, ◌%◌, arith, sym}
 use Rattle.shard_store.proofs.Promise.{later_then, missed_then, even_unless, at_slots, error_passed}
-use Rattle.shard_store.specs.Seat.{Missed, IsHolding}
+use Rattle.shard_store.specs.Private.Seat.{Missed, IsHolding}
 use Rattle.shard_store.specs.Changes.{count}
 use Rattle.shard_store.proofs.holds.try_hold.Goals as goal
 

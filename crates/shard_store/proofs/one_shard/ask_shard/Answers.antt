@@ -1,7 +1,7 @@
 use Rattle.std.proofs.Common.{◌+◌, arith, ap, sym, ◌∙◌, subst}
 use Rattle.shard_store.specs.declared.one_shard.Attempt.{Attempt}
 use Rattle.shard_store.specs.Promise.{IsRefusedAt}
-use Rattle.shard_store.specs.Seat.{Missed, Tried}
+use Rattle.shard_store.specs.Private.Seat.{Missed, Tried}
 use Rattle.shard_store.proofs.Promise.{later_then, missed_then, answered_since, refused_since, at_slots, error_passed, at_home}
 use Rattle.shard_store.proofs.one_shard.ask_shard.Goals as goal
 

@@ -1,4 +1,4 @@
-use Rattle.shard_store.specs.Seat.{change_by}
+use Rattle.shard_store.specs.Private.Seat.{change_by}
 use Rattle.shard_store.proofs.one_shard.store_version.Given as goal
 
 abbrev pub ghosts-publish : goal.ghosts-publish

@@ -1,7 +1,7 @@
 use Rattle.std.proofs.Common.{List, Some, sym, ◌∙◌, subst, refl, arith}
 use Rattle.std.specs.List.{All}
 use Rattle.std.proofs.lemmas.List.Elements.{All-push}
-use Rattle.shard_store.specs.Rule.{IsEmptyVersion, SlotValue}
+use Rattle.shard_store.specs.Private.Rule.{IsEmptyVersion, SlotValue}
 use Rattle.std.proofs.Common.{Global}
 use Rattle.shard_store.proofs.store.empty_slots.Goals as goal
 

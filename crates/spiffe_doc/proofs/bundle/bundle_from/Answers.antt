@@ -2,7 +2,7 @@ use Rattle.std.proofs.Common.{◌≡◌, ◌≤◌, ◌++◌, length, refl, sym,
 use Rattle.std.proofs.Math.Seq.{take-append_seam}
 use Rattle.spiffe_doc.specs.Authority.{BundleValue}
 use Rattle.spiffe_doc.specs.Text.{text_of}
-use Rattle.spiffe_doc.specs.Writing.{rest_text}
+use Rattle.spiffe_doc.specs.Private.Writing.{rest_text}
 use Rattle.spiffe_doc.proofs.TextLemmas.{text_of-pieces}
 use Rattle.spiffe_doc.proofs.bundle.bundle_from.Goals as goal
 
@@ -23,10 +23,10 @@ invariant_of-result c =
     let longer = ap length c.in_ok-push_rest.ensures in
     let front_len : c.len-front_len.result ≡ length c.args.front.items = omega (arith, c.len-front_len.ensures) in
     rw c.in_ok-published.ensures.ok (record {
-      lawful = record {
+      valid = record {
         sequence_fits = search rules;
         hint_fits = search rules;
-        authorities = c.requires.lawful;
+        authorities = c.requires.valid;
         short = omega (arith, same, c.len.ensures, c.if-len-gt-MAX_TEXT.false);
       };
       written = whole;

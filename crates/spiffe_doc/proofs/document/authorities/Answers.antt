@@ -2,7 +2,7 @@ use Rattle.std.proofs.Common.{◌≡◌, ◌<◌, length, map, ◌∙◌, ap, in
 use Rattle.std.proofs.lemmas.Result.{err_from_is_err_and}
 use Rattle.std.proofs.lemmas.List.{length-map}
 use Rattle.serde_json.specs.View.{view}
-use Rattle.spiffe_doc.specs.Private.AuthoritySet.{taken}
+use Rattle.spiffe_doc.specs.Private.AuthoritySet.{take_in}
 use Rattle.spiffe_doc.proofs.EntryLists.{read_none, read_one_more, read_to_fault, read_all, outcome-view, elements_view}
 use Rattle.spiffe_doc.proofs.document.authorities.Goals as goal
 
@@ -17,7 +17,7 @@ returns-in_err-take_entry-clause-exact c =
     let fits : c.loop-place.place < length (map view c.args.entries.now.items) = rw length-map inside in
     rw (p.1, p.2, elements_view) (elim c.in_err-take_entry.ensures.exact [
       | inl memory ↦ inl memory
-      | inr fault ↦ inr (read_to_fault (map view c.args.entries.now.items) c.loop-place.place c.loop-place.set.authorities.items _ c.loop-place.invariant.read fits (ap (taken c.loop-place.place c.loop-place.set.authorities.items) same ∙ fault))
+      | inr fault ↦ inr (read_to_fault (map view c.args.entries.now.items) c.loop-place.place c.loop-place.set.authorities.items _ c.loop-place.invariant.read fits (ap (take_in c.loop-place.place c.loop-place.set.authorities.items) same ∙ fault))
     ])
 
 pub loop-place-preserved : goal.loop-place-preserved
@@ -26,7 +26,7 @@ loop-place-preserved c =
     let same = outcome-view c.args.entries.now.items c.loop-place.place c.entry-item.result inside (rw (c.deref-entry-items.ensures.value) at c.entry-item.is) in
     record {
       whole = c.in_ok-take_entry.ensures.whole;
-      read = read_one_more (map view c.args.entries.now.items) c.loop-place.place c.loop-place.set.authorities.items _ c.loop-place.invariant.read (ap (taken c.loop-place.place c.loop-place.set.authorities.items) same ∙ c.in_ok-take_entry.ensures.exact);
+      read = read_one_more (map view c.args.entries.now.items) c.loop-place.place c.loop-place.set.authorities.items _ c.loop-place.invariant.read (ap (take_in c.loop-place.place c.loop-place.set.authorities.items) same ∙ c.in_ok-take_entry.ensures.exact);
     }
 
 pub returns-clause-exact : goal.returns-clause-exact

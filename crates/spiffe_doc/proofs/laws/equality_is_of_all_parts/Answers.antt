@@ -1,4 +1,4 @@
-use Rattle.spiffe_doc.specs.Equality.{ec_decides, rsa_decides, key_decides, authority_decides, bundle_decides}
+use Rattle.spiffe_doc.specs.Private.Equality.{ec_decides, rsa_decides, key_decides, authority_decides, bundle_decides}
 use Rattle.spiffe_doc.proofs.laws.equality_is_of_all_parts.Goals as goal
 
 pub returns-clause-ec_keys : goal.returns-clause-ec_keys

@@ -1,5 +1,5 @@
 use Rattle.std.proofs.Common.{◌≡◌, suc, ◌+◌, slice_index, refl, sym, ap, ◌∙◌, arith}
-use Rattle.spiffe_doc.specs.Prefix.{prefix_number}
+use Rattle.spiffe_doc.specs.Private.Prefix.{prefix_number}
 use Rattle.spiffe_doc.proofs.NameOrder.{prefix-more, prefix-room}
 use Rattle.spiffe_doc.proofs.name.prefix_of.Goals as goal
 

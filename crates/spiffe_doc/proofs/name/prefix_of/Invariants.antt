@@ -1,5 +1,5 @@
 use Rattle.std.proofs.Common.{◌≡◌}
-use Rattle.spiffe_doc.specs.Prefix.{prefix_number}
+use Rattle.spiffe_doc.specs.Private.Prefix.{prefix_number}
 use Rattle.spiffe_doc.proofs.name.prefix_of.Given as goal
 
 abbrev pub invariant-loop-place : goal.invariant-loop-place

@@ -1,5 +1,5 @@
 use Rattle.std.proofs.Common.{◌++◌, codes, ap, ◌∙◌}
-use Rattle.spiffe_doc.specs.Writing.{number_text}
+use Rattle.spiffe_doc.specs.Private.Writing.{number_text}
 use Rattle.spiffe_doc.proofs.TextLemmas.{rest_text-pieces}
 use Rattle.spiffe_doc.proofs.text.push_rest.Goals as goal
 

@@ -1,7 +1,7 @@
 use Rattle.std.proofs.Common.{◌≡◌, ◌+◌, ◌<◌, ◌≤◌, ℕ, List, [], ◌∷◌, ◌++◌, length, get_or, take, Option, Some, None, arith, sym, ap, ◌∙◌}
 use Rattle.std.proofs.lemmas.Grind.{elements}
 use Rattle.std.proofs.lemmas.List.{take_more}
-use Rattle.step_core.specs.Private.Driver.{taken}
+use Rattle.step_core.specs.Private.Driver.{positions}
 use Rattle.step_core.proofs.Places.{taken-push, taken-skip}
 use Rattle.step_core.proofs.run.numbers.Goals as goal
 use Rattle.step_core.proofs.run.numbers.Goals.{in-Some+in_ok-push, in_default}
@@ -18,9 +18,9 @@ loop-point-preserved c =
     let k = c.loop-point.point-index in
     elim c.match-point.branch [
       | in-Some+in_ok-push w ↦ ap (λ v. v.items) w.numbers-is ∙ w.in_ok-push.ensures.items ∙ ap (λ (r : List ℕ). r ++ w.in-Some.number ∷ []) c.loop-point.invariant
-          ∙ sym (ap taken (next_take xs k (Some w.in-Some.number) w.in-Some.is c.loop-point-test.true) ∙ taken-push (take k xs) w.in-Some.number)
-      | in_default w ↦ ap (λ v. v.items) w.numbers-is ∙ c.loop-point.invariant ∙ sym (ap taken (next_take xs k None w.in_default.is c.loop-point-test.true) ∙ taken-skip (take k xs))
+          ∙ sym (ap positions (next_take xs k (Some w.in-Some.number) w.in-Some.is c.loop-point-test.true) ∙ taken-push (take k xs) w.in-Some.number)
+      | in_default w ↦ ap (λ v. v.items) w.numbers-is ∙ c.loop-point.invariant ∙ sym (ap positions (next_take xs k None w.in_default.is c.loop-point-test.true) ∙ taken-skip (take k xs))
     ]
 
 pub returns : goal.returns
-returns c = c.loop-point.invariant ∙ ap taken (all_taken c.args.points.now c.loop-point.point-index c.loop-point-test.false)
+returns c = c.loop-point.invariant ∙ ap positions (all_taken c.args.points.now c.loop-point.point-index c.loop-point-test.false)

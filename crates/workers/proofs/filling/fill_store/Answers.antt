@@ -4,7 +4,7 @@ use Rattle.shard_store.specs.declared.change.Seen.{Seen}
 use Rattle.shard_store.specs.Pass.{StoreView}
 use Rattle.shard_store.specs.Seated.{SeatedAnswer}
 use Rattle.workers.specs.declared.filling.FillError.TheVariants.{Front, NotStored}
-use Rattle.workers.specs.Filling.{IsNotFilled, seated, stored_replies}
+use Rattle.workers.specs.Filling.{IsNotFilled, seated_view, stored_replies}
 use Rattle.workers.specs.Workers.{IsFurther}
 use Rattle.workers.proofs.Fillings.{fills_by, not_fills_by, session_by}
 use Rattle.workers.proofs.KeptAlong.{sessions_keep}
@@ -31,10 +31,10 @@ returns-clause-further c =
 pub returns-clause-stored : goal.returns-clause-stored
 returns-clause-stored c =
     let store = c.args.store.now in
-    let begun : c.new-seated.result ≡ seated store c.args.first.seen =
-    ap (λ (x : StoreView). seated x c.new-seated.result.seen) c.new-seated.ensures.store ∙ ap (seated store) c.new-seated.ensures.seen in
-    let done : c.serve.new.ask ≡ seated store c.into_pass.result.seen =
-    ap (λ (x : StoreView). seated x c.serve.new.ask.seen) ((stays c).0 ∙ c.new-seated.ensures.store) ∙ ap (seated store) (sym c.into_pass.ensures.seen) in
+    let begun : c.new-seated.result ≡ seated_view store c.args.first.seen =
+    ap (λ (x : StoreView). seated_view x c.new-seated.result.seen) c.new-seated.ensures.store ∙ ap (seated_view store) c.new-seated.ensures.seen in
+    let done : c.serve.new.ask ≡ seated_view store c.into_pass.result.seen =
+    ap (λ (x : StoreView). seated_view x c.serve.new.ask.seen) ((stays c).0 ∙ c.new-seated.ensures.store) ∙ ap (seated_view store) (sym c.into_pass.ensures.seen) in
     let written = sym c.as_slice.ensures.value ∙ c.if-not-are_stored.ensures.yes refl in
     fills_by c.args.requests.now store c.args.first.seen c.into_pass.result.seen c.in-Some.count c.in-Ok.answered _ (omega (arith, c.in-Some.ensures))
     (session_by (Ok c.in-Ok.answered) c.args.requests.now (stored_replies c.in-Some.count) store c.args.first.seen c.into_pass.result.seen _ _ _ _ c.new-seated.result c.serve.new.ask
@@ -44,16 +44,16 @@ returns-clause-stored c =
 pub returns-in-Err-clause-refused : goal.returns-in-Err-clause-refused
 returns-in-Err-clause-refused c =
     let store = c.args.store.now in
-    let begun : c.new-seated.result ≡ seated store c.args.first.seen =
-    ap (λ (x : StoreView). seated x c.new-seated.result.seen) c.new-seated.ensures.store ∙ ap (seated store) c.new-seated.ensures.seen in
+    let begun : c.new-seated.result ≡ seated_view store c.args.first.seen =
+    ap (λ (x : StoreView). seated_view x c.new-seated.result.seen) c.new-seated.ensures.store ∙ ap (seated_view store) c.new-seated.ensures.seen in
     not_fills_by (Front c.in-Err.error) (Err c.in-Err.error) c.args.requests.now c.serve.new.writer.end.items store c.args.first.seen _ _ _ _ c.new-seated.result c.serve.new.ask
     (ap (λ x. Some x.now) c.new-reader.ensures.end) (ap (λ x. Some x.items) c.new-writer.ensures.end ∙ ap Some c.new.ensures.items) refl begun refl c.in-Err.ensures.transcript
 
 pub returns-then-not-are_stored-clause-refused : goal.returns-then-not-are_stored-clause-refused
 returns-then-not-are_stored-clause-refused c =
     let store = c.args.store.now in
-    let begun : c.new-seated.result ≡ seated store c.args.first.seen =
-    ap (λ (x : StoreView). seated x c.new-seated.result.seen) c.new-seated.ensures.store ∙ ap (seated store) c.new-seated.ensures.seen in
+    let begun : c.new-seated.result ≡ seated_view store c.args.first.seen =
+    ap (λ (x : StoreView). seated_view x c.new-seated.result.seen) c.new-seated.ensures.store ∙ ap (seated_view store) c.new-seated.ensures.seen in
     let all : c.in-Ok.answered ≡ suc c.in-Some.count = omega (arith, c.in-Some.ensures) in
     let replies = c.serve.new.writer.end.items in
     let why = subst (λ (n : ℕ). IsNotFilled (Ok n) replies NotStored) (sym all)

@@ -1,6 +1,6 @@
 use Rattle.std.proofs.Common.{◌≡◌, ◌++◌, length, map}
 use Rattle.std.specs.Vec.Iter.{into_iter_items, into_iter_len}
-use Rattle.workers.specs.Workers.{AreNumbered}
+use Rattle.workers.specs.Private.Numbers.{AreNumbered}
 use Rattle.workers.proofs.run.workers_of.Given as goal
 
 abbrev pub invariant-loop-pass : goal.invariant-loop-pass

@@ -1,4 +1,5 @@
-use Rattle.workers.specs.Sessions.{AllCame, ServedAll}
+use Rattle.workers.specs.Sessions.{ServedAll}
+use Rattle.workers.specs.Private.Sessions.{AllCame}
 use Rattle.workers.proofs.sessions.serve_sessions.Given as goal
 
 abbrev pub invariant-loop-session : goal.invariant-loop-session

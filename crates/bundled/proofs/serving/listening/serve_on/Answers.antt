@@ -26,7 +26,7 @@ returns-in-Ok-serve_all-clause-run g c =
         out = end_of g.W.Write.contents c.say.new.out;
         error = end_of g.E.Write.contents c.say.new.err;
         listening = c.if-not-say.ensures.offered;
-        told = subst (λ (b : ℕ). TellsUnlessFailed b (end_of g.E.Write.contents c.args.err.now) (end_of g.E.Write.contents c.say.new.err) []) before c.if-not-say.ensures.told;
+        tells = subst (λ (b : ℕ). TellsUnlessFailed b (end_of g.E.Write.contents c.args.err.now) (end_of g.E.Write.contents c.say.new.err) []) before c.if-not-say.ensures.tells;
         serves = inr (
           c.in-Ok-serve_all.worked.items,
           c.in-Ok-serve_all.ensures.worked,

@@ -11,7 +11,7 @@ returns-clause-run g c =
       inl (
         error,
         subst (λ (requests : List ℕ). NotSetUp requests error) c.as_slice.ensures.value c.in-Err-new.ensures.refused,
-        (c.tell-in-Err-new.ensures.status, refl, c.tell-in-Err-new.ensures.told),
+        (c.tell-in-Err-new.ensures.status, refl, c.tell-in-Err-new.ensures.tells),
       ),
     )
 

@@ -1,5 +1,5 @@
 use Rattle.std.proofs.Common.{sym, ap, ◌∙◌}
-use Rattle.map_core.specs.PlainMap.{published}
+use Rattle.map_core.specs.PlainMap.{bundles_among}
 use Rattle.map_core.proofs.Entries.{entries_sorted, sorted_entries, all_pushed}
 use Rattle.map_core.proofs.contents.Contents.into_snapshot.Goals as goal
 
@@ -8,5 +8,5 @@ returns c =
     let gives = c.into_iter-domain-iterator.ensures.into_iter_gives in
     let entries_are = entries_sorted c.self.inside.held.entries (sorted_entries c.self.inside.held gives.5) in
     let here = rw c.self.view_is at entries_are in
-    let pairs_are = all_pushed c.loop-domain.taken.items (published c.loop-domain.domain-iterator) (published c.into_iter-domain-iterator.result) c.loop-domain.invariant (ap published c.in-None.ensures.steps.0) in
-    c.from_pairs.ensures ∙ pairs_are ∙ ap published (gives.0 ∙ sym here)
+    let pairs_are = all_pushed c.loop-domain.taken.items (bundles_among c.loop-domain.domain-iterator) (bundles_among c.into_iter-domain-iterator.result) c.loop-domain.invariant (ap bundles_among c.in-None.ensures.steps.0) in
+    c.from_pairs.ensures ∙ pairs_are ∙ ap bundles_among (gives.0 ∙ sym here)

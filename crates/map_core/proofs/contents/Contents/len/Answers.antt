@@ -1,16 +1,16 @@
 use Rattle.std.proofs.Common.{rules, ◌≡◌, suc, List, [], ◌∷◌, length, filter, ap, sym, refl, ◌∙◌}
 use Rattle.std.specs.Map.{values_of}
 use Rattle.std.proofs.lemmas.Iterator.Consumers.{count_from_yields_List, YieldsList-at, YieldsList-from_filter, YieldsList-from_rest}
-use Rattle.map_core.specs.declared.held.Held.{Held}
-use Rattle.map_core.specs.declared.held.Held.TheVariants.{Published, Mark}
+use Rattle.map_core.specs.declared.held.Holding.{Holding}
+use Rattle.map_core.specs.declared.held.Holding.TheVariants.{Published, Mark}
 use Rattle.map_core.specs.Private.Held.{is_published}
 use Rattle.map_core.specs.Name.{Name}
-use Rattle.map_core.specs.PlainMap.{published}
+use Rattle.map_core.specs.PlainMap.{bundles_among}
 use Rattle.map_core.proofs.Entries.{entries_sorted, sorted_entries}
 use Rattle.map_core.proofs.contents.Contents.len.Goals as goal
 
 -- the bundles among the values are as many as those among the entries
-published_len : (entries : List (Name × Held)) → length (filter is_published (values_of entries)) ≡ length (published entries)
+published_len : (entries : List (Name × Holding)) → length (filter is_published (values_of entries)) ≡ length (bundles_among entries)
 published_len [] = refl
 published_len ((d, Published b) ∷ rest) = ap suc (published_len rest)
 published_len ((d, Mark s) ∷ rest) = published_len rest
@@ -22,4 +22,4 @@ returns c =
     let sorted = sorted_entries c.self.inside.held c.values.ensures.ordered in
     let entries_are = entries_sorted entries sorted in
     let here = rw c.self.view_is at entries_are in
-    counted ∙ (published_len entries ∙ ap (λ es. length (published es)) (sym here))
+    counted ∙ (published_len entries ∙ ap (λ es. length (bundles_among es)) (sym here))

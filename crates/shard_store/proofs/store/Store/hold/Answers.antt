@@ -3,7 +3,7 @@ use Rattle.atomic_table.specs.Seated.{TableId}
 use Rattle.map_core.specs.declared.reply.AskError.TheVariants.{Held}
 use Rattle.shard_store.specs.Promise.{IsLater, IsAlone}
 use Rattle.shard_store.specs.Changes.{count}
-use Rattle.shard_store.specs.Seat.{IsHolding}
+use Rattle.shard_store.specs.Private.Seat.{IsHolding}
 use Rattle.shard_store.proofs.Promise.{at_slots}
 use Rattle.shard_store.proofs.store.Store.hold.Goals as goal
 

@@ -4,7 +4,7 @@ use Rattle.std.proofs.lemmas.List.{with_items_is}
 use Rattle.step_core.specs.declared.driver.Running.{Running}
 use Rattle.step_core.specs.declared.driver.Driver.{Driver}
 use Rattle.step_core.specs.Records.{no_record}
-use Rattle.step_core.specs.Private.Driver.{marked, ended, repointed_list}
+use Rattle.step_core.specs.Private.Driver.{with_wrote, with_end, update_positions}
 use Rattle.step_core.proofs.Callers.{at_caller}
 use Rattle.step_core.proofs.Driving.{quit_shown}
 use Rattle.step_core.proofs.driver.Driver.quit.Goals as goal
@@ -19,6 +19,6 @@ returns-clause-acts c = λ n rounds run time h.
     quit_shown n rounds old new run c.args.caller x c.args.why c.args.now h time (sym c.in-Some.ensures.value) (sym c.is_done.ensures ∙ c.if-is_done.false) refl refl
     (at_caller old.callers c.remove.new.self c.args.caller None c.in-Some.ensures.updates)
     mid
-    (c.mark.ensures.marked ∙ (λ i. set (c.deref_mut.ensures.value i) x.number (marked (get_or (c.deref_mut.ensures.value i) x.number no_record) false)))
-    (with_items_is (with_items old.ops c.mark.new.ops) c.finish.new.ops (c.finish.auto.ops ∙ c.deref_mut-2.ensures.len) ∙ c.finish.ensures.ended ∙ (λ i. set (mid_items i) x.number (ended (get_or (mid_items i) x.number no_record) c.args.now (Err (c.refused.ensures i)))))
-    (c.in_ok-repoint.ensures.points ∙ (λ i. repointed_list (c.has_point-had_point.ensures i) false x.number x.place old.points.items))
+    (c.mark.ensures.marked ∙ (λ i. set (c.deref_mut.ensures.value i) x.number (with_wrote (get_or (c.deref_mut.ensures.value i) x.number no_record) false)))
+    (with_items_is (with_items old.ops c.mark.new.ops) c.finish.new.ops (c.finish.auto.ops ∙ c.deref_mut-2.ensures.len) ∙ c.finish.ensures.ended ∙ (λ i. set (mid_items i) x.number (with_end (get_or (mid_items i) x.number no_record) c.args.now (Err (c.refusal_of.ensures i)))))
+    (c.in_ok-repoint.ensures.points ∙ (λ i. update_positions (c.has_point-had_point.ensures i) false x.number x.place old.points.items))

@@ -1,0 +1,5 @@
+-- Definitions that no public contract rests on: private contracts and proofs use them.
+pub mod Storage
+pub mod Refusals
+pub mod Round
+pub mod Gathered

@@ -1,0 +1,59 @@
+-- What a seat knows and has in hand, from step to step.
+use Rattle.std.specs.Prelude.{◌≡◌, ℕ, ◌/◌, ◌<◌, ◌≤◌, List, [], ◌∷◌, ◌++◌, Some, None}
+use Rattle.std.specs.Arc.{arc_value}
+use Rattle.std.specs.declared.sync.Arc.{Arc}
+use Rattle.atomic_table.specs.Table.{Me}
+use Rattle.atomic_table.specs.Seated.{TableId}
+use Rattle.atomic_table.specs.declared.shared.Seat.{Seat}
+use Rattle.map_core.specs.declared.op.Op.{Op}
+use Rattle.map_core.specs.PlainMap.{PlainMap}
+use Rattle.shard_store.specs.declared.change.Change.{Change}
+use Rattle.shard_store.specs.declared.change.Seen.{Seen}
+use Rattle.shard_store.specs.declared.change.View.{View}
+use Rattle.shard_store.specs.declared.one_shard.Attempt.{Attempt}
+use Rattle.shard_store.specs.declared.one_shard.Attempt.TheVariants.{Replied, Blocked}
+use Rattle.shard_store.specs.Changes.{change_of, count, Extends, own_count, own_number}
+use Rattle.shard_store.specs.Private.Numbers.{IsPart}
+use Rattle.shard_store.specs.Promise.{IsLater, IsAlone, IsReply}
+use Rattle.shard_store.specs.Private.Rule.{SlotValue}
+
+-- a word and a slot for each shard, of which there are 1 to 256
+abbrev pub IsPaired : TableId → Type 0
+IsPaired z = (z.words ≡ z.slots) × (0 < z.slots) × (z.slots ≤ 256)
+
+module _ {Z : Type 0} where
+  -- the same seat at the same table
+  abbrev pub IsSameSeat : Seat (SlotValue Z) View → Seat (SlotValue Z) View → Type 0
+  IsSameSeat p q = (q.table_id ≡ p.table_id) × (q.id ≡ p.id)
+
+  -- a seat at the table with this identity
+  abbrev pub IsAt : Seat (SlotValue Z) View → TableId → Type 0
+  IsAt p z = (p.table_id ≡ z) × IsPaired p.table_id
+
+  -- the seat holds no shard, and has a number
+  abbrev pub IsIdle : Me (SlotValue Z) View → Type 0
+  IsIdle m = (m.1 ≡ []) × (m.0.joined ≡ []) × (m.0.held ≡ None) × (0 < own_count m.0.seen.ranges)
+
+  -- the seat holds the shard, of n, and has its version in hand
+  abbrev pub IsHolding : ℕ → ℕ → Me (SlotValue Z) View → Type 0
+  IsHolding n shard m = (version : Arc PlainMap Z) × (m.1 ≡ (shard, Some version) ∷ []) × IsPart n shard m.0.seen.log (arc_value version)
+      × (m.0.joined ≡ []) × (m.0.held ≡ Some shard) × (0 < own_count m.0.seen.ranges)
+
+-- What a word says that was found in place of the one expected: others have the shard or changed it, and the word
+-- counts the changes that are seen now.
+abbrev pub Missed : ℕ → ℕ → Seen → ℕ → Seen → Type 0
+Missed n shard s found t = (¬ IsAlone s) × (found / 2 ≡ count n t.log shard)
+
+-- the change that the operation would make of what was seen
+abbrev pub change_by : Op → Seen → Change
+change_by op s = change_of op s.log (own_number s.ranges)
+
+-- the operation's change was added to a list that extends what was seen, and has no other new change of the shard
+abbrev pub Writes : ℕ → ℕ → Op → Seen → Seen → Type 0
+Writes n shard op s t = (list : List Change) × Extends list s × (count n list shard ≡ count n s.log shard)
+    × (t.log ≡ list ++ change_by op s ∷ []) × (t.ranges ≡ s.ranges)
+
+-- what one try of an operation gave
+abbrev pub Tried : ℕ → ℕ → Op → Seen → Seen → Attempt → Type 0
+Tried n shard op s t (Replied reply) = IsReply op s reply t
+Tried n shard op s t (Blocked found) = IsLater t s × Missed n shard s found t

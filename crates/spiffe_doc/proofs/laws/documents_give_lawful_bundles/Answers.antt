@@ -1,5 +1,0 @@
-use Rattle.spiffe_doc.proofs.DocumentLaws.{IsBundle-document}
-use Rattle.spiffe_doc.proofs.laws.documents_give_lawful_bundles.Goals as goal
-
-pub returns : goal.returns
-returns c = IsBundle-document
