@@ -6,9 +6,10 @@ usage: gate/definitions.py          fails unless docs/DEFINITIONS.md is the page
        gate/definitions.py count    how many definitions, lines and words that are, crate by crate
        gate/definitions.py rest     the other definitions of specs/, which private contracts and proofs use
 
-A definition is reached from the clauses of a public function, from the ghost items of a public type or trait, or from
-a definition that is reached. Lines are counted without imports, comments and blanks; a word is a name or a sign, and
-140 of them are read aloud in a minute.
+A definition is reached from the clauses of a function that the crate makes public, from what contracts see of a public
+type, from the ghost items of a public trait, or from a definition that is reached. What the prover checks is not to be
+believed and is left out: lemmas, invariants of types, and that an implementation meets the laws of its trait. Lines are
+counted without imports, comments and blanks; a word is a name or a sign, and 140 of them are read aloud in a minute.
 """
 import os
 import re
@@ -19,6 +20,8 @@ sys.dont_write_bytecode = True
 ROOT = os.path.dirname(os.path.dirname(os.path.abspath(__file__)))
 PAGE = f"{ROOT}/docs/DEFINITIONS.md"
 A_MINUTE = 140
+# Ghost items that are proofs, or that only the prover needs.
+PROOFS = {"coded", "invariant", "answers_plainly", "laws", "from_gives", "is_clone", "is_infallible", "matches_eq", "matches_partial_cmp", "total"}
 TOKEN = re.compile(r"[^\s(){}\[\],;]+")
 START = re.compile(r"( *)(?:unfoldable )?(?:abbrev )?(?:pub )?(record |data )?([^\s:({]+)")
 USE = re.compile(r"(?:ghost )?(?:pub )?use (Rattle\.[\w.+]+?)(?:\.\{([^}]*)\})?(?: as (\w+))?;?$", re.M)
@@ -62,7 +65,11 @@ class Module:
                 indent = len(line) - len(line.lstrip())
                 is_inside = record >= 0 and indent > record
                 found = None if is_inside else START.match(line)
-                if found and (bare.startswith(("abbrev ", "unfoldable ", "pub ")) or re.match(r"(record|data) \S+ .*:", bare)):
+                is_definition = re.match(r"unfoldable |abbrev |(pub )?(record|data) \S+ .*: ", bare)
+                if found and re.match(r"(pub )?[^\s:]+ : ", bare):
+                    # (a lemma)
+                    current = None
+                elif found and is_definition:
                     current = found[3]
                     record = indent if found[2] else -1
                     self.definitions[current] = []
@@ -101,22 +108,43 @@ def between_braces(text, at):
     return ""
 
 
+def text_of(file):
+    with open(file, encoding="utf-8") as it:
+        return it.read()
+
+
+def opened(crate):
+    """The modules that a library makes public, and the names that it hands out from others; None for a program."""
+    top = f"{ROOT}/crates/{crate}/src"
+    if not os.path.isfile(f"{top}/lib.rt"):
+        return None
+    lib = text_of(f"{top}/lib.rt")
+    modules = set(re.findall(r"^pub mod (\w+);", lib, re.M))
+    texts = [lib, *(text_of(f"{top}/{it}.rt") for it in modules)]
+    used = [it for text in texts for it in re.findall(r"^pub use [\w:]*?(?:\{([^}]*)\}|(\w+));", text, re.M)]
+    names = {it.strip() for many, one in used for it in [*many.split(","), one] if it.strip()}
+    return modules, names
+
+
 def sources(crate):
+    """Yields the text of each module, with the names in it that are public; None if all are."""
+    public = opened(crate)
     for at, _, files in sorted(os.walk(f"{ROOT}/crates/{crate}/src")):
         for file in sorted(files):
             if file.endswith(".rt") and "tests" not in os.path.relpath(f"{at}/{file}", ROOT):
-                with open(f"{at}/{file}", encoding="utf-8") as it:
-                    yield it.read()
+                is_open = not public or file.removesuffix(".rt") in public[0]
+                yield text_of(f"{at}/{file}"), None if is_open else public[1]
 
 
-def contracts(text):
+def contracts(text, public):
     """Yields each public function with its clauses, by their labels; and the ghost items of what is public."""
     private = set(re.findall(r"^(?:struct|enum|trait) (\w+)", text, re.M))
     parts = re.split(r"\n(?=(?:pub |impl|trait|struct|enum|fn)\b)", text)
     for part in parts:
         head = part.split("{")[0]
         owner = re.search(r"\bfor (\w+)", head) or re.match(r"(?:pub )?(?:impl(?:<[^>]*>)?|trait|struct|enum) (\w+)", head)
-        if owner and owner[1] in private:
+        owner = owner or re.match(r"pub (?:const )?(?:fn|type) (\w+)", head)
+        if owner and (owner[1] in private or public is not None and owner[1] not in public):
             continue
         is_trait = part.startswith("pub trait")
         for found in re.finditer(r"^ *(pub )?(?:const )?fn (\w+)(.*?)(?:\n *\{\n|;\n|\n *\{\}|\{\n)", part, re.M | re.S):
@@ -127,7 +155,8 @@ def contracts(text):
                     clauses[label] = between_braces(found[0], clause.end() - 1)
                 yield found[2], clauses
         for ghost in re.finditer(r"\bghost (?!use)(\w+)[^{;]*\{", part):
-            yield f"ghost {ghost[1]}", {ghost[1]: between_braces(part, ghost.end() - 1)}
+            if ghost[1] not in PROOFS or is_trait:
+                yield f"ghost {ghost[1]}", {ghost[1]: between_braces(part, ghost.end() - 1)}
 
 
 class Reach:
@@ -159,9 +188,9 @@ class Reach:
 def reach_of(modules, crate="", function="", label="", facts=()):
     """What the contracts of all crates reach; or those of one crate, of one function, or one of its clauses."""
     reach = Reach(modules, facts)
-    for text in (text for it in crates() if crate in ("", it) for text in sources(it)):
+    for text, public in (source for it in crates() if crate in ("", it) for source in sources(it)):
         names, named = imports(text)
-        for name, clauses in contracts(text):
+        for name, clauses in contracts(text, public):
             for what, clause in clauses.items():
                 if function in ("", name) and label in ("", what):
                     reach.text(clause, names, named)

@@ -13,7 +13,7 @@ ROOT = os.path.dirname(os.path.dirname(os.path.abspath(__file__)))
 PHRASES = {
     r"\bpassed over\b": "ignored",
     r"\bat fault\b": "malformed",
-    r"\b(want of memory|wants? memory|memory is wanting)\b": "out of memory",
+    r"\b(want of memory|wants? memory|memory (is|may be|was) wanting)\b": "out of memory",
     r"\bthe greatest (byte )?first\b": "big-endian",
     r"\b(is|are) none\b": "is not a ..",
     r"\b(exactly|also|only|but) where\b": "if and only if, even if, only if",
@@ -50,7 +50,7 @@ def main():
         with open(f"{ROOT}/{file}", encoding="utf-8") as it:
             for number, line in enumerate(it, 1):
                 for phrase, better in PHRASES.items():
-                    if re.search(phrase, texts(file, line)):
+                    if re.search(phrase, texts(file, line), re.I):
                         bad += 1
                         print(f"{file}:{number}: say '{better}': {line.strip()[:120]}")
     print(f"{0 if bad else 1} passed, {1 if bad else 0} failed")
