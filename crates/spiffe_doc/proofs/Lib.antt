@@ -8,6 +8,7 @@ pub mod Members
 pub mod Keys
 pub mod EntryLaws
 pub mod TreeLemmas
+pub mod WrittenLemmas
 pub mod TextLemmas
 pub mod FirstPlaces
 pub mod ReadLemmas

@@ -5,7 +5,7 @@ use Rattle.json.specs.Tree as json_tree
 use Rattle.json.proofs.Printed.Decimals.{IsNumber-decimal}
 use Rattle.serde_json.specs.Data.{no_members}
 use Rattle.serde_json.specs.Read.{of_json, of_items, max_depth}
-use Rattle.serde_json.specs.Written.{outline, items_outline, items_text, members_text, comma_if, has_float}
+use Rattle.serde_json.specs.Written.{outline, items_outline, items_text, members_text, comma_if}
 use Rattle.serde_json.proofs.Numbers.{number_of-decimal}
 use Rattle.serde_json.proofs.OnLiterals.{serde_json_on_literals}
 use Rattle.std.proofs.lemmas.Bool.Decides.{nat_tests}
@@ -77,14 +77,6 @@ document_depth p = go p.sequence p.refresh_hint
     go (Some n) None = omega (arith, entries_depth p.authorities)
     go None (Some m) = omega (arith, entries_depth p.authorities)
     go (Some n) (Some m) = omega (arith, entries_depth p.authorities)
-
--- ---- the tree has no float
-
-pub entry_no_float : (a : Authority) → has_float (entry_tree a) ≡ false
-entry_no_float (X509 (Ec key) der) = refl
-entry_no_float (X509 (Rsa key) der) = refl
-entry_no_float (Jwt kid (Ec key)) = refl
-entry_no_float (Jwt kid (Rsa key)) = refl
 
 -- ---- the text in two pieces
 

@@ -1,11 +1,11 @@
 //! The canonical text of a bundle (RFC 7517, sections 4 and 5).
 ghost use Rattle.std.specs.Prelude.{◌≡◌, ◌++◌, ◌∷◌, [], codes, string_bytes, IfOk, OnOk, length, cond, ◌==◌};
-ghost use Rattle.serde_json.specs.View.{view};
+ghost use Rattle.json.specs.Token.{begin_object, begin_array, end_array, key, string};
 ghost use Rattle.serde_json.specs.Written.{comma_if};
 ghost use Rattle.base64.specs.Engines.{standard, url_safe_no_pad};
 ghost use Rattle.base64.specs.GeneralPurpose.{encode_of};
 ghost use Rattle.spiffe_doc.specs.Key.{curve_text};
-ghost use Rattle.spiffe_doc.specs.Text.{entry_tree, entry_text, text_of};
+ghost use Rattle.spiffe_doc.specs.Text.{entry_text, text_of};
 ghost use Rattle.spiffe_doc.specs.Private.Writing.{number_text, rest_text};
 
 use crate::authority::{Authority, Certificate, KeyId};
@@ -13,8 +13,12 @@ use crate::bundle::Bundle;
 use crate::key::{Curve, EcKey, PublicKey, RsaKey};
 use crate::octets::Octets;
 use base64::engine::general_purpose::{STANDARD, URL_SAFE_NO_PAD};
-use serde_json::{Value, json};
+use json::Writer;
 use std::alloc::{AllocError, Global};
+
+/// The most bytes of an entry beside its three texts that vary, and one more: with each token, and so with the last, the
+/// writer asks for room for a comma.
+const FIXED_LEN: usize = 70;
 
 /// The canonical text of a bundle: compact JSON of the members that are kept, in byte order of their names. Errors only
 /// if memory runs out; `Bundle::text` lends the same bytes without it.
@@ -30,7 +34,16 @@ pub fn write_document(alloc: Global, bundle: &Bundle) -> Result<Vec<u8>, AllocEr
 pub fn write_entry(alloc: Global, authority: &Authority) -> Result<Vec<u8>, AllocError>
     ensures { IfOk result (λ text. text.items ≡ entry_text authority.now) }
 {
-    entry_value(alloc, authority)?.to_vec(alloc)
+    match authority {
+        Authority::X509 { key, der } => match key {
+            PublicKey::Ec(key) => x509_point(alloc, key, der),
+            PublicKey::Rsa(key) => x509_rsa(alloc, key, der),
+        },
+        Authority::Jwt { kid, key } => match key {
+            PublicKey::Ec(key) => jwt_point(alloc, kid, key),
+            PublicKey::Rsa(key) => jwt_rsa(alloc, kid, key),
+        },
+    }
 }
 
 /// Adds an entry's text to the text up to the last entry.
@@ -99,60 +112,104 @@ fn standard_text(alloc: Global, bytes: &Octets) -> Result<String, AllocError>
     STANDARD.encode(alloc, bytes.as_slice())
 }
 
-fn x509_point(alloc: Global, key: &EcKey, der: &Certificate) -> Result<Value, AllocError>
-    ensures { IfOk result (λ value. view value ≡ entry_tree (Authority.X509 (PublicKey.Ec key.now) der.now)) }
+/// A writer within an entry. If these are the texts of the entry that vary, it has room for the whole, and grows only
+/// if one of them has to be escaped.
+fn entry_writer(alloc: Global, first: &str, second: &str, third: &str) -> Result<Writer, AllocError>
+    ensures before { IfOk result (λ writer. writer.before ≡ []) }
+    ensures tokens { IfOk result (λ writer. writer.tokens ≡ begin_object ∷ []) }
 {
-    let curve = curve_name(key.curve());
+    let texts = first
+        .len()
+        .saturating_add(second.len())
+        .saturating_add(third.len());
+    let room = texts.saturating_add(FIXED_LEN);
+    let mut writer = Writer::new(Vec::with_capacity(alloc, room)?);
+    writer.begin_object()?;
+    Ok(writer)
+}
+
+/// Writes a member that is a text.
+fn push_member(writer: &mut Writer, name: &str, text: &str) -> Result<(), AllocError>
+    ensures before { OnOk result (writer.new.before ≡ writer.old.before) }
+    ensures tokens { OnOk result (writer.new.tokens ≡ writer.old.tokens ++ key name.now ∷ string text.now ∷ []) }
+{
+    writer.key(name)?;
+    writer.string(text)
+}
+
+/// Writes the member `x5c`, a list of one text.
+fn push_x5c(writer: &mut Writer, text: &str) -> Result<(), AllocError>
+    ensures before { OnOk result (writer.new.before ≡ writer.old.before) }
+    ensures tokens { OnOk result (writer.new.tokens ≡ writer.old.tokens ++ key (codes "x5c") ∷ begin_array ∷ string text.now ∷ end_array ∷ []) }
+{
+    writer.key("x5c")?;
+    writer.begin_array()?;
+    writer.string(text)?;
+    writer.end_array()
+}
+
+fn x509_point(alloc: Global, key: &EcKey, der: &Certificate) -> Result<Vec<u8>, AllocError>
+    ensures { IfOk result (λ text. text.items ≡ entry_text (Authority.X509 (PublicKey.Ec key.now) der.now)) }
+{
     let x = url_safe_text(alloc, key.x())?;
     let y = url_safe_text(alloc, key.y())?;
     let x5c = standard_text(alloc, der.der())?;
-    json!(in alloc; {
-        "crv": curve, "kty": "EC", "use": "x509-svid", "x": x, "x5c": [x5c], "y": y
-    })
+    let mut writer = entry_writer(alloc, &x, &y, &x5c)?;
+    push_member(&mut writer, "crv", curve_name(key.curve()))?;
+    push_member(&mut writer, "kty", "EC")?;
+    push_member(&mut writer, "use", "x509-svid")?;
+    push_member(&mut writer, "x", &x)?;
+    push_x5c(&mut writer, &x5c)?;
+    push_member(&mut writer, "y", &y)?;
+    writer.end_object()?;
+    Ok(writer.into_inner())
 }
 
-fn x509_rsa(alloc: Global, key: &RsaKey, der: &Certificate) -> Result<Value, AllocError>
-    ensures { IfOk result (λ value. view value ≡ entry_tree (Authority.X509 (PublicKey.Rsa key.now) der.now)) }
+fn x509_rsa(alloc: Global, key: &RsaKey, der: &Certificate) -> Result<Vec<u8>, AllocError>
+    ensures { IfOk result (λ text. text.items ≡ entry_text (Authority.X509 (PublicKey.Rsa key.now) der.now)) }
 {
     let n = url_safe_text(alloc, key.n())?;
     let e = url_safe_text(alloc, key.e())?;
     let x5c = standard_text(alloc, der.der())?;
-    json!(in alloc; {"e": e, "kty": "RSA", "n": n, "use": "x509-svid", "x5c": [x5c]})
+    let mut writer = entry_writer(alloc, &n, &e, &x5c)?;
+    push_member(&mut writer, "e", &e)?;
+    push_member(&mut writer, "kty", "RSA")?;
+    push_member(&mut writer, "n", &n)?;
+    push_member(&mut writer, "use", "x509-svid")?;
+    push_x5c(&mut writer, &x5c)?;
+    writer.end_object()?;
+    Ok(writer.into_inner())
 }
 
-fn jwt_point(alloc: Global, kid: &KeyId, key: &EcKey) -> Result<Value, AllocError>
-    ensures { IfOk result (λ value. view value ≡ entry_tree (Authority.Jwt kid.now (PublicKey.Ec key.now))) }
+fn jwt_point(alloc: Global, kid: &KeyId, key: &EcKey) -> Result<Vec<u8>, AllocError>
+    ensures { IfOk result (λ text. text.items ≡ entry_text (Authority.Jwt kid.now (PublicKey.Ec key.now))) }
 {
-    let curve = curve_name(key.curve());
     let kid = kid.as_str();
     let x = url_safe_text(alloc, key.x())?;
     let y = url_safe_text(alloc, key.y())?;
-    json!(in alloc; {
-        "crv": curve, "kid": kid, "kty": "EC", "use": "jwt-svid", "x": x, "y": y
-    })
+    let mut writer = entry_writer(alloc, kid, &x, &y)?;
+    push_member(&mut writer, "crv", curve_name(key.curve()))?;
+    push_member(&mut writer, "kid", kid)?;
+    push_member(&mut writer, "kty", "EC")?;
+    push_member(&mut writer, "use", "jwt-svid")?;
+    push_member(&mut writer, "x", &x)?;
+    push_member(&mut writer, "y", &y)?;
+    writer.end_object()?;
+    Ok(writer.into_inner())
 }
 
-fn jwt_rsa(alloc: Global, kid: &KeyId, key: &RsaKey) -> Result<Value, AllocError>
-    ensures { IfOk result (λ value. view value ≡ entry_tree (Authority.Jwt kid.now (PublicKey.Rsa key.now))) }
+fn jwt_rsa(alloc: Global, kid: &KeyId, key: &RsaKey) -> Result<Vec<u8>, AllocError>
+    ensures { IfOk result (λ text. text.items ≡ entry_text (Authority.Jwt kid.now (PublicKey.Rsa key.now))) }
 {
     let kid = kid.as_str();
     let n = url_safe_text(alloc, key.n())?;
     let e = url_safe_text(alloc, key.e())?;
-    json!(in alloc; {"e": e, "kid": kid, "kty": "RSA", "n": n, "use": "jwt-svid"})
-}
-
-/// An authority as a JWK.
-fn entry_value(alloc: Global, authority: &Authority) -> Result<Value, AllocError>
-    ensures { IfOk result (λ value. view value ≡ entry_tree authority.now) }
-{
-    match authority {
-        Authority::X509 { key, der } => match key {
-            PublicKey::Ec(key) => x509_point(alloc, key, der),
-            PublicKey::Rsa(key) => x509_rsa(alloc, key, der),
-        },
-        Authority::Jwt { kid, key } => match key {
-            PublicKey::Ec(key) => jwt_point(alloc, kid, key),
-            PublicKey::Rsa(key) => jwt_rsa(alloc, kid, key),
-        },
-    }
+    let mut writer = entry_writer(alloc, kid, &n, &e)?;
+    push_member(&mut writer, "e", &e)?;
+    push_member(&mut writer, "kid", kid)?;
+    push_member(&mut writer, "kty", "RSA")?;
+    push_member(&mut writer, "n", &n)?;
+    push_member(&mut writer, "use", "jwt-svid")?;
+    writer.end_object()?;
+    Ok(writer.into_inner())
 }
