@@ -7,18 +7,18 @@ ghost use Rattle.frame_front.specs.Private.Gathered.{Puts};
 
 use crate::reply::ReplyBytes;
 use crate::{Counted, FrontError};
-use arrayvec::ArrayVec;
+use std::alloc::Global;
 use std::io::Write;
 use std::marker::Model;
 
-/// The bytes of replies that are gathered for one write.
+/// The most bytes of replies that are gathered for one write.
 const ROOM: usize = 65_536;
 
-/// The replies that one round gathers. Its room is in place, so it takes no memory. Contracts see it as
-/// the bytes that wait.
+/// The replies that one round gathers. If memory for them is refused, they are written one by one, so it
+/// never fails for want of it. Contracts see it as the bytes that wait.
 #[derive(Drop)]
 pub(crate) struct Outbox {
-    gathered: ArrayVec<u8, ROOM>,
+    gathered: Vec<u8>,
 }
 
 impl Model for Outbox {
@@ -30,15 +30,15 @@ impl Model for Outbox {
 }
 
 impl Outbox {
-    pub(crate) fn new() -> Outbox
+    pub(crate) fn new(alloc: Global) -> Outbox
         ensures { result ≡ [] }
     {
         Outbox {
-            gathered: ArrayVec::new(),
+            gathered: Vec::new(alloc),
         }
     }
 
-    /// Gathers a reply, if there is room for it. A reply that says that whoever was asked gave an
+    /// Gathers a reply, if there is room for it and memory. A reply that says that whoever was asked gave an
     /// error is not gathered: it is written at once, so that the replies that wait have all changed
     /// the map as they say.
     fn gather(&mut self, reply: &ReplyBytes) -> bool
@@ -50,11 +50,15 @@ impl Outbox {
             return false;
         }
         let (head, body) = reply.parts();
-        if self.gathered.remaining_capacity() < head.len() + body.len() {
+        let size = head.len() + body.len();
+        if ROOM.saturating_sub(self.gathered.len()) < size {
             return false;
         }
-        let _fits = self.gathered.try_extend_from_slice(head);
-        let _fits = self.gathered.try_extend_from_slice(body);
+        if self.gathered.reserve(size).is_err() {
+            return false;
+        }
+        let _fits = self.gathered.extend_from_slice(head);
+        let _fits = self.gathered.extend_from_slice(body);
         true
     }
 

@@ -20,6 +20,9 @@ const HEAD_BYTES: usize = 25;
 /// A code, a length and the longest name.
 pub const ITEM_HEAD_BYTES: usize = 257;
 
+/// A length, a code and the length of the name.
+const ITEM_FRONT_BYTES: usize = 6;
+
 /// The code of a reply stands after its length.
 const CODE_PLACE: usize = 4;
 
@@ -145,11 +148,23 @@ pub fn canonical_text(bundle: &Bundle) -> &[u8]
 fn item_frames(alloc: Global, items: &[(TrustDomain, Bundle)]) -> Result<Vec<u8>, AllocError>
     ensures { IfOk result (λ out. out.items ≡ flat_map item_frame items.now) }
 {
-    let mut out = Vec::new(alloc);
+    let mut out = Vec::with_capacity(alloc, items_size(items))?;
     for item in items {
         put_item(&mut out, &item.0, &item.1)?;
     }
     Ok(out)
+}
+
+/// How many bytes the frames of these domains take, so that memory for them is taken at once.
+fn items_size(items: &[(TrustDomain, Bundle)]) -> usize {
+    let mut size: usize = 0;
+    for item in items {
+        size = size
+            .saturating_add(ITEM_FRONT_BYTES)
+            .saturating_add(item.0.as_str().len())
+            .saturating_add(item.1.text_len());
+    }
+    size
 }
 
 fn put_item(out: &mut Vec<u8>, domain: &TrustDomain, bundle: &Bundle) -> Result<(), AllocError>

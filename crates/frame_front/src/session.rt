@@ -101,7 +101,7 @@ fn take_turns<R: Read, W: Write, A: Ask>(
     let Ok(mut decoder) = Decoder::new(alloc) else {
         return Err(FrontError::Memory);
     };
-    let mut outbox = Outbox::new();
+    let mut outbox = Outbox::new(alloc);
     let mut version = Version::One;
     let mut piece = [0; PIECE_BYTES];
     let mut answered = 0;
