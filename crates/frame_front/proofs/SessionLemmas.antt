@@ -14,7 +14,7 @@ use Rattle.frame_front.specs.Reply.{is_error_reply}
 use Rattle.frame_front.specs.Session.{SessionState, Answers, AnswersAll, Serves, Writes}
 use Rattle.frame_front.specs.Private.Round.{Round, RoundEndsAt}
 use Rattle.frame_front.specs.Outbox.{WritesFront}
-use Rattle.frame_front.specs.Private.Gathered.{Puts}
+use Rattle.frame_front.specs.Private.Gathered.{Puts, Takes}
 use Rattle.frame_front.specs.declared.error.FrontError.{FrontError}
 use Rattle.frame_front.specs.declared.error.FrontError.TheVariants.{WriteFault}
 use Rattle.frame_front.proofs.FrameLemmas.{longer_by_frame}
@@ -100,15 +100,75 @@ WritesFront-then held held_mid held_new bytes more sent wrote = record {
   appends = Appends-trans held held_mid held_new bytes wrote.front sent wrote.appends;
 }
 
--- Within a round these payloads were answered: the texts before are written, and those gathered are kept for one write.
+-- what waited is cut again, with more bytes and the rest after it
+pub cut_again : (sent outbox bytes rest more outbox_new : List ℕ) → outbox ++ bytes ≡ more ++ outbox_new
+    → sent ++ (outbox ++ (bytes ++ rest)) ≡ (sent ++ more) ++ (outbox_new ++ rest)
+cut_again sent outbox bytes rest more outbox_new split =
+    ap (λ o. sent ++ o) (sym (append_assoc outbox bytes rest) ∙ ap (λ o. o ++ rest) split ∙ append_assoc more outbox_new rest)
+    ∙ sym (append_assoc sent more (outbox_new ++ rest))
+
+module _ (held held_mid : Option (List ℕ)) (outbox bytes mid : List ℕ) (takes : Takes held held_mid outbox bytes mid) where
+  pub Takes-front : WritesFront held held_mid (outbox ++ bytes)
+  Takes-front = record { front = takes.sent; missing = mid; split = takes.split; appends = takes.appends }
+
+  -- what waits is written
+  pub Takes-sent : (held_new : Option (List ℕ)) (outbox_new : List ℕ) → Appends held_mid held_new mid → outbox_new ≡ [] → Takes held held_new outbox bytes outbox_new
+  Takes-sent held_new outbox_new wrote none = record {
+    sent = takes.sent ++ mid;
+    appends = Appends-trans held held_mid held_new takes.sent mid takes.appends wrote;
+    split = takes.split ∙ sym (ap (λ n. (takes.sent ++ mid) ++ n) none ∙ append-nil (takes.sent ++ mid));
+  }
+
+  -- the writer fails as what waits is written
+  pub Takes-unsent : (held_new : Option (List ℕ)) → WritesFront held_mid held_new mid → WritesFront held held_new (outbox ++ bytes)
+  Takes-unsent held_new wrote = record {
+    front = takes.sent ++ wrote.front;
+    missing = wrote.missing;
+    split = takes.split ∙ ap (λ m. takes.sent ++ m) wrote.split ∙ sym (append_assoc takes.sent wrote.front wrote.missing);
+    appends = Appends-trans held held_mid held_new takes.sent wrote.front takes.appends wrote.appends;
+  }
+
+  module _ (more text : List ℕ) (whole : bytes ++ more ≡ text) where
+    parts_split : outbox ++ text ≡ takes.sent ++ (mid ++ more)
+    parts_split = ap (λ t. outbox ++ t) (sym whole) ∙ sym (append_assoc outbox bytes more) ∙ ap (λ o. o ++ more) takes.split ∙ append_assoc takes.sent mid more
+
+    -- more is taken
+    pub Takes-then : (held_new : Option (List ℕ)) (outbox_new : List ℕ) → Takes held_mid held_new mid more outbox_new → Takes held held_new outbox text outbox_new
+    Takes-then held_new outbox_new next = record {
+      sent = takes.sent ++ next.sent;
+      appends = Appends-trans held held_mid held_new takes.sent next.sent takes.appends next.appends;
+      split = parts_split ∙ ap (λ o. takes.sent ++ o) next.split ∙ sym (append_assoc takes.sent next.sent outbox_new);
+    }
+
+    -- the writer fails as more is taken
+    pub Takes-cut : (held_new : Option (List ℕ)) → WritesFront held_mid held_new (mid ++ more) → WritesFront held held_new (outbox ++ text)
+    Takes-cut held_new wrote = record {
+      front = takes.sent ++ wrote.front;
+      missing = wrote.missing;
+      split = parts_split ∙ ap (λ o. takes.sent ++ o) wrote.split ∙ sym (append_assoc takes.sent wrote.front wrote.missing);
+      appends = Appends-trans held held_mid held_new takes.sent wrote.front takes.appends wrote.appends;
+    }
+
+-- all is written, and nothing waits
+pub Takes-whole : (held held_new : Option (List ℕ)) (outbox bytes outbox_new : List ℕ) → Appends held held_new (outbox ++ bytes) → outbox_new ≡ []
+    → Takes held held_new outbox bytes outbox_new
+Takes-whole held held_new outbox bytes outbox_new wrote none = record {
+  sent = outbox ++ bytes;
+  appends = wrote;
+  split = sym (ap (λ n. (outbox ++ bytes) ++ n) none ∙ append-nil (outbox ++ bytes));
+}
+
+-- Within a round these payloads were answered: the texts before are written, and of those gathered what is begun; the rest
+-- waits.
 pub record Gathering {S : Type 0} (answers : S → Op → Result Reply AskError → S → Type 0)
     (held_old held : Option (List ℕ)) (kept_old kept : List ℕ) (old now : SessionState S) (outbox : List ℕ) (count : ℕ) : Type 0 where
   pub payloads : List (List ℕ)
   pub before : List (List ℕ)
   pub gathered : List (List ℕ)
+  pub begun : List ℕ
   pub serves : Serves answers kept_old payloads (before ++ gathered) kept old now
-  pub appends : Appends held_old held (concat before)
-  pub outbox_is : outbox ≡ concat gathered
+  pub appends : Appends held_old held (concat before ++ begun)
+  pub outbox_is : concat gathered ≡ begun ++ outbox
   pub no_errors : AllByRecursion (λ text. is_error_reply text ≡ false) gathered
   pub counted : count ≡ length payloads
 
@@ -124,9 +184,10 @@ module _ {S : Type 0} (answers : S → Op → Result Reply AskError → S → Ty
     payloads = [];
     before = [];
     gathered = [];
+    begun = [];
     serves = Serves-none answers kept state;
     appends = Appends-nil held;
-    outbox_is = none;
+    outbox_is = sym none;
     no_errors = tt;
     counted = refl;
   }
@@ -136,8 +197,25 @@ module _ {S : Type 0} (answers : S → Op → Result Reply AskError → S → Ty
     -- all that is gathered is written
     pub all_written : (held_new : Option (List ℕ)) → Appends held held_new outbox → Appends held_old held_new (concat (so_far.before ++ so_far.gathered))
     all_written held_new wrote =
-        subst (Appends held_old held_new) (sym (concat-append so_far.before so_far.gathered))
-        (Appends-trans held_old held held_new (concat so_far.before) (concat so_far.gathered) so_far.appends (subst (Appends held held_new) so_far.outbox_is wrote))
+        subst (Appends held_old held_new)
+        (append_assoc (concat so_far.before) so_far.begun outbox
+        ∙ ap (λ g. concat so_far.before ++ g) (sym so_far.outbox_is)
+        ∙ sym (concat-append so_far.before so_far.gathered))
+        (Appends-trans held_old held held_new (concat so_far.before ++ so_far.begun) outbox so_far.appends wrote)
+
+    -- a front of what waits, and more, is written
+    more_written : (held_new : Option (List ℕ)) (front : List ℕ) → Appends held held_new front
+        → Appends held_old held_new (concat so_far.before ++ (so_far.begun ++ front))
+    more_written held_new front wrote =
+        subst (Appends held_old held_new) (append_assoc (concat so_far.before) so_far.begun front)
+        (Appends-trans held_old held held_new (concat so_far.before ++ so_far.begun) front so_far.appends wrote)
+
+    -- what was gathered and one more text, cut after what is written
+    cut_after : (text front missing : List ℕ) → outbox ++ text ≡ front ++ missing
+        → concat (so_far.gathered ++ text ∷ []) ≡ (so_far.begun ++ front) ++ missing
+    cut_after text front missing split =
+        concat-one so_far.gathered text ∙ ap (λ g. g ++ text) so_far.outbox_is ∙ append_assoc so_far.begun outbox text
+        ∙ ap (λ o. so_far.begun ++ o) split ∙ sym (append_assoc so_far.begun front missing)
 
     -- the round ends with all that is gathered written
     pub Round-sent : (result : Result ℕ FrontError) (held_new : Option (List ℕ)) (kept_new : List ℕ) → Appends held held_new outbox
@@ -160,8 +238,8 @@ module _ {S : Type 0} (answers : S → Op → Result Reply AskError → S → Ty
     pub Round-unsent : (held_new : Option (List ℕ)) (kept_new : List ℕ) → WritesFront held held_new outbox
         → (written : List ℕ) × Appends held_old held_new written × Round answers (Err WriteFault) kept_old kept_new old now written
     Round-unsent held_new kept_new wrote = (
-      concat so_far.before ++ wrote.front,
-      Appends-trans held_old held held_new (concat so_far.before) wrote.front so_far.appends wrote.appends,
+      concat so_far.before ++ (so_far.begun ++ wrote.front),
+      more_written held_new wrote.front wrote.appends,
       record {
         payloads = so_far.payloads;
         texts = so_far.before ++ so_far.gathered;
@@ -172,11 +250,12 @@ module _ {S : Type 0} (answers : S → Op → Result Reply AskError → S → Ty
           before = so_far.before;
           gathered = so_far.gathered;
           alone = [];
-          front = wrote.front;
+          front = so_far.begun ++ wrote.front;
           missing = wrote.missing;
           texts_are = sym (append-nil (so_far.before ++ so_far.gathered));
           written_is = refl;
-          cut = ap concat (append-nil so_far.gathered) ∙ sym so_far.outbox_is ∙ wrote.split;
+          cut = ap concat (append-nil so_far.gathered) ∙ so_far.outbox_is ∙ ap (λ o. so_far.begun ++ o) wrote.split
+              ∙ sym (append_assoc so_far.begun wrote.front wrote.missing);
           no_errors = so_far.no_errors;
           one = omega arith;
         };
@@ -191,50 +270,60 @@ module _ {S : Type 0} (answers : S → Op → Result Reply AskError → S → Ty
           (Serves-one answers kept rest payload text now new stands good answered)
 
       -- one more text is put
-      pub Gathering-then : (held_new : Option (List ℕ)) (outbox_new : List ℕ) (count_new : ℕ) → Puts held held_new outbox text outbox_new → count_new ≡ count + 1
-          → Gathering answers held_old held_new kept_old rest old new outbox_new count_new
-      Gathering-then held_new outbox_new count_new (inl put) counted = record {
+      then_waits : (held_new : Option (List ℕ)) (outbox_new : List ℕ) (count_new : ℕ) → Takes held held_new outbox text outbox_new → is_error_reply text ≡ false
+          → count_new ≡ count + 1 → Gathering answers held_old held_new kept_old rest old new outbox_new count_new
+      then_waits held_new outbox_new count_new takes no_error counted = record {
         payloads = so_far.payloads ++ payload ∷ [];
         before = so_far.before;
         gathered = so_far.gathered ++ text ∷ [];
+        begun = so_far.begun ++ takes.sent;
         serves = subst (λ ts. Serves answers kept_old (so_far.payloads ++ payload ∷ []) ts rest old new) (append_assoc so_far.before so_far.gathered (text ∷ [])) one_more;
-        appends = subst (Appends held_old held_new) (append-nil (concat so_far.before)) (Appends-trans held_old held held_new (concat so_far.before) [] so_far.appends put.0);
-        outbox_is = put.2 ∙ ap (λ o. o ++ text) so_far.outbox_is ∙ sym (concat-one so_far.gathered text);
-        no_errors = no_errors-one so_far.gathered text so_far.no_errors put.1;
+        appends = more_written held_new takes.sent takes.appends;
+        outbox_is = cut_after text takes.sent outbox_new takes.split;
+        no_errors = no_errors-one so_far.gathered text so_far.no_errors no_error;
         counted = omega (arith, so_far.counted, length-append so_far.payloads (payload ∷ []));
       }
-      Gathering-then held_new outbox_new count_new (inr (inl put)) counted = record {
-        payloads = so_far.payloads ++ payload ∷ [];
-        before = so_far.before ++ so_far.gathered;
-        gathered = text ∷ [];
-        serves = one_more;
-        appends = all_written held_new put.0;
-        outbox_is = put.2 ∙ sym (append-nil text);
-        no_errors = (put.1, tt);
-        counted = omega (arith, so_far.counted, length-append so_far.payloads (payload ∷ []));
-      }
-      Gathering-then held_new outbox_new count_new (inr (inr put)) counted = record {
+
+      -- all is written when nothing waits
+      all_sent : (held_new : Option (List ℕ)) (outbox_new : List ℕ) → Takes held held_new outbox text outbox_new → outbox_new ≡ []
+          → Appends held_old held_new (concat ((so_far.before ++ so_far.gathered) ++ text ∷ []) ++ [])
+      all_sent held_new outbox_new takes none =
+          let gathered : so_far.begun ++ takes.sent ≡ concat (so_far.gathered ++ text ∷ []) =
+          sym (cut_after text takes.sent outbox_new takes.split ∙ ap (λ n. (so_far.begun ++ takes.sent) ++ n) none ∙ append-nil (so_far.begun ++ takes.sent)) in
+          subst (Appends held_old held_new)
+          (ap (λ g. concat so_far.before ++ g) gathered
+          ∙ sym (concat-append so_far.before (so_far.gathered ++ text ∷ []))
+          ∙ ap concat (sym (append_assoc so_far.before so_far.gathered (text ∷ [])))
+          ∙ sym (append-nil (concat ((so_far.before ++ so_far.gathered) ++ text ∷ []))))
+          (more_written held_new takes.sent takes.appends)
+
+      then_sent : (held_new : Option (List ℕ)) (outbox_new : List ℕ) (count_new : ℕ) → Takes held held_new outbox text outbox_new → outbox_new ≡ []
+          → count_new ≡ count + 1 → Gathering answers held_old held_new kept_old rest old new outbox_new count_new
+      then_sent held_new outbox_new count_new takes none counted = record {
         payloads = so_far.payloads ++ payload ∷ [];
         before = (so_far.before ++ so_far.gathered) ++ text ∷ [];
         gathered = [];
+        begun = [];
         serves = subst (λ ts. Serves answers kept_old (so_far.payloads ++ payload ∷ []) ts rest old new) (sym (append-nil ((so_far.before ++ so_far.gathered) ++ text ∷ []))) one_more;
-        appends = subst (Appends held_old held_new)
-            (ap (λ o. concat so_far.before ++ (o ++ text)) so_far.outbox_is
-            ∙ sym (append_assoc (concat so_far.before) (concat so_far.gathered) text)
-            ∙ ap (λ b. b ++ text) (sym (concat-append so_far.before so_far.gathered))
-            ∙ sym (concat-one (so_far.before ++ so_far.gathered) text))
-            (Appends-trans held_old held held_new (concat so_far.before) (outbox ++ text) so_far.appends put.0);
-        outbox_is = put.1;
+        appends = all_sent held_new outbox_new takes none;
+        outbox_is = sym none;
         no_errors = tt;
         counted = omega (arith, so_far.counted, length-append so_far.payloads (payload ∷ []));
       }
+
+      pub Gathering-then : (held_new : Option (List ℕ)) (outbox_new : List ℕ) (count_new : ℕ) → Puts held held_new outbox text outbox_new → count_new ≡ count + 1
+          → Gathering answers held_old held_new kept_old rest old new outbox_new count_new
+      Gathering-then held_new outbox_new count_new put counted = elim put.waits [
+        | inl no_error ↦ then_waits held_new outbox_new count_new put.takes no_error counted
+        | inr none ↦ then_sent held_new outbox_new count_new put.takes none counted
+      ]
 
       -- the writer fails as one more text is put
       pub Round-unput : (held_new : Option (List ℕ)) (kept_new : List ℕ) → WritesFront held held_new (outbox ++ text)
           → (written : List ℕ) × Appends held_old held_new written × Round answers (Err WriteFault) kept_old kept_new old new written
       Round-unput held_new kept_new wrote = (
-        concat so_far.before ++ wrote.front,
-        Appends-trans held_old held held_new (concat so_far.before) wrote.front so_far.appends wrote.appends,
+        concat so_far.before ++ (so_far.begun ++ wrote.front),
+        more_written held_new wrote.front wrote.appends,
         record {
           payloads = so_far.payloads ++ payload ∷ [];
           texts = (so_far.before ++ so_far.gathered) ++ text ∷ [];
@@ -245,11 +334,11 @@ module _ {S : Type 0} (answers : S → Op → Result Reply AskError → S → Ty
             before = so_far.before;
             gathered = so_far.gathered;
             alone = text ∷ [];
-            front = wrote.front;
+            front = so_far.begun ++ wrote.front;
             missing = wrote.missing;
             texts_are = refl;
             written_is = refl;
-            cut = concat-one so_far.gathered text ∙ ap (λ o. o ++ text) (sym so_far.outbox_is) ∙ wrote.split;
+            cut = cut_after text wrote.front wrote.missing wrote.split;
             no_errors = so_far.no_errors;
             one = omega arith;
           };

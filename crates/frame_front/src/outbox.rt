@@ -1,12 +1,13 @@
 //! Replies gathered for one write.
-ghost use Rattle.std.specs.Prelude.{◌≡◌, ◌++◌, ◌<◌, ◌-◌, ◌^◌, [], true, false, OnOk, IfErr};
+ghost use Rattle.std.specs.Prelude.{◌≡◌, ◌++◌, ◌<◌, ◌-◌, ◌^◌, [], flat_map, true, false, OnOk, IfErr};
 ghost use Rattle.std.specs.Io.KnownBytes.{Appends};
-ghost use Rattle.frame_front.specs.Reply.{is_error_reply};
+ghost use Rattle.frame_front.specs.Reply.{item_frame};
 ghost use Rattle.frame_front.specs.Outbox.{WritesFront};
-ghost use Rattle.frame_front.specs.Private.Gathered.{Puts};
+ghost use Rattle.frame_front.specs.Private.Gathered.{Puts, Takes};
 
-use crate::reply::ReplyBytes;
+use crate::reply::{ReplyBytes, canonical_text, item_front};
 use crate::{Counted, FrontError};
+use spiffe_doc::{Bundle, TrustDomain};
 use std::alloc::Global;
 use std::io::Write;
 use std::marker::Model;
@@ -14,8 +15,8 @@ use std::marker::Model;
 /// The most bytes of replies that are gathered for one write.
 const ROOM: usize = 65_536;
 
-/// The replies that one round gathers. If memory for them is refused, they are written one by one, so it
-/// never fails for want of it. Contracts see it as the bytes that wait.
+/// The replies that one round gathers. If memory for them is refused, they are written part by part, so it
+/// never runs out of memory. Contracts see it as the bytes that wait.
 #[derive(Drop)]
 pub(crate) struct Outbox {
     gathered: Vec<u8>,
@@ -38,32 +39,26 @@ impl Outbox {
         }
     }
 
-    /// Gathers a reply, if there is room for it and memory. A reply that says that whoever was asked gave an
-    /// error is not gathered: it is written at once, so that the replies that wait have all changed
-    /// the map as they say.
-    fn gather(&mut self, reply: &ReplyBytes) -> bool
-        ensures gathered { result ≡ true → self.new ≡ self.old ++ reply.now }
-        ensures no_error { result ≡ true → is_error_reply reply.now ≡ false }
-        ensures alone { result ≡ false → self.new ≡ self.old }
+    /// Gathers two parts, if there is room for both and memory.
+    fn gather(&mut self, first: &[u8], others: &[u8]) -> bool
+        ensures gathered { result ≡ true → self.new ≡ self.old ++ (first.now ++ others.now) }
+        ensures refused { result ≡ false → self.new ≡ self.old }
     {
-        if reply.is_error() {
-            return false;
-        }
-        let (head, body) = reply.parts();
-        let size = head.len() + body.len();
+        let size = first.len().saturating_add(others.len());
         if ROOM.saturating_sub(self.gathered.len()) < size {
             return false;
         }
         if self.gathered.reserve(size).is_err() {
             return false;
         }
-        let _fits = self.gathered.extend_from_slice(head);
-        let _fits = self.gathered.extend_from_slice(body);
+        let _fits = self.gathered.extend_from_slice(first);
+        let _fits = self.gathered.extend_from_slice(others);
         true
     }
 
-    /// Takes one more reply. If there is no room for it, what is gathered is written first; a reply that
-    /// is not gathered is written after it.
+    /// Takes one more reply, part by part. A reply that says that whoever was asked gave an error does
+    /// not wait: it is written at once, so that the replies that wait have all changed the map as they
+    /// say.
     pub(crate) fn put<W: Write>(
         &mut self,
         writer: &mut Counted<W>,
@@ -75,14 +70,56 @@ impl Outbox {
         ensures fault { IfErr result (λ fault. (fault ≡ FrontError.WriteFault) × (writer.old.faults < writer.new.faults)) }
         ensures front { WritesFront (W.contents writer.old.end) (W.contents writer.new.end) (self.old ++ reply.now) }
     {
-        if self.gather(reply) {
+        let (head, text, items) = reply.parts();
+        self.take(writer, head, text)?;
+        self.take_items(writer, items)?;
+        if reply.is_error() {
+            self.send(writer)?;
+        }
+        Ok(())
+    }
+
+    /// Takes two parts of a reply. If there is no room for them, what is gathered is written first; parts
+    /// that are not gathered are written after it.
+    fn take<W: Write>(
+        &mut self,
+        writer: &mut Counted<W>,
+        first: &[u8],
+        others: &[u8],
+    ) -> Result<(), FrontError>
+        requires { writer.old.faults < 2 ^ 64 - 1 }
+        ensures ok { OnOk result (Takes (W.contents writer.old.end) (W.contents writer.new.end) self.old (first.now ++ others.now) self.new) }
+        ensures quiet { OnOk result (writer.new.faults ≡ writer.old.faults) }
+        ensures fault { IfErr result (λ fault. (fault ≡ FrontError.WriteFault) × (writer.old.faults < writer.new.faults)) }
+        ensures front { WritesFront (W.contents writer.old.end) (W.contents writer.new.end) (self.old ++ (first.now ++ others.now)) }
+    {
+        if self.gather(first, others) {
             return Ok(());
         }
         self.send(writer)?;
-        if self.gather(reply) {
+        if self.gather(first, others) {
             return Ok(());
         }
-        write_reply(writer, reply)?;
+        write_both(writer, first, others)?;
+        Ok(())
+    }
+
+    /// Takes a frame for each domain, one after the other, so that they need no room together.
+    fn take_items<W: Write>(
+        &mut self,
+        writer: &mut Counted<W>,
+        items: &[(TrustDomain, Bundle)],
+    ) -> Result<(), FrontError>
+        requires { writer.old.faults < 2 ^ 64 - 1 }
+        ensures ok { OnOk result (Takes (W.contents writer.old.end) (W.contents writer.new.end) self.old (flat_map item_frame items.now) self.new) }
+        ensures quiet { OnOk result (writer.new.faults ≡ writer.old.faults) }
+        ensures fault { IfErr result (λ fault. (fault ≡ FrontError.WriteFault) × (writer.old.faults < writer.new.faults)) }
+        ensures front { WritesFront (W.contents writer.old.end) (W.contents writer.new.end) (self.old ++ flat_map item_frame items.now) }
+    {
+        for item in items {
+            let front = item_front(&item.0, &item.1);
+            self.take(writer, front.as_slice(), canonical_text(&item.1))?;
+        }
         Ok(())
     }
 
@@ -115,18 +152,6 @@ impl Outbox {
             Err(_) => Err(FrontError::WriteFault),
         }
     }
-}
-
-/// Writes all of a reply.
-fn write_reply<W: Write>(writer: &mut Counted<W>, reply: &ReplyBytes) -> Result<(), FrontError>
-    requires { writer.old.faults < 2 ^ 64 - 1 }
-    ensures ok { OnOk result (Appends (W.contents writer.old.end) (W.contents writer.new.end) reply.now) }
-    ensures quiet { OnOk result (writer.new.faults ≡ writer.old.faults) }
-    ensures fault { IfErr result (λ fault. (fault ≡ FrontError.WriteFault) × (writer.old.faults < writer.new.faults)) }
-    ensures front { WritesFront (W.contents writer.old.end) (W.contents writer.new.end) reply.now }
-{
-    let (head, body) = reply.parts();
-    write_both(writer, head, body)
 }
 
 /// Writes all of the first bytes, and then all of the others.

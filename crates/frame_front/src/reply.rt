@@ -1,17 +1,15 @@
-//! Replies: an answer as bytes, made whole before any of it is written.
+//! Replies: an answer as bytes. What they need of memory is held before any of them is written.
 ghost use Rattle.std.specs.Prelude.{◌≡◌, ◌+◌, ◌<◌, ◌≤◌, ◌∷◌, [], ◌++◌, flat_map, length, Ok, Err, IfOk, OnOk};
 ghost use Rattle.arrayvec.specs.ArrayVec.{array_vec_len};
 ghost use Rattle.spiffe_doc.specs.Text.{text_of};
 ghost use Rattle.frame_front.specs.Frame.{frame};
 ghost use Rattle.frame_front.specs.Reply.{answer_frames, reply_frames, item_frame, memory_frame, refusal_frame, version_frame, place_bytes as bytes_of_place, sequence_bytes as bytes_of_sequence, expect_bytes as bytes_of_expect, is_error_reply, is_error_code as error_code, GoesOut};
 
-use crate::frame::put_frame;
 use crate::refusal::Refusal;
 use crate::request::Version;
 use arrayvec::ArrayVec;
-use map_core::{AskError, Expect, MapRefusal, Reply};
+use map_core::{AskError, Expect, MapRefusal, Reply, Snapshot};
 use spiffe_doc::{Bundle, TrustDomain};
-use std::alloc::{AllocError, Global};
 use std::marker::Model;
 
 /// A length, a code, and at most 20 bytes of numbers.
@@ -20,8 +18,8 @@ const HEAD_BYTES: usize = 25;
 /// A code, a length and the longest name.
 pub const ITEM_HEAD_BYTES: usize = 257;
 
-/// A length, a code and the length of the name.
-const ITEM_FRONT_BYTES: usize = 6;
+/// A length, and then a code and the longest name.
+const ITEM_FRONT_BYTES: usize = 261;
 
 /// The code of a reply stands after its length.
 const CODE_PLACE: usize = 4;
@@ -32,11 +30,11 @@ enum Body {
     Empty,
     /// The canonical text of a bundle, as the bundle keeps it.
     Canonical(Bundle),
-    /// Whole frames.
-    Frames(Vec<u8>),
+    /// A frame for each domain, made as it is written.
+    All(Snapshot),
 }
 
-/// The bytes of a reply, made whole. All but the reply to a fetch-all are made without memory.
+/// The bytes of a reply, made without memory. Bundles stand in it as they are, so no reply is ever one great buffer.
 #[derive(Drop)]
 pub(crate) struct ReplyBytes {
     head: ArrayVec<u8, HEAD_BYTES>,
@@ -55,16 +53,17 @@ impl Model for ReplyBytes {
 }
 
 impl ReplyBytes {
-    /// The two parts that are written one after the other.
-    pub(crate) fn parts(&self) -> (&[u8], &[u8])
-        ensures whole { result.0.now ++ result.1.now ≡ self.now }
+    /// The parts that are written one after the other: the first bytes, a text, and a frame for each of
+    /// these domains.
+    pub(crate) fn parts(&self) -> (&[u8], &[u8], &[(TrustDomain, Bundle)])
+        ensures whole { (result.0.now ++ result.1.now) ++ flat_map item_frame result.2.now ≡ self.now }
         ensures few { length result.0.now ≤ 25 }
     {
         let head = self.head.as_slice();
         match &self.body {
-            Body::Empty => (head, &[]),
-            Body::Canonical(bundle) => (head, bundle.text()),
-            Body::Frames(bytes) => (head, bytes.as_slice()),
+            Body::Empty => (head, &[], &[]),
+            Body::Canonical(bundle) => (head, bundle.text(), &[]),
+            Body::All(snapshot) => (head, &[], snapshot.pairs()),
         }
     }
 
@@ -106,18 +105,17 @@ impl ReplyBytes {
     }
 
     /// All bundles: their number, and then a frame for each.
-    fn all(alloc: Global, items: &[(TrustDomain, Bundle)]) -> Result<ReplyBytes, AllocError>
-        ensures { IfOk result (λ text. text ≡ reply_frames (Reply.All items.now)) }
+    fn all(snapshot: Snapshot) -> ReplyBytes
+        ensures { result ≡ reply_frames (Reply.All snapshot) }
     {
-        let frames = item_frames(alloc, items)?;
         let mut head = ArrayVec::new();
         put(&mut head, &9_u32.to_be_bytes());
         put(&mut head, b"a");
-        put(&mut head, &(items.len() as u64).to_be_bytes());
-        Ok(ReplyBytes {
+        put(&mut head, &(snapshot.len() as u64).to_be_bytes());
+        ReplyBytes {
             head,
-            body: Body::Frames(frames),
-        })
+            body: Body::All(snapshot),
+        }
     }
 }
 
@@ -144,38 +142,17 @@ pub fn canonical_text(bundle: &Bundle) -> &[u8]
     bundle.text()
 }
 
-/// A frame for each domain: its name and its canonical text.
-fn item_frames(alloc: Global, items: &[(TrustDomain, Bundle)]) -> Result<Vec<u8>, AllocError>
-    ensures { IfOk result (λ out. out.items ≡ flat_map item_frame items.now) }
-{
-    let mut out = Vec::with_capacity(alloc, items_size(items))?;
-    for item in items {
-        put_item(&mut out, &item.0, &item.1)?;
-    }
-    Ok(out)
-}
-
-/// How many bytes the frames of these domains take, so that memory for them is taken at once.
-fn items_size(items: &[(TrustDomain, Bundle)]) -> usize {
-    let mut size: usize = 0;
-    for item in items {
-        size = size
-            .saturating_add(ITEM_FRONT_BYTES)
-            .saturating_add(item.0.as_str().len())
-            .saturating_add(item.1.text_len());
-    }
-    size
-}
-
-fn put_item(out: &mut Vec<u8>, domain: &TrustDomain, bundle: &Bundle) -> Result<(), AllocError>
-    ensures { OnOk result (out.new.items ≡ out.old.items ++ item_frame (domain.now, bundle.now)) }
+/// What stands before the canonical text in a domain's frame: the length, the code, and the name.
+pub(crate) fn item_front(domain: &TrustDomain, bundle: &Bundle) -> ArrayVec<u8, ITEM_FRONT_BYTES>
+    ensures { result.items ++ text_of bundle.now ≡ item_frame (domain.now, bundle.now) }
 {
     let name = domain.as_str().as_bytes();
-    let text = canonical_text(bundle);
-    let mut front = ArrayVec::<u8, ITEM_HEAD_BYTES>::new();
+    let size = (2 + name.len() + canonical_text(bundle).len()) as u32;
+    let mut front = ArrayVec::<u8, ITEM_FRONT_BYTES>::new();
+    let _fits = front.try_extend_from_slice(&size.to_be_bytes());
     let _fits = front.try_extend_from_slice(&[b'i', name.len() as u8]);
     let _fits = front.try_extend_from_slice(name);
-    put_frame(out, front.as_slice(), text)
+    front
 }
 
 /// The reply that says that memory ran out.
@@ -202,8 +179,8 @@ pub(crate) fn version_reply(version: Version) -> ReplyBytes
     ReplyBytes::short(b'v', &[version.number()])
 }
 
-/// The answer as it goes out. If there is no memory for all bundles, it says so.
-pub(crate) fn answer_reply(alloc: Global, answer: Result<Reply, AskError>) -> ReplyBytes
+/// The answer as it goes out.
+pub(crate) fn answer_reply(answer: Result<Reply, AskError>) -> ReplyBytes
     ensures { GoesOut answer result }
 {
     match answer {
@@ -215,10 +192,7 @@ pub(crate) fn answer_reply(alloc: Global, answer: Result<Reply, AskError>) -> Re
         ),
         Ok(Reply::Removed) => ReplyBytes::short(b'd', &[]),
         Ok(Reply::Found(bundle)) => ReplyBytes::found(bundle),
-        Ok(Reply::All(snapshot)) => match ReplyBytes::all(alloc, snapshot.pairs()) {
-            Ok(text) => text,
-            Err(_) => memory_reply(),
-        },
+        Ok(Reply::All(snapshot)) => ReplyBytes::all(snapshot),
         Ok(Reply::Refused(why)) => map_refusal_reply(why),
         Err(error) => error_reply(error),
     }

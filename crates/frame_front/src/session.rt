@@ -29,7 +29,7 @@ fn answer<A: Ask>(alloc: Global, version: &mut Version, ask: &mut A, payload: &[
     match read_request(alloc, *version, payload) {
         Ok(Request::Ask(op)) => {
             let answer = ask.ask(op);
-            answer_reply(alloc, answer)
+            answer_reply(answer)
         }
         Ok(Request::SetVersion(wanted)) => {
             *version = wanted;
