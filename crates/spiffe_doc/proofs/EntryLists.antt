@@ -2,12 +2,12 @@
 use Rattle.std.proofs.Common.{◌≡◌, ℕ, zero, suc, ◌+◌, ◌<◌, List, [], ◌∷◌, ◌++◌, length, get_or, nat_le, Option, Some, None, Result, Ok, Err, refl, sym, ap, ◌∙◌, inl, inr, arith, append-nil, add-one, ◌-◌, zero-add, suc-add, map}
 use Rattle.std.proofs.lemmas.Bool.{cases_Bool}
 use Rattle.serde_json.specs.Data.{Data, null}
-use Rattle.serde_json.specs.View.{view, items_view}
-use Rattle.serde_json.specs.declared.value.Value.{Value}
+use Rattle.json.specs.declared.value.Value.{Value}
 use Rattle.spiffe_doc.specs.Judgement.{judge}
 use Rattle.spiffe_doc.specs.Document.{elements, distinct, authorities_by, verdict, authorities_before, fault_after, least_fault, authorities_of}
 use Rattle.spiffe_doc.specs.Bundle.{is_among, is_kid_taken}
 use Rattle.spiffe_doc.specs.Private.AuthoritySet.{take_in}
+use Rattle.spiffe_doc.specs.Private.Borrowed.{tree_data, list_data}
 use Rattle.spiffe_doc.specs.declared.authority.Authority.{Authority}
 use Rattle.spiffe_doc.specs.declared.error.DocError.{DocError}
 use Rattle.spiffe_doc.proofs.FirstPlaces.{list_any-firsts, firsts_push}
@@ -83,14 +83,14 @@ unfolding authorities_of
 read_all entries kept h = rw (h.faultless, h.once) refl
 
 -- the entry that the code has in hand is judged as the list's
-pub outcome-view : (vs : List Value) (place : ℕ) (v : Value) → place < length vs → v ≡ get_or vs place v → verdict (map view vs) place ≡ judge place (view v)
-outcome-view vs place v inside is = ap (judge place) (at vs place v inside ∙ ap view (sym is))
+pub outcome-tree : {A : Type 0} → (vs : List (Value A)) (place : ℕ) (v : Value A) → place < length vs → v ≡ get_or vs place v → verdict (map tree_data vs) place ≡ judge place (tree_data v)
+outcome-tree {A} vs place v inside is = ap (judge place) (at vs place v inside ∙ ap tree_data (sym is))
   where
-    at : (vs : List Value) (i : ℕ) (v : Value) → i < length vs → get_or (map view vs) i null ≡ view (get_or vs i v)
+    at : (vs : List (Value A)) (i : ℕ) (v : Value A) → i < length vs → get_or (map tree_data vs) i null ≡ tree_data (get_or vs i v)
     at [] i v h = absurd (omega arith)
     at (w ∷ vs) zero v h = refl
     at (w ∷ vs) (suc i) v h = at vs i v (omega arith)
 
-pub elements_view : (vs : List Value) → elements (items_view vs) ≡ map view vs
-elements_view [] = refl
-elements_view (v ∷ vs) = ap (λ ds. view v ∷ ds) (elements_view vs)
+pub elements-list_data : {A : Type 0} → (vs : List (Value A)) → elements (list_data vs) ≡ map tree_data vs
+elements-list_data [] = refl
+elements-list_data (v ∷ vs) = ap (λ ds. tree_data v ∷ ds) (elements-list_data vs)

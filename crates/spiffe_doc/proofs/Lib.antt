@@ -2,6 +2,7 @@ pub mod NameLemmas
 pub mod NameOrder
 pub mod IdLemmas
 pub mod IdLaws
+pub mod BorrowedLemmas
 pub mod MemberLemmas
 pub mod EncodedLemmas
 pub mod Members

@@ -75,13 +75,17 @@ prefix-greater k xs ys h below = nat_list_cmp_total.antisymm xs ys ∙ ap orderi
 are_bytes : (text : List ℕ) → IsName text → AreBytes text
 are_bytes text h i = omega (arith, IsAscii-IsName text h i)
 
--- if the numbers of two names differ, they order the names
-pub names_by_prefix : (xs ys : List ℕ) (m n : ℕ) → IsName xs × (m ≡ prefix_number 8 xs) → IsName ys × (n ≡ prefix_number 8 ys)
+-- if the numbers of two texts differ, they order the texts
+pub texts_by_prefix : (xs ys : List ℕ) (m n : ℕ) → AreBytes xs × (m ≡ prefix_number 8 xs) → AreBytes ys × (n ≡ prefix_number 8 ys)
     → (nat_cmp m n ≡ Equal → ⊥) → nat_cmp m n ≡ slice_cmp nat_cmp xs ys
-names_by_prefix xs ys m n (name, is) (other, stands) differ = elim (cases_lt m n) [
-  | inl below ↦ less m n below ∙ sym (prefix-less 8 xs ys (are_bytes ys other) (omega (arith, is, stands, below)))
+texts_by_prefix xs ys m n (bytes, is) (others, stands) differ = elim (cases_lt m n) [
+  | inl below ↦ less m n below ∙ sym (prefix-less 8 xs ys others (omega (arith, is, stands, below)))
   | inr past ↦ elim (cases_lt n m) [
-    | inl above ↦ greater m n above ∙ sym (prefix-greater 8 xs ys (are_bytes xs name) (omega (arith, is, stands, above)))
+    | inl above ↦ greater m n above ∙ sym (prefix-greater 8 xs ys bytes (omega (arith, is, stands, above)))
     | inr tied ↦ absurd (differ (equal m n (omega (arith, past, tied))))
   ]
 ]
+
+pub names_by_prefix : (xs ys : List ℕ) (m n : ℕ) → IsName xs × (m ≡ prefix_number 8 xs) → IsName ys × (n ≡ prefix_number 8 ys)
+    → (nat_cmp m n ≡ Equal → ⊥) → nat_cmp m n ≡ slice_cmp nat_cmp xs ys
+names_by_prefix xs ys m n (name, is) (other, stands) differ = texts_by_prefix xs ys m n (are_bytes xs name, is) (are_bytes ys other, stands) differ

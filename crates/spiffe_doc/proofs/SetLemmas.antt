@@ -1,9 +1,13 @@
 -- An equal authority, and an equal key id, are found by their texts.
-use Rattle.std.proofs.Common.{◌≡◌, ℕ, suc, ◌≤◌, ◌<◌, ◌&&◌, ◌||◌, List, [], ◌∷◌, ◌++◌, length, get_or, bytes_eq, Bool, true, false, not, nat_le, Some, Ok, Err, refl, sym, ap, ◌∙◌, inl, inr, arith}
+use Rattle.std.proofs.Common.{◌≡◌, ℕ, suc, ◌≤◌, ◌<◌, ◌&&◌, ◌||◌, List, [], ◌∷◌, ◌++◌, length, get_or, bytes_eq, cond, Bool, true, false, not, nat_le, Option, Some, None, MatchOption, Ok, Err, refl, sym, ap, subst, ◌∙◌, inl, inr, arith}
+use Rattle.std.specs.Prelude.{is_some}
+use Rattle.std.proofs.lemmas.List.{length-append, get_or_append_left, get_or_push}
+use Rattle.std.proofs.lemmas.List.Folds.{list_any_at}
 use Rattle.std.specs.List.{list_any, AllPairs, AllByRecursion}
 use Rattle.std.specs.Cmp.Lexicographic.{bytes_decides}
 use Rattle.std.proofs.lemmas.Bool.{cases_Bool, le-leb}
 use Rattle.std.proofs.lemmas.Bool.Decides.{nat_tests}
+use Rattle.std.specs.BTreeMap.{BTreeMap}
 use Rattle.std.specs.BTreeSet.{BTreeSet}
 use Rattle.serde_json.specs.Read.{read}
 use Rattle.spiffe_doc.specs.declared.authority.Authority.{Authority}
@@ -13,7 +17,7 @@ use Rattle.spiffe_doc.specs.Equal.{authority_eq}
 use Rattle.spiffe_doc.specs.Private.Equality.{authority_decides}
 use Rattle.spiffe_doc.specs.Judgement.{judge}
 use Rattle.spiffe_doc.specs.Bundle.{same_kid, is_among, is_kid_taken, AreApart, AreAuthorities}
-use Rattle.spiffe_doc.specs.Private.AuthoritySet.{admission, has, has_some, is_some_of, has_kid, kid_of, AreIndexed}
+use Rattle.spiffe_doc.specs.Private.AuthoritySet.{admission, has, has_text, place_of_kid, is_some_of, has_kid, kid_of, IsKidAt, AreIndexed}
 use Rattle.spiffe_doc.specs.Text.{entry_tree, entry_text}
 use Rattle.spiffe_doc.specs.declared.error.DocError.TheVariants.{KidTwice, TooMany}
 use Rattle.spiffe_doc.proofs.TextLemmas.{entry_reads, entry_numbers, entry_depth}
@@ -43,10 +47,11 @@ same_text a b is_a is_b = elim (cases_Bool (authority_eq a b)) [
   ]
 ]
 
--- its text is among theirs if and only if it is among them
-pub any_text : (xs : List Authority) (a : Authority) → AllByRecursion IsAuthority xs → IsAuthority a → list_any (λ x. bytes_eq (entry_text x) (entry_text a)) xs ≡ is_among xs a
-any_text [] a valid is = refl
-any_text (x ∷ xs) a valid is = rw (same_text x a valid.0 is, any_text xs a valid.1 is) refl
+-- the text of an X.509 authority is among theirs if and only if it is among them
+pub any_text : (xs : List Authority) (key : _) (der : List ℕ) → AllByRecursion IsAuthority xs → IsAuthority (X509 key der) → list_any (has_text (entry_text (X509 key der))) xs ≡ is_among xs (X509 key der)
+any_text [] key der valid is = refl
+any_text (X509 k d ∷ xs) key der valid is = rw (same_text (X509 k d) (X509 key der) valid.0 is, any_text xs key der valid.1 is) refl
+any_text (Jwt own k ∷ xs) key der valid is = any_text xs key der valid.1 is
 
 and_true : (b c : Bool) → (b || c) ≡ ((b && true) || c)
 and_true true c = refl
@@ -119,36 +124,71 @@ among_not_taken (x ∷ xs) a apart there = elim (cases_Bool (authority_eq x a)) 
 
 -- ---- what the sets say of one more
 
-has_any : (texts kids : BTreeSet (List ℕ)) (kept : List Authority) (a : Authority) (b : Bool) → AreAuthorities kept → AreIndexed texts kids kept → IsAuthority a → has texts (entry_text a) ≡ b → is_among kept a ≡ b
-has_any texts kids kept a b h index is has_text = sym (any_text kept a h.valid is) ∙ sym (index.texts_are (entry_text a)) ∙ has_text
+or_true : (b : Bool) → (b || true) ≡ true
+or_true true = refl
+or_true false = refl
 
-has_taken : (texts kids : BTreeSet (List ℕ)) (kept : List Authority) (a : Authority) (b : Bool) → AreIndexed texts kids kept → is_among kept a ≡ false → has_some kids (kid_of a) ≡ b → is_kid_taken kept a ≡ b
-has_taken texts kids kept (X509 key der) b index new h = no_kid kept key der ∙ h
-has_taken texts kids kept (Jwt kid key) b index new h = sym (any_kid kept kid key new) ∙ sym (index.kids_are kid) ∙ h
+-- what is among them has its key id there
+among_has_kid : (xs : List Authority) (kid : List ℕ) (key : _) → is_among xs (Jwt kid key) ≡ true → list_any (has_kid kid) xs ≡ true
+among_has_kid [] kid key there = cc there
+among_has_kid (x ∷ xs) kid key there = elim (cases_Bool (authority_eq x (Jwt kid key))) [
+  | inl same ↦ let one = (authority_decides x (Jwt kid key)).0 same in rw (one, (bytes_decides kid kid).1 refl) refl
+  | inr other ↦ rw (among_has_kid xs kid key (rw other at there)) (or_true (has_kid kid x))
+]
 
-pub admitted-there : (texts kids : BTreeSet (List ℕ)) (place : ℕ) (kept : List Authority) (a : Authority) → AreAuthorities kept → AreIndexed texts kids kept → IsAuthority a
-    → has texts (entry_text a) ≡ true → admission place kept a ≡ Ok kept
-admitted-there texts kids place kept a h index is has_text =
-    let there = has_any texts kids kept a true h index is has_text in
-    rw (among_not_taken kept a h.apart there, there) refl
+no_kid_among : (xs : List Authority) (kid : List ℕ) (key : _) → list_any (has_kid kid) xs ≡ false → is_among xs (Jwt kid key) ≡ false
+no_kid_among xs kid key none = elim (cases_Bool (is_among xs (Jwt kid key))) [
+  | inl there ↦ cc (sym none ∙ among_has_kid xs kid key there)
+  | inr new ↦ new
+]
 
-pub admitted-taken : (texts kids : BTreeSet (List ℕ)) (place : ℕ) (kept : List Authority) (a : Authority) → AreAuthorities kept → AreIndexed texts kids kept → IsAuthority a
-    → has texts (entry_text a) ≡ false → has_some kids (kid_of a) ≡ true → admission place kept a ≡ Err (KidTwice place)
-admitted-taken texts kids place kept a h index is has_text has_kid =
-    rw (has_taken texts kids kept a true index (has_any texts kids kept a false h index is has_text) has_kid) refl
+pub held-text : (texts : BTreeSet (List ℕ)) (kids : BTreeMap (List ℕ) ℕ) (kept : List Authority) (a : Authority) → AreAuthorities kept → AreIndexed texts kids kept → IsAuthority a → kid_of a ≡ None
+    → (is_kid_taken kept a ≡ false) × (has texts (entry_text a) ≡ is_among kept a)
+held-text texts kids kept (X509 key der) h index is none = (no_kid kept key der, index.texts_are (entry_text (X509 key der)) ∙ any_text kept key der h.valid is)
+held-text texts kids kept (Jwt kid key) h index is none = cc none
 
-pub admitted-full : (texts kids : BTreeSet (List ℕ)) (place : ℕ) (kept : List Authority) (a : Authority) → AreAuthorities kept → AreIndexed texts kids kept → IsAuthority a
-    → has texts (entry_text a) ≡ false → has_some kids (kid_of a) ≡ false → 1024 ≤ length kept → admission place kept a ≡ Err TooMany
-admitted-full texts kids place kept a h index is has_text has_kid full =
-    let new = has_any texts kids kept a false h index is has_text in
-    rw (has_taken texts kids kept a false index new has_kid, new, le-leb _ _ full) refl
+pub held-none : (texts : BTreeSet (List ℕ)) (kids : BTreeMap (List ℕ) ℕ) (kept : List Authority) (a : Authority) (kid : List ℕ) → AreIndexed texts kids kept → kid_of a ≡ Some kid → place_of_kid kids kid ≡ None
+    → (is_kid_taken kept a ≡ false) × (false ≡ is_among kept a)
+held-none texts kids kept (X509 key der) kid index is none = cc is
+held-none texts kids kept (Jwt own key) kid index is none =
+    let same : own ≡ kid = cc is in
+    let without : list_any (has_kid kid) kept ≡ false = subst (λ o. MatchOption o (list_any (has_kid kid) kept ≡ false) (IsKidAt kid kept)) none (index.kids_are kid) in
+    let own_without : list_any (has_kid own) kept ≡ false = rw same without in
+    let new = no_kid_among kept own key own_without in
+    (sym (any_kid kept own key new) ∙ own_without, sym new)
 
-pub admitted-new : (texts kids : BTreeSet (List ℕ)) (place : ℕ) (kept : List Authority) (a : Authority) → AreAuthorities kept → AreIndexed texts kids kept → IsAuthority a
-    → has texts (entry_text a) ≡ false → has_some kids (kid_of a) ≡ false → length kept < 1024 → admission place kept a ≡ Ok (kept ++ a ∷ [])
-admitted-new texts kids place kept a h index is has_text has_kid room =
-    let new = has_any texts kids kept a false h index is has_text in
+pub place_inside : (texts : BTreeSet (List ℕ)) (kids : BTreeMap (List ℕ) ℕ) (kept : List Authority) (kid : List ℕ) (at : ℕ) → AreIndexed texts kids kept → place_of_kid kids kid ≡ Some at → IsKidAt kid kept at
+place_inside texts kids kept kid at index is = subst (λ o. MatchOption o (list_any (has_kid kid) kept ≡ false) (IsKidAt kid kept)) is (index.kids_are kid)
+
+pub held-equal : (kept : List Authority) (a other : Authority) (at : ℕ) → AreAuthorities kept → at < length kept → authority_eq (get_or kept at other) a ≡ true → (is_kid_taken kept a ≡ false) × (true ≡ is_among kept a)
+held-equal kept a other at h inside same =
+    let there : is_among kept a ≡ true = list_any_at (λ x. authority_eq x a) kept at other inside same in
+    (among_not_taken kept a h.apart there, sym there)
+
+has_kid-same : (x : Authority) (kid : List ℕ) (key : _) → has_kid kid x ≡ true → same_kid x (Jwt kid key) ≡ true
+has_kid-same (X509 k der) kid key h = cc h
+has_kid-same (Jwt own k) kid key h = h
+
+pub taken-at : (kept : List Authority) (a other : Authority) (kid : List ℕ) (at : ℕ) → kid_of a ≡ Some kid → IsKidAt kid kept at → authority_eq (get_or kept at other) a ≡ false → is_kid_taken kept a ≡ true
+taken-at kept (X509 key der) other kid at is there differs = cc is
+taken-at kept (Jwt own key) other kid at is there differs =
+    let same : own ≡ kid = cc is in
+    let has_own : has_kid own (get_or kept at other) ≡ true = rw same (there.1 other) in
+    list_any_at (λ x. same_kid x (Jwt own key) && not (authority_eq x (Jwt own key))) kept at other there.0 (rw (has_kid-same (get_or kept at other) own key has_own, differs) refl)
+
+pub admitted-there : (place : ℕ) (kept : List Authority) (a : Authority) → is_kid_taken kept a ≡ false → is_among kept a ≡ true → admission place kept a ≡ Ok kept
+admitted-there place kept a free there = rw (free, there) refl
+
+pub admitted-taken : (place : ℕ) (kept : List Authority) (a : Authority) → is_kid_taken kept a ≡ true → admission place kept a ≡ Err (KidTwice place)
+admitted-taken place kept a taken = rw taken refl
+
+pub admitted-full : (place : ℕ) (kept : List Authority) (a : Authority) → is_kid_taken kept a ≡ false → is_among kept a ≡ false → 1024 ≤ length kept → admission place kept a ≡ Err TooMany
+admitted-full place kept a free new full = rw (free, new, le-leb _ _ full) refl
+
+pub admitted-new : (place : ℕ) (kept : List Authority) (a : Authority) → is_kid_taken kept a ≡ false → is_among kept a ≡ false → length kept < 1024 → admission place kept a ≡ Ok (kept ++ a ∷ [])
+admitted-new place kept a free new room =
     let not_full : nat_le 1024 (length kept) ≡ false = grind (arith, nat_tests) in
-    rw (has_taken texts kids kept a false index new has_kid, new, not_full) refl
+    rw (free, new, not_full) refl
 
 -- ---- one more
 
@@ -162,15 +202,41 @@ any_push test (x ∷ xs) a = rw (any_push test xs a) (swap (test x) (test a) (li
     swap false true d = refl
     swap false false d = refl
 
+-- ---- the sets of one more
+
+text_of_one : (a : Authority) (text : List ℕ) → (not (is_some (kid_of a)) && bytes_eq (entry_text a) text) ≡ has_text text a
+text_of_one (X509 key der) text = refl
+text_of_one (Jwt kid key) text = refl
+
+-- a place stays, with more behind
+kept_at : (kid : List ℕ) (xs : List Authority) (a : Authority) (at : ℕ) → IsKidAt kid xs at → IsKidAt kid (xs ++ a ∷ []) at
+kept_at kid xs a at h = (
+  omega (arith, h.0, length-append xs (a ∷ [])),
+  λ other. ap (has_kid kid) (get_or_append_left xs (a ∷ []) other at h.0) ∙ h.1 other,
+)
+
+last_at : (kid : List ℕ) (xs : List Authority) (a : Authority) → has_kid kid a ≡ true → IsKidAt kid (xs ++ a ∷ []) (length xs)
+last_at kid xs a h = (omega (arith, length-append xs (a ∷ [])), λ other. ap (has_kid kid) (get_or_push xs a other (length xs) refl) ∙ h)
+
 has_kid-kid_of : (kid : List ℕ) (a : Authority) → is_some_of kid (kid_of a) ≡ has_kid kid a
 has_kid-kid_of kid (X509 key der) = refl
 has_kid-kid_of kid (Jwt own key) = refl
 
-pub indexed_push : (texts kids new_texts new_kids : BTreeSet (List ℕ)) (xs : List Authority) (a : Authority) → AreIndexed texts kids xs
-    → ((other : List ℕ) → has new_texts other ≡ (bytes_eq (entry_text a) other || has texts other))
-    → ((other : List ℕ) → has new_kids other ≡ (is_some_of other (kid_of a) || has kids other))
+place_after : (kid : List ℕ) (xs : List Authority) (a : Authority) (old : Option ℕ) (b : Bool) → has_kid kid a ≡ b
+    → MatchOption old (list_any (has_kid kid) xs ≡ false) (IsKidAt kid xs)
+    → MatchOption (cond b (Some (length xs)) old) (list_any (has_kid kid) (xs ++ a ∷ []) ≡ false) (IsKidAt kid (xs ++ a ∷ []))
+place_after kid xs a old true is h = last_at kid xs a is
+place_after kid xs a None false is h = any_push (has_kid kid) xs a ∙ rw (is, h) refl
+place_after kid xs a (Some at) false is h = kept_at kid xs a at h
+
+pub indexed_push : (texts new_texts : BTreeSet (List ℕ)) (kids new_kids : BTreeMap (List ℕ) ℕ) (xs : List Authority) (a : Authority) → AreIndexed texts kids xs
+    → ((other : List ℕ) → has new_texts other ≡ ((not (is_some (kid_of a)) && bytes_eq (entry_text a) other) || has texts other))
+    → ((other : List ℕ) → place_of_kid new_kids other ≡ cond (is_some_of other (kid_of a)) (Some (length xs)) (place_of_kid kids other))
     → AreIndexed new_texts new_kids (xs ++ a ∷ [])
-indexed_push texts kids new_texts new_kids xs a h put_text put_kid = record {
-  texts_are = λ text. put_text text ∙ ap (λ b. bytes_eq (entry_text a) text || b) (h.texts_are text) ∙ sym (any_push (λ x. bytes_eq (entry_text x) text) xs a);
-  kids_are = λ kid. put_kid kid ∙ ap (λ b. b || has kids kid) (has_kid-kid_of kid a) ∙ ap (λ b. has_kid kid a || b) (h.kids_are kid) ∙ sym (any_push (has_kid kid) xs a);
+indexed_push texts new_texts kids new_kids xs a h put_text put_kid = record {
+  texts_are = λ text.
+      put_text text ∙ ap (λ b. b || has texts text) (text_of_one a text) ∙ ap (λ b. has_text text a || b) (h.texts_are text) ∙ sym (any_push (has_text text) xs a);
+  kids_are = λ kid.
+      let after = place_after kid xs a (place_of_kid kids kid) (is_some_of kid (kid_of a)) (sym (has_kid-kid_of kid a)) (h.kids_are kid) in
+      subst (λ o. MatchOption o (list_any (has_kid kid) (xs ++ a ∷ []) ≡ false) (IsKidAt kid (xs ++ a ∷ []))) (sym (put_kid kid)) after;
 }

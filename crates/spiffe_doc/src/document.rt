@@ -1,20 +1,26 @@
 //! Bundle documents (RFC 7517, section 5; SPIFFE Trust Domain and Bundle, section 4).
 ghost use Rattle.std.specs.Prelude.{◌≡◌, ◌⊎◌, ◌≤◌, length, codes, Ok, Err, Some, None, option_map, option_and_then, MatchResult, IfOk, OnOk};
 ghost use Rattle.serde_json.specs.Find.{get, as_array};
-ghost use Rattle.serde_json.specs.View.{view, items_view};
 ghost use Rattle.spiffe_doc.specs.Answer.{Gives};
 ghost use Rattle.spiffe_doc.specs.Judgement.{judge as judgement};
-ghost use Rattle.spiffe_doc.specs.Document.{json_tree, whole_number, elements, authorities_of, bundle_of, document, entry};
+ghost use Rattle.spiffe_doc.specs.Document.{elements, authorities_of, bundle_of, document, entry};
 ghost use Rattle.spiffe_doc.specs.Private.AuthoritySet.{take_in};
+ghost use Rattle.spiffe_doc.specs.Private.Borrowed.{tree_data, list_data};
 ghost use Rattle.spiffe_doc.specs.Private.WholeSet.{IsWhole};
 
 use crate::authority::Authority;
 use crate::authority_set::AuthoritySet;
 use crate::bundle::{Bundle, MAX_TEXT, bundle_from};
 use crate::entry::judge;
+use crate::entry_text::{kid_from_entry, text_from_entry};
 use crate::error::DocError;
-use serde_json::Value;
+use crate::octets::Octets;
+use crate::tree::{array, is_object, member, number_of, read_tree};
+use json::{Scratch, Value};
 use std::alloc::Global;
+
+/// The longest document whose strings a `DocumentReader` keeps room for.
+const KEPT_ROOM: usize = 65536;
 
 /// Reads a bundle document, or reports its first fault.
 ///
@@ -22,15 +28,50 @@ use std::alloc::Global;
 /// Trust Domain and Bundle, section 4), of at most 1,048,576 bytes. Entries of unknown `use` or `kty`, or of an unknown
 /// curve, are ignored; a known entry that is malformed refuses the document. A later entry that gives an equal authority
 /// is dropped. Memory can run out only for a document that is not over that limit.
-#[tactic(auto, unfolding(crate::specs::Document::document))]
 pub fn read_document(alloc: Global, bytes: &[u8]) -> Result<Bundle, DocError>
+    ensures value { Gives DocError.Memory result (document bytes.now) }
+    ensures memory { result ≡ Err DocError.Memory → length bytes.now ≤ 1048576 }
+{
+    DocumentReader::new(alloc).read(alloc, bytes)
+}
+
+/// Reads bundle documents one after another, in memory that it keeps from one to the next: about 20 KiB, and room for
+/// the strings of a document of up to 64 KiB. It keeps nothing of what it has read.
+#[derive(Drop)]
+pub struct DocumentReader {
+    scratch: Scratch,
+}
+
+impl DocumentReader {
+    /// A reader. It takes memory when it reads.
+    pub fn new(alloc: Global) -> DocumentReader {
+        DocumentReader {
+            scratch: Scratch::new(alloc),
+        }
+    }
+
+    /// Reads a bundle document as `read_document` does, whatever was read before.
+    pub fn read(&mut self, alloc: Global, bytes: &[u8]) -> Result<Bundle, DocError>
+        ensures value { Gives DocError.Memory result (document bytes.now) }
+        ensures memory { result ≡ Err DocError.Memory → length bytes.now ≤ 1048576 }
+    {
+        if bytes.len() > KEPT_ROOM {
+            let mut scratch = Scratch::new(alloc);
+            return read_with(alloc, bytes, &mut scratch);
+        }
+        read_with(alloc, bytes, &mut self.scratch)
+    }
+}
+
+#[tactic(auto, unfolding(crate::specs::Document::document))]
+fn read_with(alloc: Global, bytes: &[u8], scratch: &mut Scratch) -> Result<Bundle, DocError>
     ensures value { Gives DocError.Memory result (document bytes.now) }
     ensures memory { result ≡ Err DocError.Memory → length bytes.now ≤ 1048576 }
 {
     if bytes.len() > MAX_TEXT {
         return Err(DocError::TooLong);
     }
-    let tree = read_tree(alloc, bytes)?;
+    let tree = read_tree(alloc, bytes, scratch)?;
     let (sequence, refresh_hint, set) = read_parts(alloc, &tree)?;
     match bundle_from(alloc, sequence, refresh_hint, set.authorities, set.text)? {
         Some(bundle) => Ok(bundle),
@@ -47,51 +88,25 @@ pub fn read_entry(alloc: Global, bytes: &[u8]) -> Result<Option<Authority>, DocE
     if bytes.len() > MAX_TEXT {
         return Err(DocError::TooLong);
     }
-    let tree = read_tree(alloc, bytes)?;
+    let mut scratch = Scratch::new(alloc);
+    let tree = read_tree(alloc, bytes, &mut scratch)?;
     judge(alloc, 0, &tree)
 }
 
-/// The tree of a JSON text.
-fn read_tree(alloc: Global, bytes: &[u8]) -> Result<Value, DocError>
-    ensures { MatchResult result
-        (λ tree. json_tree bytes.now ≡ Some (view tree))
-        (λ e. (e ≡ DocError.Memory) ⊎ ((e ≡ DocError.NotJson) × (json_tree bytes.now ≡ None))) }
-{
-    match Value::from_slice(alloc, bytes) {
-        Ok(tree) => Ok(tree),
-        Err(error) => {
-            if error.is_memory() {
-                return Err(DocError::Memory);
-            }
-            Err(DocError::NotJson)
-        }
-    }
-}
-
 /// The elements of `keys`.
-fn keys(tree: &Value) -> Option<&Vec<Value>>
-    ensures { option_map (λ keys. items_view keys.now.items) result
-        ≡ option_and_then as_array (get (codes "keys") (view tree.now)) }
+fn keys<'v, 'a>(tree: &'v Value<'a>) -> Option<&'v Vec<Value<'a>>>
+    ensures { option_map (λ keys. list_data keys.now.items) result
+        ≡ option_and_then as_array (get (codes "keys") (tree_data tree.now)) }
 {
-    tree.get("keys")?.as_array()
-}
-
-/// A number, or `None` if it is absent or null.
-fn number_member(tree: &Value, name: &str) -> Option<Option<u64>>
-    ensures { result ≡ whole_number (get name.now (view tree.now)) }
-{
-    match tree.get(name) {
-        None | Some(Value::Null) => Some(None),
-        Some(value) => Some(Some(value.as_u64()?)),
-    }
+    array(member(tree, "keys")?)
 }
 
 /// The authorities that the entries give, each once.
-fn authorities(alloc: Global, entries: &Vec<Value>) -> Result<AuthoritySet, DocError>
+fn authorities<'a>(alloc: Global, entries: &Vec<Value<'a>>) -> Result<AuthoritySet<'a>, DocError>
     ensures whole { IfOk result IsWhole }
     ensures exact { MatchResult result
-        (λ set. authorities_of (elements (items_view entries.now.items)) ≡ Ok set.authorities.items)
-        (λ e. (e ≡ DocError.Memory) ⊎ (authorities_of (elements (items_view entries.now.items)) ≡ Err e)) }
+        (λ set. authorities_of (elements (list_data entries.now.items)) ≡ Ok set.authorities.items)
+        (λ e. (e ≡ DocError.Memory) ⊎ (authorities_of (elements (list_data entries.now.items)) ≡ Err e)) }
 {
     let mut set = AuthoritySet::new(alloc)?;
     for (place, entry) in entries.iter().enumerate() {
@@ -101,45 +116,49 @@ fn authorities(alloc: Global, entries: &Vec<Value>) -> Result<AuthoritySet, DocE
 }
 
 /// Judges one more entry.
-fn take_entry(
+fn take_entry<'a>(
     alloc: Global,
-    set: &mut AuthoritySet,
+    set: &mut AuthoritySet<'a>,
     place: usize,
-    entry: &Value,
+    entry: &Value<'a>,
 ) -> Result<(), DocError>
     requires whole { IsWhole set.old }
     ensures whole { OnOk result (IsWhole set.new) }
     ensures exact { MatchResult result
-        (λ _. take_in place set.old.authorities.items (judgement place (view entry.now)) ≡ Ok set.new.authorities.items)
-        (λ e. (e ≡ DocError.Memory) ⊎ (take_in place set.old.authorities.items (judgement place (view entry.now)) ≡ Err e)) }
+        (λ _. take_in place set.old.authorities.items (judgement place (tree_data entry.now)) ≡ Ok set.new.authorities.items)
+        (λ e. (e ≡ DocError.Memory) ⊎ (take_in place set.old.authorities.items (judgement place (tree_data entry.now)) ≡ Err e)) }
 {
     match judge(alloc, place, entry)? {
-        Some(authority) => set.admit(alloc, place, authority),
+        Some(authority) => {
+            let text = Octets::new(text_from_entry(alloc, entry, &authority)?);
+            let kid = kid_from_entry(entry, &authority);
+            set.admit(place, authority, text, kid)
+        }
         None => Ok(()),
     }
 }
 
 /// The sequence, the refresh hint and the authorities of a document's tree.
 #[tactic(auto, unfolding(crate::specs::Document::bundle_of))]
-fn read_parts(
+fn read_parts<'a>(
     alloc: Global,
-    tree: &Value,
-) -> Result<(Option<u64>, Option<u64>, AuthoritySet), DocError>
+    tree: &Value<'a>,
+) -> Result<(Option<u64>, Option<u64>, AuthoritySet<'a>), DocError>
     ensures whole { IfOk result (λ parts. IsWhole parts.2) }
     ensures exact { MatchResult result
-        (λ parts. bundle_of (view tree.now) ≡ Ok (record { sequence = parts.0; refresh_hint = parts.1; authorities = parts.2.authorities.items }))
-        (λ e. (e ≡ DocError.Memory) ⊎ (bundle_of (view tree.now) ≡ Err e)) }
+        (λ parts. bundle_of (tree_data tree.now) ≡ Ok (record { sequence = parts.0; refresh_hint = parts.1; authorities = parts.2.authorities.items }))
+        (λ e. (e ≡ DocError.Memory) ⊎ (bundle_of (tree_data tree.now) ≡ Err e)) }
 {
-    if !tree.is_object() {
+    if !is_object(tree) {
         return Err(DocError::NotObject);
     }
     let Some(keys) = keys(tree) else {
         return Err(DocError::NoKeys);
     };
-    let Some(sequence) = number_member(tree, "spiffe_sequence") else {
+    let Some(sequence) = number_of(member(tree, "spiffe_sequence")) else {
         return Err(DocError::BadSequence);
     };
-    let Some(refresh_hint) = number_member(tree, "spiffe_refresh_hint") else {
+    let Some(refresh_hint) = number_of(member(tree, "spiffe_refresh_hint")) else {
         return Err(DocError::BadHint);
     };
     let authorities = authorities(alloc, keys)?;

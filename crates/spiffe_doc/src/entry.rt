@@ -2,19 +2,20 @@
 ghost use Rattle.std.specs.Prelude.{◌≡◌, ◌<◌, ◌≤◌, codes, length, Ok, Some, None, Option, List, ℕ, option_map, option_and_then, nat_lt, nat_le, ◌&&◌};
 ghost use Rattle.std.specs.Str.{is_utf8};
 ghost use Rattle.serde_json.specs.Find.{get, as_array};
-ghost use Rattle.serde_json.specs.View.{view, items_view};
 ghost use Rattle.base64.specs.Engines.{standard, url_safe_no_pad};
 ghost use Rattle.spiffe_doc.specs.Answer.{Gives};
 ghost use Rattle.spiffe_doc.specs.Entry.{member_text as text_of_member};
 ghost use Rattle.spiffe_doc.specs.Judgement as judged;
+ghost use Rattle.spiffe_doc.specs.Private.Borrowed.{tree_data, list_data};
 
 use crate::authority::{Authority, Certificate, KeyId};
 use crate::error::DocError;
 use crate::key::{Curve, EcKey, KeyMember, PublicKey, RsaKey};
 use crate::octets::Octets;
+use crate::tree::{array, is_object, member, string};
 use base64::DecodeAllocError;
 use base64::engine::general_purpose::{STANDARD, URL_SAFE_NO_PAD};
-use serde_json::Value;
+use json::Value;
 use std::alloc::Global;
 
 /// The most bytes that a member of an RSA key has.
@@ -38,10 +39,10 @@ pub(crate) enum KeyUse {
 }
 
 /// The text of a member, if it is one.
-fn member_text<'e>(entry: &'e Value, name: &str) -> Option<&'e str>
-    ensures { option_map (λ text. text.now) result ≡ text_of_member name.now (view entry.now) }
+pub(crate) fn member_text<'a>(entry: &Value<'a>, name: &str) -> Option<&'a str>
+    ensures { option_map (λ text. text.now) result ≡ text_of_member name.now (tree_data entry.now) }
 {
-    entry.get(name).and_then(Value::as_str)
+    string(member(entry, name)?)
 }
 
 fn key_type_named(text: &str) -> Option<KeyType>
@@ -82,14 +83,14 @@ fn curve_named(text: &str) -> Option<Curve>
     }
 }
 
-fn key_type(entry: &Value) -> Option<KeyType>
-    ensures { result ≡ judged.key_type (view entry.now) }
+fn key_type(entry: &Value<'_>) -> Option<KeyType>
+    ensures { result ≡ judged.key_type (tree_data entry.now) }
 {
     key_type_named(member_text(entry, "kty")?)
 }
 
-fn key_use(entry: &Value) -> Option<KeyUse>
-    ensures { result ≡ judged.key_use (view entry.now) }
+fn key_use(entry: &Value<'_>) -> Option<KeyUse>
+    ensures { result ≡ judged.key_use (tree_data entry.now) }
 {
     key_use_named(member_text(entry, "use")?)
 }
@@ -118,8 +119,8 @@ fn standard_bytes(alloc: Global, text: &str) -> Result<Option<Octets>, DocError>
 
 /// The bytes of a key's member.
 #[tactic(auto, unfolding(crate::specs::Judgement::key_bytes))]
-fn key_bytes(alloc: Global, entry: &Value, name: &str) -> Result<Option<Octets>, DocError>
-    ensures { Gives DocError.Memory result (Ok (judged.key_bytes name.now (view entry.now))) }
+fn key_bytes(alloc: Global, entry: &Value<'_>, name: &str) -> Result<Option<Octets>, DocError>
+    ensures { Gives DocError.Memory result (Ok (judged.key_bytes name.now (tree_data entry.now))) }
 {
     match member_text(entry, name) {
         Some(text) => url_safe_bytes(alloc, text),
@@ -130,11 +131,11 @@ fn key_bytes(alloc: Global, entry: &Value, name: &str) -> Result<Option<Octets>,
 #[tactic(auto, unfolding(crate::specs::Judgement::key_bytes))]
 fn coordinate(
     alloc: Global,
-    entry: &Value,
+    entry: &Value<'_>,
     name: &str,
     curve: Curve,
 ) -> Result<Option<Octets>, DocError>
-    ensures { Gives DocError.Memory result (Ok (judged.coordinate curve name.now (view entry.now))) }
+    ensures { Gives DocError.Memory result (Ok (judged.coordinate curve name.now (tree_data entry.now))) }
 {
     match key_bytes(alloc, entry, name)? {
         Some(bytes) if bytes.len() == curve.coordinate_len() => Ok(Some(bytes)),
@@ -143,8 +144,8 @@ fn coordinate(
 }
 
 #[tactic(auto, unfolding(crate::specs::Judgement::key_bytes))]
-fn rsa_member(alloc: Global, entry: &Value, name: &str) -> Result<Option<Octets>, DocError>
-    ensures { Gives DocError.Memory result (Ok (judged.rsa_member name.now (view entry.now))) }
+fn rsa_member(alloc: Global, entry: &Value<'_>, name: &str) -> Result<Option<Octets>, DocError>
+    ensures { Gives DocError.Memory result (Ok (judged.rsa_member name.now (tree_data entry.now))) }
 {
     match key_bytes(alloc, entry, name)? {
         Some(bytes) if !bytes.is_empty() && bytes.len() <= MAX_RSA_MEMBER => Ok(Some(bytes)),
@@ -156,10 +157,10 @@ fn rsa_member(alloc: Global, entry: &Value, name: &str) -> Result<Option<Octets>
 fn point_key(
     alloc: Global,
     place: usize,
-    entry: &Value,
+    entry: &Value<'_>,
     curve: Curve,
 ) -> Result<PublicKey, DocError>
-    ensures { Gives DocError.Memory result (judged.point_key place curve (view entry.now)) }
+    ensures { Gives DocError.Memory result (judged.point_key place curve (tree_data entry.now)) }
 {
     let Some(x) = coordinate(alloc, entry, "x", curve)? else {
         return Err(bad_key(place, KeyMember::X(curve)));
@@ -171,8 +172,8 @@ fn point_key(
 }
 
 #[tactic(auto, unfolding(crate::specs::Judgement::rsa_key))]
-fn rsa_key(alloc: Global, place: usize, entry: &Value) -> Result<PublicKey, DocError>
-    ensures { Gives DocError.Memory result (judged.rsa_key place (view entry.now)) }
+fn rsa_key(alloc: Global, place: usize, entry: &Value<'_>) -> Result<PublicKey, DocError>
+    ensures { Gives DocError.Memory result (judged.rsa_key place (tree_data entry.now)) }
 {
     let Some(n) = rsa_member(alloc, entry, "n")? else {
         return Err(bad_key(place, KeyMember::N));
@@ -195,9 +196,9 @@ fn key_of(
     alloc: Global,
     place: usize,
     key_type: KeyType,
-    entry: &Value,
+    entry: &Value<'_>,
 ) -> Result<Option<PublicKey>, DocError>
-    ensures { Gives DocError.Memory result (judged.key_of place key_type (view entry.now)) }
+    ensures { Gives DocError.Memory result (judged.key_of place key_type (tree_data entry.now)) }
 {
     match key_type {
         KeyType::Ec => {
@@ -215,27 +216,27 @@ fn key_of(
 
 /// The text of a list of one text.
 #[tactic(auto, using(crate::proofs::MemberLemmas::only_text_none))]
-fn only_text(list: &Vec<Value>) -> Option<&str>
-    ensures { option_map (λ text. text.now) result ≡ judged.only_text (items_view list.now.items) }
+fn only_text<'a>(list: &Vec<Value<'a>>) -> Option<&'a str>
+    ensures { option_map (λ text. text.now) result ≡ judged.only_text (list_data list.now.items) }
 {
     if list.len() == 1 {
-        list[0].as_str()
+        string(&list[0])
     } else {
         None
     }
 }
 
 /// The text of an `x5c` that is a list of one text.
-fn x5c_text(entry: &Value) -> Option<&str>
+pub(crate) fn x5c_text<'a>(entry: &Value<'a>) -> Option<&'a str>
     ensures { option_map (λ text. text.now) result
-        ≡ option_and_then judged.only_text (option_and_then as_array (get (codes "x5c") (view entry.now))) }
+        ≡ option_and_then judged.only_text (option_and_then as_array (get (codes "x5c") (tree_data entry.now))) }
 {
-    only_text(entry.get("x5c")?.as_array()?)
+    only_text(array(member(entry, "x5c")?)?)
 }
 
 #[tactic(auto, unfolding(crate::specs::Judgement::der_bytes))]
-fn certificate(alloc: Global, entry: &Value) -> Result<Option<Certificate>, DocError>
-    ensures { Gives DocError.Memory result (Ok (judged.certificate (view entry.now))) }
+fn certificate(alloc: Global, entry: &Value<'_>) -> Result<Option<Certificate>, DocError>
+    ensures { Gives DocError.Memory result (Ok (judged.certificate (tree_data entry.now))) }
 {
     let Some(text) = x5c_text(entry) else {
         return Ok(None);
@@ -252,8 +253,8 @@ fn is_key_id(text: &str) -> bool
     !text.is_empty() && text.len() <= MAX_KEY_ID
 }
 
-fn key_id(alloc: Global, entry: &Value) -> Result<Option<KeyId>, DocError>
-    ensures { Gives DocError.Memory result (Ok (judged.key_id (view entry.now))) }
+fn key_id(alloc: Global, entry: &Value<'_>) -> Result<Option<KeyId>, DocError>
+    ensures { Gives DocError.Memory result (Ok (judged.key_id (tree_data entry.now))) }
 {
     match member_text(entry, "kid") {
         Some(text) if is_key_id(text) => Ok(Some(KeyId::new(String::from_str(alloc, text)?))),
@@ -267,9 +268,9 @@ fn authority_for(
     place: usize,
     key_use: KeyUse,
     key: PublicKey,
-    entry: &Value,
+    entry: &Value<'_>,
 ) -> Result<Authority, DocError>
-    ensures { Gives DocError.Memory result (judged.authority_for place key_use key (view entry.now)) }
+    ensures { Gives DocError.Memory result (judged.authority_for place key_use key (tree_data entry.now)) }
 {
     match key_use {
         KeyUse::X509 => match certificate(alloc, entry)? {
@@ -288,11 +289,11 @@ fn authority_for(
 pub(crate) fn judge(
     alloc: Global,
     place: usize,
-    entry: &Value,
+    entry: &Value<'_>,
 ) -> Result<Option<Authority>, DocError>
-    ensures { Gives DocError.Memory result (judged.judge place (view entry.now)) }
+    ensures { Gives DocError.Memory result (judged.judge place (tree_data entry.now)) }
 {
-    if !entry.is_object() {
+    if !is_object(entry) {
         return Err(DocError::BadEntry(place));
     }
     let Some(key_type) = key_type(entry) else {

@@ -141,7 +141,7 @@ fn name_text(bytes: &[u8]) -> &str
 }
 
 /// The first 8 bytes as one number, the first byte the greatest; 0 stands for each that there is not.
-fn prefix_of(bytes: &[u8]) -> u64
+pub(crate) fn prefix_of(bytes: &[u8]) -> u64
     ensures { result ≡ prefix_number 8 bytes.now }
 {
     let mut number = 0;

@@ -1,16 +1,16 @@
 //! The canonical text of a bundle (RFC 7517, sections 4 and 5).
 ghost use Rattle.std.specs.Prelude.{◌≡◌, ◌++◌, ◌∷◌, [], codes, string_bytes, IfOk, OnOk, length, cond, ◌==◌};
 ghost use Rattle.json.specs.Token.{begin_object, begin_array, end_array, key, string};
-ghost use Rattle.serde_json.specs.Written.{comma_if};
+ghost use Rattle.serde_json.specs.Written.{compact_text};
 ghost use Rattle.base64.specs.Engines.{standard, url_safe_no_pad};
 ghost use Rattle.base64.specs.GeneralPurpose.{encode_of};
 ghost use Rattle.spiffe_doc.specs.Key.{curve_text};
 ghost use Rattle.spiffe_doc.specs.Text.{entry_text, text_of};
-ghost use Rattle.spiffe_doc.specs.Private.Writing.{number_text, rest_text};
+ghost use Rattle.spiffe_doc.specs.Private.Writing.{number_text, rest_text, x509_point_tree, x509_rsa_tree, jwt_point_tree, jwt_rsa_tree};
 
 use crate::authority::{Authority, Certificate, KeyId};
 use crate::bundle::Bundle;
-use crate::key::{Curve, EcKey, PublicKey, RsaKey};
+use crate::key::{Curve, PublicKey};
 use crate::octets::Octets;
 use base64::engine::general_purpose::{STANDARD, URL_SAFE_NO_PAD};
 use json::Writer;
@@ -35,14 +35,45 @@ pub fn write_entry(alloc: Global, authority: &Authority) -> Result<Vec<u8>, Allo
     ensures { IfOk result (λ text. text.items ≡ entry_text authority.now) }
 {
     match authority {
-        Authority::X509 { key, der } => match key {
-            PublicKey::Ec(key) => x509_point(alloc, key, der),
-            PublicKey::Rsa(key) => x509_rsa(alloc, key, der),
-        },
-        Authority::Jwt { kid, key } => match key {
-            PublicKey::Ec(key) => jwt_point(alloc, kid, key),
-            PublicKey::Rsa(key) => jwt_rsa(alloc, kid, key),
-        },
+        Authority::X509 { key, der } => write_x509(alloc, key, der),
+        Authority::Jwt { kid, key } => write_jwt(alloc, kid, key),
+    }
+}
+
+#[tactic(auto, unfolding(crate::specs::Text::entry_text))]
+fn write_x509(alloc: Global, key: &PublicKey, der: &Certificate) -> Result<Vec<u8>, AllocError>
+    ensures { IfOk result (λ text. text.items ≡ entry_text (Authority.X509 key.now der.now)) }
+{
+    let x5c = standard_text(alloc, der.der())?;
+    match key {
+        PublicKey::Ec(key) => {
+            let x = url_safe_text(alloc, key.x())?;
+            let y = url_safe_text(alloc, key.y())?;
+            x509_point(alloc, key.curve(), &x, &y, &x5c)
+        }
+        PublicKey::Rsa(key) => {
+            let n = url_safe_text(alloc, key.n())?;
+            let e = url_safe_text(alloc, key.e())?;
+            x509_rsa(alloc, &n, &e, &x5c)
+        }
+    }
+}
+
+#[tactic(auto, unfolding(crate::specs::Text::entry_text))]
+fn write_jwt(alloc: Global, kid: &KeyId, key: &PublicKey) -> Result<Vec<u8>, AllocError>
+    ensures { IfOk result (λ text. text.items ≡ entry_text (Authority.Jwt kid.now key.now)) }
+{
+    match key {
+        PublicKey::Ec(key) => {
+            let x = url_safe_text(alloc, key.x())?;
+            let y = url_safe_text(alloc, key.y())?;
+            jwt_point(alloc, kid.as_str(), key.curve(), &x, &y)
+        }
+        PublicKey::Rsa(key) => {
+            let n = url_safe_text(alloc, key.n())?;
+            let e = url_safe_text(alloc, key.e())?;
+            jwt_rsa(alloc, kid.as_str(), &n, &e)
+        }
     }
 }
 
@@ -148,67 +179,71 @@ fn push_x5c(writer: &mut Writer, text: &str) -> Result<(), AllocError>
     writer.end_array()
 }
 
-fn x509_point(alloc: Global, key: &EcKey, der: &Certificate) -> Result<Vec<u8>, AllocError>
-    ensures { IfOk result (λ text. text.items ≡ entry_text (Authority.X509 (PublicKey.Ec key.now) der.now)) }
+/// The text of an X.509 authority over a curve, by the base64 texts of its members.
+pub(crate) fn x509_point(
+    alloc: Global,
+    curve: Curve,
+    x: &str,
+    y: &str,
+    x5c: &str,
+) -> Result<Vec<u8>, AllocError>
+    ensures { IfOk result (λ text. text.items ≡ compact_text (x509_point_tree curve x.now y.now x5c.now)) }
 {
-    let x = url_safe_text(alloc, key.x())?;
-    let y = url_safe_text(alloc, key.y())?;
-    let x5c = standard_text(alloc, der.der())?;
-    let mut writer = entry_writer(alloc, &x, &y, &x5c)?;
-    push_member(&mut writer, "crv", curve_name(key.curve()))?;
+    let mut writer = entry_writer(alloc, x, y, x5c)?;
+    push_member(&mut writer, "crv", curve_name(curve))?;
     push_member(&mut writer, "kty", "EC")?;
     push_member(&mut writer, "use", "x509-svid")?;
-    push_member(&mut writer, "x", &x)?;
-    push_x5c(&mut writer, &x5c)?;
-    push_member(&mut writer, "y", &y)?;
+    push_member(&mut writer, "x", x)?;
+    push_x5c(&mut writer, x5c)?;
+    push_member(&mut writer, "y", y)?;
     writer.end_object()?;
     Ok(writer.into_inner())
 }
 
-fn x509_rsa(alloc: Global, key: &RsaKey, der: &Certificate) -> Result<Vec<u8>, AllocError>
-    ensures { IfOk result (λ text. text.items ≡ entry_text (Authority.X509 (PublicKey.Rsa key.now) der.now)) }
+/// The text of an X.509 authority with an RSA key, by the base64 texts of its members.
+pub(crate) fn x509_rsa(alloc: Global, n: &str, e: &str, x5c: &str) -> Result<Vec<u8>, AllocError>
+    ensures { IfOk result (λ text. text.items ≡ compact_text (x509_rsa_tree n.now e.now x5c.now)) }
 {
-    let n = url_safe_text(alloc, key.n())?;
-    let e = url_safe_text(alloc, key.e())?;
-    let x5c = standard_text(alloc, der.der())?;
-    let mut writer = entry_writer(alloc, &n, &e, &x5c)?;
-    push_member(&mut writer, "e", &e)?;
+    let mut writer = entry_writer(alloc, n, e, x5c)?;
+    push_member(&mut writer, "e", e)?;
     push_member(&mut writer, "kty", "RSA")?;
-    push_member(&mut writer, "n", &n)?;
+    push_member(&mut writer, "n", n)?;
     push_member(&mut writer, "use", "x509-svid")?;
-    push_x5c(&mut writer, &x5c)?;
+    push_x5c(&mut writer, x5c)?;
     writer.end_object()?;
     Ok(writer.into_inner())
 }
 
-fn jwt_point(alloc: Global, kid: &KeyId, key: &EcKey) -> Result<Vec<u8>, AllocError>
-    ensures { IfOk result (λ text. text.items ≡ entry_text (Authority.Jwt kid.now (PublicKey.Ec key.now))) }
+/// The text of a JWT authority over a curve, by the texts of its members.
+pub(crate) fn jwt_point(
+    alloc: Global,
+    kid: &str,
+    curve: Curve,
+    x: &str,
+    y: &str,
+) -> Result<Vec<u8>, AllocError>
+    ensures { IfOk result (λ text. text.items ≡ compact_text (jwt_point_tree kid.now curve x.now y.now)) }
 {
-    let kid = kid.as_str();
-    let x = url_safe_text(alloc, key.x())?;
-    let y = url_safe_text(alloc, key.y())?;
-    let mut writer = entry_writer(alloc, kid, &x, &y)?;
-    push_member(&mut writer, "crv", curve_name(key.curve()))?;
+    let mut writer = entry_writer(alloc, kid, x, y)?;
+    push_member(&mut writer, "crv", curve_name(curve))?;
     push_member(&mut writer, "kid", kid)?;
     push_member(&mut writer, "kty", "EC")?;
     push_member(&mut writer, "use", "jwt-svid")?;
-    push_member(&mut writer, "x", &x)?;
-    push_member(&mut writer, "y", &y)?;
+    push_member(&mut writer, "x", x)?;
+    push_member(&mut writer, "y", y)?;
     writer.end_object()?;
     Ok(writer.into_inner())
 }
 
-fn jwt_rsa(alloc: Global, kid: &KeyId, key: &RsaKey) -> Result<Vec<u8>, AllocError>
-    ensures { IfOk result (λ text. text.items ≡ entry_text (Authority.Jwt kid.now (PublicKey.Rsa key.now))) }
+/// The text of a JWT authority with an RSA key, by the texts of its members.
+pub(crate) fn jwt_rsa(alloc: Global, kid: &str, n: &str, e: &str) -> Result<Vec<u8>, AllocError>
+    ensures { IfOk result (λ text. text.items ≡ compact_text (jwt_rsa_tree kid.now n.now e.now)) }
 {
-    let kid = kid.as_str();
-    let n = url_safe_text(alloc, key.n())?;
-    let e = url_safe_text(alloc, key.e())?;
-    let mut writer = entry_writer(alloc, kid, &n, &e)?;
-    push_member(&mut writer, "e", &e)?;
+    let mut writer = entry_writer(alloc, kid, n, e)?;
+    push_member(&mut writer, "e", e)?;
     push_member(&mut writer, "kid", kid)?;
     push_member(&mut writer, "kty", "RSA")?;
-    push_member(&mut writer, "n", &n)?;
+    push_member(&mut writer, "n", n)?;
     push_member(&mut writer, "use", "jwt-svid")?;
     writer.end_object()?;
     Ok(writer.into_inner())

@@ -1,8 +1,10 @@
 -- The authorities that the first entries of a document gave, for private contracts.
-use Rattle.std.specs.Prelude.{◌≡◌, ℕ, List, [], ◌∷◌, ◌++◌, length, bytes_eq, Bool, false, nat_le, if◌then◌else◌, Option, Some, None, Result, Ok, Err}
+use Rattle.std.specs.Prelude.{◌≡◌, ◌<◌, ℕ, List, [], ◌∷◌, ◌++◌, length, get_or, bytes_eq, Bool, true, false, nat_le, if◌then◌else◌, Option, Some, None, MatchOption, Result, Ok, Err}
 use Rattle.std.specs.List.{list_any}
 use Rattle.std.specs.Ordering.{nat_cmp}
 use Rattle.std.specs.Cmp.Lexicographic.{slice_cmp}
+use Rattle.std.specs.BTreeMap as map
+use Rattle.std.specs.BTreeMap.{BTreeMap}
 use Rattle.std.specs.BTreeSet as tree
 use Rattle.std.specs.BTreeSet.{BTreeSet}
 use Rattle.spiffe_doc.specs.declared.authority.Authority.{Authority}
@@ -35,14 +37,18 @@ with_new new before authority = if new then before ++ authority ∷ [] else befo
 abbrev pub has : BTreeSet (List ℕ) → List ℕ → Bool
 has set bytes = tree.contains (slice_cmp nat_cmp) set bytes
 
-abbrev pub has_some : BTreeSet (List ℕ) → Option (List ℕ) → Bool
-has_some set None = false
-has_some set (Some bytes) = has set bytes
+abbrev pub place_of_kid : BTreeMap (List ℕ) ℕ → List ℕ → Option ℕ
+place_of_kid kids kid = map.get (slice_cmp nat_cmp) kids kid
 
 -- whether these are the bytes, if there are any
 abbrev pub is_some_of : List ℕ → Option (List ℕ) → Bool
 is_some_of bytes None = false
 is_some_of bytes (Some own) = bytes_eq own bytes
+
+-- whether this is the text of an X.509 authority
+abbrev pub has_text : List ℕ → Authority → Bool
+has_text text (X509 key der) = bytes_eq (entry_text (X509 key der)) text
+has_text text (Jwt kid key) = false
 
 -- whether this is the key id of an authority
 abbrev pub has_kid : List ℕ → Authority → Bool
@@ -54,7 +60,11 @@ abbrev pub kid_of : Authority → Option (List ℕ)
 kid_of (X509 key der) = None
 kid_of (Jwt kid key) = Some kid
 
--- the sets have the texts and the key ids of these authorities, and no others
-pub record AreIndexed (texts kids : BTreeSet (List ℕ)) (authorities : List Authority) : Type 0 where
-  pub texts_are : (text : List ℕ) → has texts text ≡ list_any (λ authority. bytes_eq (entry_text authority) text) authorities
-  pub kids_are : (kid : List ℕ) → has kids kid ≡ list_any (has_kid kid) authorities
+-- an authority at this place has the key id
+abbrev pub IsKidAt : List ℕ → List Authority → ℕ → Type 0
+IsKidAt kid authorities at = (at < length authorities) × ((other : Authority) → has_kid kid (get_or authorities at other) ≡ true)
+
+-- they have the texts of these X.509 authorities, and a place for each key id of these JWT authorities, and no others
+pub record AreIndexed (texts : BTreeSet (List ℕ)) (kids : BTreeMap (List ℕ) ℕ) (authorities : List Authority) : Type 0 where
+  pub texts_are : (text : List ℕ) → has texts text ≡ list_any (has_text text) authorities
+  pub kids_are : (kid : List ℕ) → MatchOption (place_of_kid kids kid) (list_any (has_kid kid) authorities ≡ false) (IsKidAt kid authorities)

@@ -1,11 +1,11 @@
 use Rattle.std.proofs.Common.{map}
-use Rattle.serde_json.specs.View.{view}
+use Rattle.spiffe_doc.specs.Private.Borrowed.{tree_data}
 use Rattle.spiffe_doc.specs.Private.WholeSet.{IsWhole}
 use Rattle.spiffe_doc.proofs.EntryLists.{IsReadTo}
 use Rattle.spiffe_doc.proofs.document.authorities.Given as goal
 
 abbrev pub invariant-loop-place : goal.invariant-loop-place
 invariant-loop-place l = record {
-  read : IsReadTo (map view l.entries.items) l.place l.set.authorities.items;
+  read : IsReadTo (map tree_data l.entries.items) l.place l.set.authorities.items;
   whole : IsWhole l.set;
 }

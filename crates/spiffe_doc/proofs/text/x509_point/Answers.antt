@@ -1,26 +1,16 @@
-use Rattle.std.proofs.Common.{ap, ◌∙◌}
-use Rattle.spiffe_doc.specs.declared.key.PublicKey.TheVariants.{Ec}
-use Rattle.spiffe_doc.specs.declared.authority.Authority.TheVariants.{X509}
-use Rattle.spiffe_doc.specs.Key.{curve_text}
-use Rattle.spiffe_doc.specs.Text.{entry_tree, entry_text}
-use Rattle.base64.specs.GeneralPurpose.{encode_of}
-use Rattle.base64.specs.Engines.{standard, url_safe_no_pad}
-use Rattle.spiffe_doc.proofs.WrittenLemmas.{written, behind, member_behind, list_behind}
+use Rattle.std.proofs.Common.{◌∙◌}
+use Rattle.spiffe_doc.specs.Private.Writing.{x509_point_tree}
+use Rattle.spiffe_doc.proofs.WrittenLemmas.{written, behind, member_behind}
 use Rattle.spiffe_doc.proofs.text.x509_point.Goals as goal
 
 pub returns : goal.returns
-unfolding entry_text
 returns c =
-    let crv = c.curve_name.ensures ∙ ap curve_text c.curve.ensures in
-    let x = c.deref-4.ensures ∙ c.in_ok-x.ensures ∙ ap (λ b. encode_of url_safe_no_pad b) c.x.ensures.value in
-    let x5c = c.deref-5.ensures ∙ c.in_ok-x5c.ensures ∙ ap (λ b. encode_of standard b) c.der.ensures.value in
-    let y = c.deref-6.ensures ∙ c.in_ok-y.ensures ∙ ap (λ b. encode_of url_safe_no_pad b) c.y.ensures.value in
-    let t1 = member_behind _ _ _ _ _ _ c.in_ok-push_member.ensures.tokens crv c.in_ok-writer.ensures.tokens in
+    let t1 = member_behind _ _ _ _ _ _ c.in_ok-push_member.ensures.tokens c.curve_name.ensures c.in_ok-writer.ensures.tokens in
     let t2 = behind _ _ _ _ c.in_ok-push_member-2.ensures.tokens t1 in
     let t3 = behind _ _ _ _ c.in_ok-push_member-3.ensures.tokens t2 in
-    let t4 = member_behind _ _ _ _ _ _ c.in_ok-push_member-4.ensures.tokens x t3 in
-    let t5 = list_behind _ _ _ _ _ _ c.in_ok-push_x5c.ensures.tokens x5c t4 in
-    let t6 = member_behind _ _ _ _ _ _ c.in_ok-push_member-5.ensures.tokens y t5 in
+    let t4 = behind _ _ _ _ c.in_ok-push_member-4.ensures.tokens t3 in
+    let t5 = behind _ _ _ _ c.in_ok-push_x5c.ensures.tokens t4 in
+    let t6 = behind _ _ _ _ c.in_ok-push_member-5.ensures.tokens t5 in
     let last = behind _ _ _ _ c.in_ok-end_object.ensures.ok t6 in
     let none = c.end_object.ensures.room.0 ∙ c.in_ok-push_member-5.ensures.before ∙ c.in_ok-push_x5c.ensures.before ∙ c.in_ok-push_member-4.ensures.before ∙ c.in_ok-push_member-3.ensures.before ∙ c.in_ok-push_member-2.ensures.before ∙ c.in_ok-push_member.ensures.before ∙ c.in_ok-writer.ensures.before in
-    c.into_inner.ensures.items ∙ written (entry_tree (X509 (Ec c.args.key.now) c.args.der.now)) _ _ none last
+    c.into_inner.ensures.items ∙ written (x509_point_tree c.args.curve c.args.x.now c.args.y.now c.args.x5c.now) _ _ none last

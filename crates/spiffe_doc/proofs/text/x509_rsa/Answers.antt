@@ -1,23 +1,15 @@
-use Rattle.std.proofs.Common.{ap, ◌∙◌}
-use Rattle.spiffe_doc.specs.declared.key.PublicKey.TheVariants.{Rsa}
-use Rattle.spiffe_doc.specs.declared.authority.Authority.TheVariants.{X509}
-use Rattle.spiffe_doc.specs.Text.{entry_tree, entry_text}
-use Rattle.base64.specs.GeneralPurpose.{encode_of}
-use Rattle.base64.specs.Engines.{standard, url_safe_no_pad}
-use Rattle.spiffe_doc.proofs.WrittenLemmas.{written, behind, member_behind, list_behind}
+use Rattle.std.proofs.Common.{◌∙◌}
+use Rattle.spiffe_doc.specs.Private.Writing.{x509_rsa_tree}
+use Rattle.spiffe_doc.proofs.WrittenLemmas.{written, behind}
 use Rattle.spiffe_doc.proofs.text.x509_rsa.Goals as goal
 
 pub returns : goal.returns
-unfolding entry_text
 returns c =
-    let e = c.deref-4.ensures ∙ c.in_ok-e.ensures ∙ ap (λ b. encode_of url_safe_no_pad b) c.e.ensures.value in
-    let n = c.deref-5.ensures ∙ c.in_ok-n.ensures ∙ ap (λ b. encode_of url_safe_no_pad b) c.n.ensures.value in
-    let x5c = c.deref-6.ensures ∙ c.in_ok-x5c.ensures ∙ ap (λ b. encode_of standard b) c.der.ensures.value in
-    let t1 = member_behind _ _ _ _ _ _ c.in_ok-push_member.ensures.tokens e c.in_ok-writer.ensures.tokens in
+    let t1 = behind _ _ _ _ c.in_ok-push_member.ensures.tokens c.in_ok-writer.ensures.tokens in
     let t2 = behind _ _ _ _ c.in_ok-push_member-2.ensures.tokens t1 in
-    let t3 = member_behind _ _ _ _ _ _ c.in_ok-push_member-3.ensures.tokens n t2 in
+    let t3 = behind _ _ _ _ c.in_ok-push_member-3.ensures.tokens t2 in
     let t4 = behind _ _ _ _ c.in_ok-push_member-4.ensures.tokens t3 in
-    let t5 = list_behind _ _ _ _ _ _ c.in_ok-push_x5c.ensures.tokens x5c t4 in
+    let t5 = behind _ _ _ _ c.in_ok-push_x5c.ensures.tokens t4 in
     let last = behind _ _ _ _ c.in_ok-end_object.ensures.ok t5 in
     let none = c.end_object.ensures.room.0 ∙ c.in_ok-push_x5c.ensures.before ∙ c.in_ok-push_member-4.ensures.before ∙ c.in_ok-push_member-3.ensures.before ∙ c.in_ok-push_member-2.ensures.before ∙ c.in_ok-push_member.ensures.before ∙ c.in_ok-writer.ensures.before in
-    c.into_inner.ensures.items ∙ written (entry_tree (X509 (Rsa c.args.key.now) c.args.der.now)) _ _ none last
+    c.into_inner.ensures.items ∙ written (x509_rsa_tree c.args.n.now c.args.e.now c.args.x5c.now) _ _ none last

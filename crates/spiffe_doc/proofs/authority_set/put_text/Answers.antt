@@ -1,0 +1,15 @@
+use Rattle.std.proofs.Common.{◌≡◌, bytes_eq, ◌||◌, ◌&&◌, Bool, true, false, cond, refl, sym, ap, ◌∙◌}
+use Rattle.std.specs.Cmp.Lexicographic.{texts_ties}
+use Rattle.spiffe_doc.specs.Private.AuthoritySet.{has}
+use Rattle.spiffe_doc.proofs.authority_set.put_text.Goals as goal
+
+cond_or : (b c : Bool) → cond b true c ≡ (b || c)
+cond_or true c = refl
+cond_or false c = refl
+
+pub returns-in_ok-insert : goal.returns-in_ok-insert
+returns-in_ok-insert c = λ other.
+    c.in_ok-insert.ensures.updates.0 other
+    ∙ ap (λ b. cond b true (has c.args.set.now other)) (sym (texts_ties c.args.text other))
+    ∙ cond_or (bytes_eq c.args.text other) (has c.args.set.now other)
+    ∙ ap (λ b. (b && bytes_eq c.args.text other) || has c.args.set.now other) (sym c.if-is_wanted.true)

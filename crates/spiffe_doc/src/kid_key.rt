@@ -1,0 +1,93 @@
+//! Key ids as a document has them, to be found among others.
+ghost use Rattle.std.specs.Prelude.{◌≡◌};
+ghost use Rattle.spiffe_doc.specs.Private.Prefix.{prefix_number};
+
+use crate::name::prefix_of;
+use std::cmp::Ordering;
+use std::marker::Model;
+
+/// A key id that lies in a document, ordered by its bytes.
+#[derive(Drop)]
+pub(crate) struct KidKey<'a> {
+    /// The first 8 bytes, as one number: most key ids differ there.
+    prefix: u64,
+    text: &'a str,
+}
+
+impl<'a> Model for KidKey<'a> {
+    ghost use Rattle.std.specs.Prelude.{◌≡◌, List, ℕ};
+    ghost use Rattle.spiffe_doc.specs.Key.{AreBytes};
+    ghost use Rattle.spiffe_doc.specs.Private.Prefix.{prefix_number};
+
+    ghost Value = { List ℕ };
+
+    ghost view = { λ kid. kid.text.now };
+
+    ghost invariant = { λ kid. AreBytes kid.text.now × (kid.prefix ≡ prefix_number 8 kid.text.now) };
+}
+
+impl<'a> KidKey<'a> {
+    pub(crate) fn new(text: &'a str) -> KidKey<'a>
+        ensures { result ≡ text.now }
+    {
+        KidKey {
+            prefix: prefix_of(text.as_bytes()),
+            text,
+        }
+    }
+}
+
+impl<'a> PartialEq for KidKey<'a> {
+    ghost use Rattle.std.specs.Prelude.{bytes_eq};
+    ghost use Rattle.std.specs.Cmp.{partial_equiv_from_equiv};
+    ghost use Rattle.std.specs.Cmp.Lexicographic.{nat_list_eq_equiv};
+
+    ghost eq = { bytes_eq };
+
+    ghost laws = { partial_equiv_from_equiv nat_list_eq_equiv };
+
+    fn eq(&self, other: &KidKey<'a>) -> bool {
+        self.text == other.text
+    }
+}
+
+impl<'a> Eq for KidKey<'a> {
+    ghost use Rattle.std.specs.Cmp.Lexicographic.{nat_list_eq_equiv};
+
+    ghost laws = { nat_list_eq_equiv };
+}
+
+impl<'a> PartialOrd for KidKey<'a> {
+    ghost use Rattle.std.specs.Prelude.{Some};
+    ghost use Rattle.std.specs.Ordering.{nat_cmp};
+    ghost use Rattle.std.specs.Cmp.Lexicographic.{slice_cmp, texts_po};
+
+    ghost partial_cmp = { λ a b. Some (slice_cmp nat_cmp a b) };
+
+    ghost laws = { texts_po };
+
+    fn partial_cmp(&self, other: &KidKey<'a>) -> Option<Ordering> {
+        Some(self.cmp(other))
+    }
+}
+
+impl<'a> Ord for KidKey<'a> {
+    ghost use Rattle.std.specs.Prelude.{refl};
+    ghost use Rattle.std.specs.Ordering.{nat_cmp};
+    ghost use Rattle.std.specs.Cmp.Lexicographic.{slice_cmp, nat_list_cmp_total, texts_ties};
+
+    ghost cmp = { slice_cmp nat_cmp };
+
+    ghost total = { nat_list_cmp_total };
+
+    ghost matches_partial_cmp = { λ a b. refl };
+
+    ghost matches_eq = { texts_ties };
+
+    fn cmp(&self, other: &KidKey<'a>) -> Ordering {
+        match self.prefix.cmp(&other.prefix) {
+            Ordering::Equal => self.text.cmp(other.text),
+            order => order,
+        }
+    }
+}
