@@ -11,7 +11,7 @@ use crate::refusal::Refusal;
 use crate::reply::canonical_text;
 use crate::request::read_named_bundle;
 use arrayvec::ArrayVec;
-use spiffe_doc::{Bundle, TrustDomain};
+use spiffe_doc::{Bundle, DocumentReader, TrustDomain};
 use std::alloc::{AllocError, Global};
 use thiserror::Error;
 
@@ -136,7 +136,8 @@ pub fn read_item(alloc: Global, payload: &[u8]) -> Result<Option<(TrustDomain, B
     if *code != b'i' {
         return Ok(None);
     }
-    match read_named_bundle(alloc, bytes) {
+    let mut documents = DocumentReader::new(alloc);
+    match read_named_bundle(alloc, &mut documents, bytes) {
         Ok(item) => Ok(Some(item)),
         Err(Refusal::Memory) => Err(AllocError),
         Err(_) => Ok(None),

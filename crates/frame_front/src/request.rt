@@ -6,7 +6,7 @@ ghost use Rattle.frame_front.specs.Request.{request_of, split_name as name_split
 
 use crate::refusal::Refusal;
 use map_core::{Expect, Op};
-use spiffe_doc::{Authority, Bundle, TrustDomain, read_document, read_entry};
+use spiffe_doc::{Authority, Bundle, DocumentReader, TrustDomain, read_entry};
 use std::alloc::Global;
 
 /// The version of a session. It begins with the first.
@@ -40,41 +40,58 @@ pub enum Request {
 
 /// Reads a payload as a request. Refusals come in this order: no request at all, a bad name, a bad
 /// document or key; out of memory at any point.
-#[tactic(auto, unfolding(crate::specs::Request::request_of))]
 pub fn read_request(alloc: Global, version: Version, payload: &[u8]) -> Result<Request, Refusal>
+    ensures { Gives Refusal.Memory result (request_of version payload.now) }
+{
+    let mut documents = DocumentReader::new(alloc);
+    read_next_request(alloc, &mut documents, version, payload)
+}
+
+/// The same for one payload after another: the reader keeps its memory from document to document.
+#[tactic(auto, unfolding(crate::specs::Request::request_of))]
+pub(crate) fn read_next_request(
+    alloc: Global,
+    documents: &mut DocumentReader,
+    version: Version,
+    payload: &[u8],
+) -> Result<Request, Refusal>
     ensures { Gives Refusal.Memory result (request_of version payload.now) }
 {
     let Some((letter, bytes)) = payload.split_first() else {
         return Err(Refusal::BadRequest);
     };
     match *letter {
-        b'S' => read_set(alloc, bytes),
+        b'S' => read_set(alloc, documents, bytes),
         b'A' => read_append(alloc, bytes),
         b'R' => read_remove(alloc, bytes),
         b'G' => read_get(alloc, bytes),
         b'F' => read_fetch_all(bytes),
         b'V' => read_version(bytes),
-        b'C' if version == Version::Two => read_set_if(alloc, bytes),
+        b'C' if version == Version::Two => read_set_if(alloc, documents, bytes),
         _ => Err(Refusal::BadRequest),
     }
 }
 
 #[tactic(auto, unfolding(crate::specs::Request::set_of))]
-fn read_set(alloc: Global, bytes: &[u8]) -> Result<Request, Refusal>
+fn read_set(alloc: Global, documents: &mut DocumentReader, bytes: &[u8]) -> Result<Request, Refusal>
     ensures { Gives Refusal.Memory result (set_of bytes.now) }
 {
-    let (domain, bundle) = read_named_bundle(alloc, bytes)?;
+    let (domain, bundle) = read_named_bundle(alloc, documents, bytes)?;
     Ok(Request::Ask(Op::Set(domain, bundle)))
 }
 
 #[tactic(auto, unfolding(crate::specs::Request::set_if_of))]
-fn read_set_if(alloc: Global, bytes: &[u8]) -> Result<Request, Refusal>
+fn read_set_if(
+    alloc: Global,
+    documents: &mut DocumentReader,
+    bytes: &[u8],
+) -> Result<Request, Refusal>
     ensures { Gives Refusal.Memory result (set_if_of bytes.now) }
 {
     let (name, bytes) = split_name(bytes)?;
     let (expect, document) = split_expect(bytes)?;
     let domain = read_name(alloc, name)?;
-    let bundle = read_bundle(alloc, document)?;
+    let bundle = read_bundle(alloc, documents, document)?;
     Ok(Request::Ask(Op::SetIf(domain, expect, bundle)))
 }
 
@@ -125,13 +142,14 @@ fn read_version(bytes: &[u8]) -> Result<Request, Refusal>
 #[tactic(auto, unfolding(crate::specs::Request::named_bundle))]
 pub(crate) fn read_named_bundle(
     alloc: Global,
+    documents: &mut DocumentReader,
     bytes: &[u8],
 ) -> Result<(TrustDomain, Bundle), Refusal>
     ensures { Gives Refusal.Memory result (named_bundle bytes.now) }
 {
     let (name, document) = split_name(bytes)?;
     let domain = read_name(alloc, name)?;
-    let bundle = read_bundle(alloc, document)?;
+    let bundle = read_bundle(alloc, documents, document)?;
     Ok((domain, bundle))
 }
 
@@ -198,10 +216,14 @@ fn read_name(alloc: Global, bytes: &[u8]) -> Result<TrustDomain, Refusal>
 }
 
 #[tactic(auto, unfolding(crate::specs::Request::parse_bundle))]
-fn read_bundle(alloc: Global, bytes: &[u8]) -> Result<Bundle, Refusal>
+fn read_bundle(
+    alloc: Global,
+    documents: &mut DocumentReader,
+    bytes: &[u8],
+) -> Result<Bundle, Refusal>
     ensures { Gives Refusal.Memory result (parse_bundle bytes.now) }
 {
-    Ok(read_document(alloc, bytes)?)
+    Ok(documents.read(alloc, bytes)?)
 }
 
 #[tactic(auto, unfolding(crate::specs::Request::parse_authority))]

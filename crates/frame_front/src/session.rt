@@ -13,9 +13,10 @@ ghost use Rattle.map_core.specs.PlainMap.{PlainMap};
 use crate::outbox::Outbox;
 use crate::refusal::Refusal;
 use crate::reply::{ReplyBytes, answer_reply, memory_reply, refusal_reply, version_reply};
-use crate::request::{Request, Version, read_request};
+use crate::request::{Request, Version, read_next_request};
 use crate::{Counted, Decoder, FrontError};
 use map_core::Ask;
+use spiffe_doc::DocumentReader;
 use std::alloc::Global;
 use std::io::{Read, Write};
 
@@ -23,10 +24,16 @@ use std::io::{Read, Write};
 const PIECE_BYTES: usize = 4096;
 
 /// Answers one payload.
-fn answer<A: Ask>(alloc: Global, version: &mut Version, ask: &mut A, payload: &[u8]) -> ReplyBytes
+fn answer<A: Ask>(
+    alloc: Global,
+    documents: &mut DocumentReader,
+    version: &mut Version,
+    ask: &mut A,
+    payload: &[u8],
+) -> ReplyBytes
     ensures { Answers A.answers (version.old, ask.old) payload.now result (version.new, ask.new) }
 {
-    match read_request(alloc, *version, payload) {
+    match read_next_request(alloc, documents, *version, payload) {
         Ok(Request::Ask(op)) => {
             let answer = ask.ask(op);
             answer_reply(answer)
@@ -47,6 +54,7 @@ fn answer_frames<W: Write, A: Ask>(
     decoder: &mut Decoder,
     outbox: &mut Outbox,
     writer: &mut Counted<W>,
+    documents: &mut DocumentReader,
     version: &mut Version,
     ask: &mut A,
 ) -> Result<u64, FrontError>
@@ -64,7 +72,7 @@ fn answer_frames<W: Write, A: Ask>(
         match decoder.payload() {
             Ok(Some(payload)) => {
                 let size = payload.len();
-                let reply = answer(alloc, version, ask, payload);
+                let reply = answer(alloc, documents, version, ask, payload);
                 decoder.pass(size);
                 outbox.put(writer, &reply)?;
                 count += 1;
@@ -102,6 +110,7 @@ fn take_turns<R: Read, W: Write, A: Ask>(
         return Err(FrontError::Memory);
     };
     let mut outbox = Outbox::new(alloc);
+    let mut documents = DocumentReader::new(alloc);
     let mut version = Version::One;
     let mut piece = [0; PIECE_BYTES];
     let mut answered = 0;
@@ -118,7 +127,15 @@ fn take_turns<R: Read, W: Write, A: Ask>(
         if let Err(_) = decoder.feed(fresh) {
             return Err(FrontError::Memory);
         }
-        answered += answer_frames(alloc, &mut decoder, &mut outbox, writer, &mut version, ask)?;
+        answered += answer_frames(
+            alloc,
+            &mut decoder,
+            &mut outbox,
+            writer,
+            &mut documents,
+            &mut version,
+            ask,
+        )?;
     }
     Err(FrontError::TurnsUsed)
 }
