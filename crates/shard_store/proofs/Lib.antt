@@ -6,6 +6,7 @@ pub mod KeptEnds
 pub mod Promise
 pub mod Asked
 pub mod Readings
+pub mod LastReads
 pub mod Continue
 pub mod Together
 pub mod Closed

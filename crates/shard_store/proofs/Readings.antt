@@ -49,7 +49,7 @@ read_more {Z} n shard from t u rs rs' vs vs' r v l e f count_is before now = sub
 )
 
 -- what was read is the part, if the shard has no more changes than its revision says
-part_confirmed : {Z : Type 0} (n i : ℕ) (from log : List Change) (r : ℕ) (v : Arc PlainMap Z) → WasRead n i from log r v → count n log i ≤ r → IsPart n i log (arc_value v)
+pub part_confirmed : {Z : Type 0} (n i : ℕ) (from log : List Change) (r : ℕ) (v : Arc PlainMap Z) → WasRead n i from log r v → count n log i ≤ r → IsPart n i log (arc_value v)
 part_confirmed n i from log r v was most = let first : count n was.0 i ≡ r = was.3 in let total : count n log i ≡ count n was.0 i + count n was.1 i = ap (λ (x : List Change). count n x i) was.2 ∙ count_append n was.0 was.1 i in
     subst (λ (x : List Change). IsPart n i x (arc_value v)) (sym was.2) (is_part_stays n i was.0 was.1 (arc_value v) (omega arith) was.4)
 

@@ -4,3 +4,4 @@ pub mod Rule
 pub mod Steps
 pub mod Seat
 pub mod Numbers
+pub mod LastReads

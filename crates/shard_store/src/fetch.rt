@@ -6,11 +6,14 @@ ghost use Rattle.shard_store.specs.Changes.{count};
 ghost use Rattle.shard_store.specs.Private.Numbers.{IsPart};
 ghost use Rattle.shard_store.specs.Promise.{IsLater, IsRefusedAt, IsRefused, IsReply};
 ghost use Rattle.shard_store.specs.Private.Seat.{IsAt, IsSameSeat, IsIdle};
+ghost use Rattle.shard_store.specs.Private.LastReads.{AreLastReads};
 ghost use Rattle.shard_store.specs.Private.Readings.{WereRead, AreConfirmed, IsMovement, IsSnapshot, IsRound};
 
 use crate::holds::{look, read_version, try_hold};
-use crate::one_shard::given_up;
+use crate::last_reads::{LastRead, LastReads};
+use crate::one_shard::{given_up, make_way};
 use crate::parts::{all_of, join_parts};
+use crate::recall::recall_copy;
 use crate::rule::{ShardTable, StoreSeat};
 use map_core::{AskError, Contents, Op, Reply};
 use std::alloc::{AllocError, Global};
@@ -74,18 +77,21 @@ pub(crate) fn ask_all(
     alloc: Global,
     shards: &ShardTable,
     seat: &mut StoreSeat,
+    last_reads: &mut LastReads,
     tries: u64,
     rounds: u64,
 ) -> Result<Reply, AskError>
     requires own { IsAt seat.old shards.now.shared.table_id }
     requires idle { IsIdle seat.old.me }
+    requires told { AreLastReads seat.old.table_id.slots seat.old.me.0.seen.log last_reads.old.by_shard.items }
     requires tries { (0 < tries) × (0 < rounds) }
     ensures seat { IsSameSeat seat.old seat.new × IsIdle seat.new.me }
+    ensures told { AreLastReads seat.old.table_id.slots seat.new.me.0.seen.log last_reads.new.by_shard.items }
     ensures answer { MatchResult result
         (λ reply. IsReply Op.FetchAll seat.old.me.0.seen reply seat.new.me.0.seen)
         (IsRefused (record { id = seat.old.table_id; rounds = rounds; tries = tries }) Op.FetchAll seat.old.me.0.seen seat.new.me.0.seen) }
 {
-    let parts = fetch_parts(alloc, shards, seat, tries, rounds)?;
+    let parts = fetch_parts(alloc, shards, seat, last_reads, tries, rounds)?;
     let all = join_parts(alloc, parts.as_slice())?;
     all_of(all)
 }
@@ -95,13 +101,16 @@ fn fetch_parts(
     alloc: Global,
     shards: &ShardTable,
     seat: &mut StoreSeat,
+    last_reads: &mut LastReads,
     tries: u64,
     rounds: u64,
 ) -> Result<Vec<Arc<Contents>>, AskError>
     requires own { IsAt seat.old shards.now.shared.table_id }
     requires idle { IsIdle seat.old.me }
+    requires told { AreLastReads seat.old.table_id.slots seat.old.me.0.seen.log last_reads.old.by_shard.items }
     requires tries { (0 < tries) × (0 < rounds) }
     ensures seat { IsSameSeat seat.old seat.new × IsIdle seat.new.me }
+    ensures told { AreLastReads seat.old.table_id.slots seat.new.me.0.seen.log last_reads.new.by_shard.items }
     ensures parts { MatchResult result
         (λ parts. IsSnapshot seat.old.table_id.slots seat.old.me.0.seen seat.new.me.0.seen parts.items)
         (IsRefused (record { id = seat.old.table_id; rounds = rounds; tries = tries }) Op.FetchAll seat.old.me.0.seen seat.new.me.0.seen) }
@@ -112,7 +121,7 @@ fn fetch_parts(
         second: 0,
     };
     for _ in 0..rounds {
-        match read_round(alloc, shards, seat, tries)? {
+        match read_round(alloc, shards, seat, last_reads, tries)? {
             Round::Confirmed(parts) => return Ok(parts),
             Round::Moved(movement) => last = movement,
         }
@@ -125,12 +134,15 @@ fn read_round(
     alloc: Global,
     shards: &ShardTable,
     seat: &mut StoreSeat,
+    last_reads: &mut LastReads,
     tries: u64,
 ) -> Result<Round, AskError>
     requires own { IsAt seat.old shards.now.shared.table_id }
     requires idle { IsIdle seat.old.me }
+    requires told { AreLastReads seat.old.table_id.slots seat.old.me.0.seen.log last_reads.old.by_shard.items }
     requires tries { 0 < tries }
     ensures seat { IsSameSeat seat.old seat.new × IsIdle seat.new.me }
+    ensures told { AreLastReads seat.old.table_id.slots seat.new.me.0.seen.log last_reads.new.by_shard.items }
     ensures round { MatchResult result
         (IsRound seat.old.table_id.slots seat.old.me.0.seen seat.new.me.0.seen)
         (IsRefusedAt seat.old.table_id.slots Op.FetchAll seat.old.me.0.seen seat.new.me.0.seen) }
@@ -138,7 +150,7 @@ fn read_round(
     let Readings {
         revisions,
         versions,
-    } = collect_all(alloc, shards, seat, tries)?;
+    } = collect_all(alloc, shards, seat, last_reads, tries)?;
     match confirm_all(shards, seat, revisions.as_slice()) {
         None => Ok(Round::Confirmed(versions)),
         Some(movement) => Ok(Round::Moved(movement)),
@@ -150,12 +162,15 @@ pub(crate) fn collect_all(
     alloc: Global,
     shards: &ShardTable,
     seat: &mut StoreSeat,
+    last_reads: &mut LastReads,
     tries: u64,
 ) -> Result<Readings, AskError>
     requires own { IsAt seat.old shards.now.shared.table_id }
     requires idle { IsIdle seat.old.me }
+    requires told { AreLastReads seat.old.table_id.slots seat.old.me.0.seen.log last_reads.old.by_shard.items }
     requires tries { 0 < tries }
     ensures seat { IsSameSeat seat.old seat.new × IsIdle seat.new.me }
+    ensures told { AreLastReads seat.old.table_id.slots seat.new.me.0.seen.log last_reads.new.by_shard.items }
     ensures read { MatchResult result
         (λ r. IsLater seat.new.me.0.seen seat.old.me.0.seen × (length r.versions.items ≡ seat.old.table_id.slots)
         × WereRead seat.old.table_id.slots seat.old.me.0.seen.log seat.new.me.0.seen.log r.revisions.items r.versions.items)
@@ -163,14 +178,42 @@ pub(crate) fn collect_all(
 {
     let mut readings = Readings::new(alloc);
     for shard in 0..shards.slot_count() {
-        let (revision, version) = collect(shards, seat, shard, tries)?;
+        let (revision, version) = collect(shards, seat, last_reads, shard, tries)?;
         readings.push(revision, version)?;
     }
     Ok(readings)
 }
 
-// Reads one shard under a hold: its revision and its version.
+// Reads one shard: its revision and its version. A shard that is as it was when it was read last is not held.
 fn collect(
+    shards: &ShardTable,
+    seat: &mut StoreSeat,
+    last_reads: &mut LastReads,
+    shard: usize,
+    tries: u64,
+) -> Result<(u64, Arc<Contents>), AskError>
+    requires own { IsAt seat.old shards.now.shared.table_id }
+    requires shard { shard < seat.old.table_id.slots }
+    requires idle { IsIdle seat.old.me }
+    requires told { AreLastReads seat.old.table_id.slots seat.old.me.0.seen.log last_reads.old.by_shard.items }
+    requires tries { 0 < tries }
+    ensures seat { IsSameSeat seat.old seat.new × IsIdle seat.new.me }
+    ensures told { AreLastReads seat.old.table_id.slots seat.new.me.0.seen.log last_reads.new.by_shard.items }
+    ensures read { MatchResult result
+        (λ r. IsLater seat.new.me.0.seen seat.old.me.0.seen × (count seat.old.table_id.slots seat.new.me.0.seen.log shard ≡ r.0)
+        × IsPart seat.old.table_id.slots shard seat.new.me.0.seen.log (arc_value r.1))
+        (IsRefusedAt seat.old.table_id.slots Op.FetchAll seat.old.me.0.seen seat.new.me.0.seen) }
+{
+    if let Some(LastRead { revision, version }) = recall_copy(shards, seat, last_reads, shard) {
+        return Ok((revision, version));
+    }
+    let (revision, version) = collect_held(shards, seat, shard, tries)?;
+    last_reads.keep(shards.slot_count(), shard, LastRead::of(revision, &version));
+    Ok((revision, version))
+}
+
+// The same under a hold.
+fn collect_held(
     shards: &ShardTable,
     seat: &mut StoreSeat,
     shard: usize,
@@ -197,6 +240,7 @@ fn collect(
             Err(found) => word = found,
         }
         failed += 1;
+        make_way(word);
     }
     Err(given_up(tries, failed, shard, word))
 }

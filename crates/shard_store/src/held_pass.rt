@@ -4,6 +4,7 @@ ghost use Rattle.shard_store.specs.Changes.{count};
 ghost use Rattle.shard_store.specs.Pass.{IsOf};
 
 use crate::holds::release;
+use crate::last_reads::LastReads;
 use crate::pass::Pass;
 use crate::rule::StoreSeat;
 use crate::store::Store;
@@ -14,6 +15,7 @@ use std::marker::Model;
 pub struct HeldPass {
     pub(crate) seat: StoreSeat,
     pub(crate) numbers: u64,
+    pub(crate) last_reads: LastReads,
     pub(crate) shard: usize,
     pub(crate) word: u64,
 }
@@ -23,12 +25,13 @@ impl Model for HeldPass {
     ghost use Rattle.shard_store.specs.Pass.{HeldPassView};
     ghost use Rattle.shard_store.specs.Changes.{count, own_count};
     ghost use Rattle.shard_store.specs.Private.Seat.{IsPaired, IsHolding};
+    ghost use Rattle.shard_store.specs.Private.LastReads.{AreLastReads};
 
     ghost Value = { HeldPassView };
 
     ghost view = { λ h. record { store = h.seat.table_id; seen = h.seat.me.0.seen; shard = h.shard } };
 
-    ghost invariant = { λ h. IsHolding h.seat.table_id.slots h.shard h.seat.me × (h.word ≡ 2 * count h.seat.table_id.slots h.seat.me.0.seen.log h.shard) × IsPaired h.seat.table_id × (h.shard < h.seat.table_id.slots) × (own_count h.seat.me.0.seen.ranges ≡ h.numbers) };
+    ghost invariant = { λ h. IsHolding h.seat.table_id.slots h.shard h.seat.me × (h.word ≡ 2 * count h.seat.table_id.slots h.seat.me.0.seen.log h.shard) × IsPaired h.seat.table_id × (h.shard < h.seat.table_id.slots) × (own_count h.seat.me.0.seen.ranges ≡ h.numbers) × AreLastReads h.seat.table_id.slots h.seat.me.0.seen.log h.last_reads.by_shard.items };
 }
 
 impl HeldPass {
@@ -55,10 +58,15 @@ impl HeldPass {
         let HeldPass {
             mut seat,
             numbers,
+            last_reads,
             shard,
             word,
         } = self;
         release(&store.shards, &mut seat, shard, word);
-        Pass { seat, numbers }
+        Pass {
+            seat,
+            numbers,
+            last_reads,
+        }
     }
 }

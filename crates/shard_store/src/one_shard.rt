@@ -4,26 +4,30 @@ ghost use Rattle.std.specs.Arc.{arc_value};
 ghost use Rattle.map_core.specs.PlainMap.{shard_of};
 ghost use Rattle.shard_store.specs.Changes.{count};
 ghost use Rattle.shard_store.specs.Private.Numbers.{IsPart};
-ghost use Rattle.shard_store.specs.Promise.{IsLater, IsReply, IsRefusedAt};
-ghost use Rattle.shard_store.specs.Private.Seat.{IsAt, IsSameSeat, IsIdle, IsHolding, Missed, Writes, Tried, change_by};
+ghost use Rattle.shard_store.specs.Promise.{IsLater, IsRefusedAt};
+ghost use Rattle.shard_store.specs.Private.Seat.{IsAt, IsSameSeat, IsIdle, IsHolding, IsReplyRead, Missed, Writes, Tried, change_by};
 
 use crate::holds::{hold_from, publish, read_version, try_hold};
+use crate::last_reads::LastRead;
 use crate::rule::{ShardTable, StoreSeat};
 use map_core::{AskError, Contents, Op, Reply};
 use std::alloc::{AllocError, Global};
 use std::marker::Brand;
 use std::sync::Arc;
+use std::thread;
 
 /// A shard takes no more changes than this.
 const LAST_REVISION: u64 = 1 << 62;
 
-/// What one try gave: a reply, or the word that was found in place of the one expected.
+/// What one try gave: a reply, with what was read for it if nothing was written, or the word that was found in place
+/// of the one expected.
 pub(crate) enum Attempt {
-    Replied(Reply),
+    Replied(Reply, Option<LastRead>),
     Blocked(u64),
 }
 
-/// Tries the operation as often as it may.
+/// Tries the operation as often as it may. Beside the reply is what was read for it under a hold, if nothing was
+/// written since.
 pub(crate) fn ask_shard(
     alloc: Global,
     shards: &ShardTable,
@@ -31,7 +35,7 @@ pub(crate) fn ask_shard(
     tries: u64,
     shard: usize,
     op: &Op,
-) -> Result<Reply, AskError>
+) -> Result<(Reply, Option<LastRead>), AskError>
     requires own { IsAt seat.old shards.now.shared.table_id }
     requires shard { shard < seat.old.table_id.slots }
     requires idle { IsIdle seat.old.me }
@@ -39,19 +43,27 @@ pub(crate) fn ask_shard(
     requires home { shard_of seat.old.table_id.slots op.now ≡ Some shard }
     ensures seat { IsSameSeat seat.old seat.new × IsIdle seat.new.me }
     ensures answer { MatchResult result
-        (λ reply. IsReply op.now seat.old.me.0.seen reply seat.new.me.0.seen)
+        (λ r. IsReplyRead seat.old.table_id.slots shard op.now seat.old.me.0.seen r.0 r.1 seat.new.me.0.seen)
         (IsRefusedAt seat.old.table_id.slots op.now seat.old.me.0.seen seat.new.me.0.seen) }
 {
     let mut word = 0;
     let mut failed = 0;
     for _ in 0..tries {
         match try_once(alloc, shards, seat, shard, op)? {
-            Attempt::Replied(reply) => return Ok(reply),
+            Attempt::Replied(reply, read) => return Ok((reply, read)),
             Attempt::Blocked(found) => word = found,
         }
         failed += 1;
+        make_way(word);
     }
     Err(given_up(tries, failed, shard, word))
+}
+
+/// Before the next try, lets other threads run if the shard is held: its holder may be one that is not running.
+pub(crate) fn make_way(word: u64) {
+    if word % 2 == 1 {
+        thread::yield_now();
+    }
 }
 
 /// The answer if as many tries have failed as may be made. The word is the one that the last of them found.
@@ -91,7 +103,8 @@ fn try_once(
     let version = read_version(shards, seat, shard, word)?;
     let (reply, next) = version.asked(op)?;
     let Some(next) = next else {
-        return Ok(Attempt::Replied(reply));
+        let revision = word / 2;
+        return Ok(Attempt::Replied(reply, Some(LastRead { revision, version })));
     };
     if word / 2 >= LAST_REVISION {
         return Err(AskError::Worn { shard });
@@ -100,7 +113,7 @@ fn try_once(
         return Err(AskError::Memory);
     };
     match store_version(shards, seat, shard, word, next, op) {
-        Ok(()) => Ok(Attempt::Replied(reply)),
+        Ok(()) => Ok(Attempt::Replied(reply, None)),
         Err(found) => Ok(Attempt::Blocked(found)),
     }
 }

@@ -3,6 +3,7 @@ ghost use Rattle.std.specs.Prelude.{◌≡◌, ℕ, ◌+◌, ◌-◌, ◌<◌, �
 ghost use Rattle.shard_store.specs.Changes.{Extends, own_count, without_last, just_last};
 ghost use Rattle.shard_store.specs.Private.Seat.{IsAt, IsSameSeat, IsIdle};
 
+use crate::last_reads::LastReads;
 use crate::plays::{Look, NamesShare, SplitOff, TakeIn};
 use crate::rule::{ShardTable, StoreSeat};
 use std::marker::Model;
@@ -13,6 +14,7 @@ use std::marker::Model;
 pub struct Pass {
     pub(crate) seat: StoreSeat,
     pub(crate) numbers: u64,
+    pub(crate) last_reads: LastReads,
 }
 
 impl Model for Pass {
@@ -20,12 +22,13 @@ impl Model for Pass {
     ghost use Rattle.shard_store.specs.Pass.{PassView};
     ghost use Rattle.shard_store.specs.Changes.{own_count};
     ghost use Rattle.shard_store.specs.Private.Seat.{IsIdle};
+    ghost use Rattle.shard_store.specs.Private.LastReads.{AreLastReads};
 
     ghost Value = { PassView };
 
     ghost view = { λ p. record { store = p.seat.table_id; seen = p.seat.me.0.seen } };
 
-    ghost invariant = { λ p. IsIdle p.seat.me × (own_count p.seat.me.0.seen.ranges ≡ p.numbers) };
+    ghost invariant = { λ p. IsIdle p.seat.me × (own_count p.seat.me.0.seen.ranges ≡ p.numbers) × AreLastReads p.seat.table_id.slots p.seat.me.0.seen.log p.last_reads.by_shard.items };
 }
 
 impl Pass {

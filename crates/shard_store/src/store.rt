@@ -12,8 +12,9 @@ use crate::close::{CloseError, first_held, join_slots, take_all};
 use crate::fetch::ask_all;
 use crate::held_pass::HeldPass;
 use crate::holds::try_hold;
-use crate::one_shard::ask_shard;
+use crate::last_reads::LastReads;
 use crate::pass::{Pass, join_seats, split_off};
+use crate::recall::ask_name;
 use crate::rule::{ShardTable, Slot};
 use atomic_table::Table;
 use map_core::{AskError, Contents, Expect, Op, Reply};
@@ -68,6 +69,7 @@ impl Store {
         let pass = Pass {
             seat,
             numbers: 1 << 32,
+            last_reads: LastReads::new(alloc),
         };
         Ok((
             Store {
@@ -93,6 +95,7 @@ impl Store {
         Pass {
             seat,
             numbers: share,
+            last_reads: LastReads::new(self.alloc),
         }
     }
 
@@ -104,13 +107,22 @@ impl Store {
         ensures log { Extends result.seen.log pass.seen × Extends result.seen.log other.seen }
         ensures numbers { result.seen.ranges ≡ pass.seen.ranges ++ other.seen.ranges }
     {
-        let Pass { mut seat, numbers } = pass;
+        let Pass {
+            mut seat,
+            numbers,
+            last_reads,
+        } = pass;
         let Pass {
             seat: other,
             numbers: _,
+            last_reads: _,
         } = other;
         join_seats(&self.shards, &mut seat, other);
-        Pass { seat, numbers }
+        Pass {
+            seat,
+            numbers,
+            last_reads,
+        }
     }
 
     /// Answers an operation as the plain map does, after some list of changes that begins with what the pass has
@@ -120,10 +132,15 @@ impl Store {
         ensures own { IsOf pass.new self.now }
         ensures answer { StoreAnswer self.now op pass.old.seen result pass.new.seen }
     {
-        let seat = &mut pass.seat;
-        match shard_of(&op, self.shards.slot_count()) {
-            Some(shard) => ask_shard(self.alloc, &self.shards, seat, self.tries, shard, &op),
-            None => ask_all(self.alloc, &self.shards, seat, self.tries, self.rounds),
+        let Pass {
+            seat,
+            numbers: _,
+            last_reads,
+        } = pass;
+        let (alloc, shards) = (self.alloc, &self.shards);
+        match shard_of(&op, shards.slot_count()) {
+            Some(shard) => ask_name(alloc, shards, seat, last_reads, self.tries, shard, &op),
+            None => ask_all(alloc, shards, seat, last_reads, self.tries, self.rounds),
         }
     }
 
@@ -204,11 +221,16 @@ impl Store {
         requires shard { shard < self.now.id.slots }
         ensures { HoldAnswer self.now shard pass.seen result }
     {
-        let Pass { mut seat, numbers } = pass;
+        let Pass {
+            mut seat,
+            numbers,
+            last_reads,
+        } = pass;
         match try_hold(&self.shards, &mut seat, shard) {
             Ok(word) => Ok(HeldPass {
                 seat,
                 numbers,
+                last_reads,
                 shard,
                 word,
             }),
@@ -217,7 +239,12 @@ impl Store {
                     shard,
                     revision: found / 2,
                 };
-                Err((Pass { seat, numbers }, error))
+                let pass = Pass {
+                    seat,
+                    numbers,
+                    last_reads,
+                };
+                Err((pass, error))
             }
         }
     }
@@ -233,7 +260,11 @@ impl Store {
             rounds: _,
             tries: _,
         } = self;
-        let Pass { seat, numbers: _ } = pass;
+        let Pass {
+            seat,
+            numbers: _,
+            last_reads: _,
+        } = pass;
         let closed = shards.close_with(seat);
         if let Some(shard) = first_held(&closed) {
             let _versions = take_all(alloc, closed);

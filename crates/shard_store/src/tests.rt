@@ -47,7 +47,7 @@ fn write_between(
     let (store, mut p) = Store::new(alloc, shards, 1, 1)?;
     let mut q = store.split(&mut p, 1000);
     set_each(alloc, &store, &mut p, before)?;
-    let Ok(read) = collect_all(alloc, &store.shards, &mut q.seat, 1) else {
+    let Ok(read) = collect_all(alloc, &store.shards, &mut q.seat, &mut q.last_reads, 1) else {
         return Err(Fail::from("a free shard was not read"));
     };
     set_each(alloc, &store, &mut p, between)?;

@@ -1,4 +1,5 @@
 //! Worked examples of the store. A row is what is asked and, beside it, what is answered.
+mod reads;
 mod threads;
 mod turns;
 mod words;

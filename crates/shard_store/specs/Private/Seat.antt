@@ -1,21 +1,24 @@
 -- What a seat knows and has in hand, from step to step.
-use Rattle.std.specs.Prelude.{◌≡◌, ℕ, ◌/◌, ◌<◌, ◌≤◌, List, [], ◌∷◌, ◌++◌, Some, None}
+use Rattle.std.specs.Prelude.{◌≡◌, ℕ, ◌/◌, ◌<◌, ◌≤◌, List, [], ◌∷◌, ◌++◌, Option, Some, None}
 use Rattle.std.specs.Arc.{arc_value}
 use Rattle.std.specs.declared.sync.Arc.{Arc}
 use Rattle.atomic_table.specs.Table.{Me}
 use Rattle.atomic_table.specs.Seated.{TableId}
 use Rattle.atomic_table.specs.declared.shared.Seat.{Seat}
 use Rattle.map_core.specs.declared.op.Op.{Op}
+use Rattle.map_core.specs.declared.reply.Reply.{Reply}
 use Rattle.map_core.specs.PlainMap.{PlainMap}
 use Rattle.shard_store.specs.declared.change.Change.{Change}
 use Rattle.shard_store.specs.declared.change.Seen.{Seen}
 use Rattle.shard_store.specs.declared.change.View.{View}
+use Rattle.shard_store.specs.declared.last_reads.LastRead.{LastRead}
 use Rattle.shard_store.specs.declared.one_shard.Attempt.{Attempt}
 use Rattle.shard_store.specs.declared.one_shard.Attempt.TheVariants.{Replied, Blocked}
 use Rattle.shard_store.specs.Changes.{change_of, count, Extends, own_count, own_number}
 use Rattle.shard_store.specs.Private.Numbers.{IsPart}
 use Rattle.shard_store.specs.Promise.{IsLater, IsAlone, IsReply}
 use Rattle.shard_store.specs.Private.Rule.{SlotValue}
+use Rattle.shard_store.specs.Private.LastReads.{IsLastRead}
 
 -- a word and a slot for each shard, of which there are 1 to 256
 abbrev pub IsPaired : TableId → Type 0
@@ -53,7 +56,11 @@ abbrev pub Writes : ℕ → ℕ → Op → Seen → Seen → Type 0
 Writes n shard op s t = (list : List Change) × Extends list s × (count n list shard ≡ count n s.log shard)
     × (t.log ≡ list ++ change_by op s ∷ []) × (t.ranges ≡ s.ranges)
 
+-- the reply, and what was read for it that may be remembered
+abbrev pub IsReplyRead : ℕ → ℕ → Op → Seen → Reply → Option LastRead → Seen → Type 0
+IsReplyRead n shard op s reply read t = IsReply op s reply t × IsLastRead n shard t.log read
+
 -- what one try of an operation gave
 abbrev pub Tried : ℕ → ℕ → Op → Seen → Seen → Attempt → Type 0
-Tried n shard op s t (Replied reply) = IsReply op s reply t
+Tried n shard op s t (Replied reply read) = IsReplyRead n shard op s reply read t
 Tried n shard op s t (Blocked found) = IsLater t s × Missed n shard s found t

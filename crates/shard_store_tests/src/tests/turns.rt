@@ -64,7 +64,7 @@ fn set_in_turn(alloc: Global, store: &Store, p: &mut Pass, q: &mut Pass) -> Resu
 }
 
 /// Closes the store and fails if it has another number of domains.
-fn close_with(store: Store, pass: Pass, count: usize) -> Result<(), Fail>
+pub(crate) fn close_with(store: Store, pass: Pass, count: usize) -> Result<(), Fail>
     requires { IsOf pass store }
 {
     let contents = store.close(pass)?;
@@ -224,7 +224,7 @@ fn other_shards_are_free(rt: HostRuntime) -> Result<(), Fail> {
 }
 
 /// Plays rows of one pass.
-fn play_one(
+pub(crate) fn play_one(
     alloc: Global,
     store: &Store,
     pass: &mut Pass,

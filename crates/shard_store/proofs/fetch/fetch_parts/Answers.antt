@@ -3,6 +3,7 @@ use Rattle.map_core.specs.declared.op.Op.TheVariants.{FetchAll}
 use Rattle.map_core.specs.declared.reply.AskError.TheVariants.{Moved}
 use Rattle.shard_store.specs.declared.fetch.Round.{Round}
 use Rattle.shard_store.specs.Promise.{IsLater, HasMoved, IsRefusedAt, IsRefused}
+use Rattle.shard_store.specs.Private.LastReads.{AreLastReads}
 use Rattle.shard_store.specs.Private.Readings.{IsSnapshot}
 use Rattle.shard_store.specs.Private.Readings.{IsRound}
 use Rattle.shard_store.proofs.Promise.{later_then, fetch_has_no_home, error_is, refused_at, refused_since, at_slots, error_passed}
@@ -27,6 +28,7 @@ loop-preserved c = let s = c.args.seat.now.me.0.seen in let t = c.loop.seat.me.0
       seat = (e.0.0 ∙ i.seat.0, e.0.1 ∙ i.seat.1);
       idle = e.1;
       later = later_then s t u i.later m.0;
+      told = at_slots (λ z. AreLastReads z.slots u.log c.read_round.new.last_reads.by_shard.items) _ _ (sym i.seat.0) c.read_round.ensures.told;
       moved = λ _. (m.1, moved_since _ g.shard g.first g.second s t u i.later m.2);
       more = omega arith;
     }

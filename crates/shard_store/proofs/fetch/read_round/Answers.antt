@@ -2,7 +2,14 @@ use Rattle.std.proofs.Common.{ℕ, List, sym, subst}
 use Rattle.shard_store.specs.Private.Readings.{AreConfirmed, IsMovement}
 use Rattle.shard_store.proofs.Promise.{at_slots}
 use Rattle.shard_store.proofs.Readings.{snapshot, moved}
+use Rattle.shard_store.proofs.LastReads.{reads_later}
 use Rattle.shard_store.proofs.fetch.read_round.Goals as goal
+
+pub returns-in-None-clause-told : goal.returns-in-None-clause-told
+returns-in-None-clause-told c = reads_later _ c.collect_all.new.seat.me.0.seen c.confirm_all.new.seat.me.0.seen _ c.confirm_all.ensures.later c.collect_all.ensures.told
+
+pub returns-clause-told : goal.returns-clause-told
+returns-clause-told c = reads_later _ c.collect_all.new.seat.me.0.seen c.confirm_all.new.seat.me.0.seen _ c.confirm_all.ensures.later c.collect_all.ensures.told
 
 pub returns-in-None-clause-round : goal.returns-in-None-clause-round
 returns-in-None-clause-round c = let s = c.args.seat.now.me.0.seen in let t = c.collect_all.new.seat.me.0.seen in let u = c.confirm_all.new.seat.me.0.seen in let r = c.in_ok-revisions.ensures.read in

@@ -1,14 +1,17 @@
 use Rattle.std.proofs.Common.{◌+◌, arith, ap, sym, ◌∙◌, subst}
 use Rattle.shard_store.specs.declared.one_shard.Attempt.{Attempt}
 use Rattle.shard_store.specs.Promise.{IsRefusedAt}
+use Rattle.shard_store.specs.Private.LastReads.{IsLastRead}
 use Rattle.shard_store.specs.Private.Seat.{Missed, Tried}
 use Rattle.shard_store.proofs.Promise.{later_then, missed_then, answered_since, refused_since, at_slots, error_passed, at_home}
 use Rattle.shard_store.proofs.one_shard.ask_shard.Goals as goal
 
 pub returns-in-Replied-clause-answer : goal.returns-in-Replied-clause-answer
 returns-in-Replied-clause-answer c = let s = c.args.seat.now.me.0.seen in let t = c.loop.seat.me.0.seen in let u = c.try_once.new.seat.me.0.seen in
-    answered_since c.args.op.now s t u c.in-Replied.reply c.loop.invariant.later
-    (subst (λ (a : Attempt). Tried c.loop.seat.table_id.slots c.args.shard c.args.op.now t u a) c.in-Replied.is c.in_ok-reply.ensures.tried)
+    let tried = subst (λ (a : Attempt). Tried c.loop.seat.table_id.slots c.args.shard c.args.op.now t u a) c.in-Replied.is c.in_ok-reply.ensures.tried in (
+      answered_since c.args.op.now s t u c.in-Replied.reply c.loop.invariant.later tried.0,
+      at_slots (λ z. IsLastRead z.slots c.args.shard u.log c.in-Replied.read) _ _ (sym c.loop.invariant.seat.0) tried.1,
+    )
 
 pub returns-in_err-reply-clause-answer : goal.returns-in_err-reply-clause-answer
 returns-in_err-reply-clause-answer c = let s = c.args.seat.now.me.0.seen in let t = c.loop.seat.me.0.seen in let u = c.try_once.new.seat.me.0.seen in let i = c.loop.invariant in

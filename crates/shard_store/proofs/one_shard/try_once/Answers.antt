@@ -9,6 +9,7 @@ use Rattle.shard_store.specs.Private.Numbers.{IsPart}
 use Rattle.shard_store.specs.Promise.{IsLater}
 use Rattle.shard_store.specs.Private.Seat.{Missed, Writes, IsHolding, change_by}
 use Rattle.shard_store.proofs.Promise.{later_then, later_same, missed_then, at_slots, answered_by_write, answered_by_read, changes_of_part, part_after, with_new, with_none}
+use Rattle.shard_store.proofs.LastReads.{halved, none_here, read_here}
 use Rattle.shard_store.proofs.one_shard.try_once.Goals as goal
 
 pub read_version-requires-clause-holds : goal.read_version-requires-clause-holds
@@ -28,8 +29,11 @@ returns-in_default-clause-tried c = let s = c.args.seat.now.me.0.seen in let t =
     let shown : IsPart c.args.seat.now.table_id.slots c.args.shard u.log old =
     subst (λ (s : ℕ × List Change). IsPart s.0 c.args.shard s.1 old) (λ k. (ap (λ (t : TableId). t.slots) z k, sym (ap (λ (s : Seen). s.log) read.2) k)) c.in_ok-version.ensures.version in
     let step = c.in_ok-reply.ensures in
-    answered_by_read c.args.seat.now.table_id.slots c.args.shard c.args.op.now s u old c.in_ok-reply.reply c.requires.home l shown
-    (step.reply ∙ ap (λ (m : PlainMap). (ask m c.args.op.now).reply) c.deref.ensures) (with_none _ _ _ c.in_default.is step.left)
+    let counted : count c.args.seat.now.table_id.slots u.log c.args.shard ≡ c.in-Ok.word / 2 = ap (λ (x : Seen). count c.args.seat.now.table_id.slots x.log c.args.shard) read.2 ∙ halved c.in-Ok.word _ c.in-Ok.ensures.found.1 in (
+      answered_by_read c.args.seat.now.table_id.slots c.args.shard c.args.op.now s u old c.in_ok-reply.reply c.requires.home l shown
+          (step.reply ∙ ap (λ (m : PlainMap). (ask m c.args.op.now).reply) c.deref.ensures) (with_none _ _ _ c.in_default.is step.left),
+      read_here c.args.seat.now.table_id.slots c.args.shard u.log (record { revision = c.in-Ok.word / 2; version = c.in_ok-version.version }) counted shown,
+    )
 
 pub store_version-requires-clause-version : goal.store_version-requires-clause-version
 store_version-requires-clause-version c = let u = c.read_version.new.seat.me.0.seen in let read = c.read_version.ensures.seat in let old : PlainMap = arc_value c.in_ok-version.version in
@@ -47,10 +51,12 @@ returns-in-Ok-store_version-clause-tried c = let s = c.args.seat.now.me.0.seen i
     let l : IsLater u s = later_same s t u held.later read.2 in let z = read.0.0 ∙ held.seat.0 in
     let shown : IsPart c.args.seat.now.table_id.slots c.args.shard u.log old =
     subst (λ (s : ℕ × List Change). IsPart s.0 c.args.shard s.1 old) (λ k. (ap (λ (t : TableId). t.slots) held.seat.0 k, sym (ap (λ (s : Seen). s.log) read.2) k)) c.in_ok-version.ensures.version in
-    let step = c.in_ok-reply.ensures in
-    answered_by_write c.args.seat.now.table_id.slots c.args.shard c.args.op.now s u x old c.in_ok-reply.reply c.requires.home l shown
-    (step.reply ∙ ap (λ (m : PlainMap). (ask m c.args.op.now).reply) c.deref.ensures) (with_new _ _ _ _ c.in-Some.is step.left).0
-    (at_slots (λ k. Writes k.slots c.args.shard c.args.op.now u x) _ _ (sym z) c.in-Ok-store_version.ensures.written)
+    let step = c.in_ok-reply.ensures in (
+      answered_by_write c.args.seat.now.table_id.slots c.args.shard c.args.op.now s u x old c.in_ok-reply.reply c.requires.home l shown
+          (step.reply ∙ ap (λ (m : PlainMap). (ask m c.args.op.now).reply) c.deref.ensures) (with_new _ _ _ _ c.in-Some.is step.left).0
+          (at_slots (λ k. Writes k.slots c.args.shard c.args.op.now u x) _ _ (sym z) c.in-Ok-store_version.ensures.written),
+      none_here c.args.seat.now.table_id.slots c.args.shard x.log,
+    )
 
 worn_at : (word a : ℕ) → word ≡ 2 * a → word ≤ 2 ^ 63 → 2 ^ 62 ≤ word / 2 → a ≡ 2 ^ 62
 worn_at word a e most least = omega arith

@@ -4,8 +4,8 @@ use Rattle.shard_store.proofs.Asked.{shard_answers, all_answer}
 use Rattle.shard_store.proofs.store.Store.ask.Goals as goal
 
 pub returns-in-Some-clause-answer : goal.returns-in-Some-clause-answer
-returns-in-Some-clause-answer c = shard_answers c.ask_shard.result c.args.self.now c.args.op c.pass.inside.seat.table_id _ _ c.ask_shard.new.seat.me.0.seen
-    (ap (λ p. p.store) c.pass.view_is ∙ c.requires.own) (ap (λ p. p.seen) c.pass.view_is) c.ask_shard.ensures.answer
+returns-in-Some-clause-answer c = shard_answers c.ask_name.result c.args.self.now c.args.op c.pass.inside.seat.table_id _ _ c.ask_name.new.seat.me.0.seen
+    (ap (λ p. p.store) c.pass.view_is ∙ c.requires.own) (ap (λ p. p.seen) c.pass.view_is) c.ask_name.ensures.answer
 
 pub returns-clause-answer : goal.returns-clause-answer
 returns-clause-answer c = let here : StoreView = record { id = c.pass.inside.seat.table_id; rounds = c.self.inside.rounds; tries = c.self.inside.tries } in

@@ -1,10 +1,12 @@
-use Rattle.std.proofs.Common.{rules, ◌≡◌, ◌*◌, ◌/◌, sym, ap, ◌∙◌, subst}
+use Rattle.std.proofs.Common.{rules, ◌≡◌, ◌*◌, sym, ap, ◌∙◌, subst}
 use Rattle.atomic_table.specs.Seated.{TableId}
 use Rattle.map_core.specs.declared.reply.AskError.TheVariants.{Held}
 use Rattle.shard_store.specs.Promise.{IsLater, IsAlone}
 use Rattle.shard_store.specs.Changes.{count}
+use Rattle.shard_store.specs.Private.LastReads.{AreLastReads}
 use Rattle.shard_store.specs.Private.Seat.{IsHolding}
 use Rattle.shard_store.proofs.Promise.{at_slots}
+use Rattle.shard_store.proofs.LastReads.{reads_later}
 use Rattle.shard_store.proofs.store.Store.hold.Goals as goal
 
 pub invariant_of-result : goal.invariant_of-result
@@ -14,6 +16,16 @@ invariant_of-result c = let f = c.in-Ok.ensures.found in let z = c.try_hold.ensu
   search rules,
   search rules,
   search rules,
+  at_slots (λ k. AreLastReads k.slots c.try_hold.new.seat.me.0.seen.log c.pass.inside.last_reads.by_shard.items) _ _ z
+      (reads_later c.pass.inside.seat.table_id.slots c.pass.inside.seat.me.0.seen c.try_hold.new.seat.me.0.seen c.pass.inside.last_reads.by_shard.items c.try_hold.ensures.later c.pass.invariant.2),
+)
+
+pub invariant_of-pass : goal.invariant_of-pass
+invariant_of-pass c = (
+  search rules,
+  search rules,
+  at_slots (λ k. AreLastReads k.slots c.try_hold.new.seat.me.0.seen.log c.pass.inside.last_reads.by_shard.items) _ _ c.try_hold.ensures.seat.0
+      (reads_later c.pass.inside.seat.table_id.slots c.pass.inside.seat.me.0.seen c.try_hold.new.seat.me.0.seen c.pass.inside.last_reads.by_shard.items c.try_hold.ensures.later c.pass.invariant.2),
 )
 
 pub returns-in-Err : goal.returns-in-Err

@@ -1,7 +1,7 @@
 use Rattle.std.proofs.Common.{◌≡◌, ◌<◌}
 use Rattle.shard_store.specs.Promise.{IsLater}
 use Rattle.shard_store.specs.Private.Seat.{Missed, IsIdle, IsSameSeat}
-use Rattle.shard_store.proofs.fetch.collect.Given as goal
+use Rattle.shard_store.proofs.fetch.collect_held.Given as goal
 
 abbrev pub invariant-loop : goal.invariant-loop
 invariant-loop l = record {

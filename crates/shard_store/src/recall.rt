@@ -1,0 +1,120 @@
+//! Reads that hold nothing: what a pass read of a shard last is still the shard's, if its revision is.
+ghost use Rattle.std.specs.Prelude.{◌≡◌, ◌<◌, Some, IfSome, MatchOption, MatchResult};
+ghost use Rattle.std.specs.Arc.{arc_value};
+ghost use Rattle.map_core.specs.PlainMap.{shard_of};
+ghost use Rattle.shard_store.specs.Changes.{count};
+ghost use Rattle.shard_store.specs.Private.Numbers.{IsPart};
+ghost use Rattle.shard_store.specs.Promise.{IsLater, IsReply, IsRefusedAt};
+ghost use Rattle.shard_store.specs.Private.Seat.{IsAt, IsSameSeat, IsIdle};
+ghost use Rattle.shard_store.specs.Private.LastReads.{AreLastReads};
+
+use crate::holds::look;
+use crate::last_reads::{LastRead, LastReads};
+use crate::one_shard::ask_shard;
+use crate::rule::{ShardTable, StoreSeat};
+use map_core::{AskError, Op, Reply};
+use std::alloc::Global;
+
+/// What was read of the shard last, if the shard is as it was then. One load tells, whether the shard is held or not.
+pub(crate) fn recall<'a>(
+    shards: &ShardTable,
+    seat: &mut StoreSeat,
+    last_reads: &'a LastReads,
+    shard: usize,
+) -> Option<&'a LastRead>
+    requires own { IsAt seat.old shards.now.shared.table_id }
+    requires shard { shard < seat.old.table_id.slots }
+    requires idle { IsIdle seat.old.me }
+    requires told { AreLastReads seat.old.table_id.slots seat.old.me.0.seen.log last_reads.now.by_shard.items }
+    ensures seat { IsSameSeat seat.old seat.new × IsIdle seat.new.me }
+    ensures later { IsLater seat.new.me.0.seen seat.old.me.0.seen }
+    ensures read { IfSome result (λ r. (count seat.old.table_id.slots seat.new.me.0.seen.log shard ≡ r.now.revision)
+        × IsPart seat.old.table_id.slots shard seat.new.me.0.seen.log (arc_value r.now.version)) }
+{
+    let revision = look(shards, seat, shard) / 2;
+    last_reads.at(shard, revision)
+}
+
+/// The same of another owner of the version, if one can be had.
+pub(crate) fn recall_copy(
+    shards: &ShardTable,
+    seat: &mut StoreSeat,
+    last_reads: &LastReads,
+    shard: usize,
+) -> Option<LastRead>
+    requires own { IsAt seat.old shards.now.shared.table_id }
+    requires shard { shard < seat.old.table_id.slots }
+    requires idle { IsIdle seat.old.me }
+    requires told { AreLastReads seat.old.table_id.slots seat.old.me.0.seen.log last_reads.now.by_shard.items }
+    ensures seat { IsSameSeat seat.old seat.new × IsIdle seat.new.me }
+    ensures later { IsLater seat.new.me.0.seen seat.old.me.0.seen }
+    ensures read { IfSome result (λ r. (count seat.old.table_id.slots seat.new.me.0.seen.log shard ≡ r.revision)
+        × IsPart seat.old.table_id.slots shard seat.new.me.0.seen.log (arc_value r.version)) }
+{
+    match recall(shards, seat, last_reads, shard) {
+        Some(last) => LastRead::of(last.revision, &last.version),
+        None => None,
+    }
+}
+
+/// One operation on one name, at the shard where it is at home. What is read under a hold is remembered, unless a new
+/// version was written since: then nothing is remembered of the shard.
+pub(crate) fn ask_name(
+    alloc: Global,
+    shards: &ShardTable,
+    seat: &mut StoreSeat,
+    last_reads: &mut LastReads,
+    tries: u64,
+    shard: usize,
+    op: &Op,
+) -> Result<Reply, AskError>
+    requires own { IsAt seat.old shards.now.shared.table_id }
+    requires shard { shard < seat.old.table_id.slots }
+    requires idle { IsIdle seat.old.me }
+    requires tries { 0 < tries }
+    requires home { shard_of seat.old.table_id.slots op.now ≡ Some shard }
+    requires told { AreLastReads seat.old.table_id.slots seat.old.me.0.seen.log last_reads.old.by_shard.items }
+    ensures seat { IsSameSeat seat.old seat.new × IsIdle seat.new.me }
+    ensures told { AreLastReads seat.old.table_id.slots seat.new.me.0.seen.log last_reads.new.by_shard.items }
+    ensures answer { MatchResult result
+        (λ reply. IsReply op.now seat.old.me.0.seen reply seat.new.me.0.seen)
+        (IsRefusedAt seat.old.table_id.slots op.now seat.old.me.0.seen seat.new.me.0.seen) }
+{
+    if let Some(reply) = get_recalled(shards, seat, last_reads, shard, op)? {
+        return Ok(reply);
+    }
+    let (reply, read) = ask_shard(alloc, shards, seat, tries, shard, op)?;
+    last_reads.keep(shards.slot_count(), shard, read);
+    Ok(reply)
+}
+
+// Answers a get by what was read of the shard last, if that is still the shard's part.
+fn get_recalled(
+    shards: &ShardTable,
+    seat: &mut StoreSeat,
+    last_reads: &LastReads,
+    shard: usize,
+    op: &Op,
+) -> Result<Option<Reply>, AskError>
+    requires own { IsAt seat.old shards.now.shared.table_id }
+    requires shard { shard < seat.old.table_id.slots }
+    requires idle { IsIdle seat.old.me }
+    requires home { shard_of seat.old.table_id.slots op.now ≡ Some shard }
+    requires told { AreLastReads seat.old.table_id.slots seat.old.me.0.seen.log last_reads.now.by_shard.items }
+    ensures seat { IsSameSeat seat.old seat.new × IsIdle seat.new.me }
+    ensures answer { MatchResult result
+        (λ found. MatchOption found (IsLater seat.new.me.0.seen seat.old.me.0.seen) (λ reply. IsReply op.now seat.old.me.0.seen reply seat.new.me.0.seen))
+        (IsRefusedAt seat.old.table_id.slots op.now seat.old.me.0.seen seat.new.me.0.seen) }
+{
+    if !matches!(op, Op::Get(_)) {
+        return Ok(None);
+    }
+    let Some(last) = recall(shards, seat, last_reads, shard) else {
+        return Ok(None);
+    };
+    let (reply, next) = last.version.asked(op)?;
+    match next {
+        None => Ok(Some(reply)),
+        Some(_) => Ok(None),
+    }
+}
