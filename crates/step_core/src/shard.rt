@@ -93,13 +93,17 @@ impl Shard {
     }
 }
 
-// Asks a version that nobody shares in its place.
+// Asks a version that nobody shares in its place. Whether others share it is looked at by a locked exchange, so a get,
+// which changes nothing, does not look.
 fn ask_version(alloc: Global, version: &mut Arc<Contents>, op: Op) -> Result<Reply, AskError>
     ensures reply { IfOk result (λ r. r ≡ (ask (arc_value version.old) op).reply) }
     ensures left { OnOk result (arc_value version.new ≡ (ask (arc_value version.old) op).map) }
     ensures refused { IfErr result (λ e. e ≡ AskError.Memory) }
     ensures err { OnErr result (arc_value version.new ≡ arc_value version.old) }
 {
+    if matches!(op, Op::Get(_)) {
+        return ask_shared(alloc, version, &op);
+    }
     if let Some(contents) = Arc::get_mut(version) {
         return contents.ask(op);
     }
