@@ -1,0 +1,8 @@
+mod Sides
+mod Places
+mod Plain
+mod Same
+mod Levels
+mod Seats
+mod Maps
+mod Walks

@@ -1,0 +1,18 @@
+//! An ordered map from trust domain names to values, in three levels of shared nodes.
+//!
+//! `SharedMap` is seen as a finite map. A copy is one count, and a change after a copy copies three small nodes: the
+//! older copy stays as it was. A change of a map that shares nothing is made in place.
+#![tactic(auto)]
+
+mod entries;
+mod level;
+mod map;
+mod page;
+mod part;
+mod run;
+mod search;
+mod shared;
+
+pub use entries::Entries;
+pub use map::SharedMap;
+pub use shared::Shared;

@@ -1,0 +1,85 @@
+//! What one node holds.
+ghost use Rattle.std.specs.Prelude.{◌≡◌, ◌<◌, length, IfOk, OnOk, MatchOption, vec_len, vec_capacity};
+ghost use Rattle.std.specs.Arc.{arc_value};
+ghost use Rattle.shared_map.specs.Places.{IsSplit};
+
+use crate::Shared;
+use spiffe_doc::TrustDomain;
+use std::alloc::AllocError;
+use std::sync::Arc;
+
+/// How many places a full page grows by: few, so that few are empty.
+pub(crate) const STEP: usize = 8;
+
+/// The most names of a page that is not split: with one more it is full at 64.
+pub(crate) const MOST: usize = 63;
+
+/// Names, with what stands under each.
+#[derive(Drop)]
+pub(crate) struct Page<X> {
+    pub(crate) slots: Vec<(TrustDomain, X)>,
+}
+
+impl<X: Shared> Page<X> {
+    /// The same page, with room for one more name.
+    fn copy(&self) -> Result<Page<X>, AllocError>
+        ensures { IfOk result (λ copy. copy.slots.items ≡ self.now.slots.items) }
+    {
+        let room = (self.slots.len() | (STEP - 1)).saturating_add(1);
+        let mut slots = Vec::with_capacity(*self.slots.allocator(), room)?;
+        for slot in &self.slots {
+            slots.push((slot.0.copy()?, slot.1.copy()?))?;
+        }
+        Ok(Page { slots })
+    }
+
+    /// Has room for one more name.
+    pub(crate) fn make_room(&mut self) -> Result<(), AllocError>
+        ensures items { self.new.slots.items ≡ self.old.slots.items }
+        ensures ok { OnOk result (vec_len self.new.slots < vec_capacity self.new.slots) }
+    {
+        if self.slots.len() < self.slots.capacity() {
+            return Ok(());
+        }
+        self.slots.reserve_exact(STEP)
+    }
+
+    /// Keeps the first half and gives the second, and the name that it begins with. None if memory for that is refused.
+    pub(crate) fn split(&mut self) -> Option<(TrustDomain, Arc<Page<X>>)>
+        requires { 1 < length self.old.slots.items }
+        ensures { MatchOption result (self.new.slots.items ≡ self.old.slots.items) (λ half. IsSplit self.old.slots.items self.new.slots.items half.0 (arc_value half.1).slots.items) }
+    {
+        let half = self.slots.len() / 2;
+        let Ok(name) = self.slots[half].0.copy() else {
+            return None;
+        };
+        let alloc = *self.slots.allocator();
+        let Ok(mut other) = Arc::new(
+            alloc,
+            Page {
+                slots: Vec::new(alloc),
+            },
+        ) else {
+            return None;
+        };
+        let Some(page) = Arc::get_mut(&mut other) else {
+            return None;
+        };
+        let Ok(slots) = self.slots.split_off(half) else {
+            return None;
+        };
+        page.slots = slots;
+        self.slots.shrink_to_fit();
+        Some((name, other))
+    }
+}
+
+impl<X: Shared> Clone for Page<X> {
+    ghost use Rattle.std.specs.Prelude.{◌≡◌};
+
+    ghost is_clone = { λ page clone. clone.slots.items ≡ page.slots.items };
+
+    fn clone(&self) -> Result<Page<X>, AllocError> {
+        self.copy()
+    }
+}

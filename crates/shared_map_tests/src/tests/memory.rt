@@ -1,0 +1,14 @@
+//! What is shared can be sent.
+use crate::tests::*;
+
+fn sent<T: Send + Sync>(value: T) -> T {
+    value
+}
+
+#[test]
+fn a_map_can_be_sent(rt: HostRuntime) -> Result<(), Fail> {
+    let alloc = rt.alloc();
+    let map = sent(filled(alloc, 10)?);
+    is_equal(&rt, &map.len(), &10);
+    Ok(())
+}
