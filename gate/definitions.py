@@ -220,7 +220,7 @@ def count(modules):
     rows.append(f"\n{all_lines} lines in all.")
     for what, *contract in HEADLINES:
         many, lines, words = totals(reach_of(modules, *contract))
-        rows.append(f"{what}: {many} definitions, {lines} lines, {words} words, {words / A_MINUTE:.0f} minutes aloud.")
+        rows.append(f"{what}: {many} definitions, {lines} lines, {words} words, about {words / A_MINUTE:.0f} minutes to read aloud.")
     return rows
 
 

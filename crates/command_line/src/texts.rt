@@ -1,7 +1,7 @@
 //! What the help of each command says at its end.
 
 pub const FRAMES: &str = "\
-A frame is a length of 4 bytes, the greatest first, and a payload of that many bytes. Each request is
+A frame is a length of 4 bytes, big-endian, and a payload of that many bytes. Each request is
 one frame, and so is each reply; the reply to a fetch-all is one frame and then one for each domain.
 The first byte of a payload is a letter:
 
@@ -11,8 +11,8 @@ The first byte of a payload is a letter:
   G  length of the name, name              gets it
   F                                        fetches all
   V  version                               sets the version of the session: 1 or 2
-  C  length of the name, name,             version 2: sets it where what stands there is what is
-     expectation, document                 expected: 0 none, 1 and a sequence of 8 bytes, 2 unnumbered
+  C  length of the name, name,             version 2: sets it only if the stored bundle is the expected
+     expectation, document                 one: 0 none, 1 and a sequence of 8 bytes, 2 without a sequence
 
 The first example sets the bundle of the trust domain `a` to an empty document and gets it back:
 
