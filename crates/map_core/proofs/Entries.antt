@@ -1,58 +1,91 @@
--- The entries of a `BTreeMap` as the plain map of them.
-use Rattle.std.proofs.Common.{◌≡◌, T, ◌&&◌, Bool, true, false, cond, List, [], ◌∷◌, Option, Some, None, refl, sym, ap, subst, ◌++◌, append-nil, ◌∙◌}
+-- Entries in order, inserted into a map in turn.
+use Rattle.std.proofs.Common.{◌≡◌, T, ◌&&◌, Bool, true, false, cond, List, [], ◌∷◌, ◌++◌, append-nil, Option, Some, None, refl, sym, ap, subst, ◌∙◌}
 use Rattle.spiffe_doc.specs.Authority.{BundleValue}
-use Rattle.std.specs.Ordering.{eq_by_cmp}
+use Rattle.std.specs.Ordering.{eq_by_cmp, is_eq, is_lt}
+use Rattle.std.specs.declared.cmp.Ordering.{Ordering}
+use Rattle.std.specs.declared.cmp.Ordering.TheVariants.{Less, Equal, Greater}
 use Rattle.std.specs.Cmp.{eq_by_cmp_equiv}
 use Rattle.std.specs.Cmp.Lexicographic.{nat_list_cmp_total}
+use Rattle.std.specs.Map.{keys_of, lookup, update, update_all}
 use Rattle.std.specs.BTreeMap.{BTreeMap, is_at}
 use Rattle.std.specs.BTreeMap as tree
-use Rattle.std.specs.Map.{lookup, keys_of}
 use Rattle.std.specs.List.{AllByRecursion}
-use Rattle.std.specs.Option.{option_or}
 use Rattle.std.specs.List.Sorted.{IsStrictlySortedBy}
-use Rattle.std.specs.Ordering.{is_lt}
-use Rattle.std.specs.declared.cmp.Ordering.TheVariants.{Less}
 use Rattle.std.specs.FinMap.Entries.{below_all}
-use Rattle.std.specs.FinMap.{find, get-from_entries, get-from_sorted, entries-from_sorted, is_sorted, get-insert, get-remove}
+use Rattle.std.specs.FinMap.{find, get-from_entries, get-from_sorted, entries-from_sorted, get-entries, get-empty, get-insert, is_sorted}
 use Rattle.std.specs.FinMap as finite
 use Rattle.map_core.specs.declared.held.Holding.{Holding}
 use Rattle.map_core.specs.Name.{Name, name_cmp}
-use Rattle.map_core.specs.PlainMap.{PlainMap}
-use Rattle.map_core.proofs.Maps.{same_held, or_else}
+use Rattle.map_core.specs.PlainMap.{PlainMap, union}
+use Rattle.map_core.specs.Private.Turns.{with_entries, put_in_turn}
+use Rattle.map_core.proofs.Maps.{is_name, same_name, same_held, or_else, get-join}
 
+-- ---- lists in order
+pub first : (a b : Bool) → T (a && b) → T a
+first true b p = tt
+first false b p = p
+
+pub second : (a b : Bool) → T (a && b) → T b
+second true b p = p
+second false b p = absurd p
+
+pub both : (a b : Bool) → T a → T b → T (a && b)
+both true b p q = q
+both false b p q = p
+
+not_tied : (o : Ordering) → T (is_lt o) → is_eq o ≡ false
+not_tied Less p = refl
+not_tied Equal p = absurd p
+not_tied Greater p = refl
+
+-- a name below all others is not found among them
+pub find-below : (d : Name) (es : List (Name × Holding)) → T (below_all name_cmp d es) → find name_cmp d es ≡ None
+find-below d [] h = refl
+find-below d (e ∷ es) h = ap (λ b. cond b (Some e.1) (find name_cmp d es)) (not_tied _ (first _ _ h)) ∙ find-below d es (second _ _ h)
+
+-- ---- entries inserted in turn
+pub with_more : (m : PlainMap) (es fs : List (Name × Holding)) → with_entries m (es ++ fs) ≡ with_entries (with_entries m es) fs
+with_more m [] fs = refl
+with_more m (e ∷ es) fs = with_more (finite.insert m e.0 e.1) es fs
+
+after_none : (x : Option Holding) (h : Holding) (y : Option Holding) → x ≡ None → or_else x (Some h) ≡ or_else (Some h) y
+after_none x h y none = ap (λ z. or_else z (Some h)) none
+
+-- what the first entry of a list in order adds
+adds : (m : PlainMap) (e : Name × Holding) (es : List (Name × Holding)) (q : Name) → T (below_all name_cmp e.0 es)
+    → or_else (find name_cmp q es) (cond (is_name q e.0) (Some e.1) (finite.get m q)) ≡ or_else (cond (is_name q e.0) (Some e.1) (find name_cmp q es)) (finite.get m q)
+adds m e es q below =
+    elim (is_name q e.0) as (λ t. is_name q e.0 ≡ t → or_else (find name_cmp q es) (cond t (Some e.1) (finite.get m q)) ≡ or_else (cond t (Some e.1) (find name_cmp q es)) (finite.get m q)) [
+      | true ↦ λ t. after_none _ e.1 (finite.get m q) (ap (λ x. find name_cmp x es) (same_name q e.0 t) ∙ find-below e.0 es below)
+      | false ↦ λ t. refl
+    ] refl
+
+pub get-in_turn : (m : PlainMap) (es : List (Name × Holding)) (q : Name) → T (is_sorted name_cmp es) → finite.get (with_entries m es) q ≡ or_else (find name_cmp q es) (finite.get m q)
+get-in_turn m [] q h = refl
+get-in_turn m (e ∷ es) q h =
+    get-in_turn (finite.insert m e.0 e.1) es q (second _ _ h)
+    ∙ ap (or_else (find name_cmp q es)) (get-insert nat_list_cmp_total m e.0 e.1 q)
+    ∙ adds m e es q (first _ _ h)
+
+-- the entries of a map, inserted into another one
+pub with_map : (m p : PlainMap) → with_entries m (finite.entries p) ≡ union m p
+with_map m p = same_held _ _ (λ q. get-in_turn m (finite.entries p) q (finite.entries_sorted p) ∙ ap (λ x. or_else x (finite.get m q)) (sym (get-entries p q)) ∙ sym (get-join m p q))
+
+or_none : (x y : Option Holding) → y ≡ None → or_else x y ≡ x
+or_none (Some x) y e = refl
+or_none None y e = e
+
+-- entries in order, inserted in turn, are the map of them
+pub in_turn : (es : List (Name × Holding)) → T (is_sorted name_cmp es) → put_in_turn es ≡ finite.from_entries es
+in_turn es h = same_held _ _ (λ q. get-in_turn finite.empty es q h ∙ or_none _ _ (get-empty name_cmp q) ∙ sym (get-from_entries nat_list_cmp_total es q))
+
+-- ---- the entries of a `BTreeMap`
 find_lookup : (q : Name) (es : List (Name × Holding)) → find name_cmp q es ≡ lookup (is_at (name_cmp q)) es
 find_lookup q [] = refl
 find_lookup q (e ∷ es) = ap (cond (eq_by_cmp name_cmp q e.0) (Some e.1)) (find_lookup q es)
 
-abbrev pub shown : BTreeMap Name Holding → PlainMap
-shown m = finite.from_entries m.entries
-
-pub get-shown : (m : BTreeMap Name Holding) (q : Name) → finite.get (shown m) q ≡ tree.get name_cmp m q
+get-shown : (m : BTreeMap Name Holding) (q : Name) → finite.get (finite.from_entries {R = name_cmp} m.entries) q ≡ tree.get name_cmp m q
 get-shown m q = get-from_entries nat_list_cmp_total m.entries q ∙ find_lookup q m.entries
-
-turned : (d q : Name) (x y : Option Holding) → cond (is_at (name_cmp d) q) x y ≡ cond (eq_by_cmp name_cmp q d) x y
-turned d q x y = ap (λ b. cond b x y) ((eq_by_cmp_equiv nat_list_cmp_total).symm d q)
-
-pub shown-insert : (m n : BTreeMap Name Holding) (d : Name) (held : Holding) → tree.Updates name_cmp m n d (Some held) → shown n ≡ finite.insert (shown m) d held
-shown-insert m n d held h =
-    same_held _ _ (λ q.
-    get-shown n q ∙ h.0 q ∙ turned d q (Some held) (tree.get name_cmp m q) ∙ ap (cond (eq_by_cmp name_cmp q d) (Some held)) (sym (get-shown m q))
-    ∙ sym (get-insert nat_list_cmp_total (shown m) d held q))
-
-pub shown-remove : (m n : BTreeMap Name Holding) (d : Name) → tree.Updates name_cmp m n d None → shown n ≡ finite.remove (shown m) d
-shown-remove m n d h =
-    same_held _ _ (λ q.
-    get-shown n q ∙ h.0 q ∙ turned d q None (tree.get name_cmp m q) ∙ ap (cond (eq_by_cmp name_cmp q d) None) (sym (get-shown m q))
-    ∙ sym (get-remove nat_list_cmp_total (shown m) d q))
-
-pub entries_sorted : (es : List (Name × Holding)) → T (is_sorted name_cmp es) → finite.entries (finite.from_entries {R = name_cmp} es) ≡ es
-entries_sorted es h =
-    ap finite.entries (same_held (finite.from_entries es) (finite.from_sorted es) (λ q. get-from_entries nat_list_cmp_total es q ∙ sym (get-from_sorted name_cmp es q h)))
-    ∙ entries-from_sorted name_cmp es h
-
-both : (a b : Bool) → T a → T b → T (a && b)
-both true b p q = q
-both false b p q = p
 
 below_those : (x : Name) (es : List (Name × Holding)) → AllByRecursion (λ y. name_cmp x y ≡ Less) (keys_of es) → T (below_all name_cmp x es)
 below_those x [] h = tt
@@ -66,10 +99,33 @@ sorted_list (e ∷ es) h = both _ _ (below_those e.0 es h.0) (sorted_list es h.1
 pub sorted_entries : (m : BTreeMap Name Holding) → tree.IsOrdered name_cmp m → T (is_sorted name_cmp m.entries)
 sorted_entries m h = sorted_list m.entries h
 
-pub option_or_else : (x y : Option Holding) → option_or x y ≡ or_else x y
-option_or_else (Some x) y = refl
-option_or_else None y = refl
+pub entries_sorted : (es : List (Name × Holding)) → T (is_sorted name_cmp es) → finite.entries (finite.from_entries {R = name_cmp} es) ≡ es
+entries_sorted es h =
+    ap finite.entries (same_held (finite.from_entries es) (finite.from_sorted es) (λ q. get-from_entries nat_list_cmp_total es q ∙ sym (get-from_sorted name_cmp es q h)))
+    ∙ entries-from_sorted name_cmp es h
+
+after_one : (m : PlainMap) (e : Name × Holding) (q : Name) → finite.get (finite.insert m e.0 e.1) q ≡ update is_name (finite.get m) e.0 (Some e.1) q
+after_one m e q = get-insert nat_list_cmp_total m e.0 e.1 q ∙ ap (λ b. cond b (Some e.1) (finite.get m q)) ((eq_by_cmp_equiv nat_list_cmp_total).symm q e.0)
+
+same_updates : (f g : Name → Option Holding) (es : List (Name × Holding)) (q : Name) → ((r : Name) → f r ≡ g r) → update_all is_name f es q ≡ update_all is_name g es q
+same_updates f g [] q same = same q
+same_updates f g (e ∷ es) q same = same_updates (update is_name f e.0 (Some e.1)) (update is_name g e.0 (Some e.1)) es q (λ r. ap (cond (is_name e.0 r) (Some e.1)) (same r))
+
+get-with_entries : (m : PlainMap) (es : List (Name × Holding)) (q : Name) → finite.get (with_entries m es) q ≡ update_all is_name (finite.get m) es q
+get-with_entries m [] q = refl
+get-with_entries m (e ∷ es) q = get-with_entries (finite.insert m e.0 e.1) es q ∙ same_updates _ _ es q (after_one m e)
+
+none_in : (q : Name) → finite.get {R = name_cmp} (finite.empty {X = Holding}) q ≡ None
+none_in q = get-empty name_cmp q
+
+-- a tree made of entries shows them, inserted in turn
+pub shown-made : (es : List (Name × Holding)) (held : BTreeMap Name Holding) → tree.IsFromIterResult name_cmp es held → finite.from_entries held.entries ≡ put_in_turn es
+shown-made es held made =
+    same_held _ _ (λ q. get-shown held q ∙ made.0 q ∙ same_updates _ _ es q (λ r. sym (none_in r)) ∙ sym (get-with_entries finite.empty es q))
 
 -- with nothing left to push, the pairs are all
 pub all_pushed : (pairs rest all : List (Name × BundleValue)) → pairs ++ rest ≡ all → rest ≡ [] → pairs ≡ all
 all_pushed pairs rest all e none = sym (append-nil pairs) ∙ ap (λ x. pairs ++ x) (sym none) ∙ e
+
+pub all_entries : (out rest before all : List (Name × Holding)) → out ++ rest ≡ before ++ all → rest ≡ [] → out ≡ before ++ all
+all_entries out rest before all e none = sym (append-nil out) ∙ ap (λ x. out ++ x) (sym none) ∙ e

@@ -1,55 +1,48 @@
--- Entries inserted into a map in turn.
-use Rattle.std.proofs.Common.{◌≡◌, cond, List, [], ◌∷◌, ◌++◌, append-nil, Option, Some, None, refl, sym, ap, ◌∙◌}
-use Rattle.std.specs.Cmp.{eq_by_cmp_equiv}
-use Rattle.std.specs.Cmp.Lexicographic.{nat_list_cmp_total}
-use Rattle.std.specs.Map.{keys_of, update, update_all}
-use Rattle.std.specs.BTreeMap.{BTreeMap}
-use Rattle.std.specs.BTreeMap as tree
-use Rattle.std.specs.FinMap.{get-insert, get-empty}
+-- Maps put together in turn.
+use Rattle.std.proofs.Common.{◌≡◌, ◌<◌, ◌≤◌, List, [], ◌∷◌, ◌++◌, length, get_or, Option, Some, None, arith, refl, sym, ap, ◌∙◌}
+use Rattle.std.proofs.lemmas.List.Sums.{fold-append}
+use Rattle.std.specs.FinMap.{get-empty}
 use Rattle.std.specs.FinMap as finite
-use Rattle.std.proofs.lemmas.Map.Keys.{IsDistinct-from_sorted}
-use Rattle.std.proofs.lemmas.Map.Made.{update_all_distinct}
 use Rattle.map_core.specs.declared.held.Holding.{Holding}
 use Rattle.map_core.specs.Name.{Name, name_cmp}
 use Rattle.map_core.specs.PlainMap.{PlainMap, union}
-use Rattle.map_core.specs.Union.{with_entries, put_in_turn}
-use Rattle.map_core.proofs.Maps.{is_name, same_held, or_else, get-join}
-use Rattle.map_core.proofs.Entries.{shown, get-shown, option_or_else}
+use Rattle.map_core.specs.Union.{put_together}
+use Rattle.map_core.specs.Private.Turns.{put_in_turn}
+use Rattle.map_core.proofs.Maps.{same_held, or_else, get-join}
+use Rattle.map_core.proofs.Entries.{with_more, with_map}
 
-after_one : (m : PlainMap) (e : Name × Holding) (q : Name) → finite.get (finite.insert m e.0 e.1) q ≡ update is_name (finite.get m) e.0 (Some e.1) q
-after_one m e q = get-insert nat_list_cmp_total m e.0 e.1 q ∙ ap (λ b. cond b (Some e.1) (finite.get m q)) ((eq_by_cmp_equiv nat_list_cmp_total).symm q e.0)
+in_a_row : (x y z : Option Holding) → or_else x (or_else y z) ≡ or_else (or_else x y) z
+in_a_row (Some x) y z = refl
+in_a_row None y z = refl
 
-same_updates : (f g : Name → Option Holding) (es : List (Name × Holding)) (q : Name) → ((r : Name) → f r ≡ g r) → update_all is_name f es q ≡ update_all is_name g es q
-same_updates f g [] q same = same q
-same_updates f g (e ∷ es) q same = same_updates (update is_name f e.0 (Some e.1)) (update is_name g e.0 (Some e.1)) es q (λ r. ap (cond (is_name e.0 r) (Some e.1)) (same r))
+union-assoc : (o m p : PlainMap) → union (union o m) p ≡ union o (union m p)
+union-assoc o m p =
+    same_held _ _ (λ q.
+    get-join (union o m) p q ∙ ap (or_else (finite.get p q)) (get-join o m q)
+    ∙ in_a_row (finite.get p q) (finite.get m q) (finite.get o q)
+    ∙ ap (λ x. or_else x (finite.get o q)) (sym (get-join m p q)) ∙ sym (get-join o (union m p) q))
 
-pub get-with_entries : (m : PlainMap) (es : List (Name × Holding)) (q : Name) → finite.get (with_entries m es) q ≡ update_all is_name (finite.get m) es q
-get-with_entries m [] q = refl
-get-with_entries m (e ∷ es) q = get-with_entries (finite.insert m e.0 e.1) es q ∙ same_updates _ _ es q (after_one m e)
+or_none : (x y : Option Holding) → y ≡ None → or_else x y ≡ x
+or_none (Some x) y e = refl
+or_none None y e = e
 
-with_more : (m : PlainMap) (es fs : List (Name × Holding)) → with_entries m (es ++ fs) ≡ with_entries (with_entries m es) fs
-with_more m [] fs = refl
-with_more m (e ∷ es) fs = with_more (finite.insert m e.0 e.1) es fs
+-- one map by itself
+pub union-empty : (m : PlainMap) → union finite.empty m ≡ m
+union-empty m = same_held _ _ (λ q. get-join finite.empty m q ∙ or_none _ _ (get-empty name_cmp q))
 
--- the entries of a map, inserted after others
-pub with_map : (es : List (Name × Holding)) (held : BTreeMap Name Holding) → tree.IsOrdered name_cmp held → put_in_turn (es ++ held.entries) ≡ union (put_in_turn es) (shown held)
-with_map es held ordered =
-    with_more finite.empty es held.entries
-    ∙ same_held _ _ (λ q.
-    get-with_entries (put_in_turn es) held.entries q
-    ∙ update_all_distinct (eq_by_cmp_equiv nat_list_cmp_total) is_name (λ x y. refl) (finite.get (put_in_turn es)) held.entries q (IsDistinct-from_sorted name_cmp (keys_of held.entries) ordered)
-    ∙ option_or_else (tree.get name_cmp held q) (finite.get (put_in_turn es) q)
-    ∙ (λ i. or_else (sym (get-shown held q) i) (finite.get (put_in_turn es) q))
-    ∙ sym (get-join (put_in_turn es) (shown held) q))
+pub put_more : (maps : List PlainMap) (m : PlainMap) → put_together (maps ++ m ∷ []) ≡ union (put_together maps) m
+put_more maps m = fold-append union finite.empty maps (m ∷ [])
 
-none_in : (q : Name) → finite.get {R = name_cmp} (finite.empty {X = Holding}) q ≡ None
-none_in q = get-empty name_cmp q
+-- the entries of two maps, pushed one after another
+pub pushed : (es : List (Name × Holding)) (m p : PlainMap) → put_in_turn ((es ++ finite.entries m) ++ finite.entries p) ≡ union (put_in_turn es) (union m p)
+pushed es m p =
+    with_more finite.empty (es ++ finite.entries m) (finite.entries p)
+    ∙ with_map _ p
+    ∙ ap (λ x. union x p) (with_more finite.empty es (finite.entries m) ∙ with_map _ m)
+    ∙ union-assoc (put_in_turn es) m p
 
--- a tree made of entries shows them, inserted in turn
-pub shown-made : (es : List (Name × Holding)) (held : BTreeMap Name Holding) → tree.IsFromIterResult name_cmp es held → shown held ≡ put_in_turn es
-shown-made es held made =
-    same_held _ _ (λ q. get-shown held q ∙ made.0 q ∙ same_updates _ _ es q (λ r. sym (none_in r)) ∙ sym (get-with_entries finite.empty es q))
-
--- with nothing left to push
-pub all_entries : (out rest before all : List (Name × Holding)) → out ++ rest ≡ before ++ all → rest ≡ [] → out ≡ before ++ all
-all_entries out rest before all e none = sym (append-nil out) ∙ ap (λ x. out ++ x) (sym none) ∙ e
+-- ---- lists of maps
+pub only_map : (maps : List PlainMap) (m : PlainMap) → 1 ≤ length maps → length maps < 2 → m ≡ get_or maps 0 m → maps ≡ m ∷ []
+only_map [] m some few is = absurd (omega arith)
+only_map (x ∷ []) m some few is = ap (λ y. y ∷ []) (sym is)
+only_map (x ∷ y ∷ more) m some few is = absurd (omega arith)

@@ -2,3 +2,4 @@
 pub mod Held
 pub mod Outcome
 pub mod Codes
+pub mod Turns

@@ -1,14 +1,8 @@
--- Entries inserted into a map in turn.
+-- Maps put together.
 use Rattle.std.specs.Prelude.{List, fold}
 use Rattle.std.specs.FinMap as finite
-use Rattle.map_core.specs.declared.held.Holding.{Holding}
-use Rattle.map_core.specs.Name.{Name}
-use Rattle.map_core.specs.PlainMap.{PlainMap}
+use Rattle.map_core.specs.PlainMap.{PlainMap, union}
 
--- the map with these entries inserted in turn
-abbrev pub with_entries : PlainMap → List (Name × Holding) → PlainMap
-with_entries m es = fold (λ n e. finite.insert n e.0 e.1) m es
-
--- the map of these entries, inserted in turn: of two under one name the later one stays
-abbrev pub put_in_turn : List (Name × Holding) → PlainMap
-put_in_turn es = with_entries finite.empty es
+-- the maps together: under each name, what the last map that has the name holds
+abbrev pub put_together : List PlainMap → PlainMap
+put_together maps = fold union finite.empty maps

@@ -1,40 +1,47 @@
-//! The map of one caller, kept in a `BTreeMap`.
-ghost use Rattle.std.specs.Prelude.{◌≡◌, IfOk, OnOk, IfErr, OnErr, MatchOption, Ok, length, true, false, option_copied};
+//! The map of one caller: its bundles and its marks, each in a map whose copies share their nodes.
+ghost use Rattle.std.specs.Prelude.{◌≡◌, IfOk, OnOk, IfErr, OnErr, MatchOption, Ok, ◌++◌, length, true, false, option_copied};
 ghost use Rattle.std.specs.FinMap as finite;
 ghost use Rattle.map_core.specs.Op.{domain_of, carries_nothing};
+ghost use Rattle.map_core.specs.declared.held.Holding.{Holding};
 ghost use Rattle.map_core.specs.declared.op.Op.TheVariants.{Set};
 ghost use Rattle.map_core.specs.Private.Outcome.{reply_of, left_by};
 ghost use Rattle.map_core.specs.PlainMap.{ask, union, bundles};
 ghost use Rattle.map_core.specs.Reply.{is_change};
-ghost use Rattle.map_core.specs.Union.{put_in_turn};
+ghost use Rattle.map_core.specs.Private.Turns.{put_in_turn};
 
 use crate::held::Holding;
 use crate::op::Op;
 use crate::reply::{AskError, Reply, Snapshot};
 use crate::table;
 use crate::table::RowEffect;
+use shared_map::{Shared, SharedMap};
 use spiffe_doc::{Bundle, TrustDomain};
 use std::alloc::{AllocError, Global};
 use std::collections::BTreeMap;
 use std::marker::Model;
 
-/// Bundles, and marks of removed ones, under the names of trust domains. Clauses see it as a plain map.
+/// Bundles, and marks of removed ones, under the names of trust domains. Clauses see it as a plain map. A copy shares
+/// all nodes, and a fetch-all never comes to a mark.
 #[derive(Drop)]
 pub struct Contents {
     alloc: Global,
-    held: BTreeMap<TrustDomain, Holding>,
+    bundles: SharedMap<Holding>,
+    /// A mark under the name of a bundle is not seen: a bundle is stored beside it, and it goes as the bundle goes.
+    marks: SharedMap<Holding>,
 }
 
 impl Model for Contents {
-    ghost use Rattle.std.specs.FinMap as finite;
     ghost use Rattle.map_core.specs.Private.Codes.{plain_map_code};
-    ghost use Rattle.map_core.specs.PlainMap.{PlainMap};
+    ghost use Rattle.map_core.specs.Private.Held.{HasNoBundle, HasNoMark};
+    ghost use Rattle.map_core.specs.PlainMap.{PlainMap, union};
 
     ghost Value = { PlainMap };
 
     ghost coded = { plain_map_code };
 
-    ghost view = { λ contents. finite.from_entries contents.held.entries };
+    ghost view = { λ contents. union contents.marks contents.bundles };
+
+    ghost invariant = { λ contents. HasNoBundle contents.marks × HasNoMark contents.bundles };
 }
 
 impl Contents {
@@ -44,7 +51,8 @@ impl Contents {
     {
         Contents {
             alloc,
-            held: BTreeMap::new(alloc),
+            bundles: SharedMap::new(alloc),
+            marks: SharedMap::new(alloc),
         }
     }
 
@@ -64,25 +72,14 @@ impl Contents {
         }
     }
 
-    /// Answers a `Set`, with one search for the name.
+    /// Answers a `Set`, of which nothing is copied.
     fn set(&mut self, domain: TrustDomain, bundle: Bundle) -> Result<Reply, AllocError>
         ensures reply { IfOk result (λ reply. reply ≡ (ask self.old (Set domain bundle)).reply) }
         ensures left { OnOk result (self.new ≡ (ask self.old (Set domain bundle)).map) }
         ensures err { OnErr result (self.new ≡ self.old) }
     {
-        let Ok(entry) = self.held.entry(domain) else {
-            return Err(AllocError);
-        };
-        // A mark of 0 refuses nothing: it stands for a name that was not there.
-        let there = entry.or_insert(Holding::Mark(0));
-        match table::set(Some(there), bundle) {
-            RowEffect::Put(reply, held) => {
-                *there = held;
-                Ok(reply)
-            }
-            RowEffect::Kept(reply) => Ok(reply),
-            RowEffect::Cleared(reply) => Ok(reply),
-        }
+        let outcome = table::set(self.at(&domain), bundle);
+        self.settle(Some(domain), outcome)
     }
 
     /// The reply to the operation and, if it reports a change, the map after it. This map stays as it is.
@@ -123,19 +120,17 @@ impl Contents {
     pub fn len(&self) -> usize
         ensures { result ≡ length (bundles self.now) }
     {
-        self.held
-            .values()
-            .filter(|held| held.is_published())
-            .count()
+        self.bundles.len()
     }
 
-    /// The same map. Its bundles are shared.
+    /// The same map. Its nodes are shared.
     pub fn copy(&self) -> Result<Contents, AllocError>
         ensures { IfOk result (λ copy. copy ≡ self.now) }
     {
         Ok(Contents {
             alloc: self.alloc,
-            held: self.held.clone()?,
+            bundles: self.bundles.copy()?,
+            marks: self.marks.copy()?,
         })
     }
 
@@ -143,15 +138,7 @@ impl Contents {
     pub fn into_snapshot(self) -> Result<Snapshot, AllocError>
         ensures { IfOk result (λ all. all ≡ bundles self) }
     {
-        let count = self.len();
-        let Contents { alloc, held } = self;
-        let mut taken = Vec::with_capacity(alloc, count)?;
-        for (domain, held) in held {
-            if let Holding::Published(bundle) = held {
-                taken.push((domain, bundle))?;
-            }
-        }
-        Ok(Snapshot::from_pairs(taken))
+        self.snapshot()
     }
 
     /// Pushes all names with what they hold, in order. The bundles are shared.
@@ -161,22 +148,22 @@ impl Contents {
     ) -> Result<(), AllocError>
         ensures { OnOk result (put_in_turn out.new.items ≡ union (put_in_turn out.old.items) self.now) }
     {
-        out.reserve(self.held.len())?;
-        for (domain, held) in self.held.iter() {
-            out.push((domain.copy()?, held.copy()?))?;
-        }
-        Ok(())
+        push_all(&self.marks, out)?;
+        push_all(&self.bundles, out)
     }
 
-    /// The map of these entries, inserted in turn: of two under one name the later one stays.
+    /// The map of these entries.
     pub(crate) fn from_entries(
         alloc: Global,
-        entries: Vec<(TrustDomain, Holding)>,
+        entries: BTreeMap<TrustDomain, Holding>,
     ) -> Result<Contents, AllocError>
-        ensures { IfOk result (λ all. all ≡ put_in_turn entries.items) }
+        ensures { IfOk result (λ all. all ≡ finite.from_entries entries.entries) }
     {
-        let held = BTreeMap::from_iter(alloc, entries)?;
-        Ok(Contents { alloc, held })
+        let mut all = Contents::new(alloc);
+        for (domain, held) in entries {
+            all.store(domain, held)?;
+        }
+        Ok(all)
     }
 
     /// What the operation gives.
@@ -216,18 +203,18 @@ impl Contents {
                 Ok(reply)
             }
             RowEffect::Cleared(reply) => {
-                self.clear(&domain);
+                self.clear(&domain)?;
                 Ok(reply)
             }
         }
     }
 
     /// All bundles with their names, in order.
-    fn snapshot(&self) -> Result<Snapshot, AllocError>
+    pub(crate) fn snapshot(&self) -> Result<Snapshot, AllocError>
         ensures { IfOk result (λ all. all ≡ bundles self.now) }
     {
         let mut pairs = Vec::with_capacity(self.alloc, self.len())?;
-        for (domain, held) in self.held.iter() {
+        for (domain, held) in self.bundles.iter() {
             if let Holding::Published(bundle) = held {
                 pairs.push((domain.copy()?, bundle.copy()?))?;
             }
@@ -239,7 +226,10 @@ impl Contents {
     fn at(&self, domain: &TrustDomain) -> Option<&Holding>
         ensures { option_copied result ≡ finite.get self.now domain.now }
     {
-        self.held.get(domain)
+        match self.bundles.get(domain) {
+            Some(bundle) => Some(bundle),
+            None => self.marks.get(domain),
+        }
     }
 
     /// Holds this under the name.
@@ -247,16 +237,47 @@ impl Contents {
         ensures ok { OnOk result (self.new ≡ finite.insert self.old domain held) }
         ensures err { OnErr result (self.new ≡ self.old) }
     {
-        match self.held.insert(domain, held) {
-            Ok(_) => Ok(()),
-            Err(_) => Err(AllocError),
+        match held {
+            Holding::Published(_) => self.bundles.insert(domain, held),
+            Holding::Mark(sequence) => self.mark(domain, sequence),
         }
     }
 
-    /// Holds nothing under the name.
-    fn clear(&mut self, domain: &TrustDomain)
-        ensures { self.new ≡ finite.remove self.old domain.now }
+    /// Holds the mark under the name.
+    fn mark(&mut self, domain: TrustDomain, sequence: u64) -> Result<(), AllocError>
+        ensures ok { OnOk result (self.new ≡ finite.insert self.old domain (Holding.Mark sequence)) }
+        ensures err { OnErr result (self.new ≡ self.old) }
     {
-        self.held.remove(domain);
+        if self.bundles.get(&domain).is_none() {
+            return self.marks.insert(domain, Holding::Mark(sequence));
+        }
+        self.marks.insert(domain.copy()?, Holding::Mark(sequence))?;
+        self.bundles.remove(&domain)
     }
+
+    /// Holds nothing under the name.
+    fn clear(&mut self, domain: &TrustDomain) -> Result<(), AllocError>
+        ensures ok { OnOk result (self.new ≡ finite.remove self.old domain.now) }
+        ensures err { OnErr result (self.new ≡ self.old) }
+    {
+        if self.bundles.get(domain).is_none() {
+            return self.marks.remove(domain);
+        }
+        self.marks.remove(domain)?;
+        self.bundles.remove(domain)
+    }
+}
+
+/// Pushes all names with what they hold, in order. The bundles are shared.
+fn push_all(
+    map: &SharedMap<Holding>,
+    out: &mut Vec<(TrustDomain, Holding)>,
+) -> Result<(), AllocError>
+    ensures { OnOk result (out.new.items ≡ out.old.items ++ finite.entries map.now) }
+{
+    out.reserve(map.len())?;
+    for (domain, held) in map.iter() {
+        out.push((domain.copy()?, held.copy()?))?;
+    }
+    Ok(())
 }

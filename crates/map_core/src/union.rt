@@ -2,32 +2,34 @@
 ghost use Rattle.std.specs.Prelude.{◌≡◌, IfOk};
 ghost use Rattle.std.specs.FinMap as finite;
 ghost use Rattle.map_core.specs.PlainMap.{union, bundles};
+ghost use Rattle.map_core.specs.Union.{put_together};
 
 use crate::contents::Contents;
 use crate::held::Holding;
 use crate::reply::Snapshot;
 use spiffe_doc::TrustDomain;
 use std::alloc::{AllocError, Global};
+use std::collections::BTreeMap;
 use std::marker::Model;
 
 /// Maps put together: under each name, what the last map that has the name holds. Clauses see it as a plain map.
-/// The maps are gathered as they stand and are put in order once, at the end.
+/// The maps share their nodes with those that they are copies of, and are gone through once, at the end.
 #[derive(Drop)]
 pub struct Union {
     alloc: Global,
-    held: Vec<(TrustDomain, Holding)>,
+    maps: Vec<Contents>,
 }
 
 impl Model for Union {
     ghost use Rattle.map_core.specs.Private.Codes.{plain_map_code};
     ghost use Rattle.map_core.specs.PlainMap.{PlainMap};
-    ghost use Rattle.map_core.specs.Union.{put_in_turn};
+    ghost use Rattle.map_core.specs.Union.{put_together};
 
     ghost Value = { PlainMap };
 
     ghost coded = { plain_map_code };
 
-    ghost view = { λ union. put_in_turn union.held.items };
+    ghost view = { λ union. put_together union.maps.items };
 }
 
 impl Union {
@@ -37,7 +39,7 @@ impl Union {
     {
         Union {
             alloc,
-            held: Vec::new(alloc),
+            maps: Vec::new(alloc),
         }
     }
 
@@ -46,7 +48,7 @@ impl Union {
     pub fn add(mut self, other: &Contents) -> Result<Union, AllocError>
         ensures { IfOk result (λ added. added ≡ union self other.now) }
     {
-        other.push_entries(&mut self.held)?;
+        self.maps.push(other.copy()?)?;
         Ok(self)
     }
 
@@ -54,14 +56,46 @@ impl Union {
     pub fn into_contents(self) -> Result<Contents, AllocError>
         ensures { IfOk result (λ all. all ≡ self) }
     {
-        let Union { alloc, held } = self;
-        Contents::from_entries(alloc, held)
+        Contents::from_entries(self.alloc, gather(self.alloc, &self.maps)?)
     }
 
     /// All bundles with their names, in order.
     pub fn into_snapshot(self) -> Result<Snapshot, AllocError>
         ensures { IfOk result (λ all. all ≡ bundles self) }
     {
-        self.into_contents()?.into_snapshot()
+        match self.maps.as_slice() {
+            [only] => only.snapshot(),
+            maps => take_bundles(self.alloc, gather(self.alloc, maps)?),
+        }
     }
+}
+
+/// What the maps together hold under each name.
+fn gather(
+    alloc: Global,
+    maps: &[Contents],
+) -> Result<BTreeMap<TrustDomain, Holding>, AllocError>
+    ensures { IfOk result (λ all. finite.from_entries all.entries ≡ put_together maps.now) }
+{
+    let mut entries = Vec::new(alloc);
+    for map in maps {
+        map.push_entries(&mut entries)?;
+    }
+    Ok(BTreeMap::from_iter(alloc, entries)?)
+}
+
+/// The bundles among the entries, with their names, in order.
+fn take_bundles(
+    alloc: Global,
+    entries: BTreeMap<TrustDomain, Holding>,
+) -> Result<Snapshot, AllocError>
+    ensures { IfOk result (λ all. all ≡ bundles (finite.from_entries entries.entries)) }
+{
+    let mut taken = Vec::with_capacity(alloc, entries.len())?;
+    for (domain, held) in entries {
+        if let Holding::Published(bundle) = held {
+            taken.push((domain, bundle))?;
+        }
+    }
+    Ok(Snapshot::from_pairs(taken))
 }

@@ -1,9 +1,27 @@
 -- What is held under a name.
-use Rattle.std.specs.Prelude.{Bool, true, false}
+use Rattle.std.specs.Prelude.{◌≡◌, Bool, true, false, Option, Some, None}
+use Rattle.std.specs.FinMap as finite
 use Rattle.map_core.specs.declared.held.Holding.{Holding}
 use Rattle.map_core.specs.declared.held.Holding.TheVariants.{Published, Mark}
+use Rattle.map_core.specs.Name.{Name}
+use Rattle.map_core.specs.PlainMap.{PlainMap}
 
--- whether a bundle is held, and no mark
-abbrev pub is_published : Holding → Bool
-is_published (Published b) = true
-is_published (Mark s) = false
+-- whether a bundle is held
+abbrev pub is_bundle : Option Holding → Bool
+is_bundle (Some (Published b)) = true
+is_bundle (Some (Mark s)) = false
+is_bundle None = false
+
+-- whether a mark is held
+abbrev pub is_mark : Option Holding → Bool
+is_mark (Some (Published b)) = false
+is_mark (Some (Mark s)) = true
+is_mark None = false
+
+-- no name holds a bundle
+abbrev pub HasNoBundle : PlainMap → Type 0
+HasNoBundle m = (d : Name) → is_bundle (finite.get m d) ≡ false
+
+-- no name holds a mark
+abbrev pub HasNoMark : PlainMap → Type 0
+HasNoMark m = (d : Name) → is_mark (finite.get m d) ≡ false

@@ -1,15 +1,10 @@
-use Rattle.std.proofs.Common.{◌≡◌, sym, ◌∙◌, rules, subst, length, map-id}
-use Rattle.std.specs.Vec.Iter.{into_iter_len}
-use Rattle.std.specs.BTreeMap as tree
-use Rattle.std.proofs.lemmas.Iterator.{items_from_drains}
-use Rattle.std.proofs.lemmas.Iterator.Adapters.{YieldsList-from_vec}
-use Rattle.map_core.specs.Name.{name_cmp}
-use Rattle.map_core.proofs.Unions.{shown-made}
+use Rattle.std.proofs.Common.{sym, ap, ◌∙◌}
+use Rattle.map_core.specs.Private.Turns.{with_entries, put_in_turn}
+use Rattle.map_core.proofs.Entries.{sorted_entries, in_turn}
 use Rattle.map_core.proofs.contents.Contents.from_entries.Goals as goal
 
 pub returns : goal.returns
 returns c =
-    let h = c.in_ok-held.ensures.ran in
-    let len : into_iter_len h.0 ≡ length c.args.entries.items = search rules in
-    let all = sym (map-id h.1) ∙ items_from_drains h.1 h.3 (YieldsList-from_vec c.args.entries.items h.2.0 len) in
-    shown-made c.args.entries.items c.in_ok-held.held (subst (λ es. tree.IsFromIterResult name_cmp es c.in_ok-held.held) all h.4)
+    let gives = c.into_iter-domain-iterator.ensures.into_iter_gives in
+    sym (ap (with_entries c.loop-domain.all) c.in-None.ensures.steps.0) ∙ c.loop-domain.invariant ∙ ap put_in_turn gives.0
+    ∙ in_turn c.args.entries.entries (sorted_entries c.args.entries gives.5)

@@ -1,5 +1,5 @@
 use Rattle.std.proofs.Common.{◌≡◌, ◌++◌}
-use Rattle.map_core.proofs.contents.Contents.push_entries.Given as goal
+use Rattle.map_core.proofs.contents.push_all.Given as goal
 
 -- the entries so far, and those that are still to come
 abbrev pub invariant-loop-domain : goal.invariant-loop-domain
