@@ -187,6 +187,27 @@ fn canonical_texts(rt: HostRuntime) -> Result<(), Fail> {
     Ok(())
 }
 
+/// A text may be written with escapes, which its canonical text does not have.
+#[test]
+fn canonical_texts_of_escapes(rt: HostRuntime) -> Result<(), Fail> {
+    let rows = [
+        (
+            "{\"keys\":[{\"use\":\"jwt-\\u0073vid\",\"kty\":\"RSA\",\"n\":\"AQA\\u0042\",\"e\":\"AQAB\",\"k\\u0069d\":\"a\\/b\"}]}",
+            "{\"keys\":[{\"e\":\"AQAB\",\"kid\":\"a/b\",\"kty\":\"RSA\",\"n\":\"AQAB\",\"use\":\"jwt-svid\"}]}",
+            75,
+        ),
+        (
+            "{\"keys\":[{\"use\":\"x509-svid\",\"kty\":\"RS\\u0041\",\"n\":\"\\u0041QAB\",\"e\":\"AQAB\",\"x5c\":[\"MD\\/\\/\"]}]}",
+            "{\"keys\":[{\"e\":\"AQAB\",\"kty\":\"RSA\",\"n\":\"AQAB\",\"use\":\"x509-svid\",\"x5c\":[\"MD//\"]}]}",
+            79,
+        ),
+    ];
+    for (document, wanted, len) in rows {
+        is_written(&rt, rt.alloc(), document, wanted, len)?;
+    }
+    Ok(())
+}
+
 #[test]
 fn the_empty_document(rt: HostRuntime) -> Result<(), Fail> {
     let empty = bundle(rt.alloc(), "{\"keys\":[]}")?;
