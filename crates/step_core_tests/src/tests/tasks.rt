@@ -284,12 +284,15 @@ fn give_seen(alloc: Global, task: &mut Task, revision: u64) -> Result<(), Fail> 
     Ok(())
 }
 
-/// The text of the reply of a task that is done.
+/// The text of the reply of a task that is done; out of memory is an error here.
 fn reply_of(alloc: Global, task: Task) -> Result<String, Fail> {
     if task.wants() != Want::Done {
         return Err(Fail::from("the task is not done"));
     }
-    answer_text(alloc, &task.reply())
+    match task.reply() {
+        Err(AskError::Memory) => Err(Fail::from("out of memory")),
+        answer => answer_text(alloc, &answer),
+    }
 }
 
 /// A round over two shards, of these revisions, the second of which is at another when it is confirmed.
