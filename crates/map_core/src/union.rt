@@ -71,10 +71,7 @@ impl Union {
 }
 
 /// What the maps together hold under each name.
-fn gather(
-    alloc: Global,
-    maps: &[Contents],
-) -> Result<BTreeMap<TrustDomain, Holding>, AllocError>
+fn gather(alloc: Global, maps: &[Contents]) -> Result<BTreeMap<TrustDomain, Holding>, AllocError>
     ensures { IfOk result (λ all. finite.from_entries all.entries ≡ put_together maps.now) }
 {
     let mut entries = Vec::new(alloc);
