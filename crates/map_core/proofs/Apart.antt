@@ -8,7 +8,7 @@ use Rattle.map_core.specs.declared.held.Holding.{Holding}
 use Rattle.map_core.specs.declared.held.Holding.TheVariants.{Published, Mark}
 use Rattle.map_core.specs.Name.{Name, name_cmp}
 use Rattle.map_core.specs.PlainMap.{PlainMap, put, union, bundles_among, bundles}
-use Rattle.map_core.specs.Private.Held.{is_bundle, is_mark, HasNoBundle, HasNoMark}
+use Rattle.map_core.specs.Private.Held.{is_bundle, is_mark, HasNoBundle, HasNoMark, only_bundle, HaveSameBundles}
 use Rattle.map_core.proofs.Maps.{is_name, same_name, same_held, or_else, get-put, put-same, get-join}
 use Rattle.map_core.proofs.Entries.{first, second, both, find-below}
 
@@ -110,11 +110,6 @@ published [] = []
 published ((d, Published b) ∷ es) = (d, Published b) ∷ published es
 published ((d, Mark s) ∷ es) = published es
 
-only_bundle : Option Holding → Option Holding
-only_bundle None = None
-only_bundle (Some (Published b)) = Some (Published b)
-only_bundle (Some (Mark s)) = None
-
 below-published : (d : Name) (es : List (Name × Holding)) → T (below_all name_cmp d es) → T (below_all name_cmp d (published es))
 unfolding published
 below-published d [] h = tt
@@ -132,12 +127,11 @@ found true h x y is e = sym is
 found false h x y is e = e
 
 passed : (t : Bool) (s x : Option Holding) → only_bundle s ≡ None → (t ≡ true → x ≡ None) → only_bundle x ≡ only_bundle (cond t s x)
-unfolding only_bundle
 passed true s x is e = ap only_bundle (e refl) ∙ sym is
 passed false s x is e = refl
 
 find-published : (q : Name) (es : List (Name × Holding)) → T (is_sorted name_cmp es) → find name_cmp q (published es) ≡ only_bundle (find name_cmp q es)
-unfolding published only_bundle
+unfolding published
 find-published q [] h = refl
 find-published q ((d, Published b) ∷ es) h = found (is_name q d) (Published b) _ _ refl (find-published q es (second _ _ h))
 find-published q ((d, Mark s) ∷ es) h =
@@ -145,7 +139,6 @@ find-published q ((d, Mark s) ∷ es) h =
     ∙ passed (is_name q d) (Some (Mark s)) (find name_cmp q es) refl (λ t. ap (λ x. find name_cmp x es) (same_name q d t) ∙ find-below d es (first _ _ h))
 
 apart : (b m : Option Holding) → is_mark b ≡ false → is_bundle m ≡ false → b ≡ only_bundle (or_else b m)
-unfolding only_bundle
 apart None None h k = refl
 apart None (Some (Published b)) h k = cc
 apart None (Some (Mark s)) h k = refl
@@ -183,3 +176,18 @@ bundles-apart m p marks held = ap bundles_among (entries-apart m p marks held) �
 
 pub len-apart : (m p : PlainMap) → HasNoBundle m → HasNoMark p → length (finite.entries p) ≡ length (bundles (union m p))
 len-apart m p marks held = ap length (entries-apart m p marks held) ∙ length-published _
+
+-- ---- maps with the same bundles
+find-all : (m : PlainMap) (q : Name) → finite.get (finite.from_sorted {R = name_cmp} (published (finite.entries m))) q ≡ only_bundle (finite.get m q)
+find-all m q =
+    let in_order = finite.entries_sorted m in
+    get-from_sorted name_cmp (published (finite.entries m)) q (sorted-published (finite.entries m) in_order)
+    ∙ find-published q (finite.entries m) in_order ∙ ap only_bundle (sym (get-entries m q))
+
+pub same-bundles : (m p : PlainMap) → HaveSameBundles m p → bundles m ≡ bundles p
+same-bundles m p same =
+    let ms = finite.entries m in let ps = finite.entries p in
+    let one : finite.from_sorted {R = name_cmp} (published ms) ≡ finite.from_sorted (published ps) = same_held _ _ (λ q. find-all m q ∙ same q ∙ sym (find-all p q)) in
+    sym (among-published ms)
+    ∙ ap bundles_among (sym (entries-from_sorted name_cmp _ (sorted-published ms (finite.entries_sorted m))) ∙ ap finite.entries one ∙ entries-from_sorted name_cmp _ (sorted-published ps (finite.entries_sorted p)))
+    ∙ among-published ps

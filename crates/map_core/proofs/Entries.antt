@@ -71,7 +71,7 @@ get-in_turn m (e ∷ es) q h =
 pub with_map : (m p : PlainMap) → with_entries m (finite.entries p) ≡ union m p
 with_map m p = same_held _ _ (λ q. get-in_turn m (finite.entries p) q (finite.entries_sorted p) ∙ ap (λ x. or_else x (finite.get m q)) (sym (get-entries p q)) ∙ sym (get-join m p q))
 
-or_none : (x y : Option Holding) → y ≡ None → or_else x y ≡ x
+pub or_none : (x y : Option Holding) → y ≡ None → or_else x y ≡ x
 or_none (Some x) y e = refl
 or_none None y e = e
 

@@ -1,5 +1,5 @@
 -- The names of the bundles of a map rise strictly.
-use Rattle.std.proofs.Common.{◌≡◌, T, ◌&&◌, Bool, true, false, List, [], ◌∷◌, Option, Some, None, refl, sym, ap, subst, ◌∙◌}
+use Rattle.std.proofs.Common.{◌≡◌, T, List, [], ◌∷◌, Option, Some, None, refl, sym, ap, subst, ◌∙◌}
 use Rattle.std.specs.Ordering.{is_lt}
 use Rattle.std.specs.declared.cmp.Ordering.{Ordering}
 use Rattle.std.specs.declared.cmp.Ordering.TheVariants.{Less, Equal, Greater}
@@ -16,14 +16,7 @@ use Rattle.map_core.specs.Name.{Name, name_cmp}
 use Rattle.map_core.specs.PlainMap.{PlainMap, bundles_among, bundles, ask}
 use Rattle.map_core.specs.Laws.{IsAfter, Ascends}
 use Rattle.map_core.proofs.Asks.{fetch_all}
-
-first : (a b : Bool) → T (a && b) → T a
-first true b p = tt
-first false b p = p
-
-second : (a b : Bool) → T (a && b) → T b
-second true b p = p
-second false b p = absurd p
+use Rattle.map_core.proofs.Entries.{first, second}
 
 less : (o : Ordering) → T (is_lt o) → o ≡ Less
 less Less p = refl

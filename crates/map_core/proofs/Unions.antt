@@ -9,7 +9,7 @@ use Rattle.map_core.specs.PlainMap.{PlainMap, union}
 use Rattle.map_core.specs.Union.{put_together}
 use Rattle.map_core.specs.Private.Turns.{put_in_turn}
 use Rattle.map_core.proofs.Maps.{same_held, or_else, get-join}
-use Rattle.map_core.proofs.Entries.{with_more, with_map}
+use Rattle.map_core.proofs.Entries.{with_more, with_map, or_none}
 
 in_a_row : (x y z : Option Holding) → or_else x (or_else y z) ≡ or_else (or_else x y) z
 in_a_row (Some x) y z = refl
@@ -21,10 +21,6 @@ union-assoc o m p =
     get-join (union o m) p q ∙ ap (or_else (finite.get p q)) (get-join o m q)
     ∙ in_a_row (finite.get p q) (finite.get m q) (finite.get o q)
     ∙ ap (λ x. or_else x (finite.get o q)) (sym (get-join m p q)) ∙ sym (get-join o (union m p) q))
-
-or_none : (x y : Option Holding) → y ≡ None → or_else x y ≡ x
-or_none (Some x) y e = refl
-or_none None y e = e
 
 -- one map by itself
 pub union-empty : (m : PlainMap) → union finite.empty m ≡ m

@@ -1,5 +1,5 @@
 //! The map of one caller: its bundles and its marks, each in a map whose copies share their nodes.
-ghost use Rattle.std.specs.Prelude.{◌≡◌, IfOk, OnOk, IfErr, OnErr, MatchOption, Ok, ◌++◌, length, true, false, option_copied};
+ghost use Rattle.std.specs.Prelude.{◌≡◌, IfOk, OnOk, IfErr, OnErr, MatchOption, Ok, ◌++◌, length, true, false, not, is_some, filter, option_copied};
 ghost use Rattle.std.specs.FinMap as finite;
 ghost use Rattle.map_core.specs.Op.{domain_of, carries_nothing};
 ghost use Rattle.map_core.specs.declared.held.Holding.{Holding};
@@ -7,6 +7,7 @@ ghost use Rattle.map_core.specs.declared.op.Op.TheVariants.{Set};
 ghost use Rattle.map_core.specs.Private.Outcome.{reply_of, left_by};
 ghost use Rattle.map_core.specs.PlainMap.{ask, union, bundles};
 ghost use Rattle.map_core.specs.Reply.{is_change};
+ghost use Rattle.map_core.specs.Private.Held.{HaveSameBundles};
 ghost use Rattle.map_core.specs.Private.Turns.{put_in_turn};
 
 use crate::held::Holding;
@@ -152,6 +153,19 @@ impl Contents {
         push_all(&self.bundles, out)
     }
 
+    /// Puts these bundles over the entries, of which none under the name of a mark stays seen. Each of the fewer is
+    /// gone through: of entries and marks.
+    pub(crate) fn cover(&self, out: &mut Vec<(TrustDomain, Holding)>) -> Result<(), AllocError>
+        ensures { OnOk result (HaveSameBundles (put_in_turn out.new.items) (union (put_in_turn out.old.items) self.now)) }
+    {
+        if out.len() <= self.marks.len() {
+            take_out_marked(&self.marks, out);
+        } else {
+            push_all(&self.marks, out)?;
+        }
+        push_all(&self.bundles, out)
+    }
+
     /// The map of these entries.
     pub(crate) fn from_entries(
         alloc: Global,
@@ -266,6 +280,13 @@ impl Contents {
         self.marks.remove(domain)?;
         self.bundles.remove(domain)
     }
+}
+
+/// Takes out the entries under the names of the marks.
+fn take_out_marked(marks: &SharedMap<Holding>, out: &mut Vec<(TrustDomain, Holding)>)
+    ensures { out.new.items ≡ filter (λ e. not (is_some (finite.get marks.now e.0))) out.old.items }
+{
+    out.retain(|entry| marks.get(&entry.0).is_none());
 }
 
 /// Pushes all names with what they hold, in order. The bundles are shared.

@@ -3,6 +3,8 @@ ghost use Rattle.std.specs.Prelude.{◌≡◌, IfOk};
 ghost use Rattle.std.specs.FinMap as finite;
 ghost use Rattle.map_core.specs.PlainMap.{union, bundles};
 ghost use Rattle.map_core.specs.Union.{put_together};
+ghost use Rattle.map_core.specs.Private.Held.{HaveSameBundles};
+ghost use Rattle.map_core.specs.Private.Turns.{put_in_turn};
 
 use crate::contents::Contents;
 use crate::held::Holding;
@@ -65,7 +67,7 @@ impl Union {
     {
         match self.maps.as_slice() {
             [only] => only.snapshot(),
-            maps => take_bundles(self.alloc, gather(self.alloc, maps)?),
+            maps => take_bundles(self.alloc, gather_bundles(self.alloc, maps)?),
         }
     }
 }
@@ -78,6 +80,30 @@ fn gather(alloc: Global, maps: &[Contents]) -> Result<BTreeMap<TrustDomain, Hold
     for map in maps {
         map.push_entries(&mut entries)?;
     }
+    in_order(alloc, entries)
+}
+
+/// What the maps together hold, of which only the bundles are told.
+fn gather_bundles(
+    alloc: Global,
+    maps: &[Contents],
+) -> Result<BTreeMap<TrustDomain, Holding>, AllocError>
+    ensures { IfOk result (λ all. HaveSameBundles (finite.from_entries all.entries) (put_together maps.now)) }
+{
+    let mut entries = Vec::new(alloc);
+    for map in maps {
+        map.cover(&mut entries)?;
+    }
+    in_order(alloc, entries)
+}
+
+/// The entries in order: of those under one name, the last.
+fn in_order(
+    alloc: Global,
+    entries: Vec<(TrustDomain, Holding)>,
+) -> Result<BTreeMap<TrustDomain, Holding>, AllocError>
+    ensures { IfOk result (λ all. finite.from_entries all.entries ≡ put_in_turn entries.items) }
+{
     Ok(BTreeMap::from_iter(alloc, entries)?)
 }
 

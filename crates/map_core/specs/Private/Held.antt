@@ -25,3 +25,13 @@ HasNoBundle m = (d : Name) → is_bundle (finite.get m d) ≡ false
 -- no name holds a mark
 abbrev pub HasNoMark : PlainMap → Type 0
 HasNoMark m = (d : Name) → is_mark (finite.get m d) ≡ false
+
+-- the bundle that is held, if one is
+abbrev pub only_bundle : Option Holding → Option Holding
+only_bundle (Some (Published b)) = Some (Published b)
+only_bundle (Some (Mark s)) = None
+only_bundle None = None
+
+-- two maps with the same bundles, whatever their marks
+abbrev pub HaveSameBundles : PlainMap → PlainMap → Type 0
+HaveSameBundles m p = (d : Name) → only_bundle (finite.get m d) ≡ only_bundle (finite.get p d)
