@@ -1,10 +1,12 @@
 //! Authorities of a trust domain (SPIFFE Trust Domain and Bundle, section 4.2).
 ghost use Rattle.std.specs.Prelude.{◌≡◌, ◌<◌, ◌≤◌, length, IfOk, string_bytes, string_len};
 
+use crate::kept::Kept;
 use crate::key::PublicKey;
 use crate::octets::Octets;
 use std::alloc::AllocError;
 use std::marker::Model;
+use std::sync::Arc;
 
 /// The DER bytes of an X.509 certificate, at least one (RFC 7517, section 4.7). Nothing is parsed.
 #[derive(Drop)]
@@ -49,7 +51,7 @@ impl Certificate {
         &self.der
     }
 
-    /// The same certificate, in memory of its own.
+    /// The same certificate. The first copy has memory of its own, which its copies share.
     pub fn copy(&self) -> Result<Certificate, AllocError>
         ensures { IfOk result (λ copy. copy ≡ self.now) }
     {
@@ -59,10 +61,10 @@ impl Certificate {
     }
 }
 
-/// A key id: a text of 1 to 255 bytes (RFC 7517, section 4.5).
+/// A key id: a text of 1 to 255 bytes (RFC 7517, section 4.5). Copies of a copy share its memory.
 #[derive(Drop)]
 pub struct KeyId {
-    text: String,
+    text: Kept<String>,
 }
 
 impl Model for KeyId {
@@ -70,9 +72,11 @@ impl Model for KeyId {
 
     ghost Value = { List ℕ };
 
-    ghost view = { λ kid. string_bytes kid.text };
+    ghost use Rattle.spiffe_doc.specs.Kept.{value_of};
 
-    ghost invariant = { λ kid. (0 < length (string_bytes kid.text)) × (length (string_bytes kid.text) ≤ 255) };
+    ghost view = { λ kid. string_bytes (value_of kid.text) };
+
+    ghost invariant = { λ kid. (0 < length (string_bytes (value_of kid.text))) × (length (string_bytes (value_of kid.text)) ≤ 255) };
 }
 
 impl KeyId {
@@ -84,7 +88,9 @@ impl KeyId {
         requires short { string_len text ≤ 255 }
         ensures { result ≡ string_bytes text }
     {
-        KeyId { text }
+        KeyId {
+            text: Kept::Made(text),
+        }
     }
 
     /// The text.
@@ -92,23 +98,25 @@ impl KeyId {
         ensures value { result.now ≡ self.now }
         ensures valid { IsKeyId self.now }
     {
-        self.text.as_str()
+        self.text.get().as_str()
     }
 
     // Only for the prover: recalls that it is a short text.
     pub(crate) fn recall_valid(&self)
         ensures { IsKeyId self.now }
     {
-        let _text = self.text.as_str();
+        let _text = self.text.get().as_str();
     }
 
-    /// The same key id, in memory of its own.
+    /// The same key id. The first copy has memory of its own, which its copies share.
     pub fn copy(&self) -> Result<KeyId, AllocError>
         ensures { IfOk result (λ copy. copy ≡ self.now) }
     {
-        Ok(KeyId {
-            text: self.text.clone()?,
-        })
+        let text = match &self.text {
+            Kept::Made(text) => Kept::shared(*text.allocator(), text.clone()?)?,
+            Kept::Shared(text) => Kept::Shared(Arc::try_clone(text)?),
+        };
+        Ok(KeyId { text })
     }
 }
 
@@ -139,7 +147,7 @@ impl Authority {
         }
     }
 
-    /// The same authority, in memory of its own.
+    /// The same authority. The first copy has memory of its own, which its copies share.
     pub fn copy(&self) -> Result<Authority, AllocError>
         ensures { IfOk result (λ copy. copy ≡ self.now) }
     {

@@ -123,7 +123,7 @@ impl EcKey {
         &self.y
     }
 
-    /// The same key, in memory of its own.
+    /// The same key. The first copy has memory of its own, which its copies share.
     pub fn copy(&self) -> Result<EcKey, AllocError>
         ensures { IfOk result (λ copy. copy ≡ self.now) }
     {
@@ -196,7 +196,7 @@ impl RsaKey {
         &self.e
     }
 
-    /// The same key, in memory of its own.
+    /// The same key. The first copy has memory of its own, which its copies share.
     pub fn copy(&self) -> Result<RsaKey, AllocError>
         ensures { IfOk result (λ copy. copy ≡ self.now) }
     {
@@ -245,7 +245,7 @@ impl PublicKey {
         }
     }
 
-    /// The same key, in memory of its own.
+    /// The same key. The first copy has memory of its own, which its copies share.
     pub fn copy(&self) -> Result<PublicKey, AllocError>
         ensures { IfOk result (λ copy. copy ≡ self.now) }
     {

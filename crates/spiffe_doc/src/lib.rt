@@ -14,6 +14,7 @@ mod entry;
 mod entry_text;
 mod error;
 mod id;
+mod kept;
 mod key;
 mod kid_key;
 pub mod laws;

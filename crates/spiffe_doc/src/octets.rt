@@ -2,25 +2,28 @@
 ghost use Rattle.std.specs.Prelude.{◌≡◌, ◌==◌, length, IfOk};
 ghost use Rattle.spiffe_doc.specs.Key.{AreBytes};
 
+use crate::kept::Kept;
 use std::alloc::AllocError;
 use std::cmp::Ordering;
 use std::marker::Model;
+use std::sync::Arc;
 
-/// Bytes, which contracts see as a list. Equal and ordered as lists.
+/// Bytes, which contracts see as a list. Equal and ordered as lists. Copies of a copy share its memory.
 #[derive(Drop)]
 pub struct Octets {
-    bytes: Vec<u8>,
+    bytes: Kept<Vec<u8>>,
 }
 
 impl Model for Octets {
     ghost use Rattle.std.specs.Prelude.{List, ℕ};
+    ghost use Rattle.spiffe_doc.specs.Kept.{value_of};
     ghost use Rattle.spiffe_doc.specs.Key.{AreBytes};
 
     ghost Value = { List ℕ };
 
-    ghost view = { λ octets. octets.bytes.items };
+    ghost view = { λ octets. (value_of octets.bytes).items };
 
-    ghost invariant = { λ octets. AreBytes octets.bytes.items };
+    ghost invariant = { λ octets. AreBytes (value_of octets.bytes).items };
 }
 
 impl Octets {
@@ -28,44 +31,48 @@ impl Octets {
     pub fn new(bytes: Vec<u8>) -> Octets
         ensures { result ≡ bytes.items }
     {
-        Octets { bytes }
+        Octets {
+            bytes: Kept::Made(bytes),
+        }
     }
 
     /// The bytes.
     pub fn as_slice(&self) -> &[u8]
         ensures { result.now ≡ self.now }
     {
-        self.bytes.as_slice()
+        self.bytes.get().as_slice()
     }
 
     /// How many there are.
     pub fn len(&self) -> usize
         ensures { result ≡ length self.now }
     {
-        self.bytes.len()
+        self.bytes.get().len()
     }
 
     // Only for the prover: recalls that each is a byte.
     pub(crate) fn recall_valid(&self)
         ensures { AreBytes self.now }
     {
-        let _bytes = &self.bytes;
+        let _bytes = self.bytes.get();
     }
 
     /// Whether there are no bytes.
     pub fn is_empty(&self) -> bool
         ensures { result ≡ (length self.now == 0) }
     {
-        self.bytes.is_empty()
+        self.bytes.get().is_empty()
     }
 
-    /// The same bytes, in memory of their own.
+    /// The same bytes. The first copy has memory of its own, which its copies share.
     pub fn copy(&self) -> Result<Octets, AllocError>
         ensures { IfOk result (λ copy. copy ≡ self.now) }
     {
-        Ok(Octets {
-            bytes: self.bytes.clone()?,
-        })
+        let bytes = match &self.bytes {
+            Kept::Made(bytes) => Kept::shared(*bytes.allocator(), bytes.clone()?)?,
+            Kept::Shared(bytes) => Kept::Shared(Arc::try_clone(bytes)?),
+        };
+        Ok(Octets { bytes })
     }
 }
 
@@ -79,7 +86,7 @@ impl PartialEq for Octets {
     ghost laws = { partial_equiv_from_equiv nat_list_eq_equiv };
 
     fn eq(&self, other: &Octets) -> bool {
-        self.bytes.as_slice() == other.bytes.as_slice()
+        self.as_slice() == other.as_slice()
     }
 }
 
@@ -117,6 +124,6 @@ impl Ord for Octets {
     ghost matches_eq = { texts_ties };
 
     fn cmp(&self, other: &Octets) -> Ordering {
-        self.bytes.as_slice().cmp(other.bytes.as_slice())
+        self.as_slice().cmp(other.as_slice())
     }
 }
