@@ -216,7 +216,7 @@ impl PartialEq for TrustDomain {
     ghost laws = { partial_equiv_from_equiv nat_list_eq_equiv };
 
     fn eq(&self, other: &TrustDomain) -> bool {
-        self.text.as_str() == other.text.as_str()
+        self.prefix == other.prefix && self.text.as_str() == other.text.as_str()
     }
 }
 
