@@ -124,10 +124,10 @@ is_some_copied None = refl
 is_some_copied (Some x) = refl
 
 -- the levels o, with this many entries, show the map m
-pub record Shows {V : Type 0} (o : Option (Level (Level (List (Name × V))))) (count : ℕ) (m : FinMap name_cmp V) : Type 0 where
+pub record Shows {V : Type 0} (o : Option (Level (Level (Level (List (Name × V)))))) (count : ℕ) (m : FinMap name_cmp V) : Type 0 where
   pub view : finite.from_sorted {R = name_cmp} (plain (top_marks o)) ≡ m
   pub sorted : IsSorted (top_marks o)
   pub counted : count ≡ length (plain (top_marks o))
 
-pub shows_at : {V : Type 0} {o p : Option (Level (Level (List (Name × V))))} {count : ℕ} {m : FinMap name_cmp V} → o ≡ p → finite.from_sorted {R = name_cmp} (plain (top_marks o)) ≡ m → IsSorted (top_marks o) × (count ≡ length (plain (top_marks o))) → Shows p count m
+pub shows_at : {V : Type 0} {o p : Option (Level (Level (Level (List (Name × V)))))} {count : ℕ} {m : FinMap name_cmp V} → o ≡ p → finite.from_sorted {R = name_cmp} (plain (top_marks o)) ≡ m → IsSorted (top_marks o) × (count ≡ length (plain (top_marks o))) → Shows p count m
 shows_at {V} {o} {p} {count} {m} is view kept = subst (λ x. Shows x count m) is (record { view = view; sorted = kept.0; counted = kept.1 })

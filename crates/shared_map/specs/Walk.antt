@@ -1,4 +1,4 @@
--- The entries of runs, and of groups of runs, in order.
+-- The entries of runs, of groups of runs and of regions of groups, in order.
 use Rattle.std.specs.Prelude.{List, ◌++◌}
 use Rattle.std.specs.List.{flat_map}
 use Rattle.shared_map.specs.declared.level.Level.{Level}
@@ -10,6 +10,9 @@ run_entries runs = flat_map (λ run. run.1) runs
 abbrev pub group_entries : {V : Type 0} → List (Name × Level (List (Name × V))) → List (Name × V)
 group_entries groups = flat_map (λ group. run_entries group.1.parts) groups
 
--- what is left of a run, of its group and of the map
-abbrev pub left : {V : Type 0} → List (Name × V) → List (Name × List (Name × V)) → List (Name × Level (List (Name × V))) → List (Name × V)
-left slots runs groups = slots ++ (run_entries runs ++ group_entries groups)
+abbrev pub region_entries : {V : Type 0} → List (Name × Level (Level (List (Name × V)))) → List (Name × V)
+region_entries regions = flat_map (λ region. group_entries region.1.parts) regions
+
+-- what is left of a run, of its group, of its region and of the map
+abbrev pub left : {V : Type 0} → List (Name × V) → List (Name × List (Name × V)) → List (Name × Level (List (Name × V))) → List (Name × Level (Level (List (Name × V)))) → List (Name × V)
+left slots runs groups regions = slots ++ (run_entries runs ++ (group_entries groups ++ region_entries regions))

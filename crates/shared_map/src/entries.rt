@@ -15,6 +15,7 @@ pub struct Entries<'a, V> {
     pub(crate) slots: &'a [(TrustDomain, V)],
     pub(crate) runs: &'a [(TrustDomain, Run<V>)],
     pub(crate) groups: &'a [(TrustDomain, Level<Run<V>>)],
+    pub(crate) regions: &'a [(TrustDomain, Level<Level<Run<V>>>)],
 }
 
 impl<'a, V> Model for Entries<'a, V> {
@@ -24,7 +25,7 @@ impl<'a, V> Model for Entries<'a, V> {
 
     ghost use Rattle.shared_map.specs.Walk.{left};
 
-    ghost view = { λ entries. left entries.slots.now entries.runs.now entries.groups.now };
+    ghost view = { λ entries. left entries.slots.now entries.runs.now entries.groups.now entries.regions.now };
 }
 
 impl<'a, V: Shared> Iterator for Entries<'a, V> {
@@ -39,10 +40,13 @@ impl<'a, V: Shared> Iterator for Entries<'a, V> {
             if let Some((run, rest)) = self.runs.split_first() {
                 self.slots = run.1.slots();
                 self.runs = rest;
-            } else {
-                let (group, rest) = self.groups.split_first()?;
+            } else if let Some((group, rest)) = self.groups.split_first() {
                 self.runs = group.1.parts();
                 self.groups = rest;
+            } else {
+                let (region, rest) = self.regions.split_first()?;
+                self.groups = region.1.parts();
+                self.regions = rest;
             }
         }
         let (slot, rest) = self.slots.split_first()?;

@@ -6,7 +6,7 @@ ghost use Rattle.shared_map.specs.Places.{IsReached};
 ghost use Rattle.shared_map.specs.Marks.{IsSorted, IsSameBut, plain, with, without, marks_of};
 
 use crate::Shared;
-use crate::page::Page;
+use crate::page::{MOST_PARTS, Page};
 use crate::part::Part;
 use crate::run::Run;
 use crate::search::reach;
@@ -85,11 +85,11 @@ impl<V: Shared, P: Part<V>> Part<V> for Level<P> {
     }
 
     fn is_long(&self) -> bool {
-        self.parts.is_long()
+        self.parts.is_long(MOST_PARTS)
     }
 
     fn halve(&mut self) -> Option<(TrustDomain, Level<P>)> {
-        let (name, parts) = self.parts.split()?;
+        let (name, parts) = self.parts.split(MOST_PARTS)?;
         Some((name, Level { parts }))
     }
 }

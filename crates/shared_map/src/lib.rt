@@ -1,6 +1,6 @@
-//! An ordered map from trust domain names to values, in three levels of shared nodes.
+//! An ordered map from trust domain names to values, in four levels of shared nodes.
 //!
-//! `SharedMap` is seen as a finite map. A copy is one count, and a change after a copy copies three small nodes: the
+//! `SharedMap` is seen as a finite map. A copy is one count, and a change after a copy copies four small nodes: the
 //! older copy stays as it was. A change of a map that shares nothing is made in place.
 #![tactic(auto)]
 

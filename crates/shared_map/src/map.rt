@@ -15,7 +15,7 @@ use std::marker::Model;
 #[derive(Drop)]
 pub struct SharedMap<V> {
     alloc: Global,
-    top: Option<Level<Level<Run<V>>>>,
+    top: Option<Level<Level<Level<Run<V>>>>>,
     len: usize,
 }
 
@@ -88,7 +88,8 @@ impl<V: Shared> SharedMap<V> {
         Entries {
             slots: &[],
             runs: &[],
-            groups: match &self.top {
+            groups: &[],
+            regions: match &self.top {
                 None => &[],
                 Some(top) => top.parts(),
             },

@@ -9,10 +9,14 @@ use std::alloc::AllocError;
 use std::sync::Arc;
 
 /// How many places a full page grows by: few, so that few are empty.
-pub(crate) const STEP: usize = 8;
+pub(crate) const STEP: usize = 4;
 
-/// The most names of a page that is not split: with one more it is full at 64.
-pub(crate) const MOST: usize = 63;
+/// The most entries of a page that is not split. A change copies a page of entries, and counts the owners of each:
+/// in a large map each is a miss of the cache.
+pub(crate) const MOST_ENTRIES: usize = 15;
+
+/// The most parts of a page that is not split. Pages of parts are few, so that more of them are in the cache.
+pub(crate) const MOST_PARTS: usize = 31;
 
 /// Names, with what stands under each.
 #[derive(Drop)]

@@ -5,6 +5,7 @@ ghost use Rattle.shared_map.specs.Name.{name_cmp};
 ghost use Rattle.shared_map.specs.Marks.{Marks, IsSorted, IsSameBut, entry, fence, plain, with, without};
 
 use crate::Shared;
+use crate::page::MOST_ENTRIES;
 use crate::run::Run;
 use crate::search::{Seat, seat_of};
 use spiffe_doc::TrustDomain;
@@ -89,10 +90,10 @@ impl<V: Shared> Part<V> for Run<V> {
     }
 
     fn is_long(&self) -> bool {
-        Run::is_long(self)
+        Run::is_long(self, MOST_ENTRIES)
     }
 
     fn halve(&mut self) -> Option<(TrustDomain, Run<V>)> {
-        self.split()
+        self.split(MOST_ENTRIES)
     }
 }

@@ -4,7 +4,7 @@ ghost use Rattle.std.specs.List.{insert, remove};
 ghost use Rattle.shared_map.specs.Places.{Around, IsSplit};
 
 use crate::Shared;
-use crate::page::{MOST, Page, STEP};
+use crate::page::{Page, STEP};
 use spiffe_doc::TrustDomain;
 use std::alloc::{AllocError, Global};
 use std::marker::Model;
@@ -105,19 +105,20 @@ impl<X: Shared> Run<X> {
         Ok(())
     }
 
-    /// Whether a search in it takes long.
-    pub(crate) fn is_long(&self) -> bool
-        ensures { IsTrue result ↔ MOST < length self.now }
+    /// Whether it has more names than this.
+    pub(crate) fn is_long(&self, most: usize) -> bool
+        ensures { IsTrue result ↔ most < length self.now }
     {
-        self.slots().len() > MOST
+        self.slots().len() > most
     }
 
-    /// Keeps the first half and gives the second, and the name that it begins with. None if it is short, or if memory
-    /// for that is refused.
-    pub(crate) fn split(&mut self) -> Option<(TrustDomain, Run<X>)>
+    /// Keeps the first half and gives the second, and the name that it begins with. None if it has no more names than
+    /// this, or if memory for that is refused.
+    pub(crate) fn split(&mut self, most: usize) -> Option<(TrustDomain, Run<X>)>
+        requires { 0 < most }
         ensures { MatchOption result (self.new ≡ self.old) (λ half. IsSplit self.old self.new half.0 half.1) }
     {
-        if !self.is_long() {
+        if !self.is_long(most) {
             return None;
         }
         let Ok(page) = Arc::make_mut(&mut self.page) else {
