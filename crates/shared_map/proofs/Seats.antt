@@ -1,9 +1,11 @@
 -- What a search among entries in order says.
-use Rattle.std.proofs.Common.{◌≡◌, inr, ◌+◌, ℕ, List, [], ◌∷◌, ◌++◌, Some, None, is_some, true, refl, sym, ap, subst, ◌∙◌, append_assoc, length-append}
+use Rattle.std.proofs.Common.{◌≡◌, inr, ◌+◌, ℕ, List, [], ◌∷◌, ◌++◌, Some, None, is_some, bytes_eq, true, false, refl, sym, ap, subst, ◌∙◌, append_assoc, length-append, arith}
 use Rattle.std.specs.Prelude.{T, slice_index_or}
 use Rattle.std.specs.List.{insert, remove}
 use Rattle.std.specs.declared.cmp.Ordering.TheVariants.{Equal, Greater}
-use Rattle.std.specs.Cmp.Lexicographic.{nat_list_cmp_total}
+use Rattle.std.specs.Ordering.{is_eq, is_lt}
+use Rattle.std.specs.declared.cmp.Ordering.{Ordering}
+use Rattle.std.specs.Cmp.Lexicographic.{nat_list_cmp_total, texts_ties}
 use Rattle.std.specs.FinMap.Entries.{find, put, where_key, is_sorted}
 use Rattle.shared_map.specs.Name.{Name, name_cmp}
 use Rattle.shared_map.specs.Places.{IsReached, IsTaken, IsFree, IsSplit}
@@ -28,6 +30,22 @@ seat_greater {X} {q} {xs} {place} r d more =
       after = inr (r.0.front, r.0.item, refl, greater);
       before = r.2;
     }
+
+tied : (o : Ordering) → is_eq o ≡ true → o ≡ Equal
+tied o h = grind arith
+
+past : (o : Ordering) → is_eq o ≡ false → is_lt o ≡ false → o ≡ Greater
+past o h k = grind arith
+
+-- the name that a search came to is the one that was sought
+pub seat_same : {X : Type 0} {q : Name} {xs : List (Name × X)} {place : ℕ} → (r : IsReached q xs place) → (d : Name × X) → bytes_eq q (slice_index_or xs place d).0 ≡ true → IsTaken q xs place
+seat_same {X} {q} {xs} {place} r d same = seat_equal r d (tied _ (sym (texts_ties q (slice_index_or xs place d).0) ∙ same))
+
+-- the name that was sought is another, and not before it
+pub seat_past : {X : Type 0} {q : Name} {xs : List (Name × X)} {place : ℕ} → (r : IsReached q xs place) → (d e : Name × X) → bytes_eq q (slice_index_or xs place d).0 ≡ false → is_lt (name_cmp q (slice_index_or xs place e).0) ≡ false → IsFree q xs (place + 1)
+seat_past {X} {q} {xs} {place} r d e other not_less =
+    let there : slice_index_or xs place d ≡ slice_index_or xs place e = read_at r.0 d ∙ sym (read_at r.0 e) in
+    seat_greater r e (past _ (sym (texts_ties q (slice_index_or xs place e).0) ∙ ap (λ (y : Name × X). bytes_eq q y.0) (sym there) ∙ other) not_less)
 
 module _ {V : Type 0} (q : Name) (es : List (Name × V)) (s : IsSorted (entries_only es)) where
   names : T (is_sorted name_cmp es)

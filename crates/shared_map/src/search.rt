@@ -4,7 +4,6 @@ ghost use Rattle.shared_map.specs.Places.{IsReached};
 ghost use Rattle.shared_map.specs.Seats.{IsSeat};
 
 use spiffe_doc::TrustDomain;
-use std::cmp::Ordering;
 
 /// The place of a name among names in order.
 #[derive(Clone, Copy)]
@@ -15,17 +14,20 @@ pub(crate) enum Seat {
     Free(usize),
 }
 
-/// The place of the name.
+/// The place of the name. Most searches find it, and whether two names are equal costs less than their order.
 pub(crate) fn seat_of<X>(slots: &[(TrustDomain, X)], name: &TrustDomain) -> Seat
     ensures { IsSeat name.now slots.now result }
 {
     let Some(place) = reach(slots, name) else {
         return Seat::Free(0);
     };
-    match name.cmp(&slots[place].0) {
-        Ordering::Less => Seat::Free(place),
-        Ordering::Equal => Seat::Taken(place),
-        Ordering::Greater => Seat::Free(place + 1),
+    if *name == slots[place].0 {
+        return Seat::Taken(place);
+    }
+    if name.cmp(&slots[place].0).is_lt() {
+        Seat::Free(place)
+    } else {
+        Seat::Free(place + 1)
     }
 }
 
