@@ -5,6 +5,7 @@ use Rattle.map_core.specs.declared.op.Op.{Op}
 use Rattle.map_core.specs.declared.op.Op.TheVariants.{Get, FetchAll}
 use Rattle.map_core.specs.declared.held.Holding.{Holding}
 use Rattle.map_core.specs.declared.held.Holding.TheVariants.{Published, Mark}
+use Rattle.map_core.specs.declared.reply.Reply.{Reply}
 use Rattle.map_core.specs.declared.reply.Reply.TheVariants.{All}
 use Rattle.map_core.specs.declared.table.RowEffect as program
 use Rattle.map_core.specs.declared.table.RowEffect.TheVariants.{Kept, Put, Cleared}
@@ -50,6 +51,11 @@ pub IfOk-row_left : {E : Type 0} (m : PlainMap) (op : Op) (d : Name) (table : Op
 IfOk-row_left m op d table (Ok o) held named on is row = row_left m op d table o held named on is row
 IfOk-row_left m op d table (Err e) held named on is row = tt
 
+get_left : (m : PlainMap) (held : Option Holding) (d : Name) → held ≡ finite.get m d → m ≡ put m d (get held).held
+get_left m None d is = sym (put-same m d None is)
+get_left m (Some (Mark s)) d is = sym (put-same m d (Some (Mark s)) is)
+get_left m (Some (Published b)) d is = sym (put-same m d (Some (Published b)) is)
+
 get_quiet : (held : Option Holding) → is_change (get held).reply ≡ false
 get_quiet None = refl
 get_quiet (Some (Mark s)) = refl
@@ -63,6 +69,17 @@ get_changes_nothing m op d is = sym (get_quiet (finite.get m d)) ∙ ap (λ (x :
 pub fetch_all_changes_nothing : (m : PlainMap) (op : Op) → op ≡ FetchAll → false ≡ is_change (ask m op).reply
 unfolding ask meaning
 fetch_all_changes_nothing m op is = ap (λ (x : Op). is_change (ask m x).reply) (sym is)
+
+-- the reply of the row of Get, at what the name holds
+pub get_reply : {E : Type 0} (m : PlainMap) (d : Name) (r : Result Reply E) (held : Option Holding) → held ≡ finite.get m d → IfOk r (λ reply. reply ≡ (get held).reply) → IfOk r (λ reply. reply ≡ (ask m (Get d)).reply)
+unfolding ask meaning
+get_reply m d r held is h = subst (λ (x : Option Holding). IfOk r (λ reply. reply ≡ (get x).reply)) is h
+
+-- a reply that is kept leaves the map
+pub kept_left : (m : PlainMap) (op : Op) (d : Name) (reply : Reply) → op ≡ Get d → left_by m (domain_of op) (Kept reply) ≡ (ask m op).map
+unfolding ask meaning
+kept_left m op d reply is =
+    ap (λ (x : Op). left_by m (domain_of x) (Kept reply)) is ∙ get_left m (finite.get m d) d refl ∙ ap (λ (x : Op). (ask m x).map) (sym is)
 
 pub fetch_all_reply : (m : PlainMap) (op : Op) → op ≡ FetchAll → (ask m op).reply ≡ All (bundles m)
 unfolding ask meaning

@@ -3,7 +3,7 @@ ghost use Rattle.std.specs.Prelude.{◌≡◌, IfOk, OnOk, IfErr, OnErr, MatchOp
 ghost use Rattle.std.specs.FinMap as finite;
 ghost use Rattle.map_core.specs.Op.{domain_of, carries_nothing};
 ghost use Rattle.map_core.specs.declared.held.Holding.{Holding};
-ghost use Rattle.map_core.specs.declared.op.Op.TheVariants.{Set};
+ghost use Rattle.map_core.specs.declared.op.Op.TheVariants.{Set, Get};
 ghost use Rattle.map_core.specs.Private.Outcome.{reply_of, left_by};
 ghost use Rattle.map_core.specs.PlainMap.{ask, union, bundles};
 ghost use Rattle.map_core.specs.Reply.{is_change};
@@ -117,6 +117,13 @@ impl Contents {
         }
     }
 
+    /// The reply to a `Get` of the name, which leaves the map as it is. The bundle is shared.
+    pub fn get(&self, domain: &TrustDomain) -> Result<Reply, AllocError>
+        ensures { IfOk result (λ reply. reply ≡ (ask self.now (Get domain.now)).reply) }
+    {
+        table::get(self.at(domain))
+    }
+
     /// How many bundles there are. Marks don't count.
     pub fn len(&self) -> usize
         ensures { result ≡ length (bundles self.now) }
@@ -192,7 +199,7 @@ impl Contents {
             }
             Op::Append(domain, authority) => table::append(self.alloc, self.at(domain), authority),
             Op::Remove(domain) => Ok(table::remove(self.at(domain))),
-            Op::Get(domain) => table::get(self.at(domain)),
+            Op::Get(domain) => Ok(RowEffect::Kept(self.get(domain)?)),
             Op::FetchAll => Ok(RowEffect::Kept(Reply::All(self.snapshot()?))),
         }
     }

@@ -159,13 +159,12 @@ pub(crate) fn remove(there: Option<&Holding>) -> RowEffect
     }
 }
 
-/// `Get`, at a name that holds this.
-pub(crate) fn get(there: Option<&Holding>) -> Result<RowEffect, AllocError>
-    ensures { IfOk result (λ outcome.
-        outcome_at (option_copied there.entry) outcome ≡ rows.get (option_copied there.entry)) }
+/// The reply to `Get`, at a name that holds this. The name keeps it.
+pub(crate) fn get(there: Option<&Holding>) -> Result<Reply, AllocError>
+    ensures { IfOk result (λ reply. reply ≡ (rows.get (option_copied there.entry)).reply) }
 {
     match there {
-        Some(Holding::Published(bundle)) => Ok(RowEffect::Kept(Reply::Found(bundle.copy()?))),
-        _ => Ok(refused(MapRefusal::NoDomain)),
+        Some(Holding::Published(bundle)) => Ok(Reply::Found(bundle.copy()?)),
+        _ => Ok(Reply::Refused(MapRefusal::NoDomain)),
     }
 }

@@ -19,5 +19,6 @@ pub mod Places
 pub mod Driving
 pub mod Driven
 pub mod Parts
+pub mod Gets
 pub mod Alone
 pub mod OneMoment

@@ -83,7 +83,7 @@ module _ (vs : List ShardVersion) (op : Op) (i : ℕ) (parts : AreParts vs) (at 
   pub own_part : (j : ℕ) → j < length vs → partition (length vs) (map_of vs) j ≡ (reading vs j).part
   own_part j l = part-together (length vs) (λ k. (reading vs k).part) parts.some parts.at_home j l
 
-  reply_here : (ask (reading vs i).part op).reply ≡ (ask (map_of vs) op).reply
+  pub reply_here : (ask (reading vs i).part op).reply ≡ (ask (map_of vs) op).reply
   reply_here = ap (λ (m : PlainMap). (ask m op).reply) (sym (own_part i small)) ∙ part_reply (length vs) (map_of vs) op i at
 
   pub stepped_reply : (r : Reply) → (step_on (reading vs i) op).answer ≡ Ok r → r ≡ (ask (map_of vs) op).reply

@@ -2,9 +2,11 @@
 ghost use Rattle.std.specs.Prelude.{◌≡◌, ◌<◌, ◌≤◌, ◌⊎◌, ℕ, length, IfOk, IfErr, OnOk, OnErr, Ok, Err};
 ghost use Rattle.std.specs.Arc.{arc_value};
 ghost use Rattle.map_core.specs.PlainMap.{ask};
+ghost use Rattle.map_core.specs.declared.op.Op.TheVariants.{Get};
 ghost use Rattle.step_core.specs.Shard.{fresh_shard, last_revision, of_shard, reading, step_on};
 
 use map_core::{AskError, Contents, Op, Reply};
+use spiffe_doc::TrustDomain;
 use std::alloc::{AllocError, Global};
 use std::marker::Model;
 use std::sync::Arc;
@@ -73,6 +75,13 @@ impl Shard {
         Ok((self.revision, Arc::try_clone(&self.version)?))
     }
 
+    /// The reply to a `Get` of the name, by the version as it stands. Nobody needs to know whether others share it.
+    pub(crate) fn get(&self, domain: &TrustDomain) -> Result<Reply, AllocError>
+        ensures { IfOk result (λ reply. reply ≡ (ask self.now.part (Get domain.now)).reply) }
+    {
+        self.version.get(domain)
+    }
+
     /// Answers an operation on one name. The revision rises by one if and only if the contents change; at the last
     /// revision such a step is refused as worn, of shard 0. A refusal changes nothing.
     pub fn step(&mut self, op: Op) -> Result<Reply, AskError>
@@ -93,17 +102,13 @@ impl Shard {
     }
 }
 
-// Asks a version that nobody shares in its place. Whether others share it is looked at by a locked exchange, so a get,
-// which changes nothing, does not look.
+// Asks a version that nobody shares in its place.
 fn ask_version(alloc: Global, version: &mut Arc<Contents>, op: Op) -> Result<Reply, AskError>
     ensures reply { IfOk result (λ r. r ≡ (ask (arc_value version.old) op).reply) }
     ensures left { OnOk result (arc_value version.new ≡ (ask (arc_value version.old) op).map) }
     ensures refused { IfErr result (λ e. e ≡ AskError.Memory) }
     ensures err { OnErr result (arc_value version.new ≡ arc_value version.old) }
 {
-    if matches!(op, Op::Get(_)) {
-        return ask_shared(alloc, version, &op);
-    }
     if let Some(contents) = Arc::get_mut(version) {
         return contents.ask(op);
     }

@@ -2,14 +2,15 @@
 ghost use Rattle.std.specs.Prelude.{◌≡◌, ◌<◌, ◌≤◌, ◌⊎◌, ◌+◌, ℕ, IfOk, OnOk, IfErr, OnErr, length, Some};
 ghost use Rattle.std.specs.FinMap as finite;
 ghost use Rattle.map_core.specs.PlainMap.{ask, shard_of};
-ghost use Rattle.map_core.specs.declared.op.Op.TheVariants.{FetchAll};
+ghost use Rattle.map_core.specs.declared.op.Op.TheVariants.{FetchAll, Get};
 ghost use Rattle.step_core.specs.Shard.{fresh_shard, reading};
 ghost use Rattle.step_core.specs.Shards.{map_of, after_step, after_step_at, IsWorn, Refuses};
 
-use crate::home::shard_of;
+use crate::home::{home, shard_of};
 use crate::shard::{Shard, at_shard, fresh_shards};
 use crate::task::{Answer, Task};
 use map_core::{Ask, AskError, Op, Reply};
+use spiffe_doc::TrustDomain;
 use std::alloc::{AllocError, Global};
 use std::marker::Model;
 
@@ -58,10 +59,22 @@ impl Shards {
         ensures refused { IfErr result (λ e. Refuses self.old op e) }
         ensures err { OnErr result (self.new ≡ self.old) }
     {
-        match shard_of(&op, self.shards.len()) {
-            Some(place) => self.step(place, op),
-            None => self.fetch_all(),
+        match op {
+            Op::Get(domain) => self.get(&domain),
+            op => match shard_of(&op, self.shards.len()) {
+                Some(place) => self.step(place, op),
+                None => self.fetch_all(),
+            },
         }
+    }
+
+    // The reply to a `Get` of the name. No shard makes a step for it.
+    fn get(&self, domain: &TrustDomain) -> Result<Reply, AskError>
+        ensures reply { IfOk result (λ reply. reply ≡ (ask (map_of self.now) (Get domain.now)).reply) }
+        ensures refused { IfErr result (λ e. e ≡ AskError.Memory) }
+    {
+        let place = home(domain, self.shards.len());
+        Ok(self.shards[place].get(domain)?)
     }
 
     // Answers an operation on a name of the shard at this place.

@@ -2,9 +2,11 @@
 use Rattle.std.proofs.Common.{sym, ap, ◌∙◌}
 use Rattle.spiffe_doc.specs.Authority.{BundleValue}
 use Rattle.map_core.specs.declared.reply.Reply.TheVariants.{All}
+use Rattle.map_core.specs.declared.op.Op.{Op}
 use Rattle.map_core.specs.Op.{domain_of}
-use Rattle.map_core.specs.Table.{On_name, meaning, set, set_if, append, remove, get}
-use Rattle.map_core.proofs.Asks.{row_reply, row_left, IfOk-row_reply, IfOk-row_left, fetch_all_reply, fetch_all_left}
+use Rattle.map_core.specs.PlainMap.{ask}
+use Rattle.map_core.specs.Table.{On_name, meaning, set, set_if, append, remove}
+use Rattle.map_core.proofs.Asks.{row_reply, row_left, IfOk-row_reply, IfOk-row_left, fetch_all_reply, fetch_all_left, kept_left}
 use Rattle.map_core.proofs.contents.Contents.outcome.Goals as goal
 
 pub returns-in_ok-copy-in-Set-clause-reply : goal.returns-in_ok-copy-in-Set-clause-reply
@@ -39,13 +41,11 @@ pub returns-in-Remove-clause-left : goal.returns-in-Remove-clause-left
 unfolding meaning
 returns-in-Remove-clause-left c = row_left c.args.self.now c.args.op.now c.in-Remove.domain remove c.remove.result _ (ap domain_of c.in-Remove.is) (ap meaning c.in-Remove.is) c.at-in-Remove.ensures c.remove.ensures
 
-pub returns-in-Get-clause-reply : goal.returns-in-Get-clause-reply
-unfolding meaning
-returns-in-Get-clause-reply c = IfOk-row_reply c.args.self.now c.args.op.now c.in-Get.domain get c.get.result _ (ap meaning c.in-Get.is) c.at-in-Get.ensures c.get.ensures
+pub returns-in_ok-get-in-Get-clause-reply : goal.returns-in_ok-get-in-Get-clause-reply
+returns-in_ok-get-in-Get-clause-reply c = c.in_ok-get-in-Get.ensures ∙ ap (λ (x : Op). (ask c.args.self.now x).reply) (sym c.in-Get.is)
 
-pub returns-in-Get-clause-left : goal.returns-in-Get-clause-left
-unfolding meaning
-returns-in-Get-clause-left c = IfOk-row_left c.args.self.now c.args.op.now c.in-Get.domain get c.get.result _ (ap domain_of c.in-Get.is) (ap meaning c.in-Get.is) c.at-in-Get.ensures c.get.ensures
+pub returns-in_ok-get-in-Get-clause-left : goal.returns-in_ok-get-in-Get-clause-left
+returns-in_ok-get-in-Get-clause-left c = kept_left c.args.self.now c.args.op.now c.in-Get.domain _ c.in-Get.is
 
 pub returns-in_ok-snapshot-in-FetchAll-clause-reply : goal.returns-in_ok-snapshot-in-FetchAll-clause-reply
 returns-in_ok-snapshot-in-FetchAll-clause-reply c = ap All c.in_ok-snapshot-in-FetchAll.ensures ∙ sym (fetch_all_reply c.args.self.now c.args.op.now c.in-FetchAll.is)

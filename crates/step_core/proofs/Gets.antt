@@ -1,0 +1,44 @@
+-- A get is answered by the shard of its name, and changes none.
+use Rattle.std.proofs.Common.{◌≡◌, ℕ, ◌+◌, ◌<◌, ◌==◌, true, false, cond, List, length, set, Option, Some, None, Result, Ok, Err, OnOk, refl, sym, ap, ◌∙◌}
+use Rattle.std.proofs.lemmas.List.{set-get_or}
+use Rattle.map_core.specs.declared.op.Op.{Op}
+use Rattle.map_core.specs.declared.op.Op.TheVariants.{Get}
+use Rattle.map_core.specs.declared.reply.Reply.{Reply}
+use Rattle.map_core.specs.declared.reply.AskError.{AskError}
+use Rattle.map_core.specs.declared.reply.AskError.TheVariants.{Worn}
+use Rattle.map_core.specs.Name.{Name}
+use Rattle.map_core.specs.Reply.{is_change}
+use Rattle.map_core.specs.PlainMap.{PlainMap, ask, home, shard_of}
+use Rattle.map_core.proofs.Asks.{get_changes_nothing}
+use Rattle.map_core.proofs.MapLaws.{ask_keeps}
+use Rattle.step_core.specs.Shard.{ShardVersion, fresh_shard, reading, last_revision, StepResult, step_on}
+use Rattle.step_core.specs.Shards.{map_of, after_step_at, after_step, IsWorn}
+use Rattle.step_core.specs.Private.Parts.{AreParts}
+use Rattle.step_core.proofs.Parts.{reply_here}
+
+pub get_home : (n i : ℕ) (d : Name) → i ≡ home n d → shard_of n (Get d) ≡ Some i
+unfolding shard_of
+get_home n i d is = ap Some (sym is)
+
+pub get_reply : (vs : List ShardVersion) (d : Name) (i : ℕ) (r : Reply) (v : ShardVersion) → AreParts vs → shard_of (length vs) (Get d) ≡ Some i → i < length vs → v ≡ reading vs i → r ≡ (ask v.part (Get d)).reply → r ≡ (ask (map_of vs) (Get d)).reply
+get_reply vs d i r v parts at small here is = is ∙ ap (λ (x : ShardVersion). (ask x.part (Get d)).reply) here ∙ reply_here vs (Get d) i parts at small
+
+pub get_left : (r : Result Reply AskError) (m : PlainMap) (op : Op) (d : Name) → op ≡ Get d → OnOk r (m ≡ (ask m op).map)
+get_left (Ok x) m op d is = sym (ask_keeps m op (sym (get_changes_nothing m op d is)))
+get_left (Err e) m op d is = tt
+
+stays : (v : ShardVersion) (op : Op) → is_change (ask v.part op).reply ≡ false → (step_on v op).shard ≡ v
+stays v op quiet =
+    ap (λ b. (let s : StepResult = cond b (cond (v.revision == last_revision) (record { answer = Err (Worn 0); shard = v }) (record { answer = Ok (ask v.part op).reply; shard = record { revision = v.revision + 1; part = (ask v.part op).map } })) (record { answer = Ok (ask v.part op).reply; shard = v }) in s).shard) quiet
+
+all_stay : (vs : List ShardVersion) (op : Op) (d : Name) (at : Option ℕ) → op ≡ Get d → vs ≡ after_step_at vs op at
+all_stay vs op d (Some i) is = sym (ap (set vs i) (stays (reading vs i) op (sym (get_changes_nothing (reading vs i).part op d is))) ∙ set-get_or vs i fresh_shard)
+all_stay vs op d None is = refl
+
+pub get_stays : (r : Result Reply AskError) (vs : List ShardVersion) (op : Op) (d : Name) → op ≡ Get d → OnOk r (vs ≡ after_step vs op)
+get_stays (Ok x) vs op d is = all_stay vs op d (shard_of (length vs) op) is
+get_stays (Err e) vs op d is = tt
+
+pub get_fits : (r : Result Reply AskError) (vs : List ShardVersion) (op : Op) (d : Name) → op ≡ Get d → OnOk r ((i : ℕ) → IsWorn vs op i → ⊥)
+get_fits (Ok x) vs op d is = λ i worn. let never : false ≡ true = get_changes_nothing (map_of vs) op d is ∙ worn.changes in cc
+get_fits (Err e) vs op d is = tt
