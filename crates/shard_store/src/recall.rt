@@ -106,15 +106,11 @@ fn get_recalled(
         (λ found. MatchOption found (IsLater seat.new.me.0.seen seat.old.me.0.seen) (λ reply. IsReply op.now seat.old.me.0.seen reply seat.new.me.0.seen))
         (IsRefusedAt seat.old.table_id.slots op.now seat.old.me.0.seen seat.new.me.0.seen) }
 {
-    if !matches!(op, Op::Get(_)) {
-        return Ok(None);
-    }
-    let Some(last) = recall(shards, seat, last_reads, shard) else {
+    let Op::Get(domain) = op else {
         return Ok(None);
     };
-    let (reply, next) = last.version.asked(op)?;
-    match next {
-        None => Ok(Some(reply)),
-        Some(_) => Ok(None),
+    match recall(shards, seat, last_reads, shard) {
+        Some(last) => Ok(Some(last.version.get(domain)?)),
+        None => Ok(None),
     }
 }

@@ -1,10 +1,17 @@
-use Rattle.std.proofs.Common.{ap, ◌∙◌}
+use Rattle.std.proofs.Common.{◌≡◌, sym, ap, ◌∙◌}
 use Rattle.std.specs.Arc.{arc_value}
+use Rattle.map_core.specs.declared.op.Op.{Op}
 use Rattle.map_core.specs.PlainMap.{PlainMap, ask}
-use Rattle.shard_store.proofs.Promise.{answered_by_read, with_none}
+use Rattle.map_core.specs.Reply.{is_change}
+use Rattle.map_core.proofs.Asks.{get_changes_nothing}
+use Rattle.shard_store.proofs.Promise.{answered_by_read}
 use Rattle.shard_store.proofs.recall.get_recalled.Goals as goal
 
-pub returns-in-None-clause-answer : goal.returns-in-None-clause-answer
-returns-in-None-clause-answer c = let step = c.in_ok-reply.ensures in
-    answered_by_read c.args.seat.now.table_id.slots c.args.shard c.args.op.now c.args.seat.now.me.0.seen c.recall.new.seat.me.0.seen (arc_value c.in-Some.last.now.version) c.in_ok-reply.reply c.requires.home c.recall.ensures.later c.in-Some.ensures.read.1
-    (step.reply ∙ ap (λ (m : PlainMap). (ask m c.args.op.now).reply) c.deref.ensures) (with_none _ _ _ c.in-None.is step.left)
+pub returns-in_ok-get-in-Some-clause-answer : goal.returns-in_ok-get-in-Some-clause-answer
+returns-in_ok-get-in-Some-clause-answer c =
+    let part : PlainMap = arc_value c.in-Some.last.now.version in
+    let reply = c.in_ok-get-in-Some.field-0 in
+    let is : reply ≡ (ask part c.args.op.now).reply =
+    c.in_ok-get-in-Some.ensures ∙ ap (λ (op : Op). (ask c.deref.result.now op).reply) (sym c.in-Get.is) ∙ ap (λ (m : PlainMap). (ask m c.args.op.now).reply) c.deref.ensures in
+    answered_by_read c.args.seat.now.table_id.slots c.args.shard c.args.op.now c.args.seat.now.me.0.seen c.recall.new.seat.me.0.seen part reply c.requires.home c.recall.ensures.later c.in-Some.ensures.read.1
+    is (ap is_change is ∙ sym (get_changes_nothing part c.args.op.now c.in-Get.domain c.in-Get.is))
