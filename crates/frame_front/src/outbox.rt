@@ -40,6 +40,7 @@ impl Outbox {
     }
 
     /// Gathers two parts, if there is room for both and memory.
+    #[inline(always)]
     fn gather(&mut self, first: &[u8], others: &[u8]) -> bool
         ensures gathered { result ≡ true → self.new ≡ self.old ++ (first.now ++ others.now) }
         ensures refused { result ≡ false → self.new ≡ self.old }
@@ -81,6 +82,7 @@ impl Outbox {
 
     /// Takes two parts of a reply. If there is no room for them, what is gathered is written first; parts
     /// that are not gathered are written after it.
+    #[inline(always)]
     fn take<W: Write>(
         &mut self,
         writer: &mut Counted<W>,
@@ -96,6 +98,23 @@ impl Outbox {
         if self.gather(first, others) {
             return Ok(());
         }
+        self.take_late(writer, first, others)
+    }
+
+    /// Takes two parts for which there is no room beside what is gathered.
+    #[inline(never)]
+    fn take_late<W: Write>(
+        &mut self,
+        writer: &mut Counted<W>,
+        first: &[u8],
+        others: &[u8],
+    ) -> Result<(), FrontError>
+        requires { writer.old.faults < 2 ^ 64 - 1 }
+        ensures ok { OnOk result (Takes (W.contents writer.old.end) (W.contents writer.new.end) self.old (first.now ++ others.now) self.new) }
+        ensures quiet { OnOk result (writer.new.faults ≡ writer.old.faults) }
+        ensures fault { IfErr result (λ fault. (fault ≡ FrontError.WriteFault) × (writer.old.faults < writer.new.faults)) }
+        ensures front { WritesFront (W.contents writer.old.end) (W.contents writer.new.end) (self.old ++ (first.now ++ others.now)) }
+    {
         self.send(writer)?;
         if self.gather(first, others) {
             return Ok(());
@@ -117,10 +136,27 @@ impl Outbox {
         ensures front { WritesFront (W.contents writer.old.end) (W.contents writer.new.end) (self.old ++ flat_map item_frame items.now) }
     {
         for item in items {
-            let front = item_front(&item.0, &item.1);
-            self.take(writer, front.as_slice(), canonical_text(&item.1))?;
+            self.take_item(writer, item)?;
         }
         Ok(())
+    }
+
+    /// Takes the frame of a domain. Its front is made in here, so that other replies don't pay for the room.
+    #[inline(never)]
+    fn take_item<W: Write>(
+        &mut self,
+        writer: &mut Counted<W>,
+        item: &(TrustDomain, Bundle),
+    ) -> Result<(), FrontError>
+        requires { writer.old.faults < 2 ^ 64 - 1 }
+        ensures ok { OnOk result (Takes (W.contents writer.old.end) (W.contents writer.new.end) self.old (item_frame item.now) self.new) }
+        ensures quiet { OnOk result (writer.new.faults ≡ writer.old.faults) }
+        ensures fault { IfErr result (λ fault. (fault ≡ FrontError.WriteFault) × (writer.old.faults < writer.new.faults)) }
+        ensures front { WritesFront (W.contents writer.old.end) (W.contents writer.new.end) (self.old ++ item_frame item.now) }
+    {
+        let (domain, bundle) = item;
+        let front = item_front(domain, bundle);
+        self.take(writer, front.as_slice(), canonical_text(bundle))
     }
 
     /// Writes what is gathered.

@@ -72,6 +72,7 @@ pub(crate) fn read_next_request(
     }
 }
 
+#[inline(never)]
 #[tactic(auto, unfolding(crate::specs::Request::set_of))]
 fn read_set(alloc: Global, documents: &mut DocumentReader, bytes: &[u8]) -> Result<Request, Refusal>
     ensures { Gives Refusal.Memory result (set_of bytes.now) }
@@ -80,6 +81,7 @@ fn read_set(alloc: Global, documents: &mut DocumentReader, bytes: &[u8]) -> Resu
     Ok(Request::Ask(Op::Set(domain, bundle)))
 }
 
+#[inline(never)]
 #[tactic(auto, unfolding(crate::specs::Request::set_if_of))]
 fn read_set_if(
     alloc: Global,
@@ -95,6 +97,7 @@ fn read_set_if(
     Ok(Request::Ask(Op::SetIf(domain, expect, bundle)))
 }
 
+#[inline(never)]
 #[tactic(auto, unfolding(crate::specs::Request::append_of))]
 fn read_append(alloc: Global, bytes: &[u8]) -> Result<Request, Refusal>
     ensures { Gives Refusal.Memory result (append_of bytes.now) }
@@ -105,6 +108,7 @@ fn read_append(alloc: Global, bytes: &[u8]) -> Result<Request, Refusal>
     Ok(Request::Ask(Op::Append(domain, authority)))
 }
 
+#[inline(never)]
 #[tactic(auto, unfolding(crate::specs::Request::remove_of))]
 fn read_remove(alloc: Global, bytes: &[u8]) -> Result<Request, Refusal>
     ensures { Gives Refusal.Memory result (remove_of bytes.now) }
@@ -119,6 +123,7 @@ fn read_get(alloc: Global, bytes: &[u8]) -> Result<Request, Refusal>
     Ok(Request::Ask(Op::Get(only_name(alloc, bytes)?)))
 }
 
+#[inline(never)]
 #[tactic(auto, unfolding(crate::specs::Request::fetch_all_of))]
 fn read_fetch_all(bytes: &[u8]) -> Result<Request, Refusal>
     ensures { Gives Refusal.Memory result (fetch_all_of bytes.now) }
@@ -127,6 +132,7 @@ fn read_fetch_all(bytes: &[u8]) -> Result<Request, Refusal>
     Ok(Request::Ask(Op::FetchAll))
 }
 
+#[inline(never)]
 #[tactic(auto, unfolding(crate::specs::Request::version_of))]
 fn read_version(bytes: &[u8]) -> Result<Request, Refusal>
     ensures { Gives Refusal.Memory result (version_of bytes.now) }

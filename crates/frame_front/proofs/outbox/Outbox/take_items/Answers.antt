@@ -6,16 +6,15 @@ use Rattle.frame_front.specs.Reply.{item_frame}
 use Rattle.frame_front.proofs.SessionLemmas.{cut_again}
 use Rattle.frame_front.proofs.outbox.Outbox.take_items.Goals as goal
 
-pub returns-in_err-take-clause-front : goal.returns-in_err-take-clause-front
-returns-in_err-take-clause-front g c =
+pub returns-in_err-take_item-clause-front : goal.returns-in_err-take_item-clause-front
+returns-in_err-take_item-clause-front g c =
     let so_far = c.loop-item.invariant in
-    let bytes = c.as_slice.result.now ++ c.canonical_text.result.now in
+    let bytes = item_frame c.item-item.result in
     let rest = flat_map item_frame (drop (c.loop-item.item-index + 1) c.args.items.now) in
-    let item = ap (λ s. s ++ c.canonical_text.result.now) c.as_slice.ensures.value ∙ ap (λ t. c.item_front-front.result.items ++ t) c.canonical_text.ensures.value ∙ c.item_front-front.ensures in
     let step : flat_map item_frame (drop c.loop-item.item-index c.args.items.now) ≡ bytes ++ rest =
     at_drop_more (flat_map item_frame) c.args.items.now c.loop-item.item-index _ c.loop-item-test.true
-    ∙ ap (λ i. item_frame i ++ rest) (sym c.item-item.is) ∙ ap (λ f. f ++ rest) (sym item) in
-    let wrote = c.in_err-take.ensures.front in
+    ∙ ap (λ i. item_frame i ++ rest) (sym c.item-item.is) in
+    let wrote = c.in_err-take_item.ensures.front in
     record {
       front = so_far.0 ++ wrote.front;
       missing = wrote.missing ++ rest;
@@ -27,16 +26,15 @@ returns-in_err-take-clause-front g c =
 pub loop-item-preserved : goal.loop-item-preserved
 loop-item-preserved g c =
     let so_far = c.loop-item.invariant in
-    let bytes = c.as_slice.result.now ++ c.canonical_text.result.now in
+    let bytes = item_frame c.item-item.result in
     let rest = flat_map item_frame (drop (c.loop-item.item-index + 1) c.args.items.now) in
-    let item = ap (λ s. s ++ c.canonical_text.result.now) c.as_slice.ensures.value ∙ ap (λ t. c.item_front-front.result.items ++ t) c.canonical_text.ensures.value ∙ c.item_front-front.ensures in
     let step : flat_map item_frame (drop c.loop-item.item-index c.args.items.now) ≡ bytes ++ rest =
     at_drop_more (flat_map item_frame) c.args.items.now c.loop-item.item-index _ c.loop-item-test.true
-    ∙ ap (λ i. item_frame i ++ rest) (sym c.item-item.is) ∙ ap (λ f. f ++ rest) (sym item) in
-    let takes = c.in_ok-take.ensures.ok in (
+    ∙ ap (λ i. item_frame i ++ rest) (sym c.item-item.is) in
+    let takes = c.in_ok-take_item.ensures.ok in (
       so_far.0 ++ takes.sent,
       Appends-trans _ _ _ so_far.0 takes.sent so_far.1 takes.appends,
       so_far.2 ∙ ap (λ r. so_far.0 ++ (c.loop-item.self ++ r)) step
-          ∙ cut_again so_far.0 c.loop-item.self bytes rest takes.sent c.take.new.self takes.split,
-      c.in_ok-take.ensures.quiet ∙ so_far.3,
+          ∙ cut_again so_far.0 c.loop-item.self bytes rest takes.sent c.take_item.new.self takes.split,
+      c.in_ok-take_item.ensures.quiet ∙ so_far.3,
     )
