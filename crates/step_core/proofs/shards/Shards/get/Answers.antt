@@ -1,6 +1,6 @@
-use Rattle.std.proofs.Common.{◌≡◌, ◌<◌, ℕ, List, length, rules, ap, ◌∙◌, subst}
+use Rattle.std.proofs.Common.{◌≡◌, ◌<◌, ℕ, length, rules, ap, ◌∙◌, subst}
 use Rattle.map_core.specs.PlainMap.{home}
-use Rattle.step_core.specs.Shard.{ShardVersion, reading}
+use Rattle.step_core.specs.Shard.{reading}
 use Rattle.step_core.proofs.Parts.{item_here}
 use Rattle.step_core.proofs.Gets.{get_home, get_reply}
 use Rattle.step_core.proofs.shards.Shards.get.Goals as goal
