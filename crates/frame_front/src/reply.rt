@@ -3,7 +3,7 @@ ghost use Rattle.std.specs.Prelude.{◌≡◌, ◌+◌, ◌<◌, ◌≤◌, ◌�
 ghost use Rattle.arrayvec.specs.ArrayVec.{array_vec_len};
 ghost use Rattle.spiffe_doc.specs.Text.{text_of};
 ghost use Rattle.frame_front.specs.Frame.{frame};
-ghost use Rattle.frame_front.specs.Reply.{answer_frames, reply_frames, item_frame, memory_frame, refusal_frame, version_frame, place_bytes as bytes_of_place, sequence_bytes as bytes_of_sequence, expect_bytes as bytes_of_expect, is_error_reply, is_error_code as error_code, GoesOut};
+ghost use Rattle.frame_front.specs.Reply.{answer_frames, reply_frames, item_frame, refusal_frame, version_frame, place_bytes as bytes_of_place, sequence_bytes as bytes_of_sequence, expect_bytes as bytes_of_expect, is_error_reply, is_error_code as error_code, GoesOut};
 
 use crate::refusal::Refusal;
 use crate::request::Version;
@@ -153,13 +153,6 @@ pub(crate) fn item_front(domain: &TrustDomain, bundle: &Bundle) -> ArrayVec<u8, 
     let _fits = front.try_extend_from_slice(&[b'i', name.len() as u8]);
     let _fits = front.try_extend_from_slice(name);
     front
-}
-
-/// The reply that says that memory ran out.
-pub(crate) fn memory_reply() -> ReplyBytes
-    ensures { result ≡ memory_frame }
-{
-    ReplyBytes::short(22, &[])
 }
 
 /// The reply to a payload that is refused.

@@ -2,7 +2,7 @@
 ghost use Rattle.std.specs.Prelude.{◌≡◌, ◌⊎◌, Ok, Err, MatchResult, OnOk, OnErr};
 ghost use Rattle.spiffe_doc.specs.Answer.{Gives};
 ghost use Rattle.frame_front.specs.Reply.{version_number};
-ghost use Rattle.frame_front.specs.Request.{request_of, split_name as name_split, split_expect as expect_split, at_end as ends, parse_name, parse_bundle, parse_authority, only_name as name_alone, named_bundle, set_of, set_if_of, append_of, remove_of, get_of, fetch_all_of, version_of};
+ghost use Rattle.frame_front.specs.Request.{request_of, split_name as name_split, split_expect as expect_split, at_end as ends, parse_name, parse_bundle, parse_authority, only_name, named_bundle, set_of, set_if_of, append_of, remove_of, get_of, fetch_all_of, version_of};
 
 use crate::refusal::Refusal;
 use map_core::{Expect, Op};
@@ -113,14 +113,14 @@ fn read_append(alloc: Global, bytes: &[u8]) -> Result<Request, Refusal>
 fn read_remove(alloc: Global, bytes: &[u8]) -> Result<Request, Refusal>
     ensures { Gives Refusal.Memory result (remove_of bytes.now) }
 {
-    Ok(Request::Ask(Op::Remove(only_name(alloc, bytes)?)))
+    Ok(Request::Ask(Op::Remove(read_only_name(alloc, bytes)?)))
 }
 
 #[tactic(auto, unfolding(crate::specs::Request::get_of))]
 fn read_get(alloc: Global, bytes: &[u8]) -> Result<Request, Refusal>
     ensures { Gives Refusal.Memory result (get_of bytes.now) }
 {
-    Ok(Request::Ask(Op::Get(only_name(alloc, bytes)?)))
+    Ok(Request::Ask(Op::Get(read_only_name(alloc, bytes)?)))
 }
 
 #[inline(never)]
@@ -161,8 +161,8 @@ pub(crate) fn read_named_bundle(
 
 /// A name and nothing after it.
 #[tactic(auto, unfolding(crate::specs::Request::only_name))]
-fn only_name(alloc: Global, bytes: &[u8]) -> Result<TrustDomain, Refusal>
-    ensures { Gives Refusal.Memory result (name_alone bytes.now) }
+pub(crate) fn read_only_name(alloc: Global, bytes: &[u8]) -> Result<TrustDomain, Refusal>
+    ensures { Gives Refusal.Memory result (only_name bytes.now) }
 {
     let (name, bytes) = split_name(bytes)?;
     at_end(bytes)?;

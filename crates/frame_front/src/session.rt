@@ -1,5 +1,5 @@
 //! Sessions: requests come in, replies go out.
-ghost use Rattle.std.specs.Prelude.{◌≡◌, ◌≤◌, ◌-◌, ◌^◌, ◌<◌, ℕ, List, [], length, Err, Some, true, OnOk, IfErr};
+ghost use Rattle.std.specs.Prelude.{◌≡◌, ◌≤◌, ◌-◌, ◌^◌, ◌<◌, ◌∷◌, ℕ, List, [], length, Err, Some, true, OnOk, IfErr};
 ghost use Rattle.std.specs.Io.KnownBytes.{Appends, Consumes, IsAtEnd};
 ghost use Rattle.frame_front.specs.Session.{Answers, Session};
 ghost use Rattle.frame_front.specs.Private.Round.{Round};
@@ -11,9 +11,8 @@ ghost use Rattle.frame_front.specs.Outbox.{WritesFront};
 ghost use Rattle.map_core.specs.PlainMap.{PlainMap};
 
 use crate::outbox::Outbox;
-use crate::refusal::Refusal;
-use crate::reply::{ReplyBytes, answer_reply, memory_reply, refusal_reply, version_reply};
-use crate::request::{Request, Version, read_next_request};
+use crate::reply::{ReplyBytes, answer_reply, refusal_reply, version_reply};
+use crate::request::{Request, Version, read_next_request, read_only_name};
 use crate::{Counted, Decoder, FrontError};
 use map_core::Ask;
 use spiffe_doc::DocumentReader;
@@ -24,6 +23,7 @@ use std::io::{Read, Write};
 const PIECE_BYTES: usize = 4096;
 
 /// Answers one payload.
+#[inline(always)]
 fn answer<A: Ask>(
     alloc: Global,
     documents: &mut DocumentReader,
@@ -33,16 +33,41 @@ fn answer<A: Ask>(
 ) -> ReplyBytes
     ensures { Answers A.answers (version.old, ask.old) payload.now result (version.new, ask.new) }
 {
+    match payload {
+        [b'G', bytes @ ..] => answer_get(alloc, ask, bytes),
+        _ => answer_any(alloc, documents, version, ask, payload),
+    }
+}
+
+/// Answers a get, whose name follows its letter. Most requests are gets, so one pays for no other request.
+#[tactic(auto, unfolding(crate::specs::Request::request_of, crate::specs::Request::get_of))]
+fn answer_get<A: Ask>(alloc: Global, ask: &mut A, bytes: &[u8]) -> ReplyBytes
+    ensures { (version : Spoken) → Answers A.answers (version, ask.old) (71 ∷ bytes.now) result (version, ask.new) }
+{
+    let domain = match read_only_name(alloc, bytes) {
+        Ok(domain) => domain,
+        Err(refusal) => return refusal_reply(refusal),
+    };
+    answer_reply(ask.ask_get(domain))
+}
+
+/// Answers a payload of any letter.
+#[inline(never)]
+fn answer_any<A: Ask>(
+    alloc: Global,
+    documents: &mut DocumentReader,
+    version: &mut Version,
+    ask: &mut A,
+    payload: &[u8],
+) -> ReplyBytes
+    ensures { Answers A.answers (version.old, ask.old) payload.now result (version.new, ask.new) }
+{
     match read_next_request(alloc, documents, *version, payload) {
-        Ok(Request::Ask(op)) => {
-            let answer = ask.ask(op);
-            answer_reply(answer)
-        }
+        Ok(Request::Ask(op)) => answer_reply(ask.ask(op)),
         Ok(Request::SetVersion(wanted)) => {
             *version = wanted;
             version_reply(wanted)
         }
-        Err(Refusal::Memory) => memory_reply(),
         Err(refusal) => refusal_reply(refusal),
     }
 }
