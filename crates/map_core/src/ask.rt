@@ -1,7 +1,10 @@
 //! What a front asks: one operation after another, of whoever keeps a map.
+ghost use Rattle.map_core.specs.declared.op.Op.TheVariants.{Get};
+
 use crate::contents::Contents;
 use crate::op::Op;
 use crate::reply::{AskError, Reply};
+use spiffe_doc::TrustDomain;
 
 /// A map of trust bundles that can be asked. A front is written once for all of them.
 pub trait Ask {
@@ -21,6 +24,14 @@ pub trait Ask {
     /// Answers the operation. After an error what is shown stays as it was.
     fn ask(&mut self, op: Op) -> Result<Reply, AskError>
         ensures answered { answers self.old op result self.new };
+
+    /// Answers a `Get` of the name, with the same answers and errors as `ask`. Most operations are gets: an implementation
+    /// may answer one without making a value that has room for any operation.
+    fn ask_get(&mut self, domain: TrustDomain) -> Result<Reply, AskError>
+        ensures answered { answers self.old (Get domain) result self.new }
+    {
+        self.ask(Op::Get(domain))
+    }
 
     // If a map is shown, the answers are the plain map's.
     ghost answers_plainly: { (old : Self) (op : Op) (result : Result Reply AskError) (new : Self) (m : PlainMap)

@@ -1,18 +1,18 @@
 -- A get is answered by the shard of its name, and changes none.
-use Rattle.std.proofs.Common.{◌≡◌, ℕ, ◌+◌, ◌<◌, ◌==◌, true, false, cond, List, length, set, Option, Some, None, Result, Ok, Err, OnOk, refl, sym, ap, ◌∙◌}
+use Rattle.std.proofs.Common.{◌≡◌, ℕ, ◌+◌, ◌<◌, ◌==◌, true, false, cond, List, length, set, Option, Some, None, Result, Ok, Err, IfOk, IfErr, OnOk, inl, refl, sym, ap, ◌∙◌}
 use Rattle.std.proofs.lemmas.List.{set-get_or}
 use Rattle.map_core.specs.declared.op.Op.{Op}
 use Rattle.map_core.specs.declared.op.Op.TheVariants.{Get}
 use Rattle.map_core.specs.declared.reply.Reply.{Reply}
 use Rattle.map_core.specs.declared.reply.AskError.{AskError}
-use Rattle.map_core.specs.declared.reply.AskError.TheVariants.{Worn}
+use Rattle.map_core.specs.declared.reply.AskError.TheVariants.{Memory, Worn}
 use Rattle.map_core.specs.Name.{Name}
 use Rattle.map_core.specs.Reply.{is_change}
 use Rattle.map_core.specs.PlainMap.{PlainMap, ask, home, shard_of}
 use Rattle.map_core.proofs.Asks.{get_changes_nothing}
 use Rattle.map_core.proofs.MapLaws.{ask_keeps}
 use Rattle.step_core.specs.Shard.{ShardVersion, fresh_shard, reading, last_revision, StepResult, step_on}
-use Rattle.step_core.specs.Shards.{map_of, after_step_at, after_step, IsWorn}
+use Rattle.step_core.specs.Shards.{map_of, after_step_at, after_step, IsWorn, ShardsAnswer}
 use Rattle.step_core.specs.Private.Parts.{AreParts}
 use Rattle.step_core.proofs.Parts.{reply_here}
 
@@ -42,3 +42,7 @@ get_stays (Err e) vs op d is = tt
 pub get_fits : (r : Result Reply AskError) (vs : List ShardVersion) (op : Op) (d : Name) → op ≡ Get d → OnOk r ((i : ℕ) → IsWorn vs op i → ⊥)
 get_fits (Ok x) vs op d is = λ i worn. let never : false ≡ true = get_changes_nothing (map_of vs) op d is ∙ worn.changes in cc
 get_fits (Err e) vs op d is = tt
+
+pub get_answer : (vs : List ShardVersion) (d : Name) (r : Result Reply AskError) → IfOk r (λ reply. reply ≡ (ask (map_of vs) (Get d)).reply) → IfErr r (λ e. e ≡ Memory) → ShardsAnswer vs (Get d) r vs
+get_answer vs d (Ok x) found refused = (found, get_left (Ok x) (map_of vs) (Get d) d refl, get_stays (Ok x) vs (Get d) d refl)
+get_answer vs d (Err e) found refused = (inl refused, refl)

@@ -123,4 +123,8 @@ impl Ask for Shards {
     fn ask(&mut self, op: Op) -> Result<Reply, AskError> {
         Shards::ask(self, op)
     }
+
+    fn ask_get(&mut self, domain: TrustDomain) -> Result<Reply, AskError> {
+        Shards::get(self, &domain)
+    }
 }

@@ -1,8 +1,10 @@
 //! A map that is asked through a gate.
 ghost use Rattle.std.specs.Prelude.{◌≡◌};
+ghost use Rattle.frame_front.specs.Counted.{next_count};
 
 use crate::gate::Gate;
 use map_core::{Ask, AskError, Op, Reply};
+use spiffe_doc::TrustDomain;
 
 /// A map that one worker asks through a gate. Its calls are counted from 1; the count stays at 2^64 - 1 once there.
 #[derive(Drop)]
@@ -30,9 +32,20 @@ impl<'a, A, G> Gated<'a, A, G> {
     }
 }
 
+impl<'a, A, G: Gate> Gated<'a, A, G> {
+    /// Counts a call, and tells whether the gate is open to it.
+    fn enters(&mut self) -> bool
+        ensures open { G.opens self.old.gate.now self.old.worker self.new.calls result }
+        ensures calls { self.new.calls ≡ next_count self.old.calls }
+        ensures same { (self.new.ask ≡ self.old.ask) × (self.new.gate.now ≡ self.old.gate.now) × (self.new.worker ≡ self.old.worker) }
+    {
+        self.calls = self.calls.saturating_add(1);
+        self.gate.before(self.worker, self.calls)
+    }
+}
+
 impl<'a, A: Ask, G: Gate> Ask for Gated<'a, A, G> {
     ghost use Rattle.workers.specs.Gate.{GatedAnswer, gated_answers_plainly};
-    ghost use Rattle.frame_front.specs.Counted.{next_count};
 
     ghost answers = { λ old op answer new. (new.worker ≡ old.worker) × (new.gate.now ≡ old.gate.now) × (new.calls ≡ next_count old.calls)
         × GatedAnswer A.answers (G.opens old.gate.now old.worker new.calls) old.ask op answer new.ask };
@@ -44,11 +57,20 @@ impl<'a, A: Ask, G: Gate> Ask for Gated<'a, A, G> {
 
     /// Asks once if the gate is open; else nothing is asked.
     fn ask(&mut self, op: Op) -> Result<Reply, AskError> {
-        self.calls = self.calls.saturating_add(1);
-        if !self.gate.before(self.worker, self.calls) {
+        if !self.enters() {
             return Err(AskError::GateShut);
         }
         let answer = self.ask.ask(op);
+        self.gate.after(self.worker, self.calls);
+        answer
+    }
+
+    /// The same for a get.
+    fn ask_get(&mut self, domain: TrustDomain) -> Result<Reply, AskError> {
+        if !self.enters() {
+            return Err(AskError::GateShut);
+        }
+        let answer = self.ask.ask_get(domain);
         self.gate.after(self.worker, self.calls);
         answer
     }

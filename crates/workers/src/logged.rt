@@ -133,7 +133,7 @@ impl<'a, C: Clock, L: Log> Logged<'a, C, L> {
     fn look(&mut self, domain: TrustDomain) -> Option<Expect>
         ensures { (self.new.store ≡ self.old.store) × IsLater self.new.seen self.old.seen }
     {
-        found_by(self.patient.ask(Op::Get(domain)))
+        found_by(self.patient.ask_get(domain))
     }
 
     /// The change that the operation asks for, if it is to be told; and what stands there before it.
@@ -168,5 +168,9 @@ impl<'a, C: Clock, L: Log> Ask for Logged<'a, C, L> {
             tell(self.log, self.worker, wanted, reply);
         }
         answer
+    }
+
+    fn ask_get(&mut self, domain: TrustDomain) -> Result<Reply, AskError> {
+        self.patient.ask_get(domain)
     }
 }

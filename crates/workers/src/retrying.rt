@@ -3,6 +3,7 @@ ghost use Rattle.std.specs.Prelude.{◌≡◌};
 ghost use Rattle.workers.specs.Retrying.{is_transient};
 
 use map_core::{Ask, AskError, Op, Reply};
+use spiffe_doc::TrustDomain;
 use std::thread;
 use std::time::{Clock, Duration};
 
@@ -62,5 +63,20 @@ impl<'a, A: Ask, C: Clock> Ask for Retrying<'a, A, C> {
             thread::sleep(self.clock, Duration::from_micros(PAUSE));
         }
         self.ask.ask(op)
+    }
+
+    /// The same for a get, of which only the name is copied.
+    fn ask_get(&mut self, domain: TrustDomain) -> Result<Reply, AskError> {
+        for _try in 0..self.retries {
+            let Ok(copy) = domain.copy() else {
+                return Err(AskError::Memory);
+            };
+            let found = self.ask.ask_get(copy);
+            if !may_change(&found) {
+                return found;
+            }
+            thread::sleep(self.clock, Duration::from_micros(PAUSE));
+        }
+        self.ask.ask_get(domain)
     }
 }

@@ -8,8 +8,8 @@ use Rattle.workers.proofs.logged.Logged.look.Goals as goal
 pub returns : goal.returns
 returns g c =
     let old = c.args.self.now in
-    let new = c.ask.new.self.ask in
+    let new = c.ask_get.new.self.ask in
     let get = Get c.args.domain in
-    let answered = subst (λ (s : SeatedView). SeatedAnswer s get c.ask.result new) c.self.view_is
-    (patient_answer c.self.inside.patient.retries c.self.inside.patient.ask get c.ask.result new c.ask.ensures.answered.1) in
-    (answered.0, looked_later old.store c.args.domain old.seen new.seen c.ask.result answered.1)
+    let answered = subst (λ (s : SeatedView). SeatedAnswer s get c.ask_get.result new) c.self.view_is
+    (patient_answer c.self.inside.patient.retries c.self.inside.patient.ask get c.ask_get.result new c.ask_get.ensures.answered.1) in
+    (answered.0, looked_later old.store c.args.domain old.seen new.seen c.ask_get.result answered.1)
