@@ -144,3 +144,8 @@ module _ {P V : Type 0} (f : P → Marks V) where
   split_reached old new t [] h = absurd h.head
   split_reached old new t (x ∷ back) h =
       same_trans (same_is (ap (λ (n : Name). marks_of f new ++ (fence n ∷ marks_of f (x ∷ back))) (sym h.head))) (same_trans (split_parts new x back h.front_some) (same_is (ap (marks_of f) (sym h.is))))
+
+  -- a level of the two halves of a part
+  pub two_parts : (first second old : P) (n t : Name) (new : List (Name × P)) → new ≡ (n, first) ∷ (t, second) ∷ [] → IsSameBut (f first ++ (fence t ∷ f second)) (f old) → IsSameBut (marks_of f new) (f old)
+  two_parts first second old n t new is same =
+      same_trans (same_is (ap (marks_of f) is ∙ ap (λ z. f first ++ fence t ∷ z) (append-nil (f second)))) same

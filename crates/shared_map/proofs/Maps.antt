@@ -9,7 +9,7 @@ use Rattle.std.specs.Cmp.Lexicographic.{nat_list_cmp_total}
 use Rattle.std.specs.FinMap.{FinMap, get, get-remove, get-from_sorted, entries, entries-from_sorted, entries-insert, same_entries_map, same_map, len, len-entries}
 use Rattle.std.specs.FinMap as finite
 use Rattle.std.specs.FinMap.Entries.{find, put, is_sorted, where_key, is_sorted-put, is_sorted-where_key, find-where_key, length-put, length_without}
-use Rattle.shared_map.specs.declared.level.Level.{Level}
+use Rattle.shared_map.specs.declared.top.Top.{Top}
 use Rattle.shared_map.specs.Name.{Name, name_cmp}
 use Rattle.shared_map.specs.Marks.{key_cmp, Marks, IsSorted, IsSameBut, plain, with, without}
 use Rattle.shared_map.specs.Top.{top_marks}
@@ -124,10 +124,10 @@ is_some_copied None = refl
 is_some_copied (Some x) = refl
 
 -- the levels o, with this many entries, show the map m
-pub record Shows {V : Type 0} (o : Option (Level (Level (Level (List (Name × V)))))) (count : ℕ) (m : FinMap name_cmp V) : Type 0 where
+pub record Shows {V : Type 0} (o : Option (Top V)) (count : ℕ) (m : FinMap name_cmp V) : Type 0 where
   pub view : finite.from_sorted {R = name_cmp} (plain (top_marks o)) ≡ m
   pub sorted : IsSorted (top_marks o)
   pub counted : count ≡ length (plain (top_marks o))
 
-pub shows_at : {V : Type 0} {o p : Option (Level (Level (Level (List (Name × V)))))} {count : ℕ} {m : FinMap name_cmp V} → o ≡ p → finite.from_sorted {R = name_cmp} (plain (top_marks o)) ≡ m → IsSorted (top_marks o) × (count ≡ length (plain (top_marks o))) → Shows p count m
+pub shows_at : {V : Type 0} {o p : Option (Top V)} {count : ℕ} {m : FinMap name_cmp V} → o ≡ p → finite.from_sorted {R = name_cmp} (plain (top_marks o)) ≡ m → IsSorted (top_marks o) × (count ≡ length (plain (top_marks o))) → Shows p count m
 shows_at {V} {o} {p} {count} {m} is view kept = subst (λ x. Shows x count m) is (record { view = view; sorted = kept.0; counted = kept.1 })

@@ -1,8 +1,8 @@
 -- A place of a list.
 use Rattle.std.proofs.Common.{◌≡◌, ◌≢◌, ◌⊎◌, inl, inr, ◌<◌, ℕ, zero, suc, List, [], ◌∷◌, ◌++◌, length, take, drop, Option, Some, None, Result, Ok, Err, true≢false, true, false, refl, sym, ap, subst, ◌∙◌, arith}
 use Rattle.std.specs.List.{slice_get, insert, remove}
-use Rattle.std.specs.Prelude.{slice_index_or, slice_set, MatchOption, OnOk, is_ok, if◌then◌else◌}
-use Rattle.std.specs.Result.{is_err}
+use Rattle.std.specs.Prelude.{slice_index_or, slice_set, MatchOption, IfOk, IfSome, OnOk, is_ok, if◌then◌else◌}
+use Rattle.std.specs.Result.{is_err, result_ok}
 use Rattle.std.specs.declared.cmp.Ordering.TheVariants.{Less}
 use Rattle.shared_map.specs.Name.{Name, name_cmp}
 use Rattle.shared_map.specs.Places.{Around, IsBefore, IsReached}
@@ -102,3 +102,10 @@ on_not_err (Err y) e h = absurd (true≢false e)
 pub inserted : {A B E : Type 0} (r : Result B E) (new old : List A) (place : ℕ) (x : A) → new ≡ (if is_ok r then insert old place x else old) → is_ok r ≡ true → new ≡ insert old place x
 inserted (Ok y) new old place x is e = is
 inserted (Err y) new old place x is e = absurd (true≢false (sym e))
+
+ok_some : {X E : Type 0} {P Q : X → Type 0} (r : Result X E) → ((x : X) → P x → Q x) → IfOk r P → IfSome (result_ok r) Q
+ok_some (Ok x) f h = f x h
+ok_some (Err e) f h = tt
+
+pub some_of_ok : {X E : Type 0} {P Q : X → Type 0} (r : Result X E) (o : Option X) → o ≡ result_ok r → ((x : X) → P x → Q x) → IfOk r P → IfSome o Q
+some_of_ok {X} {E} {P} {Q} r o is f h = subst (λ (x : Option X). IfSome x Q) (sym is) (ok_some r f h)

@@ -17,8 +17,11 @@ module _ {P V : Type 0} (f : P → Marks V) (shows : P → List (Name × V)) (is
   plain_parts [] = refl
   plain_parts (p ∷ ps) = plain-append (f p.1) (fenced f ps) ∙ (λ i. is p.1 i ++ plain_fenced ps i)
 
+pub plain_runs : {V : Type 0} (runs : List (Name × List (Name × V))) → plain (marks_of entries_only runs) ≡ run_entries runs
+plain_runs {V} runs = plain_parts entries_only (λ (es : List (Name × V)). es) plain-entries_only runs
+
 pub plain_groups : {V : Type 0} (groups : List (Name × Level (List (Name × V)))) → plain (marks_of group_marks groups) ≡ group_entries groups
-plain_groups {V} groups = plain_parts group_marks (λ (group : Level (List (Name × V))). run_entries group.parts) (λ group. plain_parts entries_only (λ (es : List (Name × V)). es) plain-entries_only group.parts) groups
+plain_groups {V} groups = plain_parts group_marks (λ (group : Level (List (Name × V))). run_entries group.parts) (λ group. plain_runs group.parts) groups
 
 pub plain_regions : {V : Type 0} (regions : List (Name × Level (Level (List (Name × V))))) → plain (marks_of region_marks regions) ≡ region_entries regions
 plain_regions {V} regions = plain_parts region_marks (λ (region : Level (Level (List (Name × V)))). group_entries region.parts) (λ region. plain_groups region.parts) regions

@@ -1,7 +1,8 @@
 //! The entries of a map, one after another.
-ghost use Rattle.std.specs.Prelude.{length};
+ghost use Rattle.std.specs.Prelude.{◌≡◌, length};
 ghost use Rattle.std.specs.Iterator.{at_most};
 ghost use Rattle.std.specs.Map.Iter.{TakesFirst, deref_pair};
+ghost use Rattle.shared_map.specs.Walk.{left};
 
 use crate::Shared;
 use crate::level::Level;
@@ -26,6 +27,25 @@ impl<'a, V> Model for Entries<'a, V> {
     ghost use Rattle.shared_map.specs.Walk.{left};
 
     ghost view = { λ entries. left entries.slots.now entries.runs.now entries.groups.now entries.regions.now };
+}
+
+impl<'a, V> Entries<'a, V> {
+    /// Those of a run, then those of runs, of groups and of regions.
+    pub(crate) fn new(
+        slots: &'a [(TrustDomain, V)],
+        runs: &'a [(TrustDomain, Run<V>)],
+        groups: &'a [(TrustDomain, Level<Run<V>>)],
+        regions: &'a [(TrustDomain, Level<Level<Run<V>>>)],
+    ) -> Entries<'a, V>
+        ensures { result ≡ left slots.now runs.now groups.now regions.now }
+    {
+        Entries {
+            slots,
+            runs,
+            groups,
+            regions,
+        }
+    }
 }
 
 impl<'a, V: Shared> Iterator for Entries<'a, V> {

@@ -1,5 +1,5 @@
 //! A node of parts.
-ghost use Rattle.std.specs.Prelude.{◌≡◌, ◌<◌, [], ◌∷◌, ◌++◌, length, not, is_some, IfOk, OnOk, OnErr};
+ghost use Rattle.std.specs.Prelude.{◌≡◌, ◌<◌, [], ◌∷◌, ◌++◌, length, not, is_some, IfOk, IfSome, OnOk, OnErr};
 ghost use Rattle.std.specs.FinMap.Entries.{find};
 ghost use Rattle.shared_map.specs.Name.{name_cmp};
 ghost use Rattle.shared_map.specs.Places.{IsReached};
@@ -34,6 +34,30 @@ impl<P: Shared> Level<P> {
         ensures { result.now ≡ self.now.parts }
     {
         self.parts.slots()
+    }
+
+    /// The two halves of a part, which itself stays. None if it is short, or if memory for that is refused.
+    pub(crate) fn of_halves<V>(alloc: Global, part: &P) -> Option<Level<P>>
+    where
+        P: Part<V>,
+        ensures { IfSome result (λ level. IsSameBut (marks_of P.marks level.parts) (P.marks part.now)) }
+    {
+        if !part.is_long() {
+            return None;
+        }
+        let Ok(mut first) = part.copy() else {
+            return None;
+        };
+        let (name, second) = first.halve()?;
+        Level::of_two(alloc, first, name, second).ok()
+    }
+
+    fn of_two(alloc: Global, first: P, name: TrustDomain, second: P) -> Result<Level<P>, AllocError>
+        ensures { IfOk result (λ level. level.parts ≡ (name, first) ∷ (name, second) ∷ []) }
+    {
+        let mut parts = Run::one(alloc, name.copy()?, first)?;
+        parts.insert(1, name, second)?;
+        Ok(Level { parts })
     }
 }
 

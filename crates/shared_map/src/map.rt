@@ -4,9 +4,7 @@ ghost use Rattle.std.specs.FinMap as finite;
 
 use crate::Shared;
 use crate::entries::Entries;
-use crate::level::Level;
-use crate::part::Part;
-use crate::run::Run;
+use crate::top::Top;
 use spiffe_doc::TrustDomain;
 use std::alloc::{AllocError, Global};
 use std::marker::Model;
@@ -15,7 +13,7 @@ use std::marker::Model;
 #[derive(Drop)]
 pub struct SharedMap<V> {
     alloc: Global,
-    top: Option<Level<Level<Level<Run<V>>>>>,
+    top: Option<Top<V>>,
     len: usize,
 }
 
@@ -85,15 +83,10 @@ impl<V: Shared> SharedMap<V> {
     pub fn iter(&self) -> Entries<'_, V>
         ensures { result ≡ finite.entries self.now }
     {
-        Entries {
-            slots: &[],
-            runs: &[],
-            groups: &[],
-            regions: match &self.top {
-                None => &[],
-                Some(top) => top.parts(),
-            },
-        }
+        let Some(top) = &self.top else {
+            return Entries::new(&[], &[], &[], &[]);
+        };
+        top.entries()
     }
 
     /// Puts the value under the name, in place of any that is there. Errors if memory runs out, and nothing has changed.
@@ -103,14 +96,14 @@ impl<V: Shared> SharedMap<V> {
     {
         match &mut self.top {
             None => {
-                self.top = Some(Level::of(self.alloc, name, value)?);
+                self.top = Some(Top::of(self.alloc, name, value)?);
                 self.len = 1;
             }
             Some(top) => {
                 let Some(more) = self.len.checked_add(1) else {
                     return Err(AllocError);
                 };
-                if top.put(name, value)? {
+                if top.put(self.alloc, name, value)? {
                     self.len = more;
                 }
             }

@@ -1,6 +1,7 @@
 //! Maps beside a `BTreeMap` that takes the same changes. Running out of memory ends a test by an error and never changes an
 //! answer, so each may be run with any allocation refused.
 mod copies;
+mod levels;
 mod memory;
 mod names;
 
