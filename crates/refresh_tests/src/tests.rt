@@ -1,4 +1,6 @@
 //! Worked examples of relationships, due times and refreshes.
+ghost use Rattle.std.specs.Prelude.{◌≡◌, ◌<◌, length};
+
 mod beside_sessions;
 mod relationships;
 
@@ -125,6 +127,25 @@ fn outcome_text(alloc: Global, outcome: &Outcome) -> Result<String, Fail> {
     })
 }
 
+/// What the refresh of the relationship at a place comes to.
+fn comes_to(
+    rt: &impl Abort,
+    source: &mut Folder<'_>,
+    map: &mut Contents,
+    schedule: &mut Schedule,
+    place: usize,
+    now: u64,
+    wanted: &str,
+) -> Result<(), Fail>
+    requires { place < length schedule.old.relationships }
+    ensures { schedule.new.relationships ≡ schedule.old.relationships }
+{
+    let alloc = source.alloc;
+    let outcome = refresh_at(alloc, source, map, schedule, place, now)?;
+    is_equal(rt, &outcome_text(alloc, &outcome)?.as_str(), &wanted);
+    Ok(())
+}
+
 /// Two relationships, and the second's endpoint gives nothing.
 #[test]
 fn two_relationships(rt: HostRuntime) -> Result<(), Fail> {
@@ -134,29 +155,53 @@ fn two_relationships(rt: HostRuntime) -> Result<(), Fail> {
         documents: &[("a", "{\"keys\":[],\"spiffe_refresh_hint\":60}")],
         fetches: 0,
     };
-    let mut map = Contents::new(alloc);
-    let mut schedule = Schedule::new(alloc, vec![in alloc; web(alloc, "a")?, web(alloc, "b")?]?)?;
-    is_equal(&rt, &schedule.len(), &2);
-    is_equal(&rt, &schedule.next(), &Some((0, 0)));
-    let first = refresh_at(alloc, &mut source, &mut map, &mut schedule, 0, 1000)?;
-    is_equal(&rt, &outcome_text(alloc, &first)?.as_str(), &"stored 1060");
-    is_equal(&rt, &schedule.next(), &Some((1, 0)));
-    let second = refresh_at(alloc, &mut source, &mut map, &mut schedule, 1, 1000)?;
-    is_equal(&rt, &outcome_text(alloc, &second)?.as_str(), &"none 1300");
-    is_equal(&rt, &schedule.next(), &Some((0, 1060)));
-    let third = refresh_at(alloc, &mut source, &mut map, &mut schedule, 0, 1060)?;
-    is_equal(
-        &rt,
-        &outcome_text(alloc, &third)?.as_str(),
-        &"unchanged 1120",
-    );
     let mut array = Folder {
         alloc,
         documents: &[("a", "[]")],
         fetches: 0,
     };
-    let fourth = refresh_at(alloc, &mut array, &mut map, &mut schedule, 0, 1060)?;
-    is_equal(&rt, &outcome_text(alloc, &fourth)?.as_str(), &"bad 12 1360");
+    let mut map = Contents::new(alloc);
+    let mut schedule = Schedule::new(alloc, vec![in alloc; web(alloc, "a")?, web(alloc, "b")?]?)?;
+    is_equal(&rt, &schedule.len(), &2);
+    is_equal(&rt, &schedule.next(), &Some((0, 0)));
+    comes_to(
+        &rt,
+        &mut source,
+        &mut map,
+        &mut schedule,
+        0,
+        1000,
+        "stored 1060",
+    )?;
+    is_equal(&rt, &schedule.next(), &Some((1, 0)));
+    comes_to(
+        &rt,
+        &mut source,
+        &mut map,
+        &mut schedule,
+        1,
+        1000,
+        "none 1300",
+    )?;
+    is_equal(&rt, &schedule.next(), &Some((0, 1060)));
+    comes_to(
+        &rt,
+        &mut source,
+        &mut map,
+        &mut schedule,
+        0,
+        1060,
+        "unchanged 1120",
+    )?;
+    comes_to(
+        &rt,
+        &mut array,
+        &mut map,
+        &mut schedule,
+        0,
+        1060,
+        "bad 12 1360",
+    )?;
     is_equal(&rt, &(schedule.due(0), schedule.due(1)), &(1360, 1300));
     is_equal(&rt, &schedule.relationship(1).domain().as_str(), &"b");
     is_equal(&rt, &(source.fetches, array.fetches), &(3, 1));
