@@ -1,0 +1,12 @@
+pub mod Cases
+pub mod Words
+pub mod Names
+pub mod Numbers
+pub mod Fields
+pub mod RequestLines
+pub mod RequestPayloads
+pub mod ReplyLines
+pub mod ReplyPayloads
+pub mod Heads
+pub mod Lines
+pub mod Encoders

@@ -1,0 +1,5 @@
+pub mod RequestForm
+pub mod ReplyForm
+pub mod Encoding
+pub mod Decoding
+pub mod Private

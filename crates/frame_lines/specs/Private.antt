@@ -1,0 +1,4 @@
+pub mod RequestReading
+pub mod PayloadReading
+pub mod ReplyReading
+pub mod Encoders

@@ -1,0 +1,90 @@
+//! Streams of lines become frames.
+use super::{holds_at, is_equal_at};
+use frame_lines::{EncodeError, Encoder};
+use std::alloc::Global;
+use std::test::Fail;
+
+/// The frames of a stream in pieces of this size, and how it ends.
+fn encoded(
+    alloc: Global,
+    stream: &[u8],
+    size: usize,
+) -> Result<(Vec<u8>, Result<(), EncodeError>), Fail> {
+    let mut out = Vec::new(alloc);
+    let mut encoder = Encoder::new(alloc)?;
+    for piece in stream.chunks(size.max(1)) {
+        if let Err(error) = encoder.take(piece, &mut out) {
+            return Ok((out, Err(error)));
+        }
+    }
+    let ended = encoder.finish(&mut out);
+    Ok((out, ended))
+}
+
+const GET_A: &[u8] = b"\x00\x00\x00\x03G\x01a";
+
+#[test]
+fn pieces_do_not_matter(rt: HostRuntime) -> Result<(), Fail> {
+    let alloc = rt.alloc();
+    let rows: [(&[u8], &[u8], Result<(), EncodeError>); 9] = [
+        (b"", b"", Ok(())),
+        (b"get a\n", GET_A, Ok(())),
+        (b"get a", GET_A, Ok(())),
+        (b"# a comment\n\n#\nget a\n# the end", GET_A, Ok(())),
+        (
+            b"get a\nfetch\n",
+            b"\x00\x00\x00\x03G\x01a\x00\x00\x00\x01F",
+            Ok(()),
+        ),
+        (
+            b"get a\nfetch all\nget a\n",
+            GET_A,
+            Err(EncodeError::BadLine(2)),
+        ),
+        (b"get a\nfetch all", GET_A, Err(EncodeError::BadLine(2))),
+        (b"get a\r\n", b"\x00\x00\x00\x04G\x02a\r", Ok(())),
+        (b"\n\n #\n", b"", Err(EncodeError::BadLine(3))),
+    ];
+    for (stream, frames, ended) in rows {
+        for size in 1..9 {
+            let (out, end) = encoded(alloc, stream, size)?;
+            is_equal_at(&rt, &out.as_slice(), &frames, &(stream, size));
+            is_equal_at(&rt, &end, &ended, &(stream, size));
+        }
+    }
+    Ok(())
+}
+
+#[test]
+fn a_line_may_be_so_long(rt: HostRuntime) -> Result<(), Fail> {
+    let alloc = rt.alloc();
+    let mut line = Vec::from_slice(alloc, b"#")?;
+    for _ in 0..1_049_299 {
+        line.push(b'.')?;
+    }
+    let (_, end) = encoded(alloc, line.as_slice(), 4096)?;
+    is_equal_at(&rt, &end, &Ok(()), &"1,049,300 bytes");
+    line.push(b'.')?;
+    let (_, end) = encoded(alloc, line.as_slice(), 4096)?;
+    is_equal_at(&rt, &end, &Err(EncodeError::BadLine(1)), &"1,049,301 bytes");
+    Ok(())
+}
+
+#[test]
+fn a_refused_growth_leaves_whole_frames(rt: HostRuntime) -> Result<(), Fail> {
+    let alloc = rt.alloc();
+    let mut out = Vec::new(alloc);
+    let mut encoder = Encoder::new(alloc)?;
+    match encoder.take(b"get a\nfetch\n", &mut out) {
+        Ok(()) => {
+            let wanted = b"\x00\x00\x00\x03G\x01a\x00\x00\x00\x01F".as_slice();
+            is_equal_at(&rt, &out.as_slice(), &wanted, &"both frames");
+        }
+        Err(error) => {
+            is_equal_at(&rt, &error, &EncodeError::Memory, &"a refused growth");
+            let is_whole = out.is_empty() || out.as_slice() == GET_A;
+            holds_at(&rt, is_whole, &out);
+        }
+    }
+    Ok(())
+}
