@@ -10,3 +10,5 @@ pub mod ReplyPayloads
 pub mod Heads
 pub mod Lines
 pub mod Encoders
+pub mod Streams
+pub mod Decodes

@@ -1,6 +1,7 @@
 //! The text form of requests and replies: a line for each, of words that people and scripts write.
 #![tactic(auto)]
 
+mod decode;
 mod encoder;
 mod head;
 mod line_decoder;
@@ -14,8 +15,10 @@ mod request_frame;
 mod request_line;
 mod request_payload;
 mod request_words;
+mod stream;
 mod word;
 
+pub use decode::{DecodeError, decode_stream};
 pub use encoder::{EncodeError, Encoder};
 pub use head::{HEAD_BYTES, Head};
 pub use line_decoder::LineDecoder;
@@ -26,3 +29,4 @@ pub use reply_payload::reply_of_payload;
 pub use request::RequestForm;
 pub use request_line::request_of_line;
 pub use request_payload::request_of_payload;
+pub use stream::{StreamError, encode_stream};

@@ -3,6 +3,7 @@ mod encoders;
 mod line_decoders;
 mod replies;
 mod requests;
+mod streams;
 
 use std::fmt::Debug;
 use std::process::Abort;

@@ -1,0 +1,192 @@
+-- A stream of lines, piece by piece.
+use Rattle.std.proofs.Common.{◌≡◌, ◌⊎◌, inl, inr, ℕ, take, List, [], ◌∷◌, ◌++◌, Option, Result, Ok, Err, refl, sym, ap, subst, ◌∙◌, append_assoc, append-nil}
+use Rattle.std.specs.Io.KnownBytes.{Appends, Consumes, IsAtEnd, Keeps}
+use Rattle.std.specs.List.{AllByRecursion}
+use Rattle.std.proofs.lemmas.List.Concat.{flat_map-append}
+use Rattle.std.proofs.KnownBytes.{Appends-nil, Appends-trans, Consumes-nil, Consumes-trans, Consumes-kept}
+use Rattle.frame_front.specs.Outbox.{WritesFront}
+use Rattle.frame_front.proofs.SessionLemmas.{WritesFront-then}
+use Rattle.frame_lines.specs.Encoding.{EncoderState, Becomes, lines_of, frames_of, lines_after, next_line, Encodes, EndsSo, Finishes}
+use Rattle.frame_lines.specs.EncodedStream.{EncodesStream}
+use Rattle.frame_lines.specs.declared.encoder.EncodeError.{EncodeError}
+use Rattle.frame_lines.specs.declared.encoder.EncodeError.TheVariants as lines
+use Rattle.frame_lines.specs.declared.stream.StreamError.{StreamError}
+use Rattle.frame_lines.specs.declared.stream.StreamError.TheVariants as streams
+use Rattle.frame_lines.specs.Private.Encoders.{StreamSoFar, stream_result}
+
+-- nothing was read or written
+pub nothing : (left held : Option (List ℕ)) → EncodesStream (Err streams.Memory) left left held held
+nothing left held = record { items = []; rest = []; last = []; each = tt; consumes = Consumes-nil left; ends = refl; writes = Appends-nil held }
+
+pub starts : (left held : Option (List ℕ)) (state : EncoderState) → state ≡ record { kept = []; lines = 0 } → StreamSoFar left left held held state
+starts left held state is = subst (λ (s : EncoderState). StreamSoFar left left held held s) (sym is) (record { items = []; each = tt; consumes = Consumes-nil left; appends = Appends-nil held; lines_are = refl })
+
+-- ---- lists of lines
+
+lines_append : (xs ys : List (List ℕ × List ℕ)) → lines_of (xs ++ ys) ≡ lines_of xs ++ lines_of ys
+lines_append xs ys = flat_map-append (λ item. item.0 ++ 10 ∷ []) xs ys
+
+frames_append : (xs ys : List (List ℕ × List ℕ)) → frames_of (xs ++ ys) ≡ frames_of xs ++ frames_of ys
+frames_append xs ys = flat_map-append (λ item. item.1) xs ys
+
+each_append : (xs ys : List (List ℕ × List ℕ)) → AllByRecursion Becomes xs → AllByRecursion Becomes ys → AllByRecursion Becomes (xs ++ ys)
+each_append [] ys a b = b
+each_append (x ∷ xs) ys a b = (a.0, each_append xs ys a.1 b)
+
+after_append : (lines : ℕ) (xs ys : List (List ℕ × List ℕ)) → lines_after lines (xs ++ ys) ≡ lines_after (lines_after lines xs) ys
+after_append lines [] ys = refl
+after_append lines (x ∷ xs) ys = after_append (next_line lines) xs ys
+
+-- ---- how it ends between two pieces
+
+module _ (left mid new held sent : Option (List ℕ)) (state : EncoderState) (so : StreamSoFar left mid held sent state) where
+  last_none : frames_of so.items ++ [] ≡ frames_of so.items
+  last_none = append-nil (frames_of so.items)
+
+  -- the reader fails
+  pub read_failed : Keeps mid new → EncodesStream (Err streams.ReadFault) left new held sent
+  read_failed keeps = record {
+    items = so.items;
+    rest = state.kept;
+    last = [];
+    each = so.each;
+    consumes = Consumes-kept left mid new (lines_of so.items ++ state.kept) so.consumes keeps;
+    ends = refl;
+    writes = subst (Appends held sent) (sym last_none) so.appends;
+  }
+
+  -- as many reads were made as may be
+  pub turns_used : EncodesStream (Err streams.TurnsUsed) left mid held sent
+  turns_used = record { items = so.items; rest = state.kept; last = []; each = so.each; consumes = so.consumes; ends = refl; writes = subst (Appends held sent) (sym last_none) so.appends }
+
+  -- ---- at the end of the reader
+
+  last_is : (ended : Result (Unit {0}) EncodeError) (written : List ℕ) → Finishes ended state written → (written ≡ []) ⊎ Becomes (state.kept, written)
+  last_is (Ok done) written finishes = inr finishes
+  last_is (Err (lines.BadLine n)) written finishes = inl finishes.2
+  last_is (Err lines.Memory) written finishes = inl finishes
+
+  at_end : Consumes mid new [] → Consumes left new (lines_of so.items ++ state.kept)
+  at_end none = subst (Consumes left new) (append-nil (lines_of so.items ++ state.kept)) (Consumes-trans left mid new (lines_of so.items ++ state.kept) [] so.consumes none)
+
+  pub not_finished : (ended : Result (Unit {0}) EncodeError) (written : List ℕ) (cut : Option (List ℕ)) → Finishes ended state written → Consumes mid new [] → WritesFront sent cut written → EncodesStream (Err streams.WriteFault) left new held cut
+  not_finished ended written cut finishes none front = record {
+    items = so.items;
+    rest = state.kept;
+    last = written;
+    each = so.each;
+    consumes = at_end none;
+    ends = last_is ended written finishes;
+    writes = WritesFront-then held sent cut (frames_of so.items) written so.appends front;
+  }
+
+  pub finished : (ended : Result (Unit {0}) EncodeError) (written : List ℕ) (whole : Option (List ℕ)) → Finishes ended state written → Consumes mid new [] → IsAtEnd new → Appends sent whole written → EncodesStream (stream_result ended) left new held whole
+  finished (Ok done) written whole finishes none end appends = record {
+    items = so.items;
+    rest = state.kept;
+    last = written;
+    each = so.each;
+    consumes = at_end none;
+    ends = (end, finishes);
+    writes = Appends-trans held sent whole (frames_of so.items) written so.appends appends;
+  }
+  finished (Err (lines.BadLine n)) written whole finishes none end appends = record {
+    items = so.items;
+    rest = state.kept;
+    last = written;
+    each = so.each;
+    consumes = at_end none;
+    ends = (finishes.0 ∙ ap next_line so.lines_are, finishes.2, inr (end, finishes.1));
+    writes = Appends-trans held sent whole (frames_of so.items) written so.appends appends;
+  }
+  finished (Err lines.Memory) written whole finishes none end appends = record {
+    items = so.items;
+    rest = state.kept;
+    last = written;
+    each = so.each;
+    consumes = at_end none;
+    ends = finishes;
+    writes = Appends-trans held sent whole (frames_of so.items) written so.appends appends;
+  }
+
+  -- ---- with one piece more
+
+  module _ (taken : Result (Unit {0}) EncodeError) (piece : List ℕ) (next : EncoderState) (written : List ℕ) (encodes : Encodes taken state piece next written) (came : Consumes mid new piece) where
+    each_now : AllByRecursion Becomes (so.items ++ encodes.items)
+    each_now = each_append so.items encodes.items so.each encodes.each
+
+    consumes_now : Consumes left new (lines_of (so.items ++ encodes.items) ++ encodes.rest)
+    consumes_now =
+        subst (Consumes left new)
+        (append_assoc (lines_of so.items) state.kept piece ∙ ap (λ b. lines_of so.items ++ b) encodes.came_is ∙ sym (append_assoc (lines_of so.items) (lines_of encodes.items) encodes.rest) ∙ ap (λ b. b ++ encodes.rest) (sym (lines_append so.items encodes.items)))
+        (Consumes-trans left mid new (lines_of so.items ++ state.kept) piece so.consumes came)
+
+    frames_now : frames_of so.items ++ written ≡ frames_of (so.items ++ encodes.items)
+    frames_now = ap (λ b. frames_of so.items ++ b) encodes.written_is ∙ sym (frames_append so.items encodes.items)
+
+    lines_now : lines_after state.lines encodes.items ≡ lines_after 0 (so.items ++ encodes.items)
+    lines_now = ap (λ n. lines_after n encodes.items) so.lines_are ∙ sym (after_append 0 so.items encodes.items)
+
+    pub not_sent : (cut : Option (List ℕ)) → WritesFront sent cut written → EncodesStream (Err streams.WriteFault) left new held cut
+    not_sent cut front = record {
+      items = so.items ++ encodes.items;
+      rest = encodes.rest;
+      last = [];
+      each = each_now;
+      consumes = consumes_now;
+      ends = inl refl;
+      writes = subst (WritesFront held cut) (frames_now ∙ sym (append-nil (frames_of (so.items ++ encodes.items)))) (WritesFront-then held sent cut (frames_of so.items) written so.appends front);
+    }
+
+    appends_now : (whole : Option (List ℕ)) → Appends sent whole written → Appends held whole (frames_of (so.items ++ encodes.items))
+    appends_now whole appends = subst (Appends held whole) frames_now (Appends-trans held sent whole (frames_of so.items) written so.appends appends)
+
+    -- all that came has become frames, but for a line that has no end yet
+    pub goes_on : (whole : Option (List ℕ)) → Appends sent whole written → taken ≡ Ok tt → StreamSoFar left new held whole next
+    goes_on whole appends is =
+        let ends = subst (λ (t : Result (Unit {0}) EncodeError). EndsSo t (lines_after state.lines encodes.items) encodes.rest next) is encodes.ends in
+        record {
+          items = so.items ++ encodes.items;
+          each = each_now;
+          consumes = subst (λ k. Consumes left new (lines_of (so.items ++ encodes.items) ++ k)) (sym ends.1) consumes_now;
+          appends = appends_now whole appends;
+          lines_are = ends.2 ∙ lines_now;
+        }
+
+    pub stopped : (whole : Option (List ℕ)) → Appends sent whole written → (error : EncodeError) → taken ≡ Err error → EncodesStream (stream_result (Err error)) left new held whole
+    stopped whole appends (lines.BadLine n) is =
+        let ends = subst (λ (t : Result (Unit {0}) EncodeError). EndsSo t (lines_after state.lines encodes.items) encodes.rest next) is encodes.ends in
+        record {
+          items = so.items ++ encodes.items;
+          rest = encodes.rest;
+          last = [];
+          each = each_now;
+          consumes = consumes_now;
+          ends = (ends.0 ∙ ap next_line lines_now, refl, inl ends.1);
+          writes = subst (Appends held whole) (sym (append-nil (frames_of (so.items ++ encodes.items)))) (appends_now whole appends);
+        }
+    stopped whole appends lines.Memory is = record {
+      items = so.items ++ encodes.items;
+      rest = encodes.rest;
+      last = [];
+      each = each_now;
+      consumes = consumes_now;
+      ends = refl;
+      writes = subst (Appends held whole) (sym (append-nil (frames_of (so.items ++ encodes.items)))) (appends_now whole appends);
+    }
+
+-- ---- what ended the stream ended its encoder
+
+pub error_of : (taken : Result (Unit {0}) EncodeError) (x : StreamError) → stream_result taken ≡ Err x → (e : EncodeError) × (taken ≡ Err e) × (stream_result (Err e) ≡ Err x)
+error_of (Ok done) x is = absurd (cc is)
+error_of (Err (lines.BadLine n)) x is = (lines.BadLine n, refl, is)
+error_of (Err lines.Memory) x is = (lines.Memory, refl, is)
+
+pub ok_of : (taken : Result (Unit {0}) EncodeError) → stream_result taken ≡ Ok tt → taken ≡ Ok tt
+ok_of (Ok done) is = refl
+ok_of (Err (lines.BadLine n)) is = absurd (cc is)
+ok_of (Err lines.Memory) is = absurd (cc is)
+
+-- a read of nothing, and of a piece
+pub none_came : (a b : Option (List ℕ)) (buf : List ℕ) (n : ℕ) → n ≡ 0 → Consumes a b (take n buf) → Consumes a b []
+none_came a b buf n is came = subst (λ (m : ℕ). Consumes a b (take m buf)) is came

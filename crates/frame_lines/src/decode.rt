@@ -1,0 +1,101 @@
+//! A stream of frames becomes a stream of lines.
+ghost use Rattle.std.specs.Prelude.{◌≡◌, ◌-◌, ◌^◌, ◌<◌, ◌++◌, List, ℕ, [], Err};
+ghost use Rattle.frame_lines.specs.DecodedStream.{DecodesStream};
+ghost use Rattle.frame_lines.specs.Private.Decoders.{DecodesKept};
+
+use crate::payload_line::{PayloadError, put_line_of};
+use crate::stream::{PIECE_BYTES, send};
+use frame_front::{Counted, Decoder, FrontError};
+use std::alloc::Global;
+use std::io::{Read, Write};
+use thiserror::Error;
+
+/// Why a stream of frames is not decoded to its end.
+#[derive(Clone, Copy, Debug, PartialEq, Eq, Error)]
+pub enum DecodeError {
+    /// The frame, from 0, is not a request or a reply that has a line.
+    #[error("frame {0} is not a request or a reply that has a line")]
+    BadFrame(u64),
+    /// A length is 0 or over 1,049,000.
+    #[error("a length is 0 or over 1049000")]
+    BadLength,
+    /// The input ends inside a frame.
+    #[error("the input ends inside a frame")]
+    Truncated,
+    #[error("out of memory")]
+    Memory,
+    #[error("the reader failed")]
+    ReadFault,
+    #[error("the writer failed")]
+    WriteFault,
+    #[error("2^64 - 1 reads were made, without an end")]
+    TurnsUsed,
+}
+
+/// Writes the lines of requests and replies, those of each read before the next. If a frame has no line, or the stream ends inside
+/// a frame, the lines of the frames before it stand written.
+pub fn decode_stream<R: Read, W: Write>(
+    alloc: Global,
+    reader: &mut Counted<R>,
+    writer: &mut Counted<W>,
+) -> Result<(), DecodeError>
+    requires reader_count { reader.old.faults < 2 ^ 64 - 1 }
+    requires writer_count { writer.old.faults < 2 ^ 64 - 1 }
+    ensures decodes { DecodesStream result (R.remaining reader.old.end) (R.remaining reader.new.end) (W.contents writer.old.end) (W.contents writer.new.end) }
+    ensures read_fault { result ≡ Err DecodeError.ReadFault → reader.old.faults < reader.new.faults }
+    ensures write_fault { result ≡ Err DecodeError.WriteFault → writer.old.faults < writer.new.faults }
+{
+    let Ok(mut decoder) = Decoder::new(alloc) else {
+        return Err(DecodeError::Memory);
+    };
+    let mut out = Vec::new(alloc);
+    let mut frames = 0;
+    let mut piece = [0; PIECE_BYTES];
+    for _turn in 0..u64::MAX {
+        let count = match reader.read(&mut piece) {
+            Ok(count) => count,
+            Err(_) => return Err(DecodeError::ReadFault),
+        };
+        if count == 0 {
+            return match decoder.finish() {
+                Ok(()) => Ok(()),
+                Err(_) => Err(DecodeError::Truncated),
+            };
+        }
+        let (fresh, _) = piece.split_at(count);
+        if let Err(_) = decoder.feed(fresh) {
+            return Err(DecodeError::Memory);
+        }
+        let ended = decode_kept(&mut decoder, &mut frames, &mut out);
+        if let Err(_) = send(writer, out.as_slice()) {
+            return Err(DecodeError::WriteFault);
+        }
+        out.clear();
+        ended?;
+    }
+    Err(DecodeError::TurnsUsed)
+}
+
+/// Appends the lines of the whole frames that are kept, and counts these frames.
+fn decode_kept(
+    decoder: &mut Decoder,
+    frames: &mut u64,
+    out: &mut Vec<u8>,
+) -> Result<(), DecodeError>
+    ensures { (written : List ℕ) × (out.new.items ≡ out.old.items ++ written) × DecodesKept result decoder.old frames.old decoder.new frames.new written }
+{
+    loop {
+        let payload = match decoder.next_frame() {
+            Ok(Some(payload)) => payload,
+            Ok(None) => return Ok(()),
+            Err(FrontError::BadLength) => return Err(DecodeError::BadLength),
+            Err(_) => return Err(DecodeError::Memory),
+        };
+        match put_line_of(payload.as_slice(), out) {
+            Ok(()) => {}
+            Err(PayloadError::NoLine) => return Err(DecodeError::BadFrame(*frames)),
+            Err(PayloadError::Memory) => return Err(DecodeError::Memory),
+        }
+        *frames = frames.saturating_add(1);
+    }
+}
