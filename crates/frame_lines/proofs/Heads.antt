@@ -33,7 +33,7 @@ speak_frame number = refl
 
 -- ---- line feeds
 
-digits_are_line : (ds : List ℕ) → AllDigits 10 ds → IsOneLine ds
+pub digits_are_line : (ds : List ℕ) → AllDigits 10 ds → IsOneLine ds
 digits_are_line [] all = refl
 digits_are_line (d ∷ ds) all =
     let digit = digit_from_value d all.0 in

@@ -12,3 +12,4 @@ pub mod Lines
 pub mod Encoders
 pub mod Streams
 pub mod Decodes
+pub mod Texts

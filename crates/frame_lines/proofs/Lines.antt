@@ -17,7 +17,7 @@ none_any (byte ∷ bytes) none = by (byte == 10) refl (none_any bytes (λ k smal
     by true e rest = absurd (none 0 (omega arith) e)
     by false e rest = rest
 
-both_lines : (front back : List ℕ) → IsOneLine front → IsOneLine back → IsOneLine (front ++ back)
+pub both_lines : (front back : List ℕ) → IsOneLine front → IsOneLine back → IsOneLine (front ++ back)
 both_lines front back one two = list_any-append (λ x. x == 10) front back ∙ ap (λ (b : Bool). b || list_any (λ x. x == 10) back) one ∙ two
 
 module _ (kept : List ℕ) (searched : ℕ) (within : searched ≤ length kept) (plain : IsOneLine (take searched kept)) (fresh : List ℕ) (is : fresh ≡ drop searched kept) where

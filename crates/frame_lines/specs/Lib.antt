@@ -4,4 +4,5 @@ pub mod Encoding
 pub mod EncodedStream
 pub mod Decoding
 pub mod DecodedStream
+pub mod Laws
 pub mod Private

@@ -4,6 +4,7 @@
 mod decode;
 mod encoder;
 mod head;
+pub mod laws;
 mod line_decoder;
 mod payload_line;
 mod reply;
