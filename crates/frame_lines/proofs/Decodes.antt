@@ -1,5 +1,5 @@
 -- A stream of frames, piece by piece.
-use Rattle.std.proofs.Common.{◌≡◌, ℕ, arith, List, [], ◌∷◌, ◌++◌, Option, Result, Ok, Err, refl, sym, ap, subst, ◌∙◌, append_assoc, append-nil}
+use Rattle.std.proofs.Common.{◌+◌, ◌≤◌, length, ◌<◌, ◌≡◌, ℕ, arith, List, [], ◌∷◌, ◌++◌, Option, Result, Ok, Err, refl, sym, ap, subst, ◌∙◌, append_assoc, append-nil, length-append}
 use Rattle.std.specs.Io.KnownBytes.{Appends, Consumes}
 use Rattle.std.specs.List.{AllByRecursion}
 use Rattle.std.proofs.lemmas.List.Concat.{flat_map-append}
@@ -8,7 +8,9 @@ use Rattle.frame_front.specs.Frame.{frame, IsPayload, IsUnfinished}
 use Rattle.frame_front.specs.Outbox.{WritesFront}
 use Rattle.frame_front.proofs.SessionLemmas.{WritesFront-then}
 use Rattle.frame_lines.specs.Decoding.{IsLineOf}
-use Rattle.frame_lines.specs.DecodedStream.{DecodesStream, IsWritten, frames_in, lines_out, next_frame, frames_after}
+use Rattle.frame_lines.specs.DecodedStream.{DecodesStream, IsWritten, frames_in, lines_out}
+use Rattle.frame_lines.specs.Encoding.{count_after}
+use Rattle.frame_front.specs.Counted.{next_count}
 use Rattle.frame_lines.specs.declared.decode.DecodeError.{DecodeError}
 use Rattle.frame_lines.specs.declared.decode.DecodeError.TheVariants.{BadFrame, BadLength, Truncated, Memory, ReadFault, WriteFault, TurnsUsed}
 use Rattle.frame_lines.specs.Private.Decoders.{FramesSoFar, DecodesKept, EndsKept, DecodedSoFar}
@@ -25,9 +27,9 @@ each_append : (xs ys : List (List ℕ × List ℕ)) → AllByRecursion IsWritten
 each_append [] ys a b = b
 each_append (x ∷ xs) ys a b = (a.0, each_append xs ys a.1 b)
 
-after_append : (frames : ℕ) (xs ys : List (List ℕ × List ℕ)) → frames_after frames (xs ++ ys) ≡ frames_after (frames_after frames xs) ys
+after_append : (frames : ℕ) (xs ys : List (List ℕ × List ℕ)) → count_after frames (xs ++ ys) ≡ count_after (count_after frames xs) ys
 after_append frames [] ys = refl
-after_append frames (x ∷ xs) ys = after_append (next_frame frames) xs ys
+after_append frames (x ∷ xs) ys = after_append (next_count frames) xs ys
 
 -- ---- one frame more
 
@@ -35,7 +37,7 @@ pub begins : (kept out : List ℕ) (frames : ℕ) → FramesSoFar kept frames ke
 begins kept out frames = record { items = []; kept_is = refl; each = tt; now_is = sym (append-nil out); frames_are = refl }
 
 pub goes_on : (old mid new : List ℕ) (frames_old frames_mid frames_new : ℕ) (before now after payload line : List ℕ) → FramesSoFar old frames_old mid frames_mid before now
-    → mid ≡ frame payload ++ new → frames_new ≡ next_frame frames_mid → IsLineOf payload line → after ≡ now ++ (line ++ 10 ∷ []) → FramesSoFar old frames_old new frames_new before after
+    → mid ≡ frame payload ++ new → frames_new ≡ next_count frames_mid → IsLineOf payload line → after ≡ now ++ (line ++ 10 ∷ []) → FramesSoFar old frames_old new frames_new before after
 goes_on old mid new frames_old frames_mid frames_new before now after payload line so stands counted is_line written = record {
   items = so.items ++ (payload, line ++ 10 ∷ []) ∷ [];
   kept_is = so.kept_is ∙ ap (λ k. frames_in so.items ++ k) stands ∙ sym (append_assoc (frames_in so.items) (frame payload) new)
@@ -43,7 +45,7 @@ goes_on old mid new frames_old frames_mid frames_new before now after payload li
   each = each_append so.items ((payload, line ++ 10 ∷ []) ∷ []) so.each ((line, is_line, refl), tt);
   now_is = written ∙ ap (λ n. n ++ (line ++ 10 ∷ [])) so.now_is ∙ append_assoc before (lines_out so.items) (line ++ 10 ∷ [])
       ∙ ap (λ f. before ++ (lines_out so.items ++ f)) (sym (append-nil (line ++ 10 ∷ []))) ∙ ap (λ f. before ++ f) (sym (lines_append so.items ((payload, line ++ 10 ∷ []) ∷ [])));
-  frames_are = counted ∙ ap next_frame so.frames_are ∙ sym (after_append frames_old so.items ((payload, line ++ 10 ∷ []) ∷ []));
+  frames_are = counted ∙ ap next_count so.frames_are ∙ sym (after_append frames_old so.items ((payload, line ++ 10 ∷ []) ∷ []));
 }
 
 -- a frame whose payload has no line
@@ -62,40 +64,41 @@ unlined old mid new kept_new frames_old frames_mid frames_new before now payload
 -- ---- a stream
 
 pub nothing : (left held : Option (List ℕ)) → DecodesStream (Err Memory) left left held held
-nothing left held = record { items = []; rest = []; each = tt; consumes = Consumes-nil left; ends = tt; writes = Appends-nil held }
+nothing left held = record { items = []; rest = []; each = tt; consumes = Consumes-nil left; ends = tt; writes = Appends-nil held; used = tt }
 
-nothing_unfinished : IsUnfinished []
-nothing_unfinished = record { good = λ h. absurd (omega (arith, h)); short = λ h. absurd (omega (arith, h)) }
-
-pub starts : (left held : Option (List ℕ)) (kept : List ℕ) → kept ≡ [] → DecodedSoFar left left held held kept 0
-starts left held kept is = subst (λ (k : List ℕ). DecodedSoFar left left held held k 0) (sym is)
-    (record { items = []; each = tt; consumes = Consumes-nil left; unfinished = nothing_unfinished; appends = Appends-nil held; frames_are = refl })
-
-module _ (left mid new held sent : Option (List ℕ)) (kept : List ℕ) (frames : ℕ) (so : DecodedSoFar left mid held sent kept frames) (piece : List ℕ) (came : Consumes mid new piece) where
+module _ (left mid new held sent : Option (List ℕ)) (kept : List ℕ) (frames turns : ℕ) (so : DecodedSoFar left mid held sent kept frames turns) (piece : List ℕ) (came : Consumes mid new piece) where
   came_in_all : Consumes left new (frames_in so.items ++ (kept ++ piece))
   came_in_all = subst (Consumes left new) (append_assoc (frames_in so.items) kept piece) (Consumes-trans left mid new (frames_in so.items ++ kept) piece so.consumes came)
 
   -- the piece is not kept
   pub not_fed : DecodesStream (Err Memory) left new held sent
-  not_fed = record { items = so.items; rest = kept ++ piece; each = so.each; consumes = came_in_all; ends = tt; writes = so.appends }
+  not_fed = record { items = so.items; rest = kept ++ piece; each = so.each; consumes = came_in_all; ends = tt; writes = so.appends; used = tt }
 
   module _ (taken : Result (Unit {0}) DecodeError) (kept_new : List ℕ) (frames_new : ℕ) (written : List ℕ) (decodes : DecodesKept taken (kept ++ piece) frames kept_new frames_new written) where
     each_now : AllByRecursion IsWritten (so.items ++ decodes.items)
     each_now = each_append so.items decodes.items so.each decodes.each
 
+    read_now : frames_in so.items ++ (kept ++ piece) ≡ frames_in (so.items ++ decodes.items) ++ decodes.rest
+    read_now = ap (λ b. frames_in so.items ++ b) decodes.kept_is ∙ sym (append_assoc (frames_in so.items) (frames_in decodes.items) decodes.rest) ∙ ap (λ b. b ++ decodes.rest) (sym (frames_append so.items decodes.items))
+
     consumes_now : Consumes left new (frames_in (so.items ++ decodes.items) ++ decodes.rest)
-    consumes_now = subst (Consumes left new)
-        (ap (λ b. frames_in so.items ++ b) decodes.kept_is ∙ sym (append_assoc (frames_in so.items) (frames_in decodes.items) decodes.rest) ∙ ap (λ b. b ++ decodes.rest) (sym (frames_append so.items decodes.items)))
-        came_in_all
+    consumes_now = subst (Consumes left new) read_now came_in_all
 
     lines_now : lines_out so.items ++ written ≡ lines_out (so.items ++ decodes.items)
     lines_now = ap (λ b. lines_out so.items ++ b) decodes.written_is ∙ sym (lines_append so.items decodes.items)
 
-    frames_now : frames_after frames decodes.items ≡ frames_after 0 (so.items ++ decodes.items)
-    frames_now = ap (λ n. frames_after n decodes.items) so.frames_are ∙ sym (after_append 0 so.items decodes.items)
+    frames_now : count_after frames decodes.items ≡ count_after 0 (so.items ++ decodes.items)
+    frames_now = ap (λ n. count_after n decodes.items) so.frames_are ∙ sym (after_append 0 so.items decodes.items)
 
     appends_now : (whole : Option (List ℕ)) → Appends sent whole written → Appends held whole (lines_out (so.items ++ decodes.items))
     appends_now whole appends = subst (Appends held whole) lines_now (Appends-trans held sent whole (lines_out so.items) written so.appends appends)
+
+    -- each turn reads at least one byte
+    longer : (rest : List ℕ) → decodes.rest ≡ rest → 0 < length piece → turns + 1 ≤ length (frames_in (so.items ++ decodes.items) ++ rest)
+    longer rest is some =
+        let read : length (frames_in (so.items ++ decodes.items) ++ decodes.rest) ≡ length (frames_in so.items ++ (kept ++ piece)) = ap length (sym read_now) in
+        let same : length (frames_in (so.items ++ decodes.items) ++ decodes.rest) ≡ length (frames_in (so.items ++ decodes.items) ++ rest) = ap (λ (r : List ℕ). length (frames_in (so.items ++ decodes.items) ++ r)) is in
+        omega (arith, some, so.each_turn, read, same, length-append (frames_in so.items) (kept ++ piece), length-append kept piece, length-append (frames_in so.items) kept)
 
     pub not_sent : (cut : Option (List ℕ)) → WritesFront sent cut written → DecodesStream (Err WriteFault) left new held cut
     not_sent cut front = record {
@@ -105,11 +108,12 @@ module _ (left mid new held sent : Option (List ℕ)) (kept : List ℕ) (frames 
       consumes = consumes_now;
       ends = tt;
       writes = subst (WritesFront held cut) lines_now (WritesFront-then held sent cut (lines_out so.items) written so.appends front);
+      used = tt;
     }
 
-    pub goes_on_stream : (whole : Option (List ℕ)) → Appends sent whole written → taken ≡ Ok tt → DecodedSoFar left new held whole kept_new frames_new
-    goes_on_stream whole appends is =
-        let ends = subst (λ (t : Result (Unit {0}) DecodeError). EndsKept t (frames_after frames decodes.items) decodes.rest kept_new) is decodes.ends in
+    pub goes_on_stream : (whole : Option (List ℕ)) → Appends sent whole written → taken ≡ Ok tt → 0 < length piece → DecodedSoFar left new held whole kept_new frames_new (turns + 1)
+    goes_on_stream whole appends is some =
+        let ends = subst (λ (t : Result (Unit {0}) DecodeError). EndsKept t (count_after frames decodes.items) decodes.rest kept_new) is decodes.ends in
         record {
           items = so.items ++ decodes.items;
           each = each_now;
@@ -117,12 +121,13 @@ module _ (left mid new held sent : Option (List ℕ)) (kept : List ℕ) (frames 
           unfinished = subst IsUnfinished (sym ends.1) ends.0;
           appends = appends_now whole appends;
           frames_are = decodes.counts is ∙ frames_now;
+          each_turn = longer kept_new (sym ends.1) some;
         }
 
-    stopped_so : (whole : Option (List ℕ)) → Appends sent whole written → (error : DecodeError) → EndsKept (Err error) (frames_after frames decodes.items) decodes.rest kept_new → DecodesStream (Err error) left new held whole
-    stopped_so whole appends (BadFrame place) ends = record { items = so.items ++ decodes.items; rest = decodes.rest; each = each_now; consumes = consumes_now; ends = (ends.0 ∙ frames_now, ends.1); writes = appends_now whole appends }
-    stopped_so whole appends BadLength ends = record { items = so.items ++ decodes.items; rest = decodes.rest; each = each_now; consumes = consumes_now; ends = ends; writes = appends_now whole appends }
-    stopped_so whole appends Memory ends = record { items = so.items ++ decodes.items; rest = decodes.rest; each = each_now; consumes = consumes_now; ends = tt; writes = appends_now whole appends }
+    stopped_so : (whole : Option (List ℕ)) → Appends sent whole written → (error : DecodeError) → EndsKept (Err error) (count_after frames decodes.items) decodes.rest kept_new → DecodesStream (Err error) left new held whole
+    stopped_so whole appends (BadFrame place) ends = record { items = so.items ++ decodes.items; rest = decodes.rest; each = each_now; consumes = consumes_now; ends = (ends.0 ∙ frames_now, ends.1); writes = appends_now whole appends; used = tt }
+    stopped_so whole appends BadLength ends = record { items = so.items ++ decodes.items; rest = decodes.rest; each = each_now; consumes = consumes_now; ends = ends; writes = appends_now whole appends; used = tt }
+    stopped_so whole appends Memory ends = record { items = so.items ++ decodes.items; rest = decodes.rest; each = each_now; consumes = consumes_now; ends = tt; writes = appends_now whole appends; used = tt }
     stopped_so whole appends Truncated ends = absurd ends
     stopped_so whole appends ReadFault ends = absurd ends
     stopped_so whole appends WriteFault ends = absurd ends
@@ -130,4 +135,4 @@ module _ (left mid new held sent : Option (List ℕ)) (kept : List ℕ) (frames 
 
     pub stopped : (whole : Option (List ℕ)) → Appends sent whole written → (error : DecodeError) → taken ≡ Err error → DecodesStream (Err error) left new held whole
     stopped whole appends error is =
-        stopped_so whole appends error (subst (λ (t : Result (Unit {0}) DecodeError). EndsKept t (frames_after frames decodes.items) decodes.rest kept_new) is decodes.ends)
+        stopped_so whole appends error (subst (λ (t : Result (Unit {0}) DecodeError). EndsKept t (count_after frames decodes.items) decodes.rest kept_new) is decodes.ends)

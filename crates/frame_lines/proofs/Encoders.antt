@@ -1,12 +1,13 @@
 -- An encoder goes on by one line.
 use Rattle.std.proofs.Common.{◌≡◌, ℕ, List, [], ◌∷◌, ◌++◌, refl, sym, ap, ◌∙◌, append_assoc, append-nil}
 use Rattle.std.specs.List.{AllByRecursion}
-use Rattle.frame_lines.specs.Encoding.{EncoderState, Becomes, lines_of, frames_of, next_line, lines_after}
+use Rattle.frame_front.specs.Counted.{next_count}
+use Rattle.frame_lines.specs.Encoding.{EncoderState, Becomes, lines_of, frames_of, count_after}
 use Rattle.frame_lines.specs.Private.Encoders.{SoFar}
 
-lines_then : (lines : ℕ) (items : List (List ℕ × List ℕ)) (item : List ℕ × List ℕ) → lines_after lines (items ++ item ∷ []) ≡ next_line (lines_after lines items)
+lines_then : (lines : ℕ) (items : List (List ℕ × List ℕ)) (item : List ℕ × List ℕ) → count_after lines (items ++ item ∷ []) ≡ next_count (count_after lines items)
 lines_then lines [] item = refl
-lines_then lines (first ∷ items) item = lines_then (next_line lines) items item
+lines_then lines (first ∷ items) item = lines_then (next_count lines) items item
 
 lines_of_then : (items : List (List ℕ × List ℕ)) (item : List ℕ × List ℕ) (rest : List ℕ) → lines_of (items ++ item ∷ []) ++ rest ≡ lines_of items ++ (item.0 ++ 10 ∷ rest)
 lines_of_then [] item rest = ap (λ line. line ++ rest) (append-nil (item.0 ++ 10 ∷ [])) ∙ append_assoc item.0 (10 ∷ []) rest
@@ -25,11 +26,11 @@ each_then (first ∷ items) item each one = (each.0, each_then items item each.1
 pub begins : (old : EncoderState) (out : List ℕ) → SoFar old old out out
 begins old out = record { items = []; came_is = refl; each = tt; written_is = sym (append-nil out); lines_are = refl }
 
-pub goes_on : (old mid new : EncoderState) (before now after line bytes rest : List ℕ) → SoFar old mid before now → mid.kept ≡ line ++ 10 ∷ rest → new.kept ≡ rest → new.lines ≡ next_line mid.lines → Becomes (line, bytes) → after ≡ now ++ bytes → SoFar old new before after
+pub goes_on : (old mid new : EncoderState) (before now after line bytes rest : List ℕ) → SoFar old mid before now → mid.kept ≡ line ++ 10 ∷ rest → new.kept ≡ rest → new.lines ≡ next_count mid.lines → Becomes (line, bytes) → after ≡ now ++ bytes → SoFar old new before after
 goes_on old mid new before now after line bytes rest so kept is_rest lines becomes written = record {
   items = so.items ++ (line, bytes) ∷ [];
   came_is = so.came_is ∙ ap (λ k. lines_of so.items ++ k) kept ∙ sym (lines_of_then so.items (line, bytes) rest) ∙ ap (λ r. lines_of (so.items ++ (line, bytes) ∷ []) ++ r) (sym is_rest);
   each = each_then so.items (line, bytes) so.each becomes;
   written_is = written ∙ ap (λ n. n ++ bytes) so.written_is ∙ append_assoc before (frames_of so.items) bytes ∙ ap (λ f. before ++ f) (sym (frames_of_then so.items (line, bytes)));
-  lines_are = lines ∙ ap next_line so.lines_are ∙ sym (lines_then old.lines so.items (line, bytes));
+  lines_are = lines ∙ ap next_count so.lines_are ∙ sym (lines_then old.lines so.items (line, bytes));
 }

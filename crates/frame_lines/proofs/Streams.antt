@@ -1,12 +1,13 @@
 -- A stream of lines, piece by piece.
-use Rattle.std.proofs.Common.{◌≡◌, ◌⊎◌, inl, inr, ℕ, take, List, [], ◌∷◌, ◌++◌, Option, Result, Ok, Err, refl, sym, ap, subst, ◌∙◌, append_assoc, append-nil}
-use Rattle.std.specs.Io.KnownBytes.{Appends, Consumes, IsAtEnd, Keeps}
+use Rattle.std.proofs.Common.{◌≡◌, ◌⊎◌, inl, inr, ℕ, ◌+◌, ◌<◌, ◌≤◌, take, length, List, [], ◌∷◌, ◌++◌, Option, Result, Ok, Err, refl, sym, ap, subst, ◌∙◌, arith, append_assoc, append-nil, length-append}
+use Rattle.std.specs.Io.KnownBytes.{Appends, Consumes, IsAtEnd}
 use Rattle.std.specs.List.{AllByRecursion}
 use Rattle.std.proofs.lemmas.List.Concat.{flat_map-append}
-use Rattle.std.proofs.KnownBytes.{Appends-nil, Appends-trans, Consumes-nil, Consumes-trans, Consumes-kept}
+use Rattle.std.proofs.KnownBytes.{Appends-nil, Appends-trans, Consumes-nil, Consumes-trans}
 use Rattle.frame_front.specs.Outbox.{WritesFront}
 use Rattle.frame_front.proofs.SessionLemmas.{WritesFront-then}
-use Rattle.frame_lines.specs.Encoding.{EncoderState, Becomes, lines_of, frames_of, lines_after, next_line, Encodes, EndsSo, Finishes}
+use Rattle.frame_front.specs.Counted.{next_count}
+use Rattle.frame_lines.specs.Encoding.{EncoderState, Becomes, lines_of, frames_of, count_after, Encodes, EndsSo, Finishes}
 use Rattle.frame_lines.specs.EncodedStream.{EncodesStream}
 use Rattle.frame_lines.specs.declared.encoder.EncodeError.{EncodeError}
 use Rattle.frame_lines.specs.declared.encoder.EncodeError.TheVariants as lines
@@ -16,10 +17,7 @@ use Rattle.frame_lines.specs.Private.Encoders.{StreamSoFar, stream_result}
 
 -- nothing was read or written
 pub nothing : (left held : Option (List ℕ)) → EncodesStream (Err streams.Memory) left left held held
-nothing left held = record { items = []; rest = []; last = []; each = tt; consumes = Consumes-nil left; ends = refl; writes = Appends-nil held }
-
-pub starts : (left held : Option (List ℕ)) (state : EncoderState) → state ≡ record { kept = []; lines = 0 } → StreamSoFar left left held held state
-starts left held state is = subst (λ (s : EncoderState). StreamSoFar left left held held s) (sym is) (record { items = []; each = tt; consumes = Consumes-nil left; appends = Appends-nil held; lines_are = refl })
+nothing left held = record { items = []; rest = []; last = []; each = tt; consumes = Consumes-nil left; ends = refl; writes = Appends-nil held; used = tt }
 
 -- ---- lists of lines
 
@@ -33,32 +31,13 @@ each_append : (xs ys : List (List ℕ × List ℕ)) → AllByRecursion Becomes x
 each_append [] ys a b = b
 each_append (x ∷ xs) ys a b = (a.0, each_append xs ys a.1 b)
 
-after_append : (lines : ℕ) (xs ys : List (List ℕ × List ℕ)) → lines_after lines (xs ++ ys) ≡ lines_after (lines_after lines xs) ys
+after_append : (lines : ℕ) (xs ys : List (List ℕ × List ℕ)) → count_after lines (xs ++ ys) ≡ count_after (count_after lines xs) ys
 after_append lines [] ys = refl
-after_append lines (x ∷ xs) ys = after_append (next_line lines) xs ys
+after_append lines (x ∷ xs) ys = after_append (next_count lines) xs ys
 
 -- ---- how it ends between two pieces
 
-module _ (left mid new held sent : Option (List ℕ)) (state : EncoderState) (so : StreamSoFar left mid held sent state) where
-  last_none : frames_of so.items ++ [] ≡ frames_of so.items
-  last_none = append-nil (frames_of so.items)
-
-  -- the reader fails
-  pub read_failed : Keeps mid new → EncodesStream (Err streams.ReadFault) left new held sent
-  read_failed keeps = record {
-    items = so.items;
-    rest = state.kept;
-    last = [];
-    each = so.each;
-    consumes = Consumes-kept left mid new (lines_of so.items ++ state.kept) so.consumes keeps;
-    ends = refl;
-    writes = subst (Appends held sent) (sym last_none) so.appends;
-  }
-
-  -- as many reads were made as may be
-  pub turns_used : EncodesStream (Err streams.TurnsUsed) left mid held sent
-  turns_used = record { items = so.items; rest = state.kept; last = []; each = so.each; consumes = so.consumes; ends = refl; writes = subst (Appends held sent) (sym last_none) so.appends }
-
+module _ (left mid new held sent : Option (List ℕ)) (state : EncoderState) (turns : ℕ) (so : StreamSoFar left mid held sent state turns) where
   -- ---- at the end of the reader
 
   last_is : (ended : Result (Unit {0}) EncodeError) (written : List ℕ) → Finishes ended state written → (written ≡ []) ⊎ Becomes (state.kept, written)
@@ -78,6 +57,7 @@ module _ (left mid new held sent : Option (List ℕ)) (state : EncoderState) (so
     consumes = at_end none;
     ends = last_is ended written finishes;
     writes = WritesFront-then held sent cut (frames_of so.items) written so.appends front;
+    used = tt;
   }
 
   pub finished : (ended : Result (Unit {0}) EncodeError) (written : List ℕ) (whole : Option (List ℕ)) → Finishes ended state written → Consumes mid new [] → IsAtEnd new → Appends sent whole written → EncodesStream (stream_result ended) left new held whole
@@ -89,6 +69,7 @@ module _ (left mid new held sent : Option (List ℕ)) (state : EncoderState) (so
     consumes = at_end none;
     ends = (end, finishes);
     writes = Appends-trans held sent whole (frames_of so.items) written so.appends appends;
+    used = tt;
   }
   finished (Err (lines.BadLine n)) written whole finishes none end appends = record {
     items = so.items;
@@ -96,8 +77,9 @@ module _ (left mid new held sent : Option (List ℕ)) (state : EncoderState) (so
     last = written;
     each = so.each;
     consumes = at_end none;
-    ends = (finishes.0 ∙ ap next_line so.lines_are, finishes.2, inr (end, finishes.1));
+    ends = (finishes.0 ∙ ap next_count so.lines_are, finishes.2, inr (end, finishes.1));
     writes = Appends-trans held sent whole (frames_of so.items) written so.appends appends;
+    used = tt;
   }
   finished (Err lines.Memory) written whole finishes none end appends = record {
     items = so.items;
@@ -107,6 +89,7 @@ module _ (left mid new held sent : Option (List ℕ)) (state : EncoderState) (so
     consumes = at_end none;
     ends = finishes;
     writes = Appends-trans held sent whole (frames_of so.items) written so.appends appends;
+    used = tt;
   }
 
   -- ---- with one piece more
@@ -115,17 +98,26 @@ module _ (left mid new held sent : Option (List ℕ)) (state : EncoderState) (so
     each_now : AllByRecursion Becomes (so.items ++ encodes.items)
     each_now = each_append so.items encodes.items so.each encodes.each
 
+    read_now : (lines_of so.items ++ state.kept) ++ piece ≡ lines_of (so.items ++ encodes.items) ++ encodes.rest
+    read_now =
+        append_assoc (lines_of so.items) state.kept piece ∙ ap (λ b. lines_of so.items ++ b) encodes.came_is ∙ sym (append_assoc (lines_of so.items) (lines_of encodes.items) encodes.rest)
+        ∙ ap (λ b. b ++ encodes.rest) (sym (lines_append so.items encodes.items))
+
     consumes_now : Consumes left new (lines_of (so.items ++ encodes.items) ++ encodes.rest)
-    consumes_now =
-        subst (Consumes left new)
-        (append_assoc (lines_of so.items) state.kept piece ∙ ap (λ b. lines_of so.items ++ b) encodes.came_is ∙ sym (append_assoc (lines_of so.items) (lines_of encodes.items) encodes.rest) ∙ ap (λ b. b ++ encodes.rest) (sym (lines_append so.items encodes.items)))
-        (Consumes-trans left mid new (lines_of so.items ++ state.kept) piece so.consumes came)
+    consumes_now = subst (Consumes left new) read_now (Consumes-trans left mid new (lines_of so.items ++ state.kept) piece so.consumes came)
 
     frames_now : frames_of so.items ++ written ≡ frames_of (so.items ++ encodes.items)
     frames_now = ap (λ b. frames_of so.items ++ b) encodes.written_is ∙ sym (frames_append so.items encodes.items)
 
-    lines_now : lines_after state.lines encodes.items ≡ lines_after 0 (so.items ++ encodes.items)
-    lines_now = ap (λ n. lines_after n encodes.items) so.lines_are ∙ sym (after_append 0 so.items encodes.items)
+    lines_now : count_after state.lines encodes.items ≡ count_after 0 (so.items ++ encodes.items)
+    lines_now = ap (λ n. count_after n encodes.items) so.lines_are ∙ sym (after_append 0 so.items encodes.items)
+
+    -- each turn reads at least one byte
+    longer : (rest : List ℕ) → encodes.rest ≡ rest → 0 < length piece → turns + 1 ≤ length (lines_of (so.items ++ encodes.items) ++ rest)
+    longer rest is some =
+        let read : length (lines_of (so.items ++ encodes.items) ++ encodes.rest) ≡ length ((lines_of so.items ++ state.kept) ++ piece) = ap length (sym read_now) in
+        let same : length (lines_of (so.items ++ encodes.items) ++ encodes.rest) ≡ length (lines_of (so.items ++ encodes.items) ++ rest) = ap (λ (r : List ℕ). length (lines_of (so.items ++ encodes.items) ++ r)) is in
+        omega (arith, some, so.each_turn, read, same, length-append (lines_of so.items ++ state.kept) piece)
 
     pub not_sent : (cut : Option (List ℕ)) → WritesFront sent cut written → EncodesStream (Err streams.WriteFault) left new held cut
     not_sent cut front = record {
@@ -136,34 +128,37 @@ module _ (left mid new held sent : Option (List ℕ)) (state : EncoderState) (so
       consumes = consumes_now;
       ends = inl refl;
       writes = subst (WritesFront held cut) (frames_now ∙ sym (append-nil (frames_of (so.items ++ encodes.items)))) (WritesFront-then held sent cut (frames_of so.items) written so.appends front);
+      used = tt;
     }
 
     appends_now : (whole : Option (List ℕ)) → Appends sent whole written → Appends held whole (frames_of (so.items ++ encodes.items))
     appends_now whole appends = subst (Appends held whole) frames_now (Appends-trans held sent whole (frames_of so.items) written so.appends appends)
 
     -- all that came has become frames, but for a line that has no end yet
-    pub goes_on : (whole : Option (List ℕ)) → Appends sent whole written → taken ≡ Ok tt → StreamSoFar left new held whole next
-    goes_on whole appends is =
-        let ends = subst (λ (t : Result (Unit {0}) EncodeError). EndsSo t (lines_after state.lines encodes.items) encodes.rest next) is encodes.ends in
+    pub goes_on : (whole : Option (List ℕ)) → Appends sent whole written → taken ≡ Ok tt → 0 < length piece → StreamSoFar left new held whole next (turns + 1)
+    goes_on whole appends is some =
+        let ends = subst (λ (t : Result (Unit {0}) EncodeError). EndsSo t (count_after state.lines encodes.items) encodes.rest next) is encodes.ends in
         record {
           items = so.items ++ encodes.items;
           each = each_now;
           consumes = subst (λ k. Consumes left new (lines_of (so.items ++ encodes.items) ++ k)) (sym ends.1) consumes_now;
           appends = appends_now whole appends;
           lines_are = ends.2 ∙ lines_now;
+          each_turn = longer next.kept (sym ends.1) some;
         }
 
     pub stopped : (whole : Option (List ℕ)) → Appends sent whole written → (error : EncodeError) → taken ≡ Err error → EncodesStream (stream_result (Err error)) left new held whole
     stopped whole appends (lines.BadLine n) is =
-        let ends = subst (λ (t : Result (Unit {0}) EncodeError). EndsSo t (lines_after state.lines encodes.items) encodes.rest next) is encodes.ends in
+        let ends = subst (λ (t : Result (Unit {0}) EncodeError). EndsSo t (count_after state.lines encodes.items) encodes.rest next) is encodes.ends in
         record {
           items = so.items ++ encodes.items;
           rest = encodes.rest;
           last = [];
           each = each_now;
           consumes = consumes_now;
-          ends = (ends.0 ∙ ap next_line lines_now, refl, inl ends.1);
+          ends = (ends.0 ∙ ap next_count lines_now, refl, inl ends.1);
           writes = subst (Appends held whole) (sym (append-nil (frames_of (so.items ++ encodes.items)))) (appends_now whole appends);
+          used = tt;
         }
     stopped whole appends lines.Memory is = record {
       items = so.items ++ encodes.items;
@@ -173,6 +168,7 @@ module _ (left mid new held sent : Option (List ℕ)) (state : EncoderState) (so
       consumes = consumes_now;
       ends = refl;
       writes = subst (Appends held whole) (sym (append-nil (frames_of (so.items ++ encodes.items)))) (appends_now whole appends);
+      used = tt;
     }
 
 -- ---- what ended the stream ended its encoder

@@ -1,12 +1,13 @@
 -- What decoding a stream does to its reader and its writer.
-use Rattle.std.specs.Prelude.{◌≡◌, ◌≢◌, ℕ, ◌+◌, ◌-◌, ◌^◌, min, List, [], ◌∷◌, ◌++◌, Option, Result, Ok, Err}
+use Rattle.std.specs.Prelude.{length, ◌≡◌, ◌≢◌, ℕ, ◌-◌, ◌^◌, ◌≤◌, List, [], ◌∷◌, ◌++◌, Option, Result, Ok, Err}
 use Rattle.std.specs.List.{flat_map, AllByRecursion}
 use Rattle.std.specs.Io.KnownBytes.{Appends, Consumes, IsAtEnd}
 use Rattle.frame_front.specs.Frame.{frame, IsPayload, IsUnfinished, IsBadLength}
 use Rattle.frame_front.specs.Outbox.{WritesFront}
+use Rattle.frame_lines.specs.Encoding.{count_after}
 use Rattle.frame_lines.specs.Decoding.{IsLineOf}
 use Rattle.frame_lines.specs.declared.decode.DecodeError.{DecodeError}
-use Rattle.frame_lines.specs.declared.decode.DecodeError.TheVariants.{BadFrame, BadLength, Truncated, WriteFault}
+use Rattle.frame_lines.specs.declared.decode.DecodeError.TheVariants.{BadFrame, BadLength, Truncated, WriteFault, TurnsUsed}
 
 -- a payload, and its line with a line feed behind it
 abbrev pub IsWritten : List ℕ × List ℕ → Type 0
@@ -18,15 +19,6 @@ frames_in items = flat_map (λ item. frame item.0) items
 
 abbrev pub lines_out : List (List ℕ × List ℕ) → List ℕ
 lines_out items = flat_map (λ item. item.1) items
-
--- one more, and a count stays at 2^64 - 1 once there
-abbrev pub next_frame : ℕ → ℕ
-next_frame frames = min (frames + 1) (2 ^ 64 - 1)
-
--- how many frames there were after these
-abbrev pub frames_after : ℕ → List (List ℕ × List ℕ) → ℕ
-frames_after frames [] = frames
-frames_after frames (item ∷ items) = frames_after (next_frame frames) items
 
 -- a whole frame stands first, and its payload has no line
 abbrev pub BeginsUnlined : List ℕ → Type 0
@@ -45,10 +37,16 @@ abbrev pub WritesLines : Result (Unit {0}) DecodeError → Option (List ℕ) →
 WritesLines (Err WriteFault) old new bytes = WritesFront old new bytes
 WritesLines ended old new bytes = Appends old new bytes
 
+-- if the reads are used up, each of them gave at least one byte
+abbrev pub UsesTurns : Result (Unit {0}) DecodeError → ℕ → Type 0
+UsesTurns (Err TurnsUsed) read = 2 ^ 64 - 1 ≤ read
+UsesTurns ended read = Unit {0}
+
 pub record DecodesStream (result : Result (Unit {0}) DecodeError) (left_old left_new held_old held_new : Option (List ℕ)) : Type 0 where
   pub items : List (List ℕ × List ℕ)
   pub rest : List ℕ
   pub each : AllByRecursion IsWritten items
   pub consumes : Consumes left_old left_new (frames_in items ++ rest)
-  pub ends : EndsFrames result (frames_after 0 items) rest left_new
+  pub ends : EndsFrames result (count_after 0 items) rest left_new
   pub writes : WritesLines result held_old held_new (lines_out items)
+  pub used : UsesTurns result (length (frames_in items ++ rest))

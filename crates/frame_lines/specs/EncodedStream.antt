@@ -1,11 +1,12 @@
 -- What encoding a stream does to its reader and its writer.
-use Rattle.std.specs.Prelude.{◌≡◌, ◌⊎◌, ℕ, List, [], ◌++◌, Option, Result, Ok, Err}
+use Rattle.std.specs.Prelude.{◌≡◌, ◌⊎◌, ℕ, ◌-◌, ◌^◌, ◌≤◌, List, [], ◌++◌, length, Option, Result, Ok, Err}
 use Rattle.std.specs.List.{AllByRecursion}
 use Rattle.std.specs.Io.KnownBytes.{Appends, Consumes, IsAtEnd}
 use Rattle.frame_front.specs.Outbox.{WritesFront}
-use Rattle.frame_lines.specs.Encoding.{Becomes, IsBadLine, BeginsBad, BeginsLong, lines_of, frames_of, lines_after, next_line}
+use Rattle.frame_front.specs.Counted.{next_count}
+use Rattle.frame_lines.specs.Encoding.{Becomes, IsBadLine, BeginsBad, BeginsLong, lines_of, frames_of, count_after}
 use Rattle.frame_lines.specs.declared.stream.StreamError.{StreamError}
-use Rattle.frame_lines.specs.declared.stream.StreamError.TheVariants.{BadLine, WriteFault}
+use Rattle.frame_lines.specs.declared.stream.StreamError.TheVariants.{BadLine, WriteFault, TurnsUsed}
 
 -- How it ends, after lines that became something: what is left of the bytes that were read, and what that became.
 abbrev pub EndsStream : Result (Unit {0}) StreamError → List (List ℕ × List ℕ) → List ℕ → List ℕ → Option (List ℕ) → Type 0
@@ -13,7 +14,7 @@ abbrev pub EndsStream : Result (Unit {0}) StreamError → List (List ℕ × List
 EndsStream (Ok done) items rest last left = IsAtEnd left × Becomes (rest, last)
 -- the next line is bad, or too long already; or the last is bad
 EndsStream (Err (BadLine number)) items rest last left =
-    (number ≡ next_line (lines_after 0 items)) × (last ≡ []) × ((BeginsBad rest ⊎ BeginsLong rest) ⊎ (IsAtEnd left × IsBadLine rest))
+    (number ≡ next_count (count_after 0 items)) × (last ≡ []) × ((BeginsBad rest ⊎ BeginsLong rest) ⊎ (IsAtEnd left × IsBadLine rest))
 EndsStream (Err WriteFault) items rest last left = (last ≡ []) ⊎ Becomes (rest, last)
 EndsStream (Err error) items rest last left = last ≡ []
 
@@ -21,6 +22,11 @@ EndsStream (Err error) items rest last left = last ≡ []
 abbrev pub WritesStream : Result (Unit {0}) StreamError → Option (List ℕ) → Option (List ℕ) → List ℕ → Type 0
 WritesStream (Err WriteFault) old new bytes = WritesFront old new bytes
 WritesStream ended old new bytes = Appends old new bytes
+
+-- if the reads are used up, each of them gave at least one byte
+abbrev pub UsesTurns : Result (Unit {0}) StreamError → ℕ → Type 0
+UsesTurns (Err TurnsUsed) read = 2 ^ 64 - 1 ≤ read
+UsesTurns ended read = Unit {0}
 
 pub record EncodesStream (result : Result (Unit {0}) StreamError) (left_old left_new held_old held_new : Option (List ℕ)) : Type 0 where
   pub items : List (List ℕ × List ℕ)
@@ -30,3 +36,4 @@ pub record EncodesStream (result : Result (Unit {0}) StreamError) (left_old left
   pub consumes : Consumes left_old left_new (lines_of items ++ rest)
   pub ends : EndsStream result items rest last left_new
   pub writes : WritesStream result held_old held_new (frames_of items ++ last)
+  pub used : UsesTurns result (length (lines_of items ++ rest))

@@ -1,6 +1,7 @@
 -- Lines of requests on a stream, and the frames that they become.
-use Rattle.std.specs.Prelude.{◌≡◌, ◌⊎◌, ℕ, ◌+◌, ◌<◌, ◌^◌, ◌-◌, min, Bool, true, false, List, [], ◌∷◌, ◌++◌, length, ◌==◌, Result, Ok, Err}
+use Rattle.std.specs.Prelude.{◌≡◌, ◌⊎◌, ℕ, ◌<◌, ◌≤◌, Bool, true, false, List, [], ◌∷◌, ◌++◌, length, ◌==◌, Result, Ok, Err}
 use Rattle.std.specs.List.{flat_map, AllByRecursion}
+use Rattle.frame_front.specs.Counted.{next_count}
 use Rattle.frame_front.specs.Frame.{frame}
 use Rattle.frame_lines.specs.RequestForm.{Request, HasLine, IsFramed, IsOneLine, line_of, payload_of}
 use Rattle.frame_lines.specs.declared.encoder.EncodeError.{EncodeError}
@@ -36,14 +37,10 @@ pub record EncoderState : Type 0 where
   pub kept : List ℕ
   pub lines : ℕ
 
--- one more, and a count stays at 2^64 - 1 once there
-abbrev pub next_line : ℕ → ℕ
-next_line lines = min (lines + 1) (2 ^ 64 - 1)
-
--- how many lines there were after these
-abbrev pub lines_after : ℕ → List (List ℕ × List ℕ) → ℕ
-lines_after lines [] = lines
-lines_after lines (item ∷ items) = lines_after (next_line lines) items
+-- how many there were after these
+abbrev pub count_after : ℕ → List (List ℕ × List ℕ) → ℕ
+count_after count [] = count
+count_after count (item ∷ items) = count_after (next_count count) items
 
 -- the first line of these bytes, which a line feed ends, is bad
 abbrev pub BeginsBad : List ℕ → Type 0
@@ -59,12 +56,12 @@ BeginsLong bytes = IsOneLine bytes × (most_line < length bytes)
 
 -- why the bytes after so many lines become nothing
 abbrev pub StopsAt : EncodeError → ℕ → List ℕ → Type 0
-StopsAt (BadLine number) lines bytes = (number ≡ next_line lines) × (BeginsBad bytes ⊎ BeginsLong bytes)
+StopsAt (BadLine number) lines bytes = (number ≡ next_count lines) × (BeginsBad bytes ⊎ BeginsLong bytes)
 StopsAt Memory lines bytes = Unit {0}
 
 -- how it ends, after so many lines
 abbrev pub EndsSo : Result (Unit {0}) EncodeError → ℕ → List ℕ → EncoderState → Type 0
-EndsSo (Ok done) lines rest new = IsOneLine rest × (new.kept ≡ rest) × (new.lines ≡ lines)
+EndsSo (Ok done) lines rest new = IsOneLine rest × (new.kept ≡ rest) × (new.lines ≡ lines) × (length rest ≤ most_line)
 EndsSo (Err error) lines rest new = StopsAt error lines rest
 
 -- These bytes have come. Of the lines among them each became what it becomes; what is left is no whole line, or why
@@ -75,10 +72,10 @@ pub record Encodes (result : Result (Unit {0}) EncodeError) (old : EncoderState)
   pub came_is : old.kept ++ came ≡ lines_of items ++ rest
   pub each : AllByRecursion Becomes items
   pub written_is : written ≡ frames_of items
-  pub ends : EndsSo result (lines_after old.lines items) rest new
+  pub ends : EndsSo result (count_after old.lines items) rest new
 
 -- The stream has ended, so what is left is its last line, if it is not empty.
 abbrev pub Finishes : Result (Unit {0}) EncodeError → EncoderState → List ℕ → Type 0
 Finishes (Ok done) old written = Becomes (old.kept, written)
-Finishes (Err (BadLine number)) old written = (number ≡ next_line old.lines) × IsBadLine old.kept × (written ≡ [])
+Finishes (Err (BadLine number)) old written = (number ≡ next_count old.lines) × IsBadLine old.kept × (written ≡ [])
 Finishes (Err Memory) old written = written ≡ []

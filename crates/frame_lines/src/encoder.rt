@@ -1,6 +1,7 @@
 //! Lines of requests become frames.
 ghost use Rattle.std.specs.Prelude.{◌≡◌, ◌++◌, List, ℕ, [], Err, IfOk, OnOk, OnErr};
-ghost use Rattle.frame_lines.specs.Encoding.{Becomes, Encodes, Finishes, IsBadLine, next_line, is_comment as comment};
+ghost use Rattle.frame_front.specs.Counted.{next_count};
+ghost use Rattle.frame_lines.specs.Encoding.{Becomes, Encodes, Finishes, IsBadLine, is_comment as comment};
 ghost use Rattle.frame_lines.specs.declared.encoder.EncodeError.TheVariants.{BadLine};
 
 use crate::line_decoder::LineDecoder;
@@ -93,7 +94,7 @@ impl Encoder {
 
     /// The line at hand is bad.
     fn bad_line(&self) -> EncodeError
-        ensures { result ≡ BadLine (next_line self.now.lines) }
+        ensures { result ≡ BadLine (next_count self.now.lines) }
     {
         EncodeError::BadLine(self.lines.saturating_add(1))
     }

@@ -1,12 +1,12 @@
 -- How far an encoder is with the lines that it keeps.
-use Rattle.std.specs.Prelude.{◌≡◌, ℕ, List, ◌++◌, Option, Result, Ok, Err}
+use Rattle.std.specs.Prelude.{◌≡◌, ℕ, ◌≤◌, List, ◌++◌, length, Option, Result, Ok, Err}
 use Rattle.std.specs.List.{AllByRecursion}
 use Rattle.std.specs.Io.KnownBytes.{Appends, Consumes}
 use Rattle.frame_lines.specs.declared.encoder.EncodeError.{EncodeError}
 use Rattle.frame_lines.specs.declared.encoder.EncodeError.TheVariants as lines
 use Rattle.frame_lines.specs.declared.stream.StreamError.{StreamError}
 use Rattle.frame_lines.specs.declared.stream.StreamError.TheVariants as streams
-use Rattle.frame_lines.specs.Encoding.{EncoderState, Becomes, lines_of, frames_of, lines_after}
+use Rattle.frame_lines.specs.Encoding.{EncoderState, Becomes, lines_of, frames_of, count_after}
 
 -- of the lines that were kept, these became what they become
 pub record SoFar (old new : EncoderState) (before now : List ℕ) : Type 0 where
@@ -14,7 +14,7 @@ pub record SoFar (old new : EncoderState) (before now : List ℕ) : Type 0 where
   pub came_is : old.kept ≡ lines_of items ++ new.kept
   pub each : AllByRecursion Becomes items
   pub written_is : now ≡ before ++ frames_of items
-  pub lines_are : new.lines ≡ lines_after old.lines items
+  pub lines_are : new.lines ≡ count_after old.lines items
 
 -- how a stream ends if its encoder does so
 abbrev pub stream_result : Result (Unit {0}) EncodeError → Result (Unit {0}) StreamError
@@ -23,9 +23,10 @@ stream_result (Err (lines.BadLine line)) = Err (streams.BadLine line)
 stream_result (Err lines.Memory) = Err streams.Memory
 
 -- a stream between two reads
-pub record StreamSoFar (left_old left_new held_old held_new : Option (List ℕ)) (state : EncoderState) : Type 0 where
+pub record StreamSoFar (left_old left_new held_old held_new : Option (List ℕ)) (state : EncoderState) (turns : ℕ) : Type 0 where
   pub items : List (List ℕ × List ℕ)
   pub each : AllByRecursion Becomes items
   pub consumes : Consumes left_old left_new (lines_of items ++ state.kept)
   pub appends : Appends held_old held_new (frames_of items)
-  pub lines_are : state.lines ≡ lines_after 0 items
+  pub lines_are : state.lines ≡ count_after 0 items
+  pub each_turn : turns ≤ length (lines_of items ++ state.kept)

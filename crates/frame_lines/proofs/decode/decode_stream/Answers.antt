@@ -1,4 +1,4 @@
-use Rattle.std.proofs.Common.{rules, ◌≡◌, ℕ, List, ◌++◌, Err, sym, ap, subst, ◌∙◌}
+use Rattle.std.proofs.Common.{◌<◌, length, rules, ◌≡◌, ℕ, List, ◌++◌, Err, sym, ap, subst, ◌∙◌}
 use Rattle.std.specs.Io.KnownBytes.{Appends, Consumes}
 use Rattle.frame_front.specs.Outbox.{WritesFront}
 use Rattle.frame_lines.specs.Private.Decoders.{DecodesKept}
@@ -16,7 +16,7 @@ returns-in-Err-feed-clause-decodes g c =
     let held = g.W.Write.contents c.args.writer.now.end in
     let sent = g.W.Write.contents c.loop-turn.writer.end in
     let came = subst (Consumes mid new) (sym c.split_at.ensures.front) c.in-Ok-read.ensures.bytes.0 in
-    not_fed left mid new held sent c.loop-turn.decoder c.loop-turn.frames c.loop-turn.invariant.0 c.split_at.result.0.now came
+    not_fed left mid new held sent c.loop-turn.decoder c.loop-turn.frames c.loop-turn._turn c.loop-turn.invariant.0 c.split_at.result.0.now came
 
 pub returns-in-Err-send-clause-decodes : goal.returns-in-Err-send-clause-decodes
 returns-in-Err-send-clause-decodes g c =
@@ -31,7 +31,7 @@ returns-in-Err-send-clause-decodes g c =
     let fed : c.feed.new.self ≡ c.loop-turn.decoder ++ c.split_at.result.0.now = search rules in
     let decodes = subst (λ (k : List ℕ). DecodesKept c.decode_kept-ended.result k c.loop-turn.frames c.decode_kept-ended.new.decoder c.decode_kept-ended.new.frames took.0) fed took.2 in
     let bytes = c.as_slice.ensures.value ∙ took.1 ∙ ap (λ o. o ++ took.0) c.loop-turn.invariant.3 in
-    not_sent left mid new held sent c.loop-turn.decoder c.loop-turn.frames c.loop-turn.invariant.0 c.split_at.result.0.now came c.decode_kept-ended.result c.decode_kept-ended.new.decoder c.decode_kept-ended.new.frames took.0 decodes cut (subst (WritesFront sent cut) bytes c.send.ensures.front)
+    not_sent left mid new held sent c.loop-turn.decoder c.loop-turn.frames c.loop-turn._turn c.loop-turn.invariant.0 c.split_at.result.0.now came c.decode_kept-ended.result c.decode_kept-ended.new.decoder c.decode_kept-ended.new.frames took.0 decodes cut (subst (WritesFront sent cut) bytes c.send.ensures.front)
 
 pub returns-in_err-ended-clause-decodes : goal.returns-in_err-ended-clause-decodes
 returns-in_err-ended-clause-decodes g c =
@@ -49,7 +49,7 @@ returns-in_err-ended-clause-decodes g c =
     let appends : Appends sent whole c.as_slice.result.now = search rules in
     let error = c.in_err-ended.field-0.0 in
     let is : c.from_residual.result ≡ Err error = search rules in
-    rw is (stopped left mid new held sent c.loop-turn.decoder c.loop-turn.frames c.loop-turn.invariant.0 c.split_at.result.0.now came c.decode_kept-ended.result c.decode_kept-ended.new.decoder c.decode_kept-ended.new.frames took.0 decodes whole (subst (Appends sent whole) bytes appends) error c.in_err-ended.was)
+    rw is (stopped left mid new held sent c.loop-turn.decoder c.loop-turn.frames c.loop-turn._turn c.loop-turn.invariant.0 c.split_at.result.0.now came c.decode_kept-ended.result c.decode_kept-ended.new.decoder c.decode_kept-ended.new.frames took.0 decodes whole (subst (Appends sent whole) bytes appends) error c.in_err-ended.was)
 
 pub loop-turn-preserved : goal.loop-turn-preserved
 loop-turn-preserved g c =
@@ -65,4 +65,5 @@ loop-turn-preserved g c =
     let decodes = subst (λ (k : List ℕ). DecodesKept c.decode_kept-ended.result k c.loop-turn.frames c.decode_kept-ended.new.decoder c.decode_kept-ended.new.frames took.0) fed took.2 in
     let bytes = c.as_slice.ensures.value ∙ took.1 ∙ ap (λ o. o ++ took.0) c.loop-turn.invariant.3 in
     let appends : Appends sent whole c.as_slice.result.now = search rules in
-    (goes_on_stream left mid new held sent c.loop-turn.decoder c.loop-turn.frames c.loop-turn.invariant.0 c.split_at.result.0.now came c.decode_kept-ended.result c.decode_kept-ended.new.decoder c.decode_kept-ended.new.frames took.0 decodes whole (subst (Appends sent whole) bytes appends) c.in_ok-ended.was, search rules, search rules, search rules)
+    let some : 0 < length c.split_at.result.0.now = search rules in
+    (goes_on_stream left mid new held sent c.loop-turn.decoder c.loop-turn.frames c.loop-turn._turn c.loop-turn.invariant.0 c.split_at.result.0.now came c.decode_kept-ended.result c.decode_kept-ended.new.decoder c.decode_kept-ended.new.frames took.0 decodes whole (subst (Appends sent whole) bytes appends) c.in_ok-ended.was some, search rules, search rules, search rules)

@@ -6,5 +6,5 @@ use Rattle.frame_lines.proofs.stream.encode_stream.Given as goal
 abbrev pub invariant-loop-turn : goal.invariant-loop-turn
 invariant-loop-turn g l =
     StreamSoFar (g.R.Read.remaining l.fn.reader.end) (g.R.Read.remaining l.reader.end)
-    (g.W.Write.contents l.fn.writer.end) (g.W.Write.contents l.writer.end) l.encoder
+    (g.W.Write.contents l.fn.writer.end) (g.W.Write.contents l.writer.end) l.encoder l._turn
     × (l.reader.faults ≡ l.fn.reader.faults) × (l.writer.faults ≡ l.fn.writer.faults) × (l.out.items ≡ [])

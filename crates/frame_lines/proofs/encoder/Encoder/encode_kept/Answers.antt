@@ -1,5 +1,6 @@
 use Rattle.std.proofs.Common.{◌≡◌, ◌+◌, ◌∷◌, ◌++◌, take, drop, sym, ap, ◌∙◌}
-use Rattle.frame_lines.specs.Encoding.{EncoderState, next_line}
+use Rattle.frame_front.specs.Counted.{next_count}
+use Rattle.frame_lines.specs.Encoding.{EncoderState}
 use Rattle.frame_lines.proofs.Encoders.{begins, goes_on}
 use Rattle.frame_lines.proofs.encoder.Encoder.encode_kept.Goals as goal
 
@@ -16,4 +17,4 @@ loop-size-preserved c =
     let front : line ≡ take size decoder = c.split_at.ensures.front ∙ ap (take size) (c.kept.ensures ∙ same) in
     let kept = ap (λ (s : EncoderState). s.kept) (sym c.self.view_is) ∙ c.in-Some.ensures.next.1 ∙ ap (λ f. f ++ 10 ∷ rest) (sym front) in
     let put = c.in-Ok.ensures.ok in
-    goes_on c.args.self.now c.loop-size.self _ c.args.out.now.items c.loop-size.out.items c.put_line.new.out.items line put.0 rest c.loop-size.invariant kept (c.pass.ensures ∙ ap (drop (size + 1)) same) (c.saturating_add-self-inside.ensures ∙ ap (λ (s : EncoderState). next_line s.lines) c.self.view_is) put.1 put.2
+    goes_on c.args.self.now c.loop-size.self _ c.args.out.now.items c.loop-size.out.items c.put_line.new.out.items line put.0 rest c.loop-size.invariant kept (c.pass.ensures ∙ ap (drop (size + 1)) same) (c.saturating_add-self-inside.ensures ∙ ap (λ (s : EncoderState). next_count s.lines) c.self.view_is) put.1 put.2
