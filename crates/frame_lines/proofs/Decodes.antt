@@ -12,7 +12,9 @@ use Rattle.frame_lines.specs.DecodedStream.{DecodesStream, IsWritten, frames_in,
 use Rattle.frame_lines.specs.Encoding.{count_after}
 use Rattle.frame_front.specs.Counted.{next_count}
 use Rattle.frame_lines.specs.declared.decode.DecodeError.{DecodeError}
-use Rattle.frame_lines.specs.declared.decode.DecodeError.TheVariants.{BadFrame, BadLength, Truncated, Memory, ReadFault, WriteFault, TurnsUsed}
+use Rattle.frame_lines.specs.declared.decode.DecodeError.TheVariants.{BadFrame, Front}
+use Rattle.frame_front.specs.declared.error.FrontError.{FrontError}
+use Rattle.frame_front.specs.declared.error.FrontError.TheVariants.{BadLength, Truncated, Memory, ReadFault, WriteFault, TurnsUsed}
 use Rattle.frame_lines.specs.Private.Decoders.{FramesSoFar, DecodesKept, EndsKept, DecodedSoFar}
 
 -- ---- lists of frames
@@ -63,7 +65,7 @@ unlined old mid new kept_new frames_old frames_mid frames_new before now payload
 
 -- ---- a stream
 
-pub nothing : (left held : Option (List ℕ)) → DecodesStream (Err Memory) left left held held
+pub nothing : (left held : Option (List ℕ)) → DecodesStream (Err (Front Memory)) left left held held
 nothing left held = record { items = []; rest = []; each = tt; consumes = Consumes-nil left; ends = tt; writes = Appends-nil held; used = tt }
 
 module _ (left mid new held sent : Option (List ℕ)) (kept : List ℕ) (frames turns : ℕ) (so : DecodedSoFar left mid held sent kept frames turns) (piece : List ℕ) (came : Consumes mid new piece) where
@@ -71,7 +73,7 @@ module _ (left mid new held sent : Option (List ℕ)) (kept : List ℕ) (frames 
   came_in_all = subst (Consumes left new) (append_assoc (frames_in so.items) kept piece) (Consumes-trans left mid new (frames_in so.items ++ kept) piece so.consumes came)
 
   -- the piece is not kept
-  pub not_fed : DecodesStream (Err Memory) left new held sent
+  pub not_fed : DecodesStream (Err (Front Memory)) left new held sent
   not_fed = record { items = so.items; rest = kept ++ piece; each = so.each; consumes = came_in_all; ends = tt; writes = so.appends; used = tt }
 
   module _ (taken : Result (Unit {0}) DecodeError) (kept_new : List ℕ) (frames_new : ℕ) (written : List ℕ) (decodes : DecodesKept taken (kept ++ piece) frames kept_new frames_new written) where
@@ -100,7 +102,7 @@ module _ (left mid new held sent : Option (List ℕ)) (kept : List ℕ) (frames 
         let same : length (frames_in (so.items ++ decodes.items) ++ decodes.rest) ≡ length (frames_in (so.items ++ decodes.items) ++ rest) = ap (λ (r : List ℕ). length (frames_in (so.items ++ decodes.items) ++ r)) is in
         omega (arith, some, so.each_turn, read, same, length-append (frames_in so.items) (kept ++ piece), length-append kept piece, length-append (frames_in so.items) kept)
 
-    pub not_sent : (cut : Option (List ℕ)) → WritesFront sent cut written → DecodesStream (Err WriteFault) left new held cut
+    pub not_sent : (cut : Option (List ℕ)) → WritesFront sent cut written → DecodesStream (Err (Front WriteFault)) left new held cut
     not_sent cut front = record {
       items = so.items ++ decodes.items;
       rest = decodes.rest;
@@ -126,12 +128,12 @@ module _ (left mid new held sent : Option (List ℕ)) (kept : List ℕ) (frames 
 
     stopped_so : (whole : Option (List ℕ)) → Appends sent whole written → (error : DecodeError) → EndsKept (Err error) (count_after frames decodes.items) decodes.rest kept_new → DecodesStream (Err error) left new held whole
     stopped_so whole appends (BadFrame place) ends = record { items = so.items ++ decodes.items; rest = decodes.rest; each = each_now; consumes = consumes_now; ends = (ends.0 ∙ frames_now, ends.1); writes = appends_now whole appends; used = tt }
-    stopped_so whole appends BadLength ends = record { items = so.items ++ decodes.items; rest = decodes.rest; each = each_now; consumes = consumes_now; ends = ends; writes = appends_now whole appends; used = tt }
-    stopped_so whole appends Memory ends = record { items = so.items ++ decodes.items; rest = decodes.rest; each = each_now; consumes = consumes_now; ends = tt; writes = appends_now whole appends; used = tt }
-    stopped_so whole appends Truncated ends = absurd ends
-    stopped_so whole appends ReadFault ends = absurd ends
-    stopped_so whole appends WriteFault ends = absurd ends
-    stopped_so whole appends TurnsUsed ends = absurd ends
+    stopped_so whole appends (Front BadLength) ends = record { items = so.items ++ decodes.items; rest = decodes.rest; each = each_now; consumes = consumes_now; ends = ends; writes = appends_now whole appends; used = tt }
+    stopped_so whole appends (Front Memory) ends = record { items = so.items ++ decodes.items; rest = decodes.rest; each = each_now; consumes = consumes_now; ends = tt; writes = appends_now whole appends; used = tt }
+    stopped_so whole appends (Front Truncated) ends = absurd ends
+    stopped_so whole appends (Front ReadFault) ends = absurd ends
+    stopped_so whole appends (Front WriteFault) ends = absurd ends
+    stopped_so whole appends (Front TurnsUsed) ends = absurd ends
 
     pub stopped : (whole : Option (List ℕ)) → Appends sent whole written → (error : DecodeError) → taken ≡ Err error → DecodesStream (Err error) left new held whole
     stopped whole appends error is =

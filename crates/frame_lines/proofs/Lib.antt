@@ -13,3 +13,4 @@ pub mod Encoders
 pub mod Streams
 pub mod Decodes
 pub mod Texts
+pub mod OneLine

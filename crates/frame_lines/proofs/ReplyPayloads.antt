@@ -337,7 +337,7 @@ moved_read shard first second low fits enough =
     ∙ ap (λ o. o >>= λ f. long_number three >>= λ l. Some (Moved shard f l)) (long_read first fits)
     ∙ ap (λ o. o >>= λ l. Some (Moved shard first l)) (long_read second enough)
 
-payload_read : (r : Reply) → HasPayload r → read_payload (payload_of r) ≡ Some r
+pub payload_read : (r : Reply) → HasPayload r → read_payload (payload_of r) ≡ Some r
 unfolding read_payload kind_of error_by_number reply_by_letter bundle_in
 payload_read Stored has = refl
 payload_read Unchanged has = refl

@@ -186,7 +186,7 @@ payload_found (letter ∷ bytes) r fits is = by_letter_found letter bytes r (λ 
 
 -- ---- and back
 
-payload_read : (r : Request) → HasPayload r → read_payload (payload_of r) ≡ Some r
+pub payload_read : (r : Request) → HasPayload r → read_payload (payload_of r) ≡ Some r
 unfolding read_payload request_by_letter set_in append_in remove_in get_in speak_in set_if_in
 payload_read (Set name text) fits = ap (λ o. o >>= λ parts. Some (Set parts.0 parts.1)) (named_read name text)
 payload_read (SetIf name expect text) fits =

@@ -7,7 +7,8 @@ use Rattle.std.proofs.KnownBytes.{Appends-nil, Appends-trans, Consumes-nil, Cons
 use Rattle.frame_front.specs.Outbox.{WritesFront}
 use Rattle.frame_front.proofs.SessionLemmas.{WritesFront-then}
 use Rattle.frame_front.specs.Counted.{next_count}
-use Rattle.frame_lines.specs.Encoding.{EncoderState, Becomes, lines_of, frames_of, count_after, Encodes, EndsSo, Finishes}
+use Rattle.frame_front.specs.declared.error.FrontError.TheVariants.{Memory, WriteFault}
+use Rattle.frame_lines.specs.Encoding.{EncoderState, Gives, Becomes, lines_of, frames_of, count_after, Encodes, EndsSo, Finishes}
 use Rattle.frame_lines.specs.EncodedStream.{EncodesStream}
 use Rattle.frame_lines.specs.declared.encoder.EncodeError.{EncodeError}
 use Rattle.frame_lines.specs.declared.encoder.EncodeError.TheVariants as lines
@@ -16,8 +17,8 @@ use Rattle.frame_lines.specs.declared.stream.StreamError.TheVariants as streams
 use Rattle.frame_lines.specs.Private.Encoders.{StreamSoFar, stream_result}
 
 -- nothing was read or written
-pub nothing : (left held : Option (List ℕ)) → EncodesStream (Err streams.Memory) left left held held
-nothing left held = record { items = []; rest = []; last = []; each = tt; consumes = Consumes-nil left; ends = refl; writes = Appends-nil held; used = tt }
+pub nothing : (gives : Gives) (left held : Option (List ℕ)) → EncodesStream gives (Err (streams.Front Memory)) left left held held
+nothing gives left held = record { items = []; rest = []; last = []; each = tt; consumes = Consumes-nil left; ends = refl; writes = Appends-nil held; used = tt }
 
 -- ---- lists of lines
 
@@ -27,9 +28,9 @@ lines_append xs ys = flat_map-append (λ item. item.0 ++ 10 ∷ []) xs ys
 frames_append : (xs ys : List (List ℕ × List ℕ)) → frames_of (xs ++ ys) ≡ frames_of xs ++ frames_of ys
 frames_append xs ys = flat_map-append (λ item. item.1) xs ys
 
-each_append : (xs ys : List (List ℕ × List ℕ)) → AllByRecursion Becomes xs → AllByRecursion Becomes ys → AllByRecursion Becomes (xs ++ ys)
-each_append [] ys a b = b
-each_append (x ∷ xs) ys a b = (a.0, each_append xs ys a.1 b)
+each_append : (gives : Gives) (xs ys : List (List ℕ × List ℕ)) → AllByRecursion (Becomes gives) xs → AllByRecursion (Becomes gives) ys → AllByRecursion (Becomes gives) (xs ++ ys)
+each_append gives [] ys a b = b
+each_append gives (x ∷ xs) ys a b = (a.0, each_append gives xs ys a.1 b)
 
 after_append : (lines : ℕ) (xs ys : List (List ℕ × List ℕ)) → count_after lines (xs ++ ys) ≡ count_after (count_after lines xs) ys
 after_append lines [] ys = refl
@@ -37,18 +38,19 @@ after_append lines (x ∷ xs) ys = after_append (next_count lines) xs ys
 
 -- ---- how it ends between two pieces
 
-module _ (left mid new held sent : Option (List ℕ)) (state : EncoderState) (turns : ℕ) (so : StreamSoFar left mid held sent state turns) where
+module _ (gives : Gives) (left mid new held sent : Option (List ℕ)) (state : EncoderState) (turns : ℕ) (so : StreamSoFar gives left mid held sent state turns) where
   -- ---- at the end of the reader
 
-  last_is : (ended : Result (Unit {0}) EncodeError) (written : List ℕ) → Finishes ended state written → (written ≡ []) ⊎ Becomes (state.kept, written)
+  last_is : (ended : Result (Unit {0}) EncodeError) (written : List ℕ) → Finishes gives ended state written → (written ≡ []) ⊎ Becomes gives (state.kept, written)
   last_is (Ok done) written finishes = inr finishes
   last_is (Err (lines.BadLine n)) written finishes = inl finishes.2
+  last_is (Err (lines.Unreadable n)) written finishes = inl finishes.2
   last_is (Err lines.Memory) written finishes = inl finishes
 
   at_end : Consumes mid new [] → Consumes left new (lines_of so.items ++ state.kept)
   at_end none = subst (Consumes left new) (append-nil (lines_of so.items ++ state.kept)) (Consumes-trans left mid new (lines_of so.items ++ state.kept) [] so.consumes none)
 
-  pub not_finished : (ended : Result (Unit {0}) EncodeError) (written : List ℕ) (cut : Option (List ℕ)) → Finishes ended state written → Consumes mid new [] → WritesFront sent cut written → EncodesStream (Err streams.WriteFault) left new held cut
+  pub not_finished : (ended : Result (Unit {0}) EncodeError) (written : List ℕ) (cut : Option (List ℕ)) → Finishes gives ended state written → Consumes mid new [] → WritesFront sent cut written → EncodesStream gives (Err (streams.Front WriteFault)) left new held cut
   not_finished ended written cut finishes none front = record {
     items = so.items;
     rest = state.kept;
@@ -60,7 +62,7 @@ module _ (left mid new held sent : Option (List ℕ)) (state : EncoderState) (tu
     used = tt;
   }
 
-  pub finished : (ended : Result (Unit {0}) EncodeError) (written : List ℕ) (whole : Option (List ℕ)) → Finishes ended state written → Consumes mid new [] → IsAtEnd new → Appends sent whole written → EncodesStream (stream_result ended) left new held whole
+  pub finished : (ended : Result (Unit {0}) EncodeError) (written : List ℕ) (whole : Option (List ℕ)) → Finishes gives ended state written → Consumes mid new [] → IsAtEnd new → Appends sent whole written → EncodesStream gives (stream_result ended) left new held whole
   finished (Ok done) written whole finishes none end appends = record {
     items = so.items;
     rest = state.kept;
@@ -72,6 +74,16 @@ module _ (left mid new held sent : Option (List ℕ)) (state : EncoderState) (tu
     used = tt;
   }
   finished (Err (lines.BadLine n)) written whole finishes none end appends = record {
+    items = so.items;
+    rest = state.kept;
+    last = written;
+    each = so.each;
+    consumes = at_end none;
+    ends = (finishes.0 ∙ ap next_count so.lines_are, finishes.2, inr (end, finishes.1));
+    writes = Appends-trans held sent whole (frames_of so.items) written so.appends appends;
+    used = tt;
+  }
+  finished (Err (lines.Unreadable n)) written whole finishes none end appends = record {
     items = so.items;
     rest = state.kept;
     last = written;
@@ -94,9 +106,9 @@ module _ (left mid new held sent : Option (List ℕ)) (state : EncoderState) (tu
 
   -- ---- with one piece more
 
-  module _ (taken : Result (Unit {0}) EncodeError) (piece : List ℕ) (next : EncoderState) (written : List ℕ) (encodes : Encodes taken state piece next written) (came : Consumes mid new piece) where
-    each_now : AllByRecursion Becomes (so.items ++ encodes.items)
-    each_now = each_append so.items encodes.items so.each encodes.each
+  module _ (taken : Result (Unit {0}) EncodeError) (piece : List ℕ) (next : EncoderState) (written : List ℕ) (encodes : Encodes gives taken state piece next written) (came : Consumes mid new piece) where
+    each_now : AllByRecursion (Becomes gives) (so.items ++ encodes.items)
+    each_now = each_append gives so.items encodes.items so.each encodes.each
 
     read_now : (lines_of so.items ++ state.kept) ++ piece ≡ lines_of (so.items ++ encodes.items) ++ encodes.rest
     read_now =
@@ -119,7 +131,7 @@ module _ (left mid new held sent : Option (List ℕ)) (state : EncoderState) (tu
         let same : length (lines_of (so.items ++ encodes.items) ++ encodes.rest) ≡ length (lines_of (so.items ++ encodes.items) ++ rest) = ap (λ (r : List ℕ). length (lines_of (so.items ++ encodes.items) ++ r)) is in
         omega (arith, some, so.each_turn, read, same, length-append (lines_of so.items ++ state.kept) piece)
 
-    pub not_sent : (cut : Option (List ℕ)) → WritesFront sent cut written → EncodesStream (Err streams.WriteFault) left new held cut
+    pub not_sent : (cut : Option (List ℕ)) → WritesFront sent cut written → EncodesStream gives (Err (streams.Front WriteFault)) left new held cut
     not_sent cut front = record {
       items = so.items ++ encodes.items;
       rest = encodes.rest;
@@ -135,9 +147,9 @@ module _ (left mid new held sent : Option (List ℕ)) (state : EncoderState) (tu
     appends_now whole appends = subst (Appends held whole) frames_now (Appends-trans held sent whole (frames_of so.items) written so.appends appends)
 
     -- all that came has become frames, but for a line that has no end yet
-    pub goes_on : (whole : Option (List ℕ)) → Appends sent whole written → taken ≡ Ok tt → 0 < length piece → StreamSoFar left new held whole next (turns + 1)
+    pub goes_on : (whole : Option (List ℕ)) → Appends sent whole written → taken ≡ Ok tt → 0 < length piece → StreamSoFar gives left new held whole next (turns + 1)
     goes_on whole appends is some =
-        let ends = subst (λ (t : Result (Unit {0}) EncodeError). EndsSo t (count_after state.lines encodes.items) encodes.rest next) is encodes.ends in
+        let ends = subst (λ (t : Result (Unit {0}) EncodeError). EndsSo gives t (count_after state.lines encodes.items) encodes.rest next) is encodes.ends in
         record {
           items = so.items ++ encodes.items;
           each = each_now;
@@ -147,9 +159,21 @@ module _ (left mid new held sent : Option (List ℕ)) (state : EncoderState) (tu
           each_turn = longer next.kept (sym ends.1) some;
         }
 
-    pub stopped : (whole : Option (List ℕ)) → Appends sent whole written → (error : EncodeError) → taken ≡ Err error → EncodesStream (stream_result (Err error)) left new held whole
+    pub stopped : (whole : Option (List ℕ)) → Appends sent whole written → (error : EncodeError) → taken ≡ Err error → EncodesStream gives (stream_result (Err error)) left new held whole
     stopped whole appends (lines.BadLine n) is =
-        let ends = subst (λ (t : Result (Unit {0}) EncodeError). EndsSo t (count_after state.lines encodes.items) encodes.rest next) is encodes.ends in
+        let ends = subst (λ (t : Result (Unit {0}) EncodeError). EndsSo gives t (count_after state.lines encodes.items) encodes.rest next) is encodes.ends in
+        record {
+          items = so.items ++ encodes.items;
+          rest = encodes.rest;
+          last = [];
+          each = each_now;
+          consumes = consumes_now;
+          ends = (ends.0 ∙ ap next_count lines_now, refl, inl ends.1);
+          writes = subst (Appends held whole) (sym (append-nil (frames_of (so.items ++ encodes.items)))) (appends_now whole appends);
+          used = tt;
+        }
+    stopped whole appends (lines.Unreadable n) is =
+        let ends = subst (λ (t : Result (Unit {0}) EncodeError). EndsSo gives t (count_after state.lines encodes.items) encodes.rest next) is encodes.ends in
         record {
           items = so.items ++ encodes.items;
           rest = encodes.rest;
@@ -176,11 +200,13 @@ module _ (left mid new held sent : Option (List ℕ)) (state : EncoderState) (tu
 pub error_of : (taken : Result (Unit {0}) EncodeError) (x : StreamError) → stream_result taken ≡ Err x → (e : EncodeError) × (taken ≡ Err e) × (stream_result (Err e) ≡ Err x)
 error_of (Ok done) x is = absurd (cc is)
 error_of (Err (lines.BadLine n)) x is = (lines.BadLine n, refl, is)
+error_of (Err (lines.Unreadable n)) x is = (lines.Unreadable n, refl, is)
 error_of (Err lines.Memory) x is = (lines.Memory, refl, is)
 
 pub ok_of : (taken : Result (Unit {0}) EncodeError) → stream_result taken ≡ Ok tt → taken ≡ Ok tt
 ok_of (Ok done) is = refl
 ok_of (Err (lines.BadLine n)) is = absurd (cc is)
+ok_of (Err (lines.Unreadable n)) is = absurd (cc is)
 ok_of (Err lines.Memory) is = absurd (cc is)
 
 -- a read of nothing, and of a piece

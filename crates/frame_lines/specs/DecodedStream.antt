@@ -4,10 +4,11 @@ use Rattle.std.specs.List.{flat_map, AllByRecursion}
 use Rattle.std.specs.Io.KnownBytes.{Appends, Consumes, IsAtEnd}
 use Rattle.frame_front.specs.Frame.{frame, IsPayload, IsUnfinished, IsBadLength}
 use Rattle.frame_front.specs.Outbox.{WritesFront}
+use Rattle.frame_front.specs.declared.error.FrontError.TheVariants.{BadLength, Truncated, Memory, ReadFault, WriteFault, TurnsUsed}
 use Rattle.frame_lines.specs.Encoding.{count_after}
 use Rattle.frame_lines.specs.Decoding.{IsLineOf}
 use Rattle.frame_lines.specs.declared.decode.DecodeError.{DecodeError}
-use Rattle.frame_lines.specs.declared.decode.DecodeError.TheVariants.{BadFrame, BadLength, Truncated, WriteFault, TurnsUsed}
+use Rattle.frame_lines.specs.declared.decode.DecodeError.TheVariants.{BadFrame, Front}
 
 -- a payload, and its line with a line feed behind it
 abbrev pub IsWritten : List ℕ × List ℕ → Type 0
@@ -28,18 +29,18 @@ BeginsUnlined bytes = (payload : List ℕ) × (rest : List ℕ) × IsPayload pay
 abbrev pub EndsFrames : Result (Unit {0}) DecodeError → ℕ → List ℕ → Option (List ℕ) → Type 0
 EndsFrames (Ok done) frames rest left = IsAtEnd left × (rest ≡ [])
 EndsFrames (Err (BadFrame place)) frames rest left = (place ≡ frames) × BeginsUnlined rest
-EndsFrames (Err BadLength) frames rest left = IsBadLength rest
-EndsFrames (Err Truncated) frames rest left = IsAtEnd left × IsUnfinished rest × (rest ≢ [])
+EndsFrames (Err (Front BadLength)) frames rest left = IsBadLength rest
+EndsFrames (Err (Front Truncated)) frames rest left = IsAtEnd left × IsUnfinished rest × (rest ≢ [])
 EndsFrames (Err error) frames rest left = Unit {0}
 
 -- all of the bytes are written; if the writer failed, a front of them
 abbrev pub WritesLines : Result (Unit {0}) DecodeError → Option (List ℕ) → Option (List ℕ) → List ℕ → Type 0
-WritesLines (Err WriteFault) old new bytes = WritesFront old new bytes
+WritesLines (Err (Front WriteFault)) old new bytes = WritesFront old new bytes
 WritesLines ended old new bytes = Appends old new bytes
 
 -- if the reads are used up, each of them gave at least one byte
 abbrev pub UsesTurns : Result (Unit {0}) DecodeError → ℕ → Type 0
-UsesTurns (Err TurnsUsed) read = 2 ^ 64 - 1 ≤ read
+UsesTurns (Err (Front TurnsUsed)) read = 2 ^ 64 - 1 ≤ read
 UsesTurns ended read = Unit {0}
 
 pub record DecodesStream (result : Result (Unit {0}) DecodeError) (left_old left_new held_old held_new : Option (List ℕ)) : Type 0 where

@@ -1,5 +1,5 @@
 -- Requests as lines of text, and as the payloads of frames.
-use Rattle.std.specs.Prelude.{◌≡◌, ℕ, ◌<◌, ◌≤◌, ◌^◌, List, [], ◌∷◌, ◌++◌, length, codes, decimal, false, ◌==◌}
+use Rattle.std.specs.Prelude.{◌≡◌, ℕ, ◌<◌, ◌≤◌, ◌^◌, List, [], ◌∷◌, ◌++◌, length, codes, decimal, Bool, false, ◌==◌}
 use Rattle.std.specs.List.{list_any}
 use Rattle.map_core.specs.declared.op.Expect.{Expect}
 use Rattle.map_core.specs.declared.op.Expect.TheVariants.{Absent, Sequence, Unnumbered}
@@ -132,6 +132,18 @@ IsFramed request = (length (name_of request) < 256) × (length (payload_of reque
 abbrev pub IsOneLine : List ℕ → Type 0
 IsOneLine bytes = list_any (λ byte. byte == 10) bytes ≡ false
 
--- its name is a word, and its line is one line
+-- in a line, a text that begins with @ names another
+abbrev pub is_text_name : List ℕ → Bool
+is_text_name [] = false
+is_text_name (byte ∷ bytes) = byte == 64
+
+-- the same request with another text, if it has one
+abbrev pub with_text : Request → List ℕ → Request
+with_text (Set name text) other = Set name other
+with_text (SetIf name expect text) other = SetIf name expect other
+with_text (Append name text) other = Append name other
+with_text request other = request
+
+-- its name is a word, its line is one line, and its text names no other
 abbrev pub IsLined : Request → Type 0
-IsLined request = IsNameWord (name_of request) × IsOneLine (line_of request)
+IsLined request = IsNameWord (name_of request) × IsOneLine (line_of request) × (is_text_name (text_of request) ≡ false)

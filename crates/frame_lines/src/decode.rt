@@ -1,7 +1,9 @@
 //! A stream of frames becomes a stream of lines.
 ghost use Rattle.std.specs.Prelude.{◌≡◌, ◌-◌, ◌^◌, ◌<◌, ◌++◌, List, ℕ, [], Err};
+ghost use Rattle.frame_front.specs.declared.error.FrontError.TheVariants.{ReadFault, WriteFault};
 ghost use Rattle.frame_lines.specs.DecodedStream.{DecodesStream};
 ghost use Rattle.frame_lines.specs.Private.Decoders.{DecodesKept};
+ghost use Rattle.frame_lines.specs.declared.decode.DecodeError.TheVariants.{Front};
 
 use crate::payload_line::{PayloadError, put_line_of};
 use crate::stream::{PIECE_BYTES, send};
@@ -16,20 +18,9 @@ pub enum DecodeError {
     /// The frame, from 0, is not a request or a reply that has a line.
     #[error("frame {0} is not a request or a reply that has a line")]
     BadFrame(u64),
-    /// A length is 0 or over 1,049,000.
-    #[error("a length is 0 or over 1049000")]
-    BadLength,
-    /// The input ends inside a frame.
-    #[error("the input ends inside a frame")]
-    Truncated,
-    #[error("out of memory")]
-    Memory,
-    #[error("the reader failed")]
-    ReadFault,
-    #[error("the writer failed")]
-    WriteFault,
-    #[error("2^64 - 1 reads were made, without an end")]
-    TurnsUsed,
+    /// A length is wrong, the input ends inside a frame, memory ran out, an end failed, or the reads are used up.
+    #[error(transparent)]
+    Front(FrontError),
 }
 
 /// Writes the lines of requests and replies, those of each read before the next. If a frame has no line, or the stream ends inside
@@ -42,11 +33,11 @@ pub fn decode_stream<R: Read, W: Write>(
     requires reader_count { reader.old.faults < 2 ^ 64 - 1 }
     requires writer_count { writer.old.faults < 2 ^ 64 - 1 }
     ensures decodes { DecodesStream result (R.remaining reader.old.end) (R.remaining reader.new.end) (W.contents writer.old.end) (W.contents writer.new.end) }
-    ensures read_fault { result ≡ Err DecodeError.ReadFault → reader.old.faults < reader.new.faults }
-    ensures write_fault { result ≡ Err DecodeError.WriteFault → writer.old.faults < writer.new.faults }
+    ensures read_fault { result ≡ Err (Front ReadFault) → reader.old.faults < reader.new.faults }
+    ensures write_fault { result ≡ Err (Front WriteFault) → writer.old.faults < writer.new.faults }
 {
     let Ok(mut decoder) = Decoder::new(alloc) else {
-        return Err(DecodeError::Memory);
+        return Err(DecodeError::Front(FrontError::Memory));
     };
     let mut out = Vec::new(alloc);
     let mut frames = 0;
@@ -54,26 +45,26 @@ pub fn decode_stream<R: Read, W: Write>(
     for _turn in 0..u64::MAX {
         let count = match reader.read(&mut piece) {
             Ok(count) => count,
-            Err(_) => return Err(DecodeError::ReadFault),
+            Err(_) => return Err(DecodeError::Front(FrontError::ReadFault)),
         };
         if count == 0 {
             return match decoder.finish() {
                 Ok(()) => Ok(()),
-                Err(_) => Err(DecodeError::Truncated),
+                Err(_) => Err(DecodeError::Front(FrontError::Truncated)),
             };
         }
         let (fresh, _) = piece.split_at(count);
         if let Err(_) = decoder.feed(fresh) {
-            return Err(DecodeError::Memory);
+            return Err(DecodeError::Front(FrontError::Memory));
         }
         let ended = decode_kept(&mut decoder, &mut frames, &mut out);
         if let Err(_) = send(writer, out.as_slice()) {
-            return Err(DecodeError::WriteFault);
+            return Err(DecodeError::Front(FrontError::WriteFault));
         }
         out.clear();
         ended?;
     }
-    Err(DecodeError::TurnsUsed)
+    Err(DecodeError::Front(FrontError::TurnsUsed))
 }
 
 /// Appends the lines of the whole frames that are kept, and counts these frames.
@@ -88,13 +79,13 @@ fn decode_kept(
         let payload = match decoder.next_frame() {
             Ok(Some(payload)) => payload,
             Ok(None) => return Ok(()),
-            Err(FrontError::BadLength) => return Err(DecodeError::BadLength),
-            Err(_) => return Err(DecodeError::Memory),
+            Err(FrontError::BadLength) => return Err(DecodeError::Front(FrontError::BadLength)),
+            Err(_) => return Err(DecodeError::Front(FrontError::Memory)),
         };
         match put_line_of(payload.as_slice(), out) {
             Ok(()) => {}
             Err(PayloadError::NoLine) => return Err(DecodeError::BadFrame(*frames)),
-            Err(PayloadError::Memory) => return Err(DecodeError::Memory),
+            Err(PayloadError::Memory) => return Err(DecodeError::Front(FrontError::Memory)),
         }
         *frames = frames.saturating_add(1);
     }

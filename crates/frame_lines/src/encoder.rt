@@ -1,11 +1,12 @@
 //! Lines of requests become frames.
 ghost use Rattle.std.specs.Prelude.{◌≡◌, ◌++◌, List, ℕ, [], Err, IfOk, OnOk, OnErr};
 ghost use Rattle.frame_front.specs.Counted.{next_count};
-ghost use Rattle.frame_lines.specs.Encoding.{Becomes, Encodes, Finishes, IsBadLine, is_comment as comment};
-ghost use Rattle.frame_lines.specs.declared.encoder.EncodeError.TheVariants.{BadLine};
+ghost use Rattle.frame_lines.specs.Encoding.{Becomes, Encodes, Finishes, IsBadLine, NamesText, is_comment as comment};
+ghost use Rattle.frame_lines.specs.Private.Encoders.{stopped};
 
 use crate::line_decoder::LineDecoder;
-use crate::request_line::request_of_line;
+use crate::line_frame::{LineError, put_line};
+use crate::text_source::TextSource;
 use std::alloc::{AllocError, Global};
 use std::marker::Model;
 use thiserror::Error;
@@ -19,11 +20,15 @@ pub enum EncodeError {
     /// The line, from 1, is neither a comment nor a request that a frame carries, or it has over 1,049,300 bytes.
     #[error("line {0} is not a request")]
     BadLine(u64),
+    /// The text that the line, from 1, names cannot be read.
+    #[error("the text that line {0} names cannot be read")]
+    Unreadable(u64),
     #[error("out of memory")]
     Memory,
 }
 
-/// Turns lines of requests, which come in pieces, into frames. A line that is empty or begins with `#` asks nothing.
+/// Turns lines of requests, which come in pieces, into frames. A line that is empty or begins with `#` asks nothing. A document
+/// or a JWK that begins with `@` is the name of a text, and the frame has that text.
 #[derive(Drop)]
 pub struct Encoder {
     decoder: LineDecoder,
@@ -50,99 +55,70 @@ impl Encoder {
         })
     }
 
-    /// Takes the next piece of the stream, and appends the frames that its lines become. After an error the encoder is of no
-    /// more use.
-    pub fn take(&mut self, piece: &[u8], out: &mut Vec<u8>) -> Result<(), EncodeError>
-        ensures { (written : List ℕ) × (out.new.items ≡ out.old.items ++ written) × Encodes result self.old piece.now self.new written }
+    /// Takes the next piece of the stream, and appends the frames that its lines become, with the texts that they name. After
+    /// an error the encoder is of no more use.
+    pub fn take<T: TextSource>(
+        &mut self,
+        alloc: Global,
+        texts: &T,
+        piece: &[u8],
+        out: &mut Vec<u8>,
+    ) -> Result<(), EncodeError>
+        ensures { (written : List ℕ) × (out.new.items ≡ out.old.items ++ written) × Encodes (T.gives texts.now) result self.old piece.now self.new written }
     {
         if let Err(_) = self.decoder.feed(piece) {
             return Err(EncodeError::Memory);
         }
-        self.encode_kept(out)
+        self.encode_kept(alloc, texts, out)
     }
 
     /// Appends the frames of the whole lines that are kept.
-    fn encode_kept(&mut self, out: &mut Vec<u8>) -> Result<(), EncodeError>
-        ensures { (written : List ℕ) × (out.new.items ≡ out.old.items ++ written) × Encodes result self.old [] self.new written }
+    fn encode_kept<T: TextSource>(
+        &mut self,
+        alloc: Global,
+        texts: &T,
+        out: &mut Vec<u8>,
+    ) -> Result<(), EncodeError>
+        ensures { (written : List ℕ) × (out.new.items ≡ out.old.items ++ written) × Encodes (T.gives texts.now) result self.old [] self.new written }
     {
         while let Some(size) = self.decoder.next_line() {
             let (line, _) = self.decoder.kept().split_at(size);
-            match put_line(line, out) {
-                Ok(()) => {}
-                Err(LineError::Bad) => return Err(self.bad_line()),
-                Err(LineError::Memory) => return Err(EncodeError::Memory),
+            if let Err(error) = put_line(alloc, texts, line, out) {
+                return Err(self.stopped(error));
             }
             self.decoder.pass(size);
             self.lines = self.lines.saturating_add(1);
         }
         if self.decoder.kept().len() > MAX_LINE {
-            return Err(self.bad_line());
+            return Err(self.stopped(LineError::Bad));
         }
         Ok(())
     }
 
     /// Appends the frame of the last line, which no line feed has ended, if there is one.
-    pub fn finish(self, out: &mut Vec<u8>) -> Result<(), EncodeError>
-        ensures { (written : List ℕ) × (out.new.items ≡ out.old.items ++ written) × Finishes result self written }
+    pub fn finish<T: TextSource>(
+        self,
+        alloc: Global,
+        texts: &T,
+        out: &mut Vec<u8>,
+    ) -> Result<(), EncodeError>
+        ensures { (written : List ℕ) × (out.new.items ≡ out.old.items ++ written) × Finishes (T.gives texts.now) result self written }
     {
-        match put_line(self.decoder.kept(), out) {
+        match put_line(alloc, texts, self.decoder.kept(), out) {
             Ok(()) => Ok(()),
-            Err(LineError::Bad) => Err(self.bad_line()),
-            Err(LineError::Memory) => Err(EncodeError::Memory),
+            Err(error) => Err(self.stopped(error)),
         }
     }
 
-    /// The line at hand is bad.
-    fn bad_line(&self) -> EncodeError
-        ensures { result ≡ BadLine (next_count self.now.lines) }
+    /// Why the line at hand became nothing.
+    fn stopped(&self, error: LineError) -> EncodeError
+        ensures { result ≡ stopped (next_count self.now.lines) error }
     {
-        EncodeError::BadLine(self.lines.saturating_add(1))
+        let line = self.lines.saturating_add(1);
+        match error {
+            LineError::Bad => EncodeError::BadLine(line),
+            LineError::Unreadable => EncodeError::Unreadable(line),
+            LineError::Memory => EncodeError::Memory,
+        }
     }
-}
-
-/// Why one line becomes nothing.
-enum LineError {
-    Bad,
-    Memory,
-}
-
-fn is_comment(line: &[u8]) -> bool
-    ensures { result ≡ comment line.now }
-{
-    matches!(line, [] | [b'#', ..])
-}
-
-/// Appends what a line becomes. If it becomes nothing, nothing is appended.
-fn put_line(line: &[u8], out: &mut Vec<u8>) -> Result<(), LineError>
-    ensures ok { OnOk result ((bytes : List ℕ) × Becomes (line.now, bytes) × (out.new.items ≡ out.old.items ++ bytes)) }
-    ensures bad { result ≡ Err LineError.Bad → IsBadLine line.now }
-    ensures err { OnErr result (out.new.items ≡ out.old.items) }
-{
-    if is_comment(line) {
-        return Ok(());
-    }
-    let Some(form) = request_of_line(line) else {
-        return Err(LineError::Bad);
-    };
-    let Some(head) = form.frame_head() else {
-        return Err(LineError::Bad);
-    };
-    match append(out, head.as_slice(), form.text()) {
-        Ok(()) => Ok(()),
-        Err(_) => Err(LineError::Memory),
-    }
-}
-
-/// Appends both, or nothing.
-pub(crate) fn append(out: &mut Vec<u8>, head: &[u8], text: &[u8]) -> Result<(), AllocError>
-    ensures ok { OnOk result (out.new.items ≡ out.old.items ++ (head.now ++ text.now)) }
-    ensures err { OnErr result (out.new.items ≡ out.old.items) }
-{
-    let before = out.len();
-    out.extend_from_slice(head)?;
-    if let Err(refused) = out.extend_from_slice(text) {
-        out.truncate(before);
-        return Err(refused);
-    }
-    Ok(())
 }

@@ -2,8 +2,8 @@
 ghost use Rattle.std.specs.Prelude.{◌≡◌, ◌∷◌, [], ◌++◌, List, ℕ, Err, MatchOption, OnOk, OnErr};
 ghost use Rattle.frame_lines.specs.Decoding.{IsLineOf, IsRequestLine, IsReplyLine};
 
-use crate::encoder::append;
 use crate::head::Head;
+use crate::line_frame::append;
 use crate::reply_payload::reply_of_payload;
 use crate::request_payload::request_of_payload;
 use std::alloc::AllocError;
@@ -12,7 +12,8 @@ use thiserror::Error;
 /// Why a payload becomes no line.
 #[derive(Clone, Copy, Debug, PartialEq, Eq, Error)]
 pub enum PayloadError {
-    /// It is no request and no reply; or it has no line, since a space or a line feed is where none may be.
+    /// It is no request and no reply; or it has no line, since a space or a line feed is where none may be, or its document
+    /// begins with `@`.
     #[error("the frame is not a request or a reply that has a line")]
     NoLine,
     #[error("out of memory")]

@@ -1,17 +1,18 @@
 //! Requests, written as lines.
-ghost use Rattle.std.specs.Prelude.{◌≡◌, ◌+◌, ◌≤◌, [], ◌∷◌, ◌++◌, ◌==◌, length, MatchOption};
+ghost use Rattle.std.specs.Prelude.{◌≡◌, false, ◌+◌, ◌≤◌, [], ◌∷◌, ◌++◌, ◌==◌, length, MatchOption};
 ghost use Rattle.std.specs.List.{list_any};
 ghost use Rattle.arrayvec.specs.ArrayVec.{array_vec_len};
-ghost use Rattle.frame_lines.specs.RequestForm.{request, text_of, line_of, expect_word, IsLined, IsNameWord, IsOneLine};
+ghost use Rattle.frame_lines.specs.RequestForm.{request, text_of, line_of, expect_word, IsLined, IsNameWord, IsOneLine, is_text_name};
 
 use crate::head::{Head, has, head_of, put, put_expect};
+use crate::line_frame::text_name;
 use crate::request::RequestForm;
 use frame_front::Version;
 use map_core::Expect;
 
 impl<'a> RequestForm<'a> {
     /// What stands before the text in the line of the request. None if it has no line: its name has over 255 bytes or a space,
-    /// or a line feed is in its name or in its text.
+    /// a line feed is in its name or in its text, or the text begins with `@`.
     pub fn line_head(&self) -> Option<Head>
         ensures { MatchOption result (IsLined (request self.now) → ⊥)
             (λ head. IsLined (request self.now) × (head.items ++ text_of (request self.now) ≡ line_of (request self.now))) }
@@ -36,11 +37,14 @@ fn words_head(verb: &[u8], name: &[u8], middle: &[u8], text: &[u8]) -> Option<He
     requires few { length verb.now + length middle.now ≤ 28 }
     requires plain { IsOneLine verb.now × IsOneLine middle.now }
     ensures { MatchOption result
-        (IsNameWord name.now × IsOneLine (verb.now ++ (name.now ++ (middle.now ++ text.now))) → ⊥)
-        (λ head. (IsNameWord name.now × IsOneLine (verb.now ++ (name.now ++ (middle.now ++ text.now))))
+        (IsNameWord name.now × IsOneLine (verb.now ++ (name.now ++ (middle.now ++ text.now))) × (is_text_name text.now ≡ false) → ⊥)
+        (λ head. (IsNameWord name.now × IsOneLine (verb.now ++ (name.now ++ (middle.now ++ text.now))) × (is_text_name text.now ≡ false))
         × (head.items ++ text.now ≡ verb.now ++ (name.now ++ (middle.now ++ text.now)))) }
 {
     if name.len() > 255 || has(name, b' ') || has(name, b'\n') || has(text, b'\n') {
+        return None;
+    }
+    if text_name(text).is_some() {
         return None;
     }
     let mut head = head_of(verb);

@@ -5,8 +5,41 @@ mod replies;
 mod requests;
 mod streams;
 
+use frame_lines::{TextError, TextSource};
+use std::alloc::{AllocError, Global};
 use std::fmt::Debug;
 use std::process::Abort;
+
+/// One text, whose name is `doc`, one that is longer than a frame, `long`, and one for which there is no memory, `huge`.
+#[derive(Drop)]
+struct OneText;
+
+const TEXT: &[u8] = b"{\n}";
+
+impl TextSource for OneText {
+    ghost gives = { λ texts name text. Unit {0} };
+
+    fn text(&self, alloc: Global, name: &[u8]) -> Result<Vec<u8>, TextError> {
+        let given = match name {
+            b"doc" => Vec::from_slice(alloc, TEXT),
+            b"long" => longer_than_a_frame(alloc),
+            b"huge" => return Err(TextError::Memory),
+            _ => return Err(TextError::Unreadable),
+        };
+        match given {
+            Ok(text) => Ok(text),
+            Err(_) => Err(TextError::Memory),
+        }
+    }
+}
+
+fn longer_than_a_frame(alloc: Global) -> Result<Vec<u8>, AllocError> {
+    let mut text = Vec::new(alloc);
+    for _ in 0..1_049_001 {
+        text.push(b'.')?;
+    }
+    Ok(text)
+}
 
 /// What was found in this case is what is wanted.
 fn is_equal_at<T: PartialEq + Debug, C: Debug>(rt: &impl Abort, found: &T, wanted: &T, case: &C) {

@@ -4,7 +4,8 @@ use Rattle.std.specs.List.{AllByRecursion}
 use Rattle.std.specs.Io.KnownBytes.{Appends, Consumes}
 use Rattle.frame_front.specs.Frame.{IsUnfinished, IsBadLength}
 use Rattle.frame_lines.specs.declared.decode.DecodeError.{DecodeError}
-use Rattle.frame_lines.specs.declared.decode.DecodeError.TheVariants.{BadFrame, BadLength, Memory}
+use Rattle.frame_lines.specs.declared.decode.DecodeError.TheVariants.{BadFrame, Front}
+use Rattle.frame_front.specs.declared.error.FrontError.TheVariants.{BadLength, Memory}
 use Rattle.frame_lines.specs.Encoding.{count_after}
 use Rattle.frame_lines.specs.DecodedStream.{IsWritten, BeginsUnlined, frames_in, lines_out}
 
@@ -20,8 +21,8 @@ pub record FramesSoFar (kept_old : List ℕ) (frames_old : ℕ) (kept_new : List
 abbrev pub EndsKept : Result (Unit {0}) DecodeError → ℕ → List ℕ → List ℕ → Type 0
 EndsKept (Ok done) frames rest kept = IsUnfinished rest × (kept ≡ rest)
 EndsKept (Err (BadFrame place)) frames rest kept = (place ≡ frames) × BeginsUnlined rest
-EndsKept (Err BadLength) frames rest kept = IsBadLength rest
-EndsKept (Err Memory) frames rest kept = Unit {0}
+EndsKept (Err (Front BadLength)) frames rest kept = IsBadLength rest
+EndsKept (Err (Front Memory)) frames rest kept = Unit {0}
 EndsKept (Err error) frames rest kept = ⊥
 
 pub record DecodesKept (result : Result (Unit {0}) DecodeError) (kept_old : List ℕ) (frames_old : ℕ) (kept_new : List ℕ) (frames_new : ℕ) (written : List ℕ) : Type 0 where

@@ -1,5 +1,5 @@
 //! Streams of lines become frames.
-use super::{holds_at, is_equal_at};
+use super::{OneText, holds_at, is_equal_at};
 use frame_lines::{EncodeError, Encoder};
 use std::alloc::Global;
 use std::test::Fail;
@@ -13,11 +13,11 @@ fn encoded(
     let mut out = Vec::new(alloc);
     let mut encoder = Encoder::new(alloc)?;
     for piece in stream.chunks(size.max(1)) {
-        if let Err(error) = encoder.take(piece, &mut out) {
+        if let Err(error) = encoder.take(alloc, &OneText, piece, &mut out) {
             return Ok((out, Err(error)));
         }
     }
-    let ended = encoder.finish(&mut out);
+    let ended = encoder.finish(alloc, &OneText, &mut out);
     Ok((out, ended))
 }
 
@@ -55,6 +55,42 @@ fn pieces_do_not_matter(rt: HostRuntime) -> Result<(), Fail> {
     Ok(())
 }
 
+const SET_A: &[u8] = b"\x00\x00\x00\x06S\x01a{\n}";
+
+#[test]
+fn a_text_that_is_named_is_in_the_frame(rt: HostRuntime) -> Result<(), Fail> {
+    let alloc = rt.alloc();
+    let rows: [(&[u8], &[u8], Result<(), EncodeError>); 8] = [
+        (b"set a @doc\n", SET_A, Ok(())),
+        (b"set a @doc", SET_A, Ok(())),
+        (
+            b"setif a absent @doc",
+            b"\x00\x00\x00\x07C\x01a\x00{\n}",
+            Ok(()),
+        ),
+        (b"append a @doc", b"\x00\x00\x00\x06A\x01a{\n}", Ok(())),
+        (b"get @doc", b"\x00\x00\x00\x06G\x04@doc", Ok(())),
+        (
+            b"set a @doc\nset a @\n",
+            SET_A,
+            Err(EncodeError::Unreadable(2)),
+        ),
+        (b"#\nset a @dog", b"", Err(EncodeError::Unreadable(2))),
+        (b"set a @huge\n", b"", Err(EncodeError::Memory)),
+    ];
+    for (stream, frames, ended) in rows {
+        for size in 1..9 {
+            let (out, end) = encoded(alloc, stream, size)?;
+            is_equal_at(&rt, &out.as_slice(), &frames, &(stream, size));
+            is_equal_at(&rt, &end, &ended, &(stream, size));
+        }
+    }
+    let (out, end) = encoded(alloc, b"get a\nset a @long\n", 64)?;
+    is_equal_at(&rt, &out.as_slice(), &GET_A, &"before a long text");
+    is_equal_at(&rt, &end, &Err(EncodeError::BadLine(2)), &"a long text");
+    Ok(())
+}
+
 #[test]
 fn a_line_may_be_so_long(rt: HostRuntime) -> Result<(), Fail> {
     let alloc = rt.alloc();
@@ -75,7 +111,7 @@ fn a_refused_growth_leaves_whole_frames(rt: HostRuntime) -> Result<(), Fail> {
     let alloc = rt.alloc();
     let mut out = Vec::new(alloc);
     let mut encoder = Encoder::new(alloc)?;
-    match encoder.take(b"get a\nfetch\n", &mut out) {
+    match encoder.take(alloc, &OneText, b"get a\nfetch\n", &mut out) {
         Ok(()) => {
             let wanted = b"\x00\x00\x00\x03G\x01a\x00\x00\x00\x01F".as_slice();
             is_equal_at(&rt, &out.as_slice(), &wanted, &"both frames");

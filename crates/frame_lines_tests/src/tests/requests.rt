@@ -133,7 +133,10 @@ fn payloads_that_are_no_requests(rt: HostRuntime) {
 
 #[test]
 fn requests_without_a_line(rt: HostRuntime) -> Result<(), Fail> {
-    let payloads: [&[u8]; 5] = [
+    let payloads: [&[u8]; 8] = [
+        b"S\x01a@doc",
+        b"A\x01a@",
+        b"C\x01a\x02@{}",
         b"G\x03a b",
         b"G\x02a\n",
         b"S\x01a{\n}",

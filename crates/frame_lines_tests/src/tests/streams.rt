@@ -1,6 +1,6 @@
 //! Streams of lines, read and written.
-use super::is_equal_at;
-use frame_front::{Counted, FaultyReader, FaultyWriter};
+use super::{OneText, is_equal_at};
+use frame_front::{Counted, FaultyReader, FaultyWriter, FrontError};
 use frame_lines::{DecodeError, StreamError, decode_stream, encode_stream};
 use std::test::Fail;
 
@@ -15,7 +15,7 @@ const BOTH: &[u8] = b"\x00\x00\x00\x03G\x01a\x00\x00\x00\x01F";
 fn a_stream_is_encoded_up_to_a_bad_line(rt: HostRuntime) {
     let mut reader = Counted::new(INPUT);
     let mut writer = Counted::new(Vec::new(rt.alloc()));
-    let ended = encode_stream(rt.alloc(), &mut reader, &mut writer);
+    let ended = encode_stream(rt.alloc(), &OneText, &mut reader, &mut writer);
     is_equal_at(&rt, &ended, &Err(StreamError::BadLine(5)), &INPUT);
     is_equal_at(&rt, &writer.end.as_slice(), &BOTH, &INPUT);
 }
@@ -25,7 +25,7 @@ fn a_stream_is_encoded_to_its_end(rt: HostRuntime) {
     let (front, _) = INPUT.split_at(18);
     let mut reader = Counted::new(front);
     let mut writer = Counted::new(Vec::new(rt.alloc()));
-    let ended = encode_stream(rt.alloc(), &mut reader, &mut writer);
+    let ended = encode_stream(rt.alloc(), &OneText, &mut reader, &mut writer);
     is_equal_at(&rt, &ended, &Ok(()), &front);
     is_equal_at(&rt, &writer.end.as_slice(), &BOTH, &front);
 }
@@ -36,8 +36,8 @@ fn readers_that_fail(rt: HostRuntime) -> Result<(), Fail> {
         let bytes = Vec::from_slice(rt.alloc(), INPUT)?;
         let mut reader = Counted::new(FaultyReader::new(bytes, after));
         let mut writer = Counted::new(Vec::new(rt.alloc()));
-        let ended = encode_stream(rt.alloc(), &mut reader, &mut writer);
-        is_equal_at(&rt, &ended, &Err(StreamError::ReadFault), &after);
+        let ended = encode_stream(rt.alloc(), &OneText, &mut reader, &mut writer);
+        is_equal_at(&rt, &ended, &Err(StreamError::Front(FrontError::ReadFault)), &after);
         let written = if after < 12 { b"".as_slice() } else { GET_A };
         is_equal_at(&rt, &writer.end.as_slice(), &written, &after);
     }
@@ -49,8 +49,8 @@ fn writers_that_fail(rt: HostRuntime) {
     for room in 0..12 {
         let mut reader = Counted::new(INPUT);
         let mut writer = Counted::new(FaultyWriter::new(rt.alloc(), room));
-        let ended = encode_stream(rt.alloc(), &mut reader, &mut writer);
-        is_equal_at(&rt, &ended, &Err(StreamError::WriteFault), &room);
+        let ended = encode_stream(rt.alloc(), &OneText, &mut reader, &mut writer);
+        is_equal_at(&rt, &ended, &Err(StreamError::Front(FrontError::WriteFault)), &room);
         is_equal_at(&rt, &writer.faults(), &1, &room);
     }
 }
@@ -72,9 +72,9 @@ fn a_stream_is_decoded_up_to_a_bad_frame(rt: HostRuntime) {
 fn streams_that_end_inside_a_frame(rt: HostRuntime) {
     let rows: [(usize, Result<(), DecodeError>, &[u8]); 5] = [
         (0, Ok(()), b""),
-        (3, Err(DecodeError::Truncated), b""),
+        (3, Err(DecodeError::Front(FrontError::Truncated)), b""),
         (7, Ok(()), b"get a\n"),
-        (13, Err(DecodeError::Truncated), b"get a\n"),
+        (13, Err(DecodeError::Front(FrontError::Truncated)), b"get a\n"),
         (14, Ok(()), b"get a\nfound {}\n"),
     ];
     for (size, wanted, lines) in rows {
@@ -93,7 +93,7 @@ fn bad_lengths(rt: HostRuntime) {
         let mut reader = Counted::new(stream);
         let mut writer = Counted::new(Vec::new(rt.alloc()));
         let ended = decode_stream(rt.alloc(), &mut reader, &mut writer);
-        is_equal_at(&rt, &ended, &Err(DecodeError::BadLength), &stream);
+        is_equal_at(&rt, &ended, &Err(DecodeError::Front(FrontError::BadLength)), &stream);
     }
 }
 
@@ -103,13 +103,22 @@ fn ends_that_fail_while_decoding(rt: HostRuntime) -> Result<(), Fail> {
     let mut reader = Counted::new(FaultyReader::new(bytes, 9));
     let mut writer = Counted::new(Vec::new(rt.alloc()));
     let ended = decode_stream(rt.alloc(), &mut reader, &mut writer);
-    is_equal_at(&rt, &ended, &Err(DecodeError::ReadFault), &9);
+    is_equal_at(&rt, &ended, &Err(DecodeError::Front(FrontError::ReadFault)), &9);
     is_equal_at(&rt, &writer.end.as_slice(), &b"get a\n".as_slice(), &9);
     let mut reader = Counted::new(FRAMES);
     let mut writer = Counted::new(FaultyWriter::new(rt.alloc(), 9));
     let ended = decode_stream(rt.alloc(), &mut reader, &mut writer);
-    is_equal_at(&rt, &ended, &Err(DecodeError::WriteFault), &9);
+    is_equal_at(&rt, &ended, &Err(DecodeError::Front(FrontError::WriteFault)), &9);
     Ok(())
+}
+
+#[test]
+fn a_text_that_is_not_there(rt: HostRuntime) {
+    let mut reader = Counted::new(b"get a\nset a @dog\nfetch\n".as_slice());
+    let mut writer = Counted::new(Vec::new(rt.alloc()));
+    let ended = encode_stream(rt.alloc(), &OneText, &mut reader, &mut writer);
+    is_equal_at(&rt, &ended, &Err(StreamError::Unreadable(2)), &"set a @dog");
+    is_equal_at(&rt, &writer.end.as_slice(), &GET_A, &"set a @dog");
 }
 
 #[test]
@@ -118,7 +127,7 @@ fn what_was_encoded_is_decoded(rt: HostRuntime) {
         b"version 2\nset a {\"keys\":[]}\nsetif a none {}\nappend a {}\nremove a\nget a\nfetch\n";
     let mut reader = Counted::new(lines.as_slice());
     let mut frames = Counted::new(Vec::new(rt.alloc()));
-    let ended = encode_stream(rt.alloc(), &mut reader, &mut frames);
+    let ended = encode_stream(rt.alloc(), &OneText, &mut reader, &mut frames);
     is_equal_at(&rt, &ended, &Ok(()), &"encoded");
     let mut reader = Counted::new(frames.end.as_slice());
     let mut writer = Counted::new(Vec::new(rt.alloc()));

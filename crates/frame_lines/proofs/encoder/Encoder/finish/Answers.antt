@@ -1,9 +1,24 @@
-use Rattle.std.proofs.Common.{[], Err, refl, rules, ◌≡◌, sym, ap, subst, ◌∙◌, append-nil}
-use Rattle.frame_lines.specs.Encoding.{EncoderState, IsBadLine}
+use Rattle.std.proofs.Common.{◌≡◌, List, ℕ, [], Err, refl, rules, sym, ap, subst, ◌∙◌, append-nil}
+use Rattle.frame_front.specs.Counted.{next_count}
+use Rattle.frame_lines.specs.Encoding.{EncoderState, Gives, Finishes, IsBadLine, NamesText}
+use Rattle.frame_lines.specs.Private.Encoders.{stopped}
+use Rattle.frame_lines.specs.declared.encoder.EncodeError.{EncodeError}
+use Rattle.frame_lines.specs.declared.line_frame.LineError.{LineError}
+use Rattle.frame_lines.specs.declared.line_frame.LineError.TheVariants.{Bad, Unreadable, Memory}
 use Rattle.frame_lines.proofs.encoder.Encoder.finish.Goals as goal
 
-pub returns-in-Err-Bad : goal.returns-in-Err-Bad
-returns-in-Err-Bad c =
+-- why the last line became nothing
+finishes : (gives : Gives) (state : EncoderState) (error : LineError) → (error ≡ Bad → IsBadLine gives state.kept) → (error ≡ Unreadable → NamesText state.kept)
+    → Finishes gives (Err (stopped (next_count state.lines) error)) state []
+finishes gives state Bad bad unreadable = (refl, bad refl, refl)
+finishes gives state Unreadable bad unreadable = (refl, unreadable refl, refl)
+finishes gives state Memory bad unreadable = refl
+
+pub returns : goal.returns
+returns g c =
+    let gives = g.T.TextSource.gives c.args.texts.now in
     let same : c.put_line.new.out.items ≡ c.args.out.now.items = search rules in
-    let bad = c.put_line.ensures.bad (c.in-Err-Bad.is ∙ ap Err c.in-Err-Bad.field-0-is) in
-    ([], same ∙ sym (append-nil c.args.out.now.items), rw c.bad_line.ensures (refl, subst IsBadLine (c.kept.ensures ∙ ap (λ (s : EncoderState). s.kept) c.self.view_is) bad, refl))
+    let kept = c.kept.ensures ∙ ap (λ (s : EncoderState). s.kept) c.self.view_is in
+    let bad = λ (e : c.in-Err.error ≡ Bad). subst (IsBadLine gives) kept (c.put_line.ensures.bad (c.in-Err.is ∙ ap Err e)) in
+    let unreadable = λ (e : c.in-Err.error ≡ Unreadable). subst NamesText kept (c.put_line.ensures.unreadable (c.in-Err.is ∙ ap Err e)) in
+    ([], same ∙ sym (append-nil c.args.out.now.items), rw c.stopped.ensures (finishes gives c.args.self c.in-Err.error bad unreadable))
