@@ -3,13 +3,14 @@
 
 usage: gate/command_lines.py   (over the program that rt ci or rt run has built in crates/bundled/out/)
 """
+import re
 import subprocess
 import sys
 
 sys.dont_write_bytecode = True
 
 from program_runs import frame  # noqa: E402
-from refusals import program  # noqa: E402
+from refusals import ROOT, program  # noqa: E402
 
 SECONDS = 60
 EMPTY = b'{"keys":[]}'
@@ -38,6 +39,13 @@ MOVED_ONCE = (
     b"record 0 caller 1 first 0 last 6 reply moved 0 0 1\nrecord 1 caller 2 first 2 last 4 reply stored\norder 1\n"
 )
 
+# Lines that become the first run, and what its replies are as lines.
+FIRST_LINES = b'# two requests\nset a {"keys":[]}\n\nget a\n'
+TOLD = b'stored\nfound {"keys":[]}\n'
+BUNDLE = f"{ROOT}/gate/bundles/many.json"
+with open(BUNDLE, "rb") as document:
+    SET_BUNDLE = frame(b"S\x01a" + document.read())
+
 # Each option at its limits, with a run that shows it if any does (the replies are the same over each number of shards).
 RUNS = [
     ("run", FIRST_RUN, FIRST_REPLIES),
@@ -46,6 +54,12 @@ RUNS = [
     ("run --turns 2", FIRST_RUN, FIRST_REPLIES),
     ("run --turns 1000000000", FIRST_RUN, FIRST_REPLIES),
     ("run --turns 2 --shards 1", FIRST_RUN, FIRST_REPLIES),
+    ("encode", FIRST_LINES, FIRST_RUN),
+    ("encode", FIRST_LINES[:-1], FIRST_RUN),
+    ("encode", f"set a @{BUNDLE}\n".encode(), SET_BUNDLE),
+    ("decode", FIRST_REPLIES, TOLD),
+    ("decode", FIRST_RUN, b'set a {"keys":[]}\nget a\n'),
+    ("decode", DUMP_OF_ONE, b'all 1\nbundle a {"keys":[]}\n'),
     ("migrate", DUMP_OF_ONE, MIGRATED),
     ("trace --shards 1", FETCH_ALL, FETCHED),
     ("trace --shards 2", FETCH_ALL, UNFINISHED),
@@ -64,6 +78,13 @@ FAULTS = [
     ("run --turns 1", FIRST_RUN, FIRST_REPLIES, b"fault 55\n"),
     ("trace", FIRST_RUN, b"", b"fault 70 1\n"),
     ("migrate", FIRST_RUN, b"", b"fault 63 0\n"),
+    ("encode", FIRST_LINES + b"get\n", FIRST_RUN, b"fault 70 5\n"),
+    ("encode", b"get a\nset a @/nowhere\n", frame(b"G\x01a"), b"fault 53 2\n"),
+    ("encode", b"get a\nset a @/dev/zero\n", frame(b"G\x01a"), b"fault 70 2\n"),
+    ("decode", FIRST_REPLIES + frame(b"X"), TOLD, b"fault 51 2\n"),
+    ("decode", frame(b"G\x01a") + frame(b"S\x01a@b"), b"get a\n", b"fault 51 1\n"),
+    ("decode", FIRST_REPLIES[:-1], b"stored\n", b"fault 52\n"),
+    ("decode", FIRST_REPLIES + b"\0\0\0\0", TOLD, b"fault 50\n"),
 ]
 
 # What is asked for, and a part of what is shown.
@@ -73,6 +94,10 @@ SHOWN = [
     ("-h", "Usage: bundled <COMMAND>"),
     ("help", "migrate"),
     ("run --help", "Usage: bundled run [OPTIONS]"),
+    ("encode --help", "set D DOC"),
+    ("decode --help", "moved S A B"),
+    ("explain --help", "Usage: bundled explain <NUMBER>"),
+    ("explain 31", "lower than the stored one"),
     ("trace --help", "--rounds <COUNT>"),
     ("migrate --help", "bundled migrate < dump"),
     ("refresh --help", "--relationships <FILE>"),
@@ -94,6 +119,12 @@ REFUSED = [
     ("run --shards four", "invalid value 'four' for '--shards <COUNT>'"),
     ("run --shards", "--shards <COUNT>"),
     ("run --rounds 3", "unexpected argument '--rounds'"),
+    ("encode --shards 1", "unexpected argument '--shards'"),
+    ("decode all", "unexpected argument 'all'"),
+    ("explain", "<NUMBER>"),
+    ("explain 0", "0 is not in 1..=255"),
+    ("explain Stale", "invalid value 'Stale' for '<NUMBER>'"),
+    ("explain 99", "no refusal and no fault has this number"),
     ("trace --shards 0", "0 is not in 1..=256"),
     ("trace --shards 257", "257 is not in 1..=256"),
     ("trace --rounds 0", "0 is not in 1..=16"),
@@ -150,7 +181,29 @@ def refuses_other_lines():
         assert told.startswith(b"error: ") and part in told.decode(), line
 
 
-CHECKS = [runs_what_the_line_wants, faults, shows_what_is_asked_for, refuses_other_lines]
+def explains_each_number():
+    """Each number of the tables of the formats, by its name."""
+    with open(f"{ROOT}/docs/FORMATS.md", encoding="utf-8") as formats:
+        rows = re.findall(r"^\| (\d+(?:, \d+)*) \| ((?:`[^`]+`(?:, )?)+) \|", formats.read(), re.M)
+    known = {}
+    for numbers, names in rows:
+        for number, name in zip(numbers.split(", "), re.findall(r"`(\w+)", names)):
+            known.setdefault(int(number), name)
+    assert len(known) > 40, known
+    for number, name in known.items():
+        status, output, told = ran(f"explain {number}")
+        lines = output.decode().splitlines()
+        assert (status, told) == (0, b"") and re.match(rf"{number} {name}\b", lines[0]), (number, name, output)
+        assert any(line.startswith("What to do: ") for line in lines), number
+
+
+CHECKS = [
+    runs_what_the_line_wants,
+    faults,
+    shows_what_is_asked_for,
+    refuses_other_lines,
+    explains_each_number,
+]
 
 
 def main():

@@ -57,6 +57,18 @@ def command(words, given, is_plain):
     return Run(f"bundled {' '.join(words)}".strip(), [program("bundled"), *words], given, allows)
 
 
+def pieces(word, given, parts):
+    """A command that writes a part for each of its input; out of memory it has written the first of them, and `fault 22`."""
+    fronts = [b"".join(parts[:size]) for size in range(len(parts) + 1)]
+
+    def allows(ended, refused):
+        if refused and (ended.status, ended.err) == (1, OUT_OF_MEMORY.err):
+            return ended.out in fronts
+        return ended == Ended(0, fronts[-1], b"")
+
+    return Run(f"bundled {word}", [program("bundled"), word], given, allows)
+
+
 def file(name):
     with open(f"{ROOT}/{name}", "rb") as it:
         return it.read()
@@ -108,6 +120,12 @@ def program_runs():
     yield command(["migrate"], b"".join(map(frame, dump)), lambda it: it == Ended(0, stream, b""))
     race, lines = ["trace", "--shards", "2", "--rounds", "2"], file("examples/race.trace")
     yield command(race, file("examples/race.events"), lambda it: it == Ended(0, lines, b""))
+    lines = [b"set a %s\n" % text, b"fetch\n", b"found %s\n" % text, b"stored\n"]
+    frames = [frame(it) for it in (b"S\x01a" + text, b"F", b"f" + text, b"s")]
+    yield pieces("encode", b"".join(lines[:2]), frames[:2])
+    yield pieces("encode", f"fetch\nset a @{ROOT}/gate/bundles/rotation.json".encode(), [frame(b"F"), frame(b"S\x01a" + real)])
+    yield pieces("decode", b"".join(frames), lines)
+    yield command(["explain", "31"], b"", lambda it: it.status == 0 and it.out and not it.err)
     yield refresh()
     no_dump = ["serve", "--port", "0", "--load", f"{ROOT}/gate/bundles/relationships"]
     yield command(no_dump, b"", lambda it: it == Ended(1, b"", b"fault 63 0\n"))

@@ -4,12 +4,14 @@ use Rattle.std.specs.Io.KnownBytes.{Appends}
 use Rattle.frame_front.specs.Outbox.{WritesFront}
 use Rattle.frame_front.specs.declared.error.FrontError.TheVariants.{Memory, WriteFault}
 use Rattle.command_line.specs.declared.wanted.Wanted.{Wanted}
-use Rattle.command_line.specs.declared.wanted.Wanted.TheVariants.{Run, Trace, Migrate, Refresh, Serve}
+use Rattle.command_line.specs.declared.wanted.Wanted.TheVariants.{Run, Encode, Decode, Explain, Trace, Migrate, Refresh, Serve}
 use Rattle.commands.specs.declared.fault.Fault.{Fault}
 use Rattle.commands.specs.declared.fault.Fault.TheVariants.{Front}
 use Rattle.command_line.specs.Settings.{AreSettings}
 use Rattle.commands.specs.Streams.{Streams, End, EndsWith, Tells}
 use Rattle.commands.specs.Run.{Runs}
+use Rattle.commands.specs.Encode.{Encodes, Decodes, of_files}
+use Rattle.commands.specs.Explain.{Explains}
 use Rattle.commands.specs.Trace.{Tracing}
 use Rattle.commands.specs.Migrate.{Migration}
 use Rattle.bundled.specs.Refresh.{RefreshRun}
@@ -18,6 +20,9 @@ use Rattle.server.specs.Serve.{ServeCommand}
 -- a command, with its settings
 abbrev pub Does : Wanted → ℕ → Streams → Streams → Type 0
 Does (Run shards turns) status old new = Runs turns status old new
+Does Encode status old new = Encodes of_files status old new
+Does Decode status old new = Decodes status old new
+Does (Explain text) status old new = Explains text.now status old new
 Does (Trace shards rounds) status old new = Tracing status old new
 Does Migrate status old new = Migration status old new
 Does (Refresh wanted) status old new = RefreshRun status old new

@@ -7,7 +7,10 @@ use crate::refreshing::refresh_over;
 use crate::serving::serve_over;
 use clap::error::ErrorKind;
 use command_line::{Wanted, wanted_by};
-use commands::{Fault, migrate_over, run_over, tell, trace_over, write_flushed};
+use commands::{
+    Fault, FileTexts, decode_over, encode_over, explain_over, migrate_over, run_over, tell,
+    trace_over, write_flushed,
+};
 use frame_front::{Counted, FrontError};
 use server::LineLog;
 use std::alloc::{AllocError, Global};
@@ -56,6 +59,9 @@ pub fn command_over<
     };
     match wanted_by(alloc, words.as_slice()) {
         Ok(Wanted::Run { shards, turns }) => run_over(alloc, reader, out, err, shards, turns),
+        Ok(Wanted::Encode) => encode_over(alloc, &FileTexts::new(host), reader, out, err),
+        Ok(Wanted::Decode) => decode_over(alloc, reader, out, err),
+        Ok(Wanted::Explain(text)) => explain_over(text, out, err),
         Ok(Wanted::Trace { shards, rounds }) => {
             trace_over(alloc, reader, out, err, shards, rounds)
         }

@@ -4,6 +4,7 @@
 //! place: help, the version, or why the arguments are refused.
 #![tactic(auto)]
 
+mod explanations;
 mod options;
 mod reading;
 mod settings;

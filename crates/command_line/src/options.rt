@@ -1,5 +1,5 @@
 //! The commands and their options, as `clap` knows them.
-use crate::texts::{EVENTS, FRAMES, RELATIONSHIPS, SERVING};
+use crate::texts::{EVENTS, FRAMES, LINES, RELATIONSHIPS, REPLIES, SERVING};
 use clap::builder::ValueParser;
 use clap::{Arg, ArgAction, Command, value_parser};
 use std::alloc::{AllocError, Global};
@@ -133,6 +133,29 @@ pub fn run_command<'a>(alloc: Global) -> Result<Command<'a>, AllocError> {
         .after_help(FRAMES)
         .arg(shards(alloc))?
         .arg(turns(alloc))
+}
+
+pub fn encode_command<'a>(alloc: Global) -> Command<'a> {
+    Command::new(alloc, "encode")
+        .about("Turns lines into frames of requests")
+        .after_help(LINES)
+}
+
+pub fn decode_command<'a>(alloc: Global) -> Command<'a> {
+    Command::new(alloc, "decode")
+        .about("Turns frames of requests and replies into lines")
+        .after_help(REPLIES)
+}
+
+pub fn explain_command<'a>(alloc: Global) -> Result<Command<'a>, AllocError> {
+    let number = Arg::new(alloc, "number")
+        .value_name("NUMBER")
+        .help("The number of a refusal or a fault, as 31")
+        .required(true)
+        .value_parser(value_parser!(u64).range(1..=255));
+    Command::new(alloc, "explain")
+        .about("Tells what the number of a refusal or a fault means, and what to do about it")
+        .arg(number)
 }
 
 pub fn trace_command<'a>(alloc: Global) -> Result<Command<'a>, AllocError> {

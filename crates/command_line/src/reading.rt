@@ -2,7 +2,11 @@
 ghost use Rattle.std.specs.Prelude.{◌≡◌, ◌<◌, ◌≤◌, IfOk, IfSome};
 ghost use Rattle.command_line.specs.Settings.{AreSettings};
 
-use crate::options::{migrate_command, refresh_command, run_command, serve_command, trace_command};
+use crate::explanations::explanation;
+use crate::options::{
+    decode_command, encode_command, explain_command, migrate_command, refresh_command, run_command,
+    serve_command, trace_command,
+};
 use crate::settings::Settings;
 use crate::texts::FRAMES;
 use crate::wanted::{Refreshing, Wanted};
@@ -53,7 +57,10 @@ fn command<'a>(alloc: Global) -> Result<Command<'a>, AllocError> {
         .after_help(FRAMES)
         .subcommand_required(true);
     let run = with(Ok(none), run_command(alloc));
-    let trace = with(run, trace_command(alloc));
+    let encode = with(run, Ok(encode_command(alloc)));
+    let decode = with(encode, Ok(decode_command(alloc)));
+    let explain = with(decode, explain_command(alloc));
+    let trace = with(explain, trace_command(alloc));
     let migrate = with(trace, Ok(migrate_command(alloc)));
     let refresh = with(migrate, refresh_command(alloc));
     with(refresh, serve_command(alloc))
@@ -71,6 +78,9 @@ fn wanted_of<'a>(alloc: Global, matches: &ArgMatches<'a>) -> Result<Wanted<'a>, 
     ensures { IfOk result AreSettings }
 {
     match matches.subcommand() {
+        Some(("encode", _)) => Ok(Wanted::Encode),
+        Some(("explain", explain)) => explaining_of(alloc, explain),
+        Some(("decode", _)) => Ok(Wanted::Decode),
         Some(("migrate", _)) => Ok(Wanted::Migrate),
         Some(("refresh", refresh)) => Ok(Wanted::Refresh(refreshing_of(refresh))),
         Some(("serve", serve)) => serving_of(alloc, serve),
@@ -101,6 +111,23 @@ fn serving_of<'a>(alloc: Global, serve: &ArgMatches<'a>) -> Result<Wanted<'a>, E
         }),
         Err(NoCount) => Err(bad_connections(alloc)?),
     }
+}
+
+fn explaining_of<'a>(alloc: Global, explain: &ArgMatches<'a>) -> Result<Wanted<'a>, Error>
+    ensures { IfOk result AreSettings }
+{
+    let number = explain.get_one::<u64>("number").unwrap_or(0) as u8;
+    match explanation(number) {
+        Some(text) => Ok(Wanted::Explain(text)),
+        None => Err(unknown_number(alloc)?),
+    }
+}
+
+fn unknown_number(alloc: Global) -> Result<Error, AllocError> {
+    explain_command(alloc)?.error(
+        ErrorKind::ValueValidation,
+        "no refusal and no fault has this number",
+    )
 }
 
 fn shards_of(command: &ArgMatches<'_>) -> usize

@@ -24,6 +24,46 @@ The first example sets the bundle of the trust domain `a` to an empty document a
 `s` says that it was stored, and `f` comes before the document that was found. A reply whose first
 byte is below 64 is a refusal with that number.";
 
+pub const LINES: &str = "\
+Each line of the input is a request, and becomes one frame, as soon as the line is there:
+
+  set D DOC         sets the bundle of the trust domain D
+  setif D E DOC     sets it only if the stored bundle is the expected one: E is absent, none for a bundle
+                    without a sequence, or a sequence
+  append D JWK      appends an authority to it
+  remove D          removes it
+  get D             gets it
+  fetch             fetches all
+  version 1|2       sets the version of the session
+
+DOC and JWK are the rest of the line, or @FILE for what the file holds. A line that is empty or begins with `#` asks
+nothing. Names and documents are not judged here: whoever is asked does that. A line that is something else, or that no
+frame carries, is `fault 70 LINE`, and a file that cannot be read `fault 53 LINE`, status 1; what the lines before
+it became has been written.
+
+  printf 'set a {\"keys\":[]}\nget a\n' | bundled encode | bundled run | bundled decode
+
+  stored
+  found {\"keys\":[]}";
+
+pub const REPLIES: &str = "\
+Each frame of the input is a reply or a request, and becomes one line, as soon as the frame is there. A request becomes
+the line that `encode` takes, and a reply one of these:
+
+  stored   unchanged   removed       a bundle was stored, was stored already, or was removed
+  appended N   appended -            an authority was appended; N is the sequence now
+  found TEXT                         the bundle that was got
+  all N                              N domains follow, each as
+  bundle D TEXT                      the bundle of D, as it stood at the moment of the fetch-all
+  version N                          the session speaks this version now
+  refused N ..                       the request was refused, with the number of the refusal and what it tells
+  memory   worn S   shut             not done: no memory, the shard S can count no more changes, no requests are taken
+  moved S A B   held S R             not done: others were in the way; ask again
+
+A frame that is neither, or that has no line, is `fault 51 FRAME`, counted from 0, status 1: no line has a name with a
+space, a name or a text with a line feed, or a document that begins with `@`. The lines of the frames before it have
+been written.";
+
 pub const EVENTS: &str = "\
 Each line of the input is an event; a caller is a number from 0 to 4294967295:
 

@@ -14,6 +14,12 @@ pub enum Wanted<'a> {
         shards: usize,
         rounds: usize,
     },
+    /// Frames of requests, out of lines.
+    Encode,
+    /// Lines, out of frames of requests and replies.
+    Decode,
+    /// What the number of a refusal or a fault means: a text of some lines.
+    Explain(&'static str),
     /// The requests that store a dump again.
     Migrate,
     /// A refresh of each relationship of a list.

@@ -4,3 +4,5 @@ pub mod Input
 pub mod Run
 pub mod Migrate
 pub mod Trace
+pub mod Encode
+pub mod Explain

@@ -25,6 +25,10 @@ pub enum Fault {
     Dump(DumpError),
     /// This line of the input, from 1, is not an event, or not the words of a relationship whose domain is new.
     BadLine(u64),
+    /// This frame of the input, from 0, is not a request or a reply that has a line.
+    BadFrame(u64),
+    /// The text that this line of the input, from 1, names cannot be read.
+    UnreadText(u64),
     /// The input has over 16,777,216 bytes.
     InputTooLong,
     /// Relationships cannot be refreshed.
@@ -78,6 +82,8 @@ impl Fault {
             Fault::Front(error) => error.number(),
             Fault::Dump(error) => error.number(),
             Fault::BadLine(_) => 70,
+            Fault::BadFrame(_) => 51,
+            Fault::UnreadText(_) => 53,
             Fault::InputTooLong => 71,
             Fault::Refresh(fault) => fault.number(),
             Fault::Listen => 57,
@@ -85,13 +91,15 @@ impl Fault {
         }
     }
 
-    /// The place of the fault: a frame of a dump, from 0, or a line, from 1.
+    /// The place of the fault: a frame, from 0, a line, from 1, or a shard.
     fn place(&self) -> Option<u64>
         ensures { result ≡ fault_place self.now }
     {
         match self {
             Fault::Dump(DumpError::BadDump(frame)) => Some(*frame),
             Fault::BadLine(line) => Some(*line),
+            Fault::BadFrame(frame) => Some(*frame),
+            Fault::UnreadText(line) => Some(*line),
             Fault::Refresh(fault) => fault.place(),
             Fault::Close(CloseError::HeldAtEnd(shard)) => Some(*shard as u64),
             _ => None,

@@ -1,11 +1,15 @@
 //! The commands of the program that need only streams, and how each command tells its faults.
 //!
-//! `run_over` serves a session, `trace_over` runs the machine over a list of events, and `migrate_over` turns a dump
-//! into requests. Each reads from a reader, writes to a writer, tells its fault to another, and answers the exit
-//! status. What they are made of serves the other commands too.
+//! `run_over` serves a session, `encode_over` and `decode_over` turn lines into frames and frames into lines, `trace_over`
+//! runs the machine over a list of events, `migrate_over` turns a dump into requests, and `explain_over` writes a text. Each
+//! reads from a reader, writes to a writer, tells its fault to another, and answers the exit status. What they are made of
+//! serves the other commands too.
 #![tactic(auto)]
 
+mod encode;
+mod explain;
 mod fault;
+mod file_texts;
 mod input;
 mod lines;
 mod migrate;
@@ -14,7 +18,10 @@ mod refusal_words;
 mod run;
 mod trace;
 
+pub use encode::{decode_over, encode_over};
+pub use explain::explain_over;
 pub use fault::{Fault, RefreshFault};
+pub use file_texts::FileTexts;
 pub use input::read_input;
 pub use migrate::migrate_over;
 pub use output::{tell, tell_flushed, write_flushed, write_whole};

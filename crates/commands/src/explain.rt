@@ -1,0 +1,27 @@
+//! The command `explain`: writes a text that is known beforehand.
+ghost use Rattle.std.specs.Prelude.{◌≡◌, ◌<◌, ◌-◌, ◌^◌};
+ghost use Rattle.commands.specs.Explain.{Explains};
+ghost use Rattle.commands.specs.Streams.{End, end_of};
+
+use crate::output::write_flushed;
+use frame_front::Counted;
+use std::io::Write;
+
+/// Writes the explanation, and answers the exit status.
+pub fn explain_over<W: Write, E: Write>(
+    text: &str,
+    out: &mut Counted<W>,
+    err: &mut Counted<E>,
+) -> u8
+    requires out_count { out.old.faults < 2 ^ 64 - 1 }
+    requires err_count { err.old.faults < 2 ^ 64 - 1 }
+    ensures explains { (input : End) → Explains text.now result
+        (record { input = input; output = end_of W.contents out.old; error = end_of E.contents err.old })
+        (record { input = input; output = end_of W.contents out.new; error = end_of E.contents err.new }) }
+    ensures silent { result ≡ 0 → err.new ≡ err.old }
+{
+    match write_flushed(out, text.as_bytes()) {
+        Ok(()) => 0,
+        Err(fault) => fault.tell(err),
+    }
+}
