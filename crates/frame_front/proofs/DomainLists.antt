@@ -1,19 +1,27 @@
 -- Lemmas on lists of domains and of their frames.
-use Rattle.std.proofs.Common.{◌≡◌, ℕ, List, [], ◌∷◌, ◌++◌, length, map, append-nil, arith, refl, sym, ap, ◌∙◌, Some, None}
-use Rattle.std.specs.Prelude.{Option}
-use Rattle.std.specs.List.{flat_map}
+use Rattle.std.proofs.Common.{◌≡◌, ℕ, ◌-◌, List, [], ◌∷◌, ◌++◌, length, map, append-nil, arith, refl, sym, ap, ◌∙◌, Some, None}
+use Rattle.std.specs.Prelude.{Option, option_map}
+use Rattle.std.specs.List.{flat_map, slice_get}
 use Rattle.spiffe_doc.specs.Authority.{BundleValue}
 use Rattle.spiffe_doc.specs.Bundle.{IsBundle}
 use Rattle.map_core.specs.Name.{Name}
 use Rattle.frame_front.specs.Frame.{frame, stream_of}
 use Rattle.frame_front.specs.Dump.{Domains, HaveValidBundles, item_of, ReadsItems, request_for}
+use Rattle.frame_front.specs.Private.Refusals.{last_of}
 use Rattle.map_core.specs.Laws.{IsAfter, Ascends}
 use Rattle.frame_front.proofs.SessionLemmas.{stream_of-append}
 
--- the last name, if any
-abbrev pub last_of : Option Name → Domains → Option Name
-last_of last [] = last
-last_of last (item ∷ items) = last_of (Some item.0) items
+last_is : (last : Option Name) (item : Name × BundleValue) (items : Domains)
+    → last_of last (item ∷ items) ≡ option_map (λ (i : Name × BundleValue). i.0) (slice_get (item ∷ items) (length items))
+last_is last item [] = refl
+last_is last item (next ∷ items) = last_is (Some item.0) next items
+
+-- the last name is that of the last domain
+pub last_name : (items : Domains) → last_of None items ≡ option_map (λ (i : Name × BundleValue). i.0) (slice_get items (length items - 1))
+last_name [] = refl
+last_name (item ∷ items) =
+    let same : length (item ∷ items) - 1 ≡ length items = omega arith in
+    rw same (last_is None item items)
 
 pub ReadsItems-length : (ps : List (List ℕ)) (items : Domains) → ReadsItems ps items → length ps ≡ length items
 ReadsItems-length [] [] read = refl

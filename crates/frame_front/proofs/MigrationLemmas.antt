@@ -40,7 +40,8 @@ use Rattle.frame_front.specs.Reply.{reply_frames, version_frame}
 use Rattle.frame_front.specs.PlainSession.{text_for, state_for, answers_to, state_after}
 use Rattle.frame_front.specs.Dump.{Domains, unless_refused, item_of, ReadsItems, IsDump, AreValid, request_for, requests_for, held_of, map_of}
 use Rattle.map_core.specs.Laws.{IsAfter, Ascends}
-use Rattle.frame_front.proofs.DomainLists.{last_of, last_of-one, Ascends-one, some_item, none_item}
+use Rattle.frame_front.specs.Private.Refusals.{last_of}
+use Rattle.frame_front.proofs.DomainLists.{last_of-one, Ascends-one, some_item, none_item}
 
 -- ---- a domain that was read is valid
 

@@ -1,9 +1,10 @@
-//! Dumps of version 1, and the requests of version 2 that they become.
-ghost use Rattle.std.specs.Prelude.{◌≡◌, ◌++◌, ℕ, List, [], ◌∷◌, Some, None, true, false, IfOk, IfErr, IfSome, IfNone, OnOk};
+//! Dumps of version 1: the domains that they hold, and the requests of version 2 that they become.
+ghost use Rattle.std.specs.Prelude.{◌≡◌, ◌≤◌, ◌++◌, ℕ, length, List, [], ◌∷◌, Some, None, true, false, IfOk, IfErr, IfSome, IfNone, OnOk};
 ghost use Rattle.spiffe_doc.specs.Bundle.{IsBundle};
+ghost use Rattle.spiffe_doc.specs.Text.{text_of};
 ghost use Rattle.frame_front.specs.Frame.{IsPayload, frame, stream_of};
-ghost use Rattle.frame_front.specs.Dump.{Domains, IsDump, HaveValidBundles, FaultOfDump, count_of, item_of, request_for, requests_for, dump_number};
-ghost use Rattle.frame_front.specs.Private.Refusals.{NoItem, NoCount};
+ghost use Rattle.frame_front.specs.Dump.{Domains, IsDump, HaveValidBundles, FaultOfDump, count_of, item_of, requests_for, dump_number};
+ghost use Rattle.frame_front.specs.Private.Refusals.{NoItem, NoCount, last_of};
 ghost use Rattle.map_core.specs.Laws.{IsAfter};
 
 use crate::frame::{LENGTH_BYTES, first_frame, put_frame};
@@ -11,6 +12,7 @@ use crate::refusal::Refusal;
 use crate::reply::canonical_text;
 use crate::request::read_named_bundle;
 use arrayvec::ArrayVec;
+use map_core::Snapshot;
 use spiffe_doc::{Bundle, DocumentReader, TrustDomain};
 use std::alloc::{AllocError, Global};
 use thiserror::Error;
@@ -18,7 +20,7 @@ use thiserror::Error;
 /// A letter, a length, the longest name and an expectation.
 const HEAD_BYTES: usize = 258;
 
-/// Why a dump is not migrated.
+/// Why a dump is not read.
 #[derive(Clone, Copy, Debug, PartialEq, Eq, Error)]
 pub enum DumpError {
     /// The first frame, from 0, that is wrong, missing or too much.
@@ -51,37 +53,46 @@ impl From<AllocError> for DumpError {
     }
 }
 
-/// The requests of version 2 that store again what a dump of version 1 holds. A dump is the frames of a
-/// reply to a fetch-all: the number of domains, and a frame for each in order of their names.
-pub fn migrate(alloc: Global, dump: &[u8]) -> Result<Vec<u8>, DumpError>
-    ensures ok { IfOk result (λ stream. (items : Domains) × IsDump dump.now items × HaveValidBundles items
-        × (stream.items ≡ stream_of (requests_for items) [])) }
+/// The domains of a dump of version 1. A dump is the frames of a reply to a fetch-all: the number of domains, and a
+/// frame for each in order of their names. An error tells the first frame that is wrong, or that memory ran out.
+pub fn read_dump(alloc: Global, dump: &[u8]) -> Result<Snapshot, DumpError>
+    ensures ok { IfOk result (λ items. IsDump dump.now items × HaveValidBundles items) }
     ensures err { IfErr result (λ fault. FaultOfDump fault dump.now) }
 {
     let Some((count, mut rest)) = first_count(dump) else {
         return Err(DumpError::BadDump(0));
     };
-    let mut stream = Vec::new(alloc);
-    if let Err(_) = put_frame(&mut stream, b"V", &[2]) {
-        return Err(DumpError::Memory);
-    }
-    let mut last = None;
+    let mut domains = Vec::new(alloc);
     let mut place = 0;
     while place < count {
         place += 1;
-        let item = match next_item(alloc, &last, rest) {
+        let item = match next_item(alloc, domains.as_slice(), rest) {
             Ok(Some(item)) => item,
             Ok(None) => return Err(DumpError::BadDump(place)),
             Err(_) => return Err(DumpError::Memory),
         };
-        if let Err(_) = put_request(&mut stream, &item.domain, &item.bundle) {
+        if let Err(_) = domains.push((item.domain, item.bundle)) {
             return Err(DumpError::Memory);
         }
-        last = Some(item.domain);
         rest = item.rest;
     }
     if !rest.is_empty() {
         return Err(DumpError::BadDump(place + 1));
+    }
+    Ok(Snapshot::from_pairs(domains))
+}
+
+/// The requests of version 2 that store again what a dump of version 1 holds. Errors as `read_dump` does.
+pub fn migrate(alloc: Global, dump: &[u8]) -> Result<Vec<u8>, DumpError>
+    ensures ok { IfOk result (λ stream. (items : Domains) × IsDump dump.now items × HaveValidBundles items
+        × (stream.items ≡ stream_of (requests_for items) [])) }
+    ensures err { IfErr result (λ fault. FaultOfDump fault dump.now) }
+{
+    let domains = read_dump(alloc, dump)?;
+    let mut stream = Vec::new(alloc);
+    put_frame(&mut stream, b"V", &[2])?;
+    for item in domains.pairs() {
+        put_request(&mut stream, b'C', &item.0, &[0], &item.1)?;
     }
     Ok(stream)
 }
@@ -163,16 +174,16 @@ pub fn is_after(last: &Option<TrustDomain>, domain: &TrustDomain) -> bool
     }
 }
 
-/// The next domain, whose name comes after the last one.
+/// The next domain, whose name comes after that of the last one.
 fn next_item<'a>(
     alloc: Global,
-    last: &Option<TrustDomain>,
+    domains: &[(TrustDomain, Bundle)],
     bytes: &'a [u8],
 ) -> Result<Option<Item<'a>>, AllocError>
     ensures found { IfOk result (λ next. IfSome next (λ item. (payload : List ℕ) × IsPayload payload
         × (bytes.now ≡ frame payload ++ item.rest.now) × (item_of payload ≡ Some (item.domain, item.bundle))
-        × IsAfter last.now item.domain × IsBundle item.bundle)) }
-    ensures none { IfOk result (λ next. IfNone next (NoItem last.now bytes.now)) }
+        × IsAfter (last_of None domains.now) item.domain × IsBundle item.bundle)) }
+    ensures none { IfOk result (λ next. IfNone next (NoItem (last_of None domains.now) bytes.now)) }
 {
     let Some((payload, rest)) = split_frame(bytes) else {
         return Ok(None);
@@ -182,7 +193,7 @@ fn next_item<'a>(
         Ok(None) => return Ok(None),
         Err(_) => return Err(AllocError),
     };
-    if !is_after(last, &domain) {
+    if !follows(domains, &domain) {
         return Ok(None);
     }
     let _authorities = bundle.authorities();
@@ -193,19 +204,35 @@ fn next_item<'a>(
     }))
 }
 
-/// Adds the request that sets the domain if it is absent.
-fn put_request(
+/// Whether a domain may follow these.
+fn follows(domains: &[(TrustDomain, Bundle)], domain: &TrustDomain) -> bool
+    ensures after { result ≡ true → IsAfter (last_of None domains.now) domain.now }
+    ensures not_after { result ≡ false → ¬ (IsAfter (last_of None domains.now) domain.now) }
+{
+    match domains.last() {
+        Some(last) => last.0 < *domain,
+        None => true,
+    }
+}
+
+/// Adds a request that ends with a document: its letter, the domain's name, an expectation of no byte or one, and the
+/// canonical text of the bundle.
+pub fn put_request(
     stream: &mut Vec<u8>,
+    letter: u8,
     domain: &TrustDomain,
+    expectation: &[u8],
     bundle: &Bundle,
 ) -> Result<(), AllocError>
-    ensures { OnOk result (stream.new.items ≡ stream.old.items ++ frame (request_for (domain.now, bundle.now))) }
+    requires { length expectation.now ≤ 1 }
+    ensures { OnOk result (stream.new.items
+        ≡ stream.old.items ++ frame (letter ∷ length domain.now ∷ domain.now ++ (expectation.now ++ text_of bundle.now))) }
 {
     let name = domain.as_str().as_bytes();
     let text = canonical_text(bundle);
     let mut front = ArrayVec::<u8, HEAD_BYTES>::new();
-    let _fits = front.try_extend_from_slice(&[b'C', name.len() as u8]);
+    let _fits = front.try_extend_from_slice(&[letter, name.len() as u8]);
     let _fits = front.try_extend_from_slice(name);
-    let _fits = front.try_extend_from_slice(&[0]);
+    let _fits = front.try_extend_from_slice(expectation);
     put_frame(stream, front.as_slice(), text)
 }

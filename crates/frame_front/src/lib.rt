@@ -2,9 +2,9 @@
 //! replies, and sessions that answer the one with the other.
 //!
 //! `serve` reads frames from any reader and writes replies to any writer, over whatever can be asked:
-//! one map, or shards of it. `Decoder` takes frames out of a stream by itself, and `migrate` turns the
-//! reply to a fetch-all into requests that store it again. `wire` has what both ends of a stream share: the
-//! other end is the client of crate `frame_client`.
+//! one map, or shards of it. `Decoder` takes frames out of a stream by itself. `read_dump` gives what the
+//! reply to a fetch-all holds, and `migrate` turns it into requests that store it again. `wire` has what both
+//! ends of a stream share: the other end is the client of crate `frame_client`.
 #![tactic(auto)]
 
 mod counted;
@@ -23,7 +23,7 @@ pub mod wire;
 
 pub use counted::Counted;
 pub use decoder::Decoder;
-pub use dump::{DumpError, migrate};
+pub use dump::{DumpError, migrate, read_dump};
 pub use error::FrontError;
 pub use faulty::{FaultyReader, FaultyWriter};
 pub use refusal::Refusal;

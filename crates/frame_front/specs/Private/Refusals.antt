@@ -1,10 +1,15 @@
 -- How a fetch-all's payloads and a dump's are refused, part by part.
-use Rattle.std.specs.Prelude.{◌≡◌, ℕ, List, ◌++◌, Option, Some, None}
+use Rattle.std.specs.Prelude.{◌≡◌, ℕ, List, [], ◌∷◌, ◌++◌, Option, Some, None}
 use Rattle.spiffe_doc.specs.Authority.{BundleValue}
 use Rattle.map_core.specs.Name.{Name}
 use Rattle.frame_front.specs.Frame.{IsPayload, frame}
 use Rattle.map_core.specs.Laws.{IsAfter}
-use Rattle.frame_front.specs.Dump.{count_of, item_of}
+use Rattle.frame_front.specs.Dump.{Domains, count_of, item_of}
+
+-- the last name, if any
+abbrev pub last_of : Option Name → Domains → Option Name
+last_of last [] = last
+last_of last (item ∷ items) = last_of (Some item.0) items
 
 -- no frame of a domain whose name comes after the last one stands first
 abbrev pub NoItem : Option Name → List ℕ → Type 0

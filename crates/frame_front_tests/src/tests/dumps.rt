@@ -1,6 +1,6 @@
 //! Dumps and the requests that they become.
 use super::{ALL_OF_NONE, ALL_OF_ONE, answers_of, holds, holds_at};
-use frame_front::{DumpError, migrate};
+use frame_front::{DumpError, migrate, read_dump};
 use map_core::Contents;
 use std::test::Fail;
 
@@ -12,6 +12,32 @@ fn migrates_dumps(rt: HostRuntime) -> Result<(), Fail> {
         b"\x00\x00\x00\x09a\x00\x00\x00\x00\x00\x00\x00\x01\x00\x00\x00\x0fi\x01a{\"keys\": []}";
     for (dump, stream) in [(ALL_OF_ONE, one), (ALL_OF_NONE, none), (spaced, one)] {
         holds(&rt, migrate(rt.alloc(), dump)?.as_slice() == stream);
+    }
+    Ok(())
+}
+
+#[test]
+fn reads_dumps(rt: HostRuntime) -> Result<(), Fail> {
+    let two: &[u8] =
+        b"\x00\x00\x00\x09a\x00\x00\x00\x00\x00\x00\x00\x02\x00\x00\x00\x0ei\x01a{\"keys\":[]}\x00\x00\x00\x25i\x02ab{\"keys\":[], \"spiffe_sequence\": 7}";
+    let rows: [(&[u8], &[(&str, &[u8])]); 3] = [
+        (ALL_OF_NONE, &[]),
+        (ALL_OF_ONE, &[("a", b"{\"keys\":[]}")]),
+        (
+            two,
+            &[
+                ("a", b"{\"keys\":[]}"),
+                ("ab", b"{\"keys\":[],\"spiffe_sequence\":7}"),
+            ],
+        ),
+    ];
+    for (dump, wanted) in rows {
+        let domains = read_dump(rt.alloc(), dump)?;
+        holds(&rt, domains.len() == wanted.len());
+        for (domain, (name, text)) in domains.pairs().iter().zip(wanted) {
+            holds_at(&rt, domain.0.as_str() == *name, name);
+            holds_at(&rt, domain.1.text() == *text, name);
+        }
     }
     Ok(())
 }
@@ -89,10 +115,8 @@ fn refuses_what_is_no_dump(rt: HostRuntime) {
         ),
     ];
     for (name, dump, frame) in rows {
-        let refused = match migrate(rt.alloc(), dump) {
-            Err(DumpError::BadDump(place)) => place == frame,
-            _ => false,
-        };
-        holds_at(&rt, refused, &name);
+        let wanted = Some(DumpError::BadDump(frame));
+        holds_at(&rt, migrate(rt.alloc(), dump).err() == wanted, &name);
+        holds_at(&rt, read_dump(rt.alloc(), dump).err() == wanted, &name);
     }
 }
