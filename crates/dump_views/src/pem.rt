@@ -1,0 +1,91 @@
+//! The X.509 authorities of a bundle as PEM (RFC 7468).
+ghost use Rattle.std.specs.Prelude.{◌≡◌, ◌≤◌, ◌++◌, length, OnOk, OnErr};
+ghost use Rattle.std.specs.List.{flat_map};
+ghost use Rattle.dump_views.specs.Pem.{base64_of, cut, line, pem_of, pem_of_authority, pem_of_certificate};
+ghost use Rattle.dump_views.specs.Private.Fronts.{IsFront};
+
+use base64::engine::general_purpose::STANDARD;
+use spiffe_doc::{Authority, Bundle};
+use std::alloc::AllocError;
+
+/// How many bytes a whole line has as base64 (RFC 7468, section 2).
+const LINE: usize = 64;
+
+/// How many bytes a whole line tells.
+const LINE_BYTES: usize = 48;
+
+/// Appends the X.509 authorities of a bundle as PEM: for each certificate, in the document's order, its base64 in lines of
+/// 64 characters between `-----BEGIN CERTIFICATE-----` and `-----END CERTIFICATE-----` (RFC 7468, sections 2, 3 and
+/// 5.1). JWT authorities have none. No DER is read. If memory runs out, nothing is appended.
+pub fn put_pem(bundle: &Bundle, out: &mut Vec<u8>) -> Result<(), AllocError>
+    ensures ok { OnOk result (out.new.items ≡ out.old.items ++ pem_of bundle.now) }
+    ensures err { OnErr result (out.new.items ≡ out.old.items) }
+{
+    let before = out.len();
+    let put = put_authorities(bundle.authorities(), out);
+    if put.is_err() {
+        out.truncate(before);
+    }
+    put
+}
+
+#[tactic(auto, using(crate::proofs::FrontLemmas::front_same, crate::proofs::FrontLemmas::front_more, crate::proofs::FrontLemmas::front_through))]
+fn put_authorities(authorities: &[Authority], out: &mut Vec<u8>) -> Result<(), AllocError>
+    ensures ok { OnOk result (out.new.items ≡ out.old.items ++ flat_map pem_of_authority authorities.now) }
+    ensures err { OnErr result (IsFront out.old.items out.new.items) }
+{
+    for authority in authorities {
+        put_authority(authority, out)?;
+    }
+    Ok(())
+}
+
+fn put_authority(authority: &Authority, out: &mut Vec<u8>) -> Result<(), AllocError>
+    ensures ok { OnOk result (out.new.items ≡ out.old.items ++ pem_of_authority authority.now) }
+    ensures err { OnErr result (IsFront out.old.items out.new.items) }
+{
+    match authority {
+        Authority::X509 { der, .. } => put_certificate(der.der().as_slice(), out),
+        Authority::Jwt { .. } => Ok(()),
+    }
+}
+
+#[tactic(auto, using(crate::proofs::FrontLemmas::front_same, crate::proofs::FrontLemmas::front_more, crate::proofs::FrontLemmas::front_through), unfolding(crate::specs::Pem::pem_of_certificate))]
+fn put_certificate(der: &[u8], out: &mut Vec<u8>) -> Result<(), AllocError>
+    ensures ok { OnOk result (out.new.items ≡ out.old.items ++ pem_of_certificate der.now) }
+    ensures err { OnErr result (IsFront out.old.items out.new.items) }
+{
+    out.extend_from_slice(b"-----BEGIN CERTIFICATE-----\n")?;
+    put_lines(der, out)?;
+    out.extend_from_slice(b"-----END CERTIFICATE-----\n")?;
+    Ok(())
+}
+
+/// Appends the base64 of the bytes in lines.
+#[tactic(auto, using(crate::proofs::FrontLemmas::front_same, crate::proofs::FrontLemmas::front_through))]
+fn put_lines(bytes: &[u8], out: &mut Vec<u8>) -> Result<(), AllocError>
+    ensures ok { OnOk result (out.new.items ≡ out.old.items ++ flat_map line (cut (base64_of bytes.now))) }
+    ensures err { OnErr result (IsFront out.old.items out.new.items) }
+{
+    let mut rest = bytes;
+    while !rest.is_empty() {
+        let (some, more) = rest.split_at(rest.len().min(LINE_BYTES));
+        put_line(some, out)?;
+        rest = more;
+    }
+    Ok(())
+}
+
+/// Appends the base64 of the bytes and a line feed.
+fn put_line(bytes: &[u8], out: &mut Vec<u8>) -> Result<(), AllocError>
+    requires short { length bytes.now ≤ 48 }
+    ensures ok { OnOk result (out.new.items ≡ out.old.items ++ line (base64_of bytes.now)) }
+    ensures err { OnErr result (IsFront out.old.items out.new.items) }
+{
+    let mut text = [0; LINE];
+    let Ok(size) = STANDARD.encode_slice(bytes, &mut text) else {
+        unreachable!();
+    };
+    out.extend_from_slice(&text[..size])?;
+    out.extend_from_slice(b"\n")
+}
