@@ -1,5 +1,5 @@
 -- Lemmas on what was appended to.
-use Rattle.std.proofs.Common.{◌≤◌, ◌++◌, List, ℕ, length, take, arith, refl, sym, ap, ◌∙◌}
+use Rattle.std.proofs.Common.{◌≡◌, ◌≤◌, ◌++◌, List, ℕ, length, take, arith, refl, sym, ap, ◌∙◌, append_assoc}
 use Rattle.std.proofs.lemmas.List.{take_all, take_at, take-take, length-take}
 use Rattle.dump_views.specs.Private.Fronts.{IsFront}
 
@@ -16,3 +16,9 @@ front_through a b c first second =
 
 pub front_then : (a x c : List ℕ) → IsFront (a ++ x) c → IsFront a c
 front_then a x c more = front_through a (a ++ x) c (front_more a x) more
+
+-- four texts appended one after another
+pub four_appended : (out one two three four a b c d : List ℕ) → one ≡ out ++ a → two ≡ one ++ b → three ≡ two ++ c → four ≡ three ++ d → four ≡ out ++ (a ++ (b ++ (c ++ d)))
+four_appended out one two three four a b c d first second third fourth =
+    fourth ∙ ap (λ t. t ++ d) (third ∙ ap (λ t. t ++ c) (second ∙ ap (λ t. t ++ b) first))
+    ∙ append_assoc ((out ++ a) ++ b) c d ∙ append_assoc (out ++ a) b (c ++ d) ∙ append_assoc out a (b ++ (c ++ d))

@@ -1,3 +1,5 @@
 pub mod Digest
 pub mod Pem
+pub mod Changes
+pub mod ChangeLines
 pub mod Private
