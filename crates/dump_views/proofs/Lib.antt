@@ -1,5 +1,10 @@
+pub mod ChangeLaws
 pub mod CountLemmas
+pub mod DigestLaws
 pub mod FrontLemmas
+pub mod Holdings
 pub mod LineLemmas
 pub mod MergeLemmas
 pub mod MergeLaws
+pub mod PieceLaws
+pub mod WordLaws

@@ -1,66 +1,16 @@
 -- The changes that are found are those that there are, and no others are.
-use Rattle.std.proofs.Common.{◌≡◌, List, [], ◌∷◌, ◌++◌, Bool, true, false, cond, Option, Some, None, refl, sym, ap, subst, ◌∙◌}
+use Rattle.std.proofs.Common.{◌≡◌, List, [], ◌∷◌, ◌++◌, Bool, true, false, Option, Some, None, refl, sym, ap, subst, ◌∙◌}
 use Rattle.std.specs.Prelude.{bytes_eq, if◌then◌else◌}
-use Rattle.std.specs.Cmp.Lexicographic.{bytes_decides, nat_list_cmp_total, texts_ties}
-use Rattle.std.specs.Ordering.{ordering_reverse, is_eq}
 use Rattle.std.specs.declared.cmp.Ordering.TheVariants.{Less, Equal, Greater}
 use Rattle.spiffe_doc.specs.Authority.{BundleValue}
 use Rattle.spiffe_doc.specs.Equal.{bundle_eq}
 use Rattle.map_core.specs.Name.{Name, name_cmp}
 use Rattle.map_core.specs.Laws.{IsAfter, Ascends}
-use Rattle.dump_views.specs.Changes.{Domains, Change, Added, Removed, Changed, held_under, InOrder, change_between, AreChanges}
+use Rattle.frame_front.specs.Dump.{Domains}
+use Rattle.dump_views.specs.Changes.{Change, Added, Removed, Changed, held_under, InOrder, change_between, AreChanges}
 use Rattle.dump_views.specs.Private.Merging.{change_of_both, all_added, by_order, merged}
+use Rattle.dump_views.proofs.Holdings.{equal_name, turned, after_earlier, absent_at, at_first, at_other}
 use Rattle.dump_views.proofs.MergeLemmas.{merged_only_old, merged_by_order}
-
--- ---- names
-same_name : (a b : Name) → bytes_eq a b ≡ true → a ≡ b
-same_name a b = (bytes_decides a b).0
-
-own_name : (a : Name) → bytes_eq a a ≡ true
-own_name a = (bytes_decides a a).1 refl
-
-equal_name : (a b : Name) → name_cmp a b ≡ Equal → a ≡ b
-equal_name a b tied = same_name a b (texts_ties a b ∙ ap is_eq tied)
-
-less_name : (a b : Name) → name_cmp a b ≡ Less → bytes_eq b a ≡ false
-less_name a b less = texts_ties b a ∙ ap is_eq (nat_list_cmp_total.antisymm b a) ∙ ap (λ o. is_eq (ordering_reverse o)) less
-
-turned : (a b : Name) → name_cmp a b ≡ Greater → name_cmp b a ≡ Less
-turned a b greater = nat_list_cmp_total.antisymm b a ∙ ap ordering_reverse greater
-
--- ---- lists in order
-module _ {A : Type 0} where
-  -- without the first
-  skipped : (name : Name) (pair : Name × A) (pairs : List (Name × A)) → InOrder (Some name) (pair ∷ pairs) → InOrder (Some name) pairs
-  skipped name pair [] order = tt
-  skipped name pair (next ∷ pairs) order = (nat_list_cmp_total.trans name pair.0 next.0 order.0 order.1.0, order.1.1)
-
-  -- after an earlier name
-  after_earlier : (last : Option Name) (name : Name) (pairs : List (Name × A)) → IsAfter last name → InOrder (Some name) pairs → InOrder last pairs
-  after_earlier None name [] after order = tt
-  after_earlier None name (pair ∷ pairs) after order = (tt, order.1)
-  after_earlier (Some last) name [] after order = tt
-  after_earlier (Some last) name (pair ∷ pairs) after order = (nat_list_cmp_total.trans last name pair.0 after order.0, order.1)
-
-  -- nothing stands under a name before the first
-  absent : (name : Name) (pairs : List (Name × A)) → InOrder (Some name) pairs → held_under pairs name ≡ None
-  unfolding held_under
-  absent name [] order = refl
-  absent name (pair ∷ pairs) order =
-      ap (λ b. cond b (Some pair.1) (held_under pairs name)) (less_name name pair.0 order.0) ∙ absent name pairs (skipped name pair pairs order)
-
-  -- what stands beside the first name, and beside another
-  at_first : (pair : Name × A) (pairs : List (Name × A)) (name : Name) → bytes_eq pair.0 name ≡ true → held_under (pair ∷ pairs) name ≡ Some pair.1
-  unfolding held_under
-  at_first pair pairs name same = ap (λ b. cond b (Some pair.1) (held_under pairs name)) same
-
-  at_other : (pair : Name × A) (pairs : List (Name × A)) (name : Name) → bytes_eq pair.0 name ≡ false → held_under (pair ∷ pairs) name ≡ held_under pairs name
-  unfolding held_under
-  at_other pair pairs name other = ap (λ b. cond b (Some pair.1) (held_under pairs name)) other
-
-  -- under the first name, and under all later ones, nothing stands among what comes after it
-  absent_at : (first name : Name) (pairs : List (Name × A)) → InOrder (Some first) pairs → bytes_eq first name ≡ true → held_under pairs name ≡ None
-  absent_at first name pairs order same = ap (held_under pairs) (sym (same_name first name same)) ∙ absent first pairs order
 
 in_order : (last : Option Name) (items : Domains) → Ascends last items → InOrder last items
 in_order last [] ascends = tt

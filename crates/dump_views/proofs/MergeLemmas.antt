@@ -6,7 +6,8 @@ use Rattle.std.specs.declared.cmp.Ordering.{Ordering}
 use Rattle.std.specs.declared.cmp.Ordering.TheVariants.{Less, Equal, Greater}
 use Rattle.spiffe_doc.specs.Authority.{BundleValue}
 use Rattle.map_core.specs.Name.{Name, name_cmp}
-use Rattle.dump_views.specs.Changes.{Domains, Change, Added, Removed}
+use Rattle.frame_front.specs.Dump.{Domains}
+use Rattle.dump_views.specs.Changes.{Change, Added, Removed}
 use Rattle.dump_views.specs.ChangeLines.{line_of, lines_of}
 use Rattle.dump_views.specs.Private.Merging.{change_of_both, all_added, by_order, merged_with, merged}
 

@@ -3,11 +3,8 @@ use Rattle.std.specs.Prelude.{◌≡◌, List, [], ◌∷◌, bytes_eq, if◌the
 use Rattle.spiffe_doc.specs.Authority.{BundleValue}
 use Rattle.spiffe_doc.specs.Equal.{bundle_eq}
 use Rattle.map_core.specs.Name.{Name}
+use Rattle.frame_front.specs.Dump.{Domains}
 use Rattle.map_core.specs.Laws.{IsAfter}
-
--- trust domains with their bundles
-abbrev pub Domains : Type 0
-Domains = List (Name × BundleValue)
 
 -- what changed under a name
 pub data Change : Type 0 where

@@ -5,7 +5,8 @@ use Rattle.std.specs.declared.cmp.Ordering.TheVariants.{Less, Equal, Greater}
 use Rattle.spiffe_doc.specs.Authority.{BundleValue}
 use Rattle.spiffe_doc.specs.Equal.{bundle_eq}
 use Rattle.map_core.specs.Name.{Name, name_cmp}
-use Rattle.dump_views.specs.Changes.{Domains, Change, Added, Removed, Changed}
+use Rattle.frame_front.specs.Dump.{Domains}
+use Rattle.dump_views.specs.Changes.{Change, Added, Removed, Changed}
 
 -- the change of a name that both have, if there is one
 abbrev pub change_of_both : Name × BundleValue → Name × BundleValue → List (Name × Change)
