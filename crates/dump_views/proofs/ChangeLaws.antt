@@ -1,4 +1,4 @@
--- There is one list of changes, and nothing is written of it exactly if nothing changed.
+-- There is one list of changes, and nothing is written of it if and only if nothing changed.
 use Rattle.std.proofs.Common.{◌≡◌, List, [], ◌∷◌, ◌++◌, Bool, true, false, Option, Some, None, refl, sym, ap, subst, ◌∙◌}
 use Rattle.std.specs.Prelude.{bytes_eq, if◌then◌else◌}
 use Rattle.std.specs.Cmp.{tied_itself}
@@ -74,7 +74,7 @@ nothing_written : (changes : List (Name × Change)) → lines_of changes ≡ [] 
 nothing_written [] none = refl
 nothing_written (change ∷ changes) none = absurd (a_line change (left_none (line_of change) (lines_of changes) none))
 
--- ---- nothing is found exactly in lists that are the same
+-- ---- nothing is found if and only if both lists are the same
 no_more : {X : Type 0} (x : X) (xs : List X) → x ∷ xs ≡ [] → ⊥
 no_more x xs is = cc
 

@@ -47,7 +47,7 @@ missing_step true false l n k h = grind (arith, nat_tests)
 missing_step false true l n k h = grind (arith, nat_tests)
 missing_step false false l n k h = grind (arith, nat_tests)
 
--- none of these is missing from the others exactly if all are among them
+-- none of these is missing from the others if and only if all are among them
 pub none_beyond : (others these : List Authority) → ((x509_beyond others these == 0) && (jwt_beyond others these == 0)) ≡ list_all (is_among others) these
 none_beyond others [] = refl
 none_beyond others (a ∷ these) =

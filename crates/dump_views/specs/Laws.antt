@@ -18,7 +18,7 @@ pub record PiecesAreWhole (text : List ℕ) : Type 0 where
   pub whole : (i : ℕ) → i + 1 < length (cut text) → length (slice_index_or (cut text) i []) ≡ 64
   pub last : (i : ℕ) → i < length (cut text) → (0 < length (slice_index_or (cut text) i [])) × (length (slice_index_or (cut text) i []) ≤ 64)
 
--- Nothing is written of the changes exactly if the old domains and the new ones are the same.
+-- Nothing is written of the changes if and only if the old domains and the new ones are the same.
 abbrev pub NothingIsSame : Type 0
 NothingIsSame = (old new : Domains) (changes : List (Name × Change)) → Ascends None old → Ascends None new → AreChanges old new changes
     → (lines_of changes ≡ []) ↔ (old ≡ new)
@@ -27,7 +27,7 @@ NothingIsSame = (old new : Domains) (changes : List (Name × Change)) → Ascend
 abbrev pub ChangesAreOne : Type 0
 ChangesAreOne = (old new : Domains) (changes others : List (Name × Change)) → AreChanges old new changes → AreChanges old new others → changes ≡ others
 
--- Nothing is said of two bundles exactly if they are the same.
+-- Nothing is said of two bundles if and only if they are the same.
 abbrev pub NoWordsAreSame : Type 0
 NoWordsAreSame = (old new : BundleValue) → (bundle_words old new ≡ []) ↔ (old ≡ new)
 

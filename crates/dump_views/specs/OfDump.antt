@@ -8,13 +8,13 @@ use Rattle.dump_views.specs.declared.of_dump.DiffError.{DiffError}
 use Rattle.dump_views.specs.declared.of_dump.DiffError.TheVariants as diff
 use Rattle.dump_views.specs.Changes.{held_under}
 
--- it is no dump, or it is one and has not the name
+-- it is not a dump; or it is one without the name
 abbrev pub PemFault : PemError → List ℕ → Name → Type 0
 PemFault (pem.BadDump place) dump name = IsBadDump dump place
 PemFault pem.NoDomain dump name = (items : Domains) × IsDump dump items × (held_under items name ≡ None)
 PemFault pem.Memory dump name = Unit {0}
 
--- the old one or the new one is no dump
+-- the old one or the new one is not a dump
 abbrev pub DiffFault : DiffError → List ℕ → List ℕ → Type 0
 DiffFault (diff.BadOld place) old new = IsBadDump old place
 DiffFault (diff.BadNew place) old new = IsBadDump new place

@@ -60,7 +60,7 @@ fn are_zero(added: Counts, removed: Counts) -> bool
 }
 
 impl Counts {
-    /// Whether there are none.
+    /// Whether nothing was counted.
     fn is_zero(&self) -> bool
         ensures { result ≡ ((self.now.x509 == 0) && (self.now.jwt == 0)) }
     {

@@ -197,7 +197,7 @@ fn put_number_words(
     Ok(())
 }
 
-/// Appends the number, or that there is none.
+/// Appends the number, or `none`.
 #[tactic(auto, using(crate::proofs::FrontLemmas::front_same))]
 fn put_number(number: Option<u64>, out: &mut Vec<u8>) -> Result<(), AllocError>
     ensures ok { OnOk result (out.new.items ≡ out.old.items ++ number_word number) }

@@ -8,7 +8,7 @@ pub fn pieces_are_whole()
     ensures { (text : List ℕ) → PiecesAreWhole text }
 {}
 
-/// Nothing is written of what changed between two dumps exactly if they hold the same domains.
+/// Nothing is written of what changed between two dumps if and only if they hold the same domains.
 pub fn nothing_is_same()
     ensures { NothingIsSame }
 {}
