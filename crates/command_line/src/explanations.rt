@@ -1,7 +1,7 @@
 //! What the numbers of refusals and faults mean, and what to do about them.
 
 /// What is known of the numbers, in their order.
-const EXPLANATIONS: [(u8, &str); 48] = [
+const EXPLANATIONS: [(u64, &str); 48] = [
     (
         1,
         "\
@@ -410,7 +410,7 @@ What to do: Give the time with --now.
 ];
 
 /// What the number means and what to do about it, if a refusal or a fault has that number.
-pub fn explanation(number: u8) -> Option<&'static str> {
+pub fn explanation(number: u64) -> Option<&'static str> {
     let known = EXPLANATIONS.iter().find(|(it, _)| *it == number)?;
     Some(known.1)
 }

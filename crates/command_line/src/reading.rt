@@ -116,7 +116,7 @@ fn serving_of<'a>(alloc: Global, serve: &ArgMatches<'a>) -> Result<Wanted<'a>, E
 fn explaining_of<'a>(alloc: Global, explain: &ArgMatches<'a>) -> Result<Wanted<'a>, Error>
     ensures { IfOk result AreSettings }
 {
-    let number = explain.get_one::<u64>("number").unwrap_or(0) as u8;
+    let number = explain.get_one::<u64>("number").unwrap_or(0);
     match explanation(number) {
         Some(text) => Ok(Wanted::Explain(text)),
         None => Err(unknown_number(alloc)?),
