@@ -1,0 +1,24 @@
+-- What follows from the definitions.
+use Rattle.std.specs.Prelude.{◌≡◌, ◌↔◌, ℕ, List, length, IsSome, None, Ok, Err}
+use Rattle.serde_json.specs.Data.{Data}
+use Rattle.spiffe_doc.specs.declared.error.DocError.{DocError}
+use Rattle.spiffe_doc.specs.Entry.{IsIgnored}
+use Rattle.spiffe_doc.specs.Judgement.{judge}
+use Rattle.spiffe_doc.specs.Document.{document}
+use Rattle.doc_report.specs.Ignored.{reason}
+use Rattle.doc_report.specs.Report.{ReportValue, report_of, entries_in, entries_told}
+
+-- an entry is judged to give nothing if and only if there is a reason why it is ignored
+abbrev pub IgnoredForReason : Type 0
+IgnoredForReason = (place : ℕ) (entry : Data) → (judge place entry ≡ Ok None) ↔ IsSome (reason entry)
+
+abbrev pub ReasonIsIgnored : Type 0
+ReasonIsIgnored = (entry : Data) → IsSome (reason entry) ↔ IsIgnored entry
+
+-- a document has no report if and only if it is not a bundle, with the same fault
+abbrev pub FaultsStay : Type 0
+FaultsStay = (bytes : List ℕ) (fault : DocError) → (report_of bytes ≡ Err fault) ↔ (document bytes ≡ Err fault)
+
+-- each entry is told once: it gives an authority that is kept, or repeats one, or is ignored
+abbrev pub TellsEachEntry : Type 0
+TellsEachEntry = (bytes : List ℕ) (report : ReportValue) → report_of bytes ≡ Ok report → entries_told report ≡ length (entries_in bytes)

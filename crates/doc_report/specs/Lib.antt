@@ -1,0 +1,4 @@
+pub mod Ignored
+pub mod Report
+pub mod Laws
+pub mod Private
