@@ -96,7 +96,9 @@ entries_counted entries (suc place) h =
     let before = entries_counted entries place parts.0 in
     let entry = slice_index_or entries place null in
     let one = one_entry place (authorities_before entries place) (verdict entries place) (reason entry) (judge-reason place entry) parts.1 in
-    rw (length-append, length-append) (omega arith)
+    let given = length-append (authorities_before entries place) (authorities_by (verdict entries place)) in
+    let passed = length-append (ignored_before entries place) (ignored_for place (reason entry)) in
+    omega arith
 
 -- ---- the document
 

@@ -1,3 +1,4 @@
 pub mod Reasons
 pub mod Entries
 pub mod Told
+pub mod Pieces

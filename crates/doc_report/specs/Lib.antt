@@ -1,4 +1,7 @@
 pub mod Ignored
 pub mod Report
+pub mod Quoted
+pub mod Fault
+pub mod Lines
 pub mod Laws
 pub mod Private

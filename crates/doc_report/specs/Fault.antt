@@ -1,0 +1,60 @@
+-- What is wrong with a document that is not a bundle, in words: what it has to be instead, with the limit.
+use Rattle.std.specs.Prelude.{ℕ, List, [], ◌++◌, codes, decimal, Option, Some, None}
+use Rattle.spiffe_doc.specs.declared.key.Curve.TheVariants.{P256, P384, P521}
+use Rattle.spiffe_doc.specs.declared.key.KeyMember.{KeyMember}
+use Rattle.spiffe_doc.specs.declared.key.KeyMember.TheVariants.{Crv, X, Y, N, E}
+use Rattle.spiffe_doc.specs.declared.error.DocError.{DocError}
+use Rattle.spiffe_doc.specs.declared.error.DocError.TheVariants.{TooLong, NotJson, NotObject, NoKeys, BadSequence, BadHint, BadEntry, BadKey, BadX5c, BadKid, KidTwice, TooMany, Memory}
+use Rattle.spiffe_doc.specs.Document.{place_of}
+use Rattle.spiffe_doc.specs.Number.{doc_number}
+
+-- the entry at a place
+unfoldable pub entry_words : ℕ → List ℕ
+entry_words place = codes "keys[" ++ (decimal place ++ codes "] ")
+
+abbrev pub place_words : Option ℕ → List ℕ
+place_words None = []
+place_words (Some place) = entry_words place
+
+-- a member of a key, and what it is not
+abbrev pub member_words : KeyMember → List ℕ
+member_words Crv = codes "has a malformed crv: it is not a text"
+member_words (X P256) = codes "has a malformed x: it is not 32 bytes of unpadded base64url"
+member_words (X P384) = codes "has a malformed x: it is not 48 bytes of unpadded base64url"
+member_words (X P521) = codes "has a malformed x: it is not 66 bytes of unpadded base64url"
+member_words (Y P256) = codes "has a malformed y: it is not 32 bytes of unpadded base64url"
+member_words (Y P384) = codes "has a malformed y: it is not 48 bytes of unpadded base64url"
+member_words (Y P521) = codes "has a malformed y: it is not 66 bytes of unpadded base64url"
+member_words N = codes "has a malformed n: it is not 1 to 1024 bytes of unpadded base64url"
+member_words E = codes "has a malformed e: it is not 1 to 1024 bytes of unpadded base64url"
+
+-- what a fault says of the document, or of the entry at its place
+abbrev pub said_of : DocError → List ℕ
+said_of TooLong = codes "the document, or its canonical text, has over 1048576 bytes"
+said_of NotJson = codes "it is not a JSON text of UTF-8, nested at most 127 deep"
+said_of NotObject = codes "it is not a JSON object"
+said_of NoKeys = codes "it has no member keys that is an array"
+said_of BadSequence = codes "spiffe_sequence is not a whole number from 0 to 18446744073709551615"
+said_of BadHint = codes "spiffe_refresh_hint is not a whole number from 0 to 18446744073709551615"
+said_of (BadEntry place) = codes "is not a JSON object"
+said_of (BadKey place member) = member_words member
+said_of (BadX5c place) = codes "has a malformed x5c: it is not a list of one text of padded base64"
+said_of (BadKid place) = codes "has a malformed kid: it is not a text of 1 to 255 bytes"
+said_of (KidTwice place) = codes "has the kid of an earlier, different authority"
+said_of TooMany = codes "it has over 1024 different authorities"
+said_of Memory = codes "out of memory"
+
+-- a document for which memory ran out has no verdict
+abbrev pub verdict_of : DocError → List ℕ
+verdict_of Memory = codes "not judged: "
+verdict_of other = codes "not a bundle: "
+
+abbrev pub said_words : DocError → List ℕ
+said_words fault = place_words (place_of fault) ++ said_of fault
+
+-- the number of the refusal
+abbrev pub refusal_words : DocError → List ℕ
+refusal_words fault = codes " (" ++ (decimal (doc_number fault) ++ codes ")")
+
+unfoldable pub fault_words : DocError → List ℕ
+fault_words fault = verdict_of fault ++ (said_words fault ++ refusal_words fault)
