@@ -2,3 +2,4 @@ pub mod Reasons
 pub mod Entries
 pub mod Told
 pub mod Pieces
+pub mod Printable

@@ -1,11 +1,13 @@
 -- What follows from the definitions.
-use Rattle.std.specs.Prelude.{◌≡◌, ◌↔◌, ℕ, List, length, IsSome, None, Ok, Err}
+use Rattle.std.specs.Prelude.{◌≡◌, ◌≤◌, ◌↔◌, ℕ, List, length, IsSome, None, Ok, Err}
+use Rattle.std.specs.List.{AllByRecursion}
 use Rattle.serde_json.specs.Data.{Data}
 use Rattle.spiffe_doc.specs.declared.error.DocError.{DocError}
 use Rattle.spiffe_doc.specs.Entry.{IsIgnored}
 use Rattle.spiffe_doc.specs.Judgement.{judge}
 use Rattle.spiffe_doc.specs.Document.{document}
 use Rattle.doc_report.specs.Ignored.{reason}
+use Rattle.doc_report.specs.Quoted.{quoted}
 use Rattle.doc_report.specs.Report.{ReportValue, report_of, entries_in, entries_told}
 
 -- an entry is judged to give nothing if and only if there is a reason why it is ignored
@@ -22,3 +24,11 @@ FaultsStay = (bytes : List ℕ) (fault : DocError) → (report_of bytes ≡ Err 
 -- each entry is told once: it gives an authority that is kept, or repeats one, or is ignored
 abbrev pub TellsEachEntry : Type 0
 TellsEachEntry = (bytes : List ℕ) (report : ReportValue) → report_of bytes ≡ Ok report → entries_told report ≡ length (entries_in bytes)
+
+-- a printable byte of ASCII
+abbrev pub IsPrintable : ℕ → Type 0
+IsPrintable byte = (32 ≤ byte) × (byte ≤ 126)
+
+-- what is shown of a text is printable, whatever text it is
+abbrev pub ShownIsPrintable : Type 0
+ShownIsPrintable = (text : List ℕ) → AllByRecursion IsPrintable (quoted text)

@@ -1,5 +1,5 @@
 //! Laws of the reports. Each is the contract of a function that does nothing.
-ghost use Rattle.doc_report.specs.Laws.{IgnoredForReason, ReasonIsIgnored, FaultsStay, TellsEachEntry};
+ghost use Rattle.doc_report.specs.Laws.{IgnoredForReason, ReasonIsIgnored, FaultsStay, TellsEachEntry, ShownIsPrintable};
 
 /// An entry is judged to give nothing if and only if there is a reason why it is ignored, and there is one if and only if
 /// the entry is ignored.
@@ -16,4 +16,9 @@ pub fn faults_stay()
 /// Each entry of a bundle is told once: it gives an authority that is kept, or repeats one, or is ignored.
 pub fn reports_tell_each_entry()
     ensures { TellsEachEntry }
+{}
+
+/// What is shown of a text of a document is printable ASCII, whatever text it is.
+pub fn shown_texts_are_printable()
+    ensures { ShownIsPrintable }
 {}
