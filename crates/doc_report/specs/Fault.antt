@@ -16,17 +16,17 @@ abbrev pub place_words : Option ℕ → List ℕ
 place_words None = []
 place_words (Some place) = entry_words place
 
--- a member of a key, and what it is not
+-- a member of a key that is missing or malformed, and what it has to be
 abbrev pub member_words : KeyMember → List ℕ
-member_words Crv = codes "has a malformed crv: it is not a text"
-member_words (X P256) = codes "has a malformed x: it is not 32 bytes of unpadded base64url"
-member_words (X P384) = codes "has a malformed x: it is not 48 bytes of unpadded base64url"
-member_words (X P521) = codes "has a malformed x: it is not 66 bytes of unpadded base64url"
-member_words (Y P256) = codes "has a malformed y: it is not 32 bytes of unpadded base64url"
-member_words (Y P384) = codes "has a malformed y: it is not 48 bytes of unpadded base64url"
-member_words (Y P521) = codes "has a malformed y: it is not 66 bytes of unpadded base64url"
-member_words N = codes "has a malformed n: it is not 1 to 1024 bytes of unpadded base64url"
-member_words E = codes "has a malformed e: it is not 1 to 1024 bytes of unpadded base64url"
+member_words Crv = codes "has a malformed crv: it has to be a text"
+member_words (X P256) = codes "has a malformed x: it has to be 32 bytes of unpadded base64url"
+member_words (X P384) = codes "has a malformed x: it has to be 48 bytes of unpadded base64url"
+member_words (X P521) = codes "has a malformed x: it has to be 66 bytes of unpadded base64url"
+member_words (Y P256) = codes "has a malformed y: it has to be 32 bytes of unpadded base64url"
+member_words (Y P384) = codes "has a malformed y: it has to be 48 bytes of unpadded base64url"
+member_words (Y P521) = codes "has a malformed y: it has to be 66 bytes of unpadded base64url"
+member_words N = codes "has a malformed n: it has to be 1 to 1024 bytes of unpadded base64url"
+member_words E = codes "has a malformed e: it has to be 1 to 1024 bytes of unpadded base64url"
 
 -- what a fault says of the document, or of the entry at its place
 abbrev pub said_of : DocError → List ℕ
@@ -38,9 +38,9 @@ said_of BadSequence = codes "spiffe_sequence is not a whole number from 0 to 184
 said_of BadHint = codes "spiffe_refresh_hint is not a whole number from 0 to 18446744073709551615"
 said_of (BadEntry place) = codes "is not a JSON object"
 said_of (BadKey place member) = member_words member
-said_of (BadX5c place) = codes "has a malformed x5c: it is not a list of one text of padded base64"
-said_of (BadKid place) = codes "has a malformed kid: it is not a text of 1 to 255 bytes"
-said_of (KidTwice place) = codes "has the kid of an earlier, different authority"
+said_of (BadX5c place) = codes "has a malformed x5c: it has to be a list of one text of padded base64"
+said_of (BadKid place) = codes "has a malformed kid: it has to be a text of 1 to 255 bytes"
+said_of (KidTwice place) = codes "has the kid of an earlier entry, with another key"
 said_of TooMany = codes "it has over 1024 different authorities"
 said_of Memory = codes "out of memory"
 

@@ -85,39 +85,40 @@ fn said(fault: &DocError) -> &'static str
         }
         DocError::BadEntry(_) => "is not a JSON object",
         DocError::BadKey { member, .. } => said_of_member(member),
-        DocError::BadX5c(_) => "has a malformed x5c: it is not a list of one text of padded base64",
-        DocError::BadKid(_) => "has a malformed kid: it is not a text of 1 to 255 bytes",
-        DocError::KidTwice(_) => "has the kid of an earlier, different authority",
+        DocError::BadX5c(_) =>
+            "has a malformed x5c: it has to be a list of one text of padded base64",
+        DocError::BadKid(_) => "has a malformed kid: it has to be a text of 1 to 255 bytes",
+        DocError::KidTwice(_) => "has the kid of an earlier entry, with another key",
         DocError::TooMany => "it has over 1024 different authorities",
         DocError::Memory => "out of memory",
     }
 }
 
-/// What is said of a malformed member of a key.
+/// What is said of a member of a key that is missing or malformed.
 fn said_of_member(member: &KeyMember) -> &'static str
     ensures { result.now ≡ member_words member.now }
 {
     match member {
-        KeyMember::Crv => "has a malformed crv: it is not a text",
+        KeyMember::Crv => "has a malformed crv: it has to be a text",
         KeyMember::X(Curve::P256) => {
-            "has a malformed x: it is not 32 bytes of unpadded base64url"
+            "has a malformed x: it has to be 32 bytes of unpadded base64url"
         }
         KeyMember::X(Curve::P384) => {
-            "has a malformed x: it is not 48 bytes of unpadded base64url"
+            "has a malformed x: it has to be 48 bytes of unpadded base64url"
         }
         KeyMember::X(Curve::P521) => {
-            "has a malformed x: it is not 66 bytes of unpadded base64url"
+            "has a malformed x: it has to be 66 bytes of unpadded base64url"
         }
         KeyMember::Y(Curve::P256) => {
-            "has a malformed y: it is not 32 bytes of unpadded base64url"
+            "has a malformed y: it has to be 32 bytes of unpadded base64url"
         }
         KeyMember::Y(Curve::P384) => {
-            "has a malformed y: it is not 48 bytes of unpadded base64url"
+            "has a malformed y: it has to be 48 bytes of unpadded base64url"
         }
         KeyMember::Y(Curve::P521) => {
-            "has a malformed y: it is not 66 bytes of unpadded base64url"
+            "has a malformed y: it has to be 66 bytes of unpadded base64url"
         }
-        KeyMember::N => "has a malformed n: it is not 1 to 1024 bytes of unpadded base64url",
-        KeyMember::E => "has a malformed e: it is not 1 to 1024 bytes of unpadded base64url",
+        KeyMember::N => "has a malformed n: it has to be 1 to 1024 bytes of unpadded base64url",
+        KeyMember::E => "has a malformed e: it has to be 1 to 1024 bytes of unpadded base64url",
     }
 }

@@ -15,8 +15,14 @@ const DOCUMENTS: [(&str, &str); 21] = [
         "it is not a JSON text of UTF-8, nested at most 127 deep (11)",
     ),
     ("[]", "it is not a JSON object (12)"),
-    ("{\"key\":[]}", "it has no member keys that is an array (13)"),
-    ("{\"keys\":{}}", "it has no member keys that is an array (13)"),
+    (
+        "{\"key\":[]}",
+        "it has no member keys that is an array (13)",
+    ),
+    (
+        "{\"keys\":{}}",
+        "it has no member keys that is an array (13)",
+    ),
     (
         "{\"keys\":[],\"spiffe_sequence\":-1}",
         "spiffe_sequence is not a whole number from 0 to 18446744073709551615 (14)",
@@ -28,53 +34,56 @@ const DOCUMENTS: [(&str, &str); 21] = [
     ("{\"keys\":[{},\"k\"]}", "keys[1] is not a JSON object (16)"),
     (
         "{\"keys\":[{\"kty\":\"EC\",\"use\":\"x509-svid\"}]}",
-        "keys[0] has a malformed crv: it is not a text (17)",
+        "keys[0] has a malformed crv: it has to be a text (17)",
     ),
     (
         "{\"keys\":[{\"kty\":\"EC\",\"use\":\"x509-svid\",\"crv\":\"P-256\"}]}",
-        "keys[0] has a malformed x: it is not 32 bytes of unpadded base64url (17)",
+        "keys[0] has a malformed x: it has to be 32 bytes of unpadded base64url (17)",
     ),
     (
         "{\"keys\":[{\"kty\":\"EC\",\"use\":\"x509-svid\",\"crv\":\"P-384\",\"x\":\"AA\"}]}",
-        "keys[0] has a malformed x: it is not 48 bytes of unpadded base64url (17)",
+        "keys[0] has a malformed x: it has to be 48 bytes of unpadded base64url (17)",
     ),
     (
         "{\"keys\":[{\"kty\":\"EC\",\"use\":\"jwt-svid\",\"crv\":\"P-521\",\"x\":\"AA==\"}]}",
-        "keys[0] has a malformed x: it is not 66 bytes of unpadded base64url (17)",
+        "keys[0] has a malformed x: it has to be 66 bytes of unpadded base64url (17)",
     ),
     (
         "{\"keys\":[{\"kty\":\"EC\",\"use\":\"x509-svid\",\"crv\":\"P-256\",\"x\":\"AAAAAAAAAAAAAAAAAAAAAAAAAAAAAAAAAAAAAAAAAAA\"}]}",
-        "keys[0] has a malformed y: it is not 32 bytes of unpadded base64url (17)",
+        "keys[0] has a malformed y: it has to be 32 bytes of unpadded base64url (17)",
     ),
     (
         "{\"keys\":[{\"kty\":\"RSA\",\"use\":\"jwt-svid\",\"n\":\"\"}]}",
-        "keys[0] has a malformed n: it is not 1 to 1024 bytes of unpadded base64url (17)",
+        "keys[0] has a malformed n: it has to be 1 to 1024 bytes of unpadded base64url (17)",
     ),
     (
         "{\"keys\":[{\"kty\":\"RSA\",\"use\":\"jwt-svid\",\"n\":\"AQ\"}]}",
-        "keys[0] has a malformed e: it is not 1 to 1024 bytes of unpadded base64url (17)",
+        "keys[0] has a malformed e: it has to be 1 to 1024 bytes of unpadded base64url (17)",
     ),
     (
         "{\"keys\":[{\"kty\":\"RSA\",\"use\":\"x509-svid\",\"n\":\"AQ\",\"e\":\"Aw\",\"x5c\":\"AAAA\"}]}",
-        "keys[0] has a malformed x5c: it is not a list of one text of padded base64 (18)",
+        "keys[0] has a malformed x5c: it has to be a list of one text of padded base64 (18)",
     ),
     (
         "{\"keys\":[{\"kty\":\"RSA\",\"use\":\"x509-svid\",\"n\":\"AQ\",\"e\":\"Aw\",\"x5c\":[]}]}",
-        "keys[0] has a malformed x5c: it is not a list of one text of padded base64 (18)",
+        "keys[0] has a malformed x5c: it has to be a list of one text of padded base64 (18)",
     ),
     (
         "{\"keys\":[{\"kty\":\"RSA\",\"use\":\"jwt-svid\",\"n\":\"AQ\",\"e\":\"Aw\"}]}",
-        "keys[0] has a malformed kid: it is not a text of 1 to 255 bytes (19)",
+        "keys[0] has a malformed kid: it has to be a text of 1 to 255 bytes (19)",
     ),
     (
         "{\"keys\":[{\"kty\":\"OKP\"},{\"kty\":\"RSA\",\"use\":\"jwt-svid\",\"n\":\"AQ\",\"e\":\"Aw\",\"kid\":\"\"}]}",
-        "keys[1] has a malformed kid: it is not a text of 1 to 255 bytes (19)",
+        "keys[1] has a malformed kid: it has to be a text of 1 to 255 bytes (19)",
     ),
     (
         "{\"keys\":[{\"kty\":\"RSA\",\"use\":\"jwt-svid\",\"n\":\"AQ\",\"e\":\"Aw\",\"kid\":\"k\"},{\"kty\":\"RSA\",\"use\":\"jwt-svid\",\"n\":\"Aw\",\"e\":\"Aw\",\"kid\":\"k\"}]}",
-        "keys[1] has the kid of an earlier, different authority (20)",
+        "keys[1] has the kid of an earlier entry, with another key (20)",
     ),
-    ("", "it is not a JSON text of UTF-8, nested at most 127 deep (11)"),
+    (
+        "",
+        "it is not a JSON text of UTF-8, nested at most 127 deep (11)",
+    ),
 ];
 
 #[test]
@@ -100,10 +109,12 @@ fn document_of(alloc: Global, size: usize) -> Result<String, AllocError> {
 fn documents_at_the_limit(rt: HostRuntime) -> Result<(), AllocError> {
     let alloc = rt.alloc();
     let longest = document_of(alloc, 1048576)?;
-    let wanted = "a: bundle of 0 authorities (0 X.509, 0 JWT), no sequence, no refresh hint\na: no authorities: nothing would be kept of 0 entries\n";
+    let wanted =
+        "a: bundle of 0 authorities (0 X.509, 0 JWT), no sequence, no refresh hint\na: no authorities: nothing would be kept of 0 entries\n";
     tells(&rt, alloc, "a", longest.as_str(), wanted)?;
     let longer = document_of(alloc, 1048577)?;
-    let wanted = "a: not a bundle: the document, or its canonical text, has over 1048576 bytes (10)\n";
+    let wanted =
+        "a: not a bundle: the document, or its canonical text, has over 1048576 bytes (10)\n";
     tells(&rt, alloc, "a", longer.as_str(), wanted)
 }
 
@@ -111,7 +122,9 @@ fn documents_at_the_limit(rt: HostRuntime) -> Result<(), AllocError> {
 fn authorities(alloc: Global, count: usize) -> Result<String, AllocError> {
     let mut document = String::from_str(alloc, "{\"keys\":[{}")?;
     for at in 0..count {
-        let entry = format!(in alloc; ",{{\"kty\":\"RSA\",\"use\":\"jwt-svid\",\"kid\":\"{at}\",\"n\":\"AQ\",\"e\":\"Aw\"}}")?;
+        let entry = format!(in alloc;
+            ",{{\"kty\":\"RSA\",\"use\":\"jwt-svid\",\"kid\":\"{at}\",\"n\":\"AQ\",\"e\":\"Aw\"}}"
+        )?;
         document.push_str(entry.as_str())?;
     }
     document.push_str("]}")?;
@@ -122,7 +135,8 @@ fn authorities(alloc: Global, count: usize) -> Result<String, AllocError> {
 fn as_many_authorities_as_may_be(rt: HostRuntime) -> Result<(), AllocError> {
     let alloc = rt.alloc();
     let most = authorities(alloc, 1024)?;
-    let wanted = "a: bundle of 1024 authorities (0 X.509, 1024 JWT), no sequence, no refresh hint\na: keys[0] is ignored: it has no kty\n";
+    let wanted =
+        "a: bundle of 1024 authorities (0 X.509, 1024 JWT), no sequence, no refresh hint\na: keys[0] is ignored: it has no kty\n";
     tells(&rt, alloc, "a", most.as_str(), wanted)?;
     let more = authorities(alloc, 1025)?;
     let wanted = "a: not a bundle: it has over 1024 different authorities (21)\n";

@@ -5,9 +5,11 @@ use spiffe_doc::DocError;
 use std::alloc::Global;
 use std::test::Fail;
 
-const DOCUMENT: &[u8] = b"{\"keys\":[{\"kty\":\"OKP\"},{\"kty\":\"RSA\",\"use\":\"jwt-svid\",\"kid\":\"k\",\"n\":\"AQ\",\"e\":\"Aw\"}]}";
+const DOCUMENT: &[u8] =
+    b"{\"keys\":[{\"kty\":\"OKP\"},{\"kty\":\"RSA\",\"use\":\"jwt-svid\",\"kid\":\"k\",\"n\":\"AQ\",\"e\":\"Aw\"}]}";
 
-const LINES: &[u8] = b"before a: bundle of 1 authority (0 X.509, 1 JWT), no sequence, no refresh hint\na: keys[0] is ignored: its kty is \"OKP\", not EC or RSA\n";
+const LINES: &[u8] =
+    b"before a: bundle of 1 authority (0 X.509, 1 JWT), no sequence, no refresh hint\na: keys[0] is ignored: its kty is \"OKP\", not EC or RSA\n";
 
 /// The report, which is asked for once more if a growth was refused.
 fn reported(alloc: Global) -> Result<Report, DocError> {

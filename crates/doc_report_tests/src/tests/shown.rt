@@ -49,7 +49,11 @@ fn times(alloc: Global, text: &str, count: usize) -> Result<String, AllocError> 
 #[test]
 fn long_texts(rt: HostRuntime) -> Result<(), AllocError> {
     let alloc = rt.alloc();
-    for (kty, shown) in [("x", "x"), ("\u{e9}", "\\u00e9"), ("\u{1f600}", "\\ud83d\\ude00")] {
+    for (kty, shown) in [
+        ("x", "x"),
+        ("\u{e9}", "\\u00e9"),
+        ("\u{1f600}", "\\ud83d\\ude00"),
+    ] {
         let whole = times(alloc, shown, 64)?;
         let wanted = format!(in alloc; "\"{whole}\"")?;
         shows(&rt, alloc, times(alloc, kty, 64)?.as_str(), wanted.as_str())?;

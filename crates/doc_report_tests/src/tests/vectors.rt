@@ -2,8 +2,7 @@
 use super::tells;
 use std::alloc::AllocError;
 
-const WITHDRAWN: &str =
-    "{\"spiffe_sequence\": 12, \"keys\": []}";
+const WITHDRAWN: &str = "{\"spiffe_sequence\": 12, \"keys\": []}";
 
 const SPIRE_DEFAULT: &str =
     "{\n    \"keys\": [\n        {\n            \"use\": \"x509-svid\",\n            \"kty\": \"EC\",\n            \"crv\": \"P-256\",\n            \"x\": \"-G7fp-jzNHw1rvG4LS_yqvAOMknL822He5jxSNvvTBM\",\n            \"y\": \"IZ-pqtQPNwT-ATj5DnXY1n97YBJfljCTbwabVztyAbQ\",\n            \"x5c\": [\n                \"MIIBZjCCAQugAwIBAgIJAJG3WEoiZbH1MAoGCCqGSM49BAMCMB0xDjAMBgNVBAoMBVNQSVJFMQswCQYDVQQGEwJVUzAeFw0yNjAxMDEwMDAwMDBaFw0yNzAxMDEwMDAwMDBaMB0xDjAMBgNVBAoMBVNQSVJFMQswCQYDVQQGEwJVUzBZMBMGByqGSM49AgEGCCqGSM49AwEHA0IABPhu36fo8zR8Na7xuC0v8qrwDjJJy/Nth3uY8Ujb70wTIZ+pqtQPNwT+ATj5DnXY1n97YBJfljCTbwabVztyAbSjNDAyMA8GA1UdEwEB/wQFMAMBAf8wHwYDVR0RBBgwFoYUc3BpZmZlOi8vZXhhbXBsZS5vcmcwCgYIKoZIzj0EAwIDSQAwRgIhAOCQ9elfPJjrYR6wqnuDbcbLqE2/OEQ95er2HTp4cT0FAiEAy9fn5GWXXnuYP+c+/nwylq53vvHqjd/ZOO6BEhrbPRw=\"\n            ]\n        },\n        {\n            \"use\": \"jwt-svid\",\n            \"kty\": \"EC\",\n            \"crv\": \"P-256\",\n            \"x\": \"UTfGp93aN36aNN-PUhyJb6ah3wKm6QpswBpeQpXMLFY\",\n            \"y\": \"DfVcPQON1Cuf8YEd4vrVy4GIhcbDJzkPXlaBuGU-0S4\",\n            \"kid\": \"32rx2DA-Yc3Eu4bD0cQnEDw0TEGJ6y8e\"\n        }\n    ],\n    \"spiffe_sequence\": 1,\n    \"spiffe_refresh_hint\": 2419200\n}";

@@ -29,5 +29,5 @@ returns c =
     let size : length (map view c.args.entries.now) ≡ length c.args.entries.now = rw length-map refl in
     let passed : c.len.result ≡ length (ignored_entries (map view c.args.entries.now)) = omega (arith, c.len.ensures, ap length c.requires.ignored) in
     let repeated : length c.args.entries.now - c.len.result - length c.authorities-authorities.result.now ≡ repeats (authorities_before (map view c.args.entries.now) (length (map view c.args.entries.now))) =
-        rw (same, passed, ← size) counts.repeated in
+    rw (same, passed, ← size) counts.repeated in
     cc
