@@ -1,0 +1,9 @@
+pub mod Names
+pub mod Texts
+pub mod Choices
+pub mod Members
+pub mod Named
+pub mod Orders
+pub mod Readings
+pub mod Maps
+pub mod MapLaws

@@ -1,0 +1,28 @@
+use Rattle.std.proofs.Common.{◌≡◌, subst, ◌∙◌}
+use Rattle.std.proofs.lemmas.List.Elements.{filter_agree}
+use Rattle.spiffe_doc.specs.Authority.{BundleValue}
+use Rattle.map_core.specs.Name.{Name}
+use Rattle.frame_front.specs.Dump.{Domains}
+use Rattle.bundle_map.specs.Choice.{is_named, chosen, AreThere, IsFirstMissing}
+use Rattle.bundle_map.specs.Private.Names.{has}
+use Rattle.bundle_map.proofs.Choices.{missing_too, there_too}
+use Rattle.bundle_map.proofs.choice.choose.Goals as goal
+
+pub returns-in-Some-clause-err : goal.returns-in-Some-clause-err
+returns-in-Some-clause-err c =
+    let is : c.in_ok-some.some ≡ chosen c.args.names.now c.args.domains =
+    c.in_ok-some.ensures
+    ∙ filter_agree (λ (i : Name × BundleValue). has c.in_ok-wanted.wanted i.0) (λ (i : Name × BundleValue). is_named c.args.names.now i.0)
+    (λ i. c.in_ok-wanted.ensures i.0) c.args.domains in
+    let missing = rw c.in-Some.is at c.in_ok-place.ensures.some in
+    missing_too c.args.names.now c.args.domains c.in-Some.place
+    (subst (λ (items : Domains). IsFirstMissing c.args.names.now items c.in-Some.place) (c.pairs.ensures ∙ is) missing)
+
+pub returns-clause-ok : goal.returns-clause-ok
+returns-clause-ok c =
+    let is : c.in_ok-some.some ≡ chosen c.args.names.now c.args.domains =
+    c.in_ok-some.ensures
+    ∙ filter_agree (λ (i : Name × BundleValue). has c.in_ok-wanted.wanted i.0) (λ (i : Name × BundleValue). is_named c.args.names.now i.0)
+    (λ i. c.in_ok-wanted.ensures i.0) c.args.domains in
+    let there = rw c.in-None.is at c.in_ok-place.ensures.none in
+    (is, there_too c.args.names.now c.args.domains (subst (λ (items : Domains). AreThere c.args.names.now items) (c.pairs.ensures ∙ is) there))
