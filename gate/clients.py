@@ -1,0 +1,75 @@
+#!/usr/bin/env python3
+"""Runs the tests of the clients, and the exchanges that docs/FORMATS.md shows, over the built program.
+
+usage: gate/clients.py   (over the program that rt ci or rt run has built in crates/bundled/out/)
+
+Neither the tests nor the exchanges take what they expect from the program.
+"""
+import faulthandler
+import os
+import re
+import subprocess
+import sys
+import unittest
+
+sys.dont_write_bytecode = True
+
+from refusals import ROOT, program  # noqa: E402
+
+SECONDS = 300
+LETTERS = set(b"SARGFVC")
+
+
+class Exchanges(unittest.TestCase):
+    def test_exchanges_of_the_docs(self):
+        """In one session: what is sent, and what has to come back."""
+        with open(f"{ROOT}/docs/FORMATS.md", encoding="utf-8") as it:
+            lines = re.findall(r"^    ([<>]) ([0-9a-f ]+)$", it.read(), re.M)
+        sent = [bytes.fromhex(line) for end, line in lines if end == ">"]
+        wanted = b"".join(bytes.fromhex(line) for end, line in lines if end == "<")
+        how = {"stdout": subprocess.PIPE, "stderr": subprocess.PIPE, "timeout": SECONDS}
+        ran = subprocess.run([program("bundled"), "run"], input=b"".join(sent), **how)
+        self.assertLessEqual(LETTERS, {request[4] for request in sent})
+        self.assertEqual((ran.returncode, ran.stdout.hex(" "), ran.stderr), (0, wanted.hex(" "), b""))
+
+
+class Told(unittest.TestResult):
+    """A line for each test."""
+
+    passed = 0
+
+    def addSuccess(self, test):
+        self.passed += 1
+        print(f"{self.name_of(test)}: as it should be", flush=True)
+
+    def addError(self, test, error):
+        super().addError(test, error)
+        self.tell(test, self.errors)
+
+    def addFailure(self, test, error):
+        super().addFailure(test, error)
+        self.tell(test, self.failures)
+
+    def tell(self, test, found):
+        print(f"{self.name_of(test)}: FAILED: {found[-1][1]}"[:2000], flush=True)
+
+    def name_of(self, test):
+        return test.id().rpartition(".")[2].replace("test_", "", 1)
+
+
+def main():
+    # A client that is blocked for ever ends here.
+    faulthandler.dump_traceback_later(SECONDS, exit=True)
+    os.environ["BUNDLED"] = program("bundled")
+    sys.path.insert(0, f"{ROOT}/clients/python")
+    load = unittest.defaultTestLoader
+    told = Told()
+    load.loadTestsFromTestCase(Exchanges).run(told)
+    load.loadTestsFromName("test_hopslintel").run(told)
+    failed = len(told.errors) + len(told.failures)
+    print(f"{told.passed} passed, {failed} failed")
+    return 1 if failed else 0
+
+
+if __name__ == "__main__":
+    sys.exit(main())
