@@ -3,9 +3,14 @@
 
 usage: gate/command_lines.py   (over the program that rt ci or rt run has built in crates/bundled/out/)
 """
+import base64
+import hashlib
+import json
 import re
 import subprocess
 import sys
+import tempfile
+import textwrap
 
 sys.dont_write_bytecode = True
 
@@ -46,6 +51,18 @@ BUNDLE = f"{ROOT}/gate/bundles/many.json"
 with open(BUNDLE, "rb") as document:
     SET_BUNDLE = frame(b"S\x01a" + document.read())
 
+# A dump of a domain with an empty bundle and of a real one, with what is shown of it.
+with open(f"{ROOT}/gate/bundles/rotation.canonical", "rb") as canonical:
+    ROTATION = canonical.read().rstrip()
+DUMP_OF_TWO = frame(b"a" + (2).to_bytes(8, "big")) + frame(b"i\x01a" + EMPTY) + frame(b"i\x08rotation" + ROTATION)
+MAP_OF_TWO = b'{"trust_domains":{"a":' + EMPTY + b',"rotation":' + ROTATION + b"}}"
+MAP_OF_ONE = b'{"trust_domains":{"a":' + EMPTY + b"}}"
+CERTIFICATES = [it["x5c"][0] for it in json.loads(ROTATION)["keys"] if it["use"] == "x509-svid"]
+PEM = "".join(
+    f"-----BEGIN CERTIFICATE-----\n{textwrap.fill(it, 64)}\n-----END CERTIFICATE-----\n" for it in CERTIFICATES
+).encode()
+assert len(CERTIFICATES) > 1 and all(base64.b64decode(it, validate=True) for it in CERTIFICATES)
+
 # Each option at its limits, with a run that shows it if any does (the replies are the same over each number of shards).
 RUNS = [
     ("run", FIRST_RUN, FIRST_REPLIES),
@@ -60,6 +77,14 @@ RUNS = [
     ("decode", FIRST_REPLIES, TOLD),
     ("decode", FIRST_RUN, b'set a {"keys":[]}\nget a\n'),
     ("decode", DUMP_OF_ONE, b'all 1\nbundle a {"keys":[]}\n'),
+    ("map", DUMP_OF_TWO, MAP_OF_TWO + b"\n"),
+    ("map a", DUMP_OF_TWO, MAP_OF_ONE + b"\n"),
+    ("map rotation a a", DUMP_OF_TWO, MAP_OF_TWO + b"\n"),
+    ("map --x509 a", DUMP_OF_TWO, MAP_OF_ONE + b"\n"),
+    ("import", MAP_OF_TWO, frame(b"S\x01a" + EMPTY) + frame(b"S\x08rotation" + ROTATION)),
+    ("pem rotation", DUMP_OF_TWO, PEM),
+    ("pem a", DUMP_OF_TWO, b""),
+    ("digest", DUMP_OF_TWO, hashlib.sha256(DUMP_OF_TWO).hexdigest().encode() + b"\n"),
     ("migrate", DUMP_OF_ONE, MIGRATED),
     ("trace --shards 1", FETCH_ALL, FETCHED),
     ("trace --shards 2", FETCH_ALL, UNFINISHED),
@@ -78,6 +103,15 @@ FAULTS = [
     ("run --turns 1", FIRST_RUN, FIRST_REPLIES, b"fault 55\n"),
     ("trace", FIRST_RUN, b"", b"fault 70 1\n"),
     ("migrate", FIRST_RUN, b"", b"fault 63 0\n"),
+    ("map", FIRST_RUN, b"", b"fault 63 0\n"),
+    ("map a b c", DUMP_OF_ONE, b"", b"fault 30 2\n"),
+    ("import", b"[]", b"", b"fault 64\n"),
+    ("import", MAP_OF_ONE[:-1], b"", b"fault 64\n"),
+    ("import", b'{"trust_domains":{"a":{"keys":[]},"b":{"keys":0}}}', b"", b"fault 65 1\n"),
+    ("import", b'{"trust_domains":{"a":{"keys":[]},"a":{"keys":[]}}}', b"", b"fault 65 1\n"),
+    ("pem b", DUMP_OF_ONE, b"", b"fault 30 1\n"),
+    ("pem a", DUMP_OF_ONE[:-1], b"", b"fault 63 1\n"),
+    ("digest", DUMP_OF_ONE + frame(b"s"), b"", b"fault 63 2\n"),
     ("encode", FIRST_LINES + b"get\n", FIRST_RUN, b"fault 70 5\n"),
     ("encode", b"get a\nset a @/nowhere\n", frame(b"G\x01a"), b"fault 53 2\n"),
     ("encode", b"get a\nset a @/dev/zero\n", frame(b"G\x01a"), b"fault 70 2\n"),
@@ -96,6 +130,11 @@ SHOWN = [
     ("run --help", "Usage: bundled run [OPTIONS]"),
     ("encode --help", "set D DOC"),
     ("decode --help", "moved S A B"),
+    ("map --help", "spiffe_trust_bundle_map_file"),
+    ("import --help", "fault 65 MEMBER"),
+    ("pem --help", "bundled pem a.example < dump > ca.pem"),
+    ("diff --help", "~ a.example sequence 3 to 4 x509 +1 -0"),
+    ("digest --help", "bundled digest < dump"),
     ("explain --help", "Usage: bundled explain <NUMBER>"),
     ("explain 31", "lower than the stored one"),
     ("trace --help", "--rounds <COUNT>"),
@@ -121,6 +160,12 @@ REFUSED = [
     ("run --rounds 3", "unexpected argument '--rounds'"),
     ("encode --shards 1", "unexpected argument '--shards'"),
     ("decode all", "unexpected argument 'all'"),
+    ("map A", "a NAME is not that of a trust domain"),
+    ("pem", "<NAME>"),
+    ("pem a b", "unexpected argument 'b'"),
+    ("pem .\u00e9", "a NAME is not that of a trust domain"),
+    ("diff old", "<NEW>"),
+    ("digest dump", "unexpected argument 'dump'"),
     ("explain", "<NUMBER>"),
     ("explain 0", "0 is not in 1..=255"),
     ("explain Stale", "invalid value 'Stale' for '<NUMBER>'"),
@@ -181,6 +226,28 @@ def refuses_other_lines():
         assert told.startswith(b"error: ") and part in told.decode(), line
 
 
+def tells_what_changed():
+    """From one dump to another, with status 3; nothing where they hold the same, with status 0."""
+    sequence = json.loads(ROTATION)["spiffe_sequence"]
+    count = len(json.loads(ROTATION)["keys"])
+    with tempfile.TemporaryDirectory() as folder:
+
+        def file(name, content):
+            with open(f"{folder}/{name}", "wb") as it:
+                it.write(content)
+            return f"{folder}/{name}"
+
+        one, two, other = file("one", DUMP_OF_ONE), file("two", DUMP_OF_TWO), file("other", FIRST_RUN)
+        added = f"+ rotation authorities {count} sequence {sequence}\n".encode()
+        assert ran(f"diff {one} {two}") == (3, added, b"")
+        assert ran(f"diff {two} {one}") == (3, b"- rotation\n", b"")
+        assert ran(f"diff {two} {two}") == (0, b"", b"")
+        assert ran(f"diff {one} {other}") == (1, b"", b"fault 63 0\n")
+        assert ran(f"diff {folder}/none {one}") == (1, b"", b"fault 53\n")
+        with open("/dev/full", "wb") as full:
+            assert ran(f"diff {one} {two}", out=full) == (1, None, b"fault 54\n")
+
+
 def explains_each_number():
     """Each number of the tables of the formats, by its name."""
     with open(f"{ROOT}/docs/FORMATS.md", encoding="utf-8") as formats:
@@ -202,6 +269,7 @@ CHECKS = [
     faults,
     shows_what_is_asked_for,
     refuses_other_lines,
+    tells_what_changed,
     explains_each_number,
 ]
 

@@ -125,6 +125,12 @@ def program_runs():
     yield pieces("encode", b"".join(lines[:2]), frames[:2])
     yield pieces("encode", f"fetch\nset a @{ROOT}/gate/bundles/rotation.json".encode(), [frame(b"F"), frame(b"S\x01a" + real)])
     yield pieces("decode", b"".join(frames), lines)
+    of_two = b'{"trust_domains":{"a":%s,"b":%s}}\n' % (text, empty)
+    yield command(["map"], b"".join(map(frame, dump)), lambda it: it == Ended(0, of_two, b""))
+    requests = b"".join(map(frame, [b"S\x01a" + text, b"S\x01b" + empty]))
+    yield command(["import"], of_two, lambda it: it == Ended(0, requests, b""))
+    yield command(["pem", "a"], b"".join(map(frame, dump)), lambda it: it.status == 0 and it.out and not it.err)
+    yield command(["digest"], b"".join(map(frame, dump)), lambda it: it.status == 0 and it.out and not it.err)
     yield command(["explain", "31"], b"", lambda it: it.status == 0 and it.out and not it.err)
     yield refresh()
     no_dump = ["serve", "--port", "0", "--load", f"{ROOT}/gate/bundles/relationships"]

@@ -1,16 +1,19 @@
 //! The program, from its arguments to its exit status.
 ghost use Rattle.std.specs.Prelude.{◌≡◌, ◌<◌, ◌-◌, ◌^◌, ◌⊎◌};
-ghost use Rattle.bundled.specs.Command.{Commands, Shows, Refuses};
+ghost use Rattle.bundled.specs.Command.{Commands, Does, Refuses, Shows, profile};
+ghost use Rattle.command_line.specs.Settings.{AreSettings};
 ghost use Rattle.commands.specs.Streams.{End, Streams, Tells, end_of, streams};
 
 use crate::refreshing::refresh_over;
 use crate::serving::serve_over;
+use bundle_map::Profile;
 use clap::error::ErrorKind;
 use command_line::{Wanted, wanted_by};
 use commands::{
     Fault, FileTexts, decode_over, encode_over, explain_over, migrate_over, run_over, tell,
     trace_over, write_flushed,
 };
+use dump_commands::{diff_over, digest_over, import_over, map_over, pem_over};
 use frame_front::{Counted, FrontError};
 use server::LineLog;
 use std::alloc::{AllocError, Global};
@@ -58,28 +61,72 @@ pub fn command_over<
         return Fault::Front(FrontError::Memory).tell(err);
     };
     match wanted_by(alloc, words.as_slice()) {
-        Ok(Wanted::Run { shards, turns }) => run_over(alloc, reader, out, err, shards, turns),
-        Ok(Wanted::Encode) => encode_over(alloc, &FileTexts::new(host), reader, out, err),
-        Ok(Wanted::Decode) => decode_over(alloc, reader, out, err),
-        Ok(Wanted::Explain(text)) => explain_over(text, out, err),
-        Ok(Wanted::Trace { shards, rounds }) => {
-            trace_over(alloc, reader, out, err, shards, rounds)
-        }
-        Ok(Wanted::Migrate) => migrate_over(alloc, reader, out, err),
-        Ok(Wanted::Refresh(wanted)) => refresh_over(alloc, host, out, err, &wanted),
-        Ok(
-            Wanted::Serve {
-                port,
-                load,
-                log: is_on,
-                settings,
-            },
-        ) => {
-            let log = LineLog { end: notes, is_on };
-            serve_over(alloc, host, reader, out, err, &log, port, load, settings)
-        }
+        Ok(wanted) => run_wanted(alloc, host, &wanted, reader, out, err, notes),
         Err(error) => show(alloc, &error, out, err),
     }
+}
+
+/// Runs the command that is wanted, and answers the exit status.
+fn run_wanted<
+    H: Files + Clock + Threads + Net<Listener = TcpListener, Stream = TcpStream> + Sync,
+    R: Read,
+    W: Write,
+    E: Write,
+    N: Write + Copy + Sync,
+>(
+    alloc: Global,
+    host: &H,
+    wanted: &Wanted<'_>,
+    reader: &mut Counted<R>,
+    out: &mut Counted<W>,
+    err: &mut Counted<E>,
+    notes: N,
+) -> u8
+    requires settings { AreSettings wanted.now }
+    requires reader_count { reader.old.faults < 2 ^ 64 - 1 }
+    requires out_count { out.old.faults < 2 ^ 64 - 1 }
+    requires err_count { err.old.faults < 2 ^ 64 - 1 }
+    ensures { Does wanted.now result
+        (streams R.remaining W.contents E.contents reader.old out.old err.old)
+        (streams R.remaining W.contents E.contents reader.new out.new err.new) }
+{
+    match wanted {
+        Wanted::Run { shards, turns } => run_over(alloc, reader, out, err, *shards, *turns),
+        Wanted::Encode => encode_over(alloc, &FileTexts::new(host), reader, out, err),
+        Wanted::Decode => decode_over(alloc, reader, out, err),
+        Wanted::Explain(text) => explain_over(text, out, err),
+        Wanted::Map { names, x509 } => {
+            map_over(alloc, names.as_slice(), profile_of(*x509), reader, out, err)
+        }
+        Wanted::Import => import_over(alloc, reader, out, err),
+        Wanted::Pem(name) => pem_over(alloc, name, reader, out, err),
+        Wanted::Diff(old, new) => diff_over(alloc, host, old, new, out, err),
+        Wanted::Digest => digest_over(alloc, reader, out, err),
+        Wanted::Migrate => migrate_over(alloc, reader, out, err),
+        Wanted::Trace { shards, rounds } => {
+            trace_over(alloc, reader, out, err, *shards, *rounds)
+        }
+        Wanted::Refresh(refreshing) => refresh_over(alloc, host, out, err, refreshing),
+        Wanted::Serve {
+            port,
+            load,
+            log: is_on,
+            settings,
+        } => {
+            let log = LineLog {
+                end: notes,
+                is_on: *is_on,
+            };
+            serve_over(alloc, host, reader, out, err, &log, *port, *load, *settings)
+        }
+    }
+}
+
+/// What is shown of a bundle in a map.
+fn profile_of(x509: bool) -> Profile
+    ensures { result ≡ profile x509 }
+{
+    if x509 { Profile::X509 } else { Profile::Whole }
 }
 
 /// Shows what the command line gave in place of a command: help or the version on standard output, or on standard

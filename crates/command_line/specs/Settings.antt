@@ -1,7 +1,7 @@
 -- What the command line may ask for.
 use Rattle.std.specs.Prelude.{◌<◌, ◌≤◌, IfSome}
 use Rattle.command_line.specs.declared.wanted.Wanted.{Wanted}
-use Rattle.command_line.specs.declared.wanted.Wanted.TheVariants.{Run, Encode, Decode, Explain, Trace, Migrate, Refresh, Serve}
+use Rattle.command_line.specs.declared.wanted.Wanted.TheVariants.{Run, Encode, Decode, Explain, Map, Import, Pem, Diff, Digest, Trace, Migrate, Refresh, Serve}
 
 -- numbers within their ranges
 abbrev pub AreSettings : Wanted → Type 0
@@ -10,6 +10,11 @@ AreSettings (Trace shards rounds) = (0 < shards) × (shards ≤ 256) × (0 < rou
 AreSettings Encode = Unit {0}
 AreSettings Decode = Unit {0}
 AreSettings (Explain text) = Unit {0}
+AreSettings (Map names x509) = Unit {0}
+AreSettings Import = Unit {0}
+AreSettings (Pem name) = Unit {0}
+AreSettings (Diff old new) = Unit {0}
+AreSettings Digest = Unit {0}
 AreSettings Migrate = Unit {0}
 AreSettings (Refresh wanted) = Unit {0}
 AreSettings (Serve port load log settings) = (0 < settings.workers) × (settings.workers ≤ 64) × IfSome settings.connections (λ n. (0 < n) × (n ≤ 1000))

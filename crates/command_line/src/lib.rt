@@ -4,6 +4,7 @@
 //! place: help, the version, or why the arguments are refused.
 #![tactic(auto)]
 
+mod dump_options;
 mod explanations;
 mod options;
 mod reading;

@@ -2,6 +2,9 @@
 ghost use Rattle.std.specs.Prelude.{◌≡◌, ◌<◌, ◌≤◌, IfOk, IfSome};
 ghost use Rattle.command_line.specs.Settings.{AreSettings};
 
+use crate::dump_options::{
+    diff_command, digest_command, import_command, map_command, pem_command,
+};
 use crate::explanations::explanation;
 use crate::options::{
     decode_command, encode_command, explain_command, migrate_command, refresh_command, run_command,
@@ -12,6 +15,7 @@ use crate::texts::FRAMES;
 use crate::wanted::{Refreshing, Wanted};
 use clap::error::ErrorKind;
 use clap::{ArgMatches, Command, Error};
+use spiffe_doc::{NameError, TrustDomain};
 use std::alloc::{AllocError, Global};
 
 /// The most reads that a session may be given.
@@ -60,10 +64,23 @@ fn command<'a>(alloc: Global) -> Result<Command<'a>, AllocError> {
     let encode = with(run, Ok(encode_command(alloc)));
     let decode = with(encode, Ok(decode_command(alloc)));
     let explain = with(decode, explain_command(alloc));
-    let trace = with(explain, trace_command(alloc));
-    let migrate = with(trace, Ok(migrate_command(alloc)));
-    let refresh = with(migrate, refresh_command(alloc));
-    with(refresh, serve_command(alloc))
+    let refresh = with(explain, refresh_command(alloc));
+    let serve = with(refresh, serve_command(alloc));
+    let of_dumps = with_dump_commands(alloc, serve);
+    with(of_dumps, trace_command(alloc))
+}
+
+/// A command with those that look at documents, dumps and bundle maps.
+fn with_dump_commands<'a>(
+    alloc: Global,
+    command: Result<Command<'a>, AllocError>,
+) -> Result<Command<'a>, AllocError> {
+    let map = with(command, map_command(alloc));
+    let import = with(map, Ok(import_command(alloc)));
+    let pem = with(import, pem_command(alloc));
+    let diff = with(pem, diff_command(alloc));
+    let digest = with(diff, Ok(digest_command(alloc)));
+    with(digest, Ok(migrate_command(alloc)))
 }
 
 /// Reads the command line.
@@ -81,6 +98,14 @@ fn wanted_of<'a>(alloc: Global, matches: &ArgMatches<'a>) -> Result<Wanted<'a>, 
         Some(("encode", _)) => Ok(Wanted::Encode),
         Some(("explain", explain)) => explaining_of(alloc, explain),
         Some(("decode", _)) => Ok(Wanted::Decode),
+        Some(("map", map)) => mapping_of(alloc, map),
+        Some(("import", _)) => Ok(Wanted::Import),
+        Some(("pem", pem)) => certificates_of(alloc, pem),
+        Some(("diff", diff)) => Ok(Wanted::Diff(
+            diff.get_str("old").unwrap_or_default(),
+            diff.get_str("new").unwrap_or_default(),
+        )),
+        Some(("digest", _)) => Ok(Wanted::Digest),
         Some(("migrate", _)) => Ok(Wanted::Migrate),
         Some(("refresh", refresh)) => Ok(Wanted::Refresh(refreshing_of(refresh))),
         Some(("serve", serve)) => serving_of(alloc, serve),
@@ -111,6 +136,48 @@ fn serving_of<'a>(alloc: Global, serve: &ArgMatches<'a>) -> Result<Wanted<'a>, E
         }),
         Err(NoCount) => Err(bad_connections(alloc)?),
     }
+}
+
+fn mapping_of<'a>(alloc: Global, map: &ArgMatches<'a>) -> Result<Wanted<'a>, Error>
+    ensures { IfOk result AreSettings }
+{
+    match names_of(alloc, map) {
+        Ok(names) => Ok(Wanted::Map {
+            names,
+            x509: map.get_flag("x509"),
+        }),
+        Err(error) => Err(bad_name(map_command(alloc)?, error)?),
+    }
+}
+
+fn certificates_of<'a>(alloc: Global, pem: &ArgMatches<'a>) -> Result<Wanted<'a>, Error>
+    ensures { IfOk result AreSettings }
+{
+    match TrustDomain::parse(alloc, pem.get_str("name").unwrap_or_default()) {
+        Ok(name) => Ok(Wanted::Pem(name)),
+        Err(error) => Err(bad_name(pem_command(alloc)?, error)?),
+    }
+}
+
+fn names_of(alloc: Global, map: &ArgMatches<'_>) -> Result<Vec<TrustDomain>, NameError> {
+    let mut names = Vec::new(alloc);
+    for name in map.get_strs("names").unwrap_or_default() {
+        if let Err(AllocError) = names.push(TrustDomain::parse(alloc, name)?) {
+            return Err(NameError::Memory);
+        }
+    }
+    Ok(names)
+}
+
+/// A name is not that of a trust domain, or there is no memory for it.
+fn bad_name(command: Command<'_>, error: NameError) -> Result<Error, AllocError> {
+    if error == NameError::Memory {
+        return Err(AllocError);
+    }
+    command.error(
+        ErrorKind::ValueValidation,
+        "a NAME is not that of a trust domain: it has 1 to 255 lower-case letters, digits, `.`, `-` and `_`",
+    )
 }
 
 fn explaining_of<'a>(alloc: Global, explain: &ArgMatches<'a>) -> Result<Wanted<'a>, Error>

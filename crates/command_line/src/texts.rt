@@ -64,6 +64,30 @@ A frame that is neither, or that has no line, is `fault 51 FRAME`, counted from 
 space, a name or a text with a line feed, or a document that begins with `@`. The lines of the frames before it have
 been written.";
 
+pub const MAPS: &str = "\
+A dump is the reply to a fetch-all. The file has under each name the bundle, in order of the names, and shows one moment:
+
+  bundled map < dump > map.json       {\"trust_domains\":{\"a.example\":{..},\"b.example\":{..}}}
+
+gRPC reads it as spiffe_trust_bundle_map_file, and Envoy in its SPIFFECertValidatorConfig; --x509 is for readers that
+refuse uses that they do not know. A NAME that the dump has not is `fault 30 NAME`, counted from 1, status 1.";
+
+pub const IMPORTS: &str = "\
+  bundled import < map.json | bundled run | bundled decode
+
+An input that is not a bundle map is `fault 64`; a member of `trust_domains` whose name is not that of a trust domain or
+stands twice, or whose value is not a bundle, is `fault 65 MEMBER`, counted from 0. Then nothing is written.";
+
+pub const CHANGES: &str = "\
+A line for each trust domain under which something changed, and no other line:
+
+  ~ a.example sequence 3 to 4 x509 +1 -0
+  + b.example authorities 2 sequence 4
+  - c.example
+
+The status is 0 if nothing changed, and 3 if something did. A file that is not a dump is `fault 63 FRAME`, status 1; the old
+one is judged first.";
+
 pub const EVENTS: &str = "\
 Each line of the input is an event; a caller is a number from 0 to 4294967295:
 

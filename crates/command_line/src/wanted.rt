@@ -1,8 +1,9 @@
 //! What the program may be asked to do.
 use crate::settings::Settings;
+use spiffe_doc::TrustDomain;
 
 /// What the command line asks for.
-#[derive(Clone, Copy, Debug)]
+#[derive(Drop)]
 pub enum Wanted<'a> {
     /// A session over an empty store of so many shards, of at most so many reads.
     Run {
@@ -20,6 +21,19 @@ pub enum Wanted<'a> {
     Decode,
     /// What the number of a refusal or a fault means: a text of some lines.
     Explain(&'static str),
+    /// The bundle map of a dump: of the domains of these names, or of all; with only their X.509 authorities, or whole.
+    Map {
+        names: Vec<TrustDomain>,
+        x509: bool,
+    },
+    /// The requests that set each bundle of a bundle map.
+    Import,
+    /// The X.509 authorities of a domain of a dump.
+    Pem(TrustDomain),
+    /// What changed from the dump of the first file to that of the second.
+    Diff(&'a str, &'a str),
+    /// The SHA-256 of a dump.
+    Digest,
     /// The requests that store a dump again.
     Migrate,
     /// A refresh of each relationship of a list.

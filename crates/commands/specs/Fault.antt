@@ -10,7 +10,7 @@ use Rattle.frame_front.specs.declared.dump.DumpError.TheVariants as dumps
 use Rattle.commands.specs.declared.fault.RefreshFault.{RefreshFault}
 use Rattle.commands.specs.declared.fault.RefreshFault.TheVariants.{BadRelationship, Client, NoConnection, NoClock}
 use Rattle.commands.specs.declared.fault.Fault.{Fault}
-use Rattle.commands.specs.declared.fault.Fault.TheVariants.{Front, Dump, BadLine, BadFrame, UnreadText, InputTooLong, Refresh, Listen, Close}
+use Rattle.commands.specs.declared.fault.Fault.TheVariants.{Front, Dump, BadLine, BadFrame, UnreadText, NoDomain, BadMap, BadMember, InputTooLong, Refresh, Listen, Close}
 
 abbrev pub refresh_number : RefreshFault → ℕ
 refresh_number (BadRelationship error line) = relation_number error
@@ -28,17 +28,22 @@ fault_number (Dump error) = dump_number error
 fault_number (BadLine line) = 70
 fault_number (BadFrame frame) = 51
 fault_number (UnreadText line) = 53
+fault_number (NoDomain name) = 30
+fault_number BadMap = 64
+fault_number (BadMember member) = 65
 fault_number InputTooLong = 71
 fault_number (Refresh fault) = refresh_number fault
 fault_number Listen = 57
 fault_number (Close error) = close_number error
 
--- the place of the fault, if it has one: a frame, a line, or a shard
+-- the place of the fault, if it has one: a frame or a member, a line or a name, or a shard
 abbrev pub fault_place : Fault → Option ℕ
 fault_place (Dump (dumps.BadDump frame)) = Some frame
 fault_place (BadLine line) = Some line
 fault_place (BadFrame frame) = Some frame
 fault_place (UnreadText line) = Some line
+fault_place (NoDomain name) = Some name
+fault_place (BadMember member) = Some member
 fault_place (Refresh fault) = refresh_place fault
 fault_place (Close (closing.HeldAtEnd shard)) = Some shard
 fault_place fault = None

@@ -29,6 +29,12 @@ pub enum Fault {
     BadFrame(u64),
     /// The text that this line of the input, from 1, names cannot be read.
     UnreadText(u64),
+    /// No domain of the dump has this name of the command line, from 1.
+    NoDomain(u64),
+    /// The input is not a SPIFFE bundle map.
+    BadMap,
+    /// This member of the bundle map, from 0, is not a trust domain and its bundle, or its name stands twice.
+    BadMember(u64),
     /// The input has over 16,777,216 bytes.
     InputTooLong,
     /// Relationships cannot be refreshed.
@@ -84,6 +90,9 @@ impl Fault {
             Fault::BadLine(_) => 70,
             Fault::BadFrame(_) => 51,
             Fault::UnreadText(_) => 53,
+            Fault::NoDomain(_) => 30,
+            Fault::BadMap => 64,
+            Fault::BadMember(_) => 65,
             Fault::InputTooLong => 71,
             Fault::Refresh(fault) => fault.number(),
             Fault::Listen => 57,
@@ -91,7 +100,7 @@ impl Fault {
         }
     }
 
-    /// The place of the fault: a frame, from 0, a line, from 1, or a shard.
+    /// The place of the fault: a frame or a member, from 0, a line or a name, from 1, or a shard.
     fn place(&self) -> Option<u64>
         ensures { result ≡ fault_place self.now }
     {
@@ -100,6 +109,8 @@ impl Fault {
             Fault::BadLine(line) => Some(*line),
             Fault::BadFrame(frame) => Some(*frame),
             Fault::UnreadText(line) => Some(*line),
+            Fault::NoDomain(name) => Some(*name),
+            Fault::BadMember(member) => Some(*member),
             Fault::Refresh(fault) => fault.place(),
             Fault::Close(CloseError::HeldAtEnd(shard)) => Some(*shard as u64),
             _ => None,

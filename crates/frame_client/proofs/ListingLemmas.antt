@@ -32,7 +32,8 @@ use Rattle.frame_client.specs.declared.client_error.ClientError.{ClientError}
 use Rattle.frame_client.specs.declared.client_error.ClientError.TheVariants.{Memory, BadLength, BadReply, Truncated, ReadFault, WriteFault}
 use Rattle.frame_front.proofs.FrameLemmas.{frame_first, none_at_end}
 use Rattle.frame_front.proofs.ReplyLemmas.{not_both}
-use Rattle.frame_front.proofs.DomainLists.{last_of, last_of-one, Ascends-one, cons_head, some_item, none_item}
+use Rattle.frame_front.specs.Private.Refusals.{last_of}
+use Rattle.frame_front.proofs.DomainLists.{last_of-one, Ascends-one, cons_head, some_item, none_item}
 use Rattle.frame_client.proofs.AskingLaws.{named_bundle-item}
 use Rattle.frame_front.proofs.DumpTexts.{item_payload, IsPayload-item, same_item}
 use Rattle.frame_client.proofs.AnswerLemmas.{first_payload, frames_behind, coded_first, first_is_payload, error_payload, error_read, map_none, some_none}

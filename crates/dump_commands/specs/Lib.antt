@@ -1,0 +1,6 @@
+pub mod Reading
+pub mod Map
+pub mod Import
+pub mod Pem
+pub mod Diff
+pub mod Private

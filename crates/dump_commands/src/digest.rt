@@ -1,0 +1,56 @@
+//! The command `digest`: the SHA-256 of a dump.
+ghost use Rattle.std.specs.Prelude.{◌≡◌, ◌<◌, ◌-◌, ◌^◌, Err, IfOk, IfErr};
+ghost use Rattle.commands.specs.Streams.{streams};
+ghost use Rattle.commands.specs.declared.fault.Fault.TheVariants.{Front};
+ghost use Rattle.dump_commands.specs.Pem.{DigestOf};
+ghost use Rattle.dump_commands.specs.Reading.{Filters, Unread, Writes};
+ghost use Rattle.frame_front.specs.declared.error.FrontError.TheVariants.{ReadFault, WriteFault};
+
+use commands::{Fault, read_input, write_flushed};
+use dump_views::dump_digest_line;
+use frame_front::Counted;
+use std::alloc::Global;
+use std::io::{Read, Write};
+
+/// Reads a dump and writes its SHA-256; answers the exit status.
+pub fn digest_over<R: Read, W: Write, E: Write>(
+    alloc: Global,
+    reader: &mut Counted<R>,
+    out: &mut Counted<W>,
+    err: &mut Counted<E>,
+) -> u8
+    requires reader_count { reader.old.faults < 2 ^ 64 - 1 }
+    requires out_count { out.old.faults < 2 ^ 64 - 1 }
+    requires err_count { err.old.faults < 2 ^ 64 - 1 }
+    ensures tells { Filters DigestOf Unread result
+        (streams R.remaining W.contents E.contents reader.old out.old err.old)
+        (streams R.remaining W.contents E.contents reader.new out.new err.new) }
+    ensures silent { result ≡ 0 → err.new ≡ err.old }
+{
+    match digest_input(alloc, reader, out) {
+        Ok(()) => 0,
+        Err(fault) => fault.tell(err),
+    }
+}
+
+fn digest_input<R: Read, W: Write>(
+    alloc: Global,
+    reader: &mut Counted<R>,
+    out: &mut Counted<W>,
+) -> Result<(), Fault>
+    requires reader_count { reader.old.faults < 2 ^ 64 - 1 }
+    requires out_count { out.old.faults < 2 ^ 64 - 1 }
+    ensures tells { Writes DigestOf Unread result
+        (R.remaining reader.old.end) (R.remaining reader.new.end) (W.contents out.old.end) (W.contents out.new.end) }
+    ensures read_fault { result ≡ Err (Front ReadFault) → reader.old.faults < reader.new.faults }
+    ensures write_fault { result ≡ Err (Front WriteFault) → out.old.faults < out.new.faults }
+{
+    let input = match read_input(alloc, reader) {
+        Ok(input) => input,
+        Err(fault) => return Err(fault),
+    };
+    match dump_digest_line(alloc, input.as_slice()) {
+        Ok(line) => write_flushed(out, &line),
+        Err(error) => Err(Fault::Dump(error)),
+    }
+}

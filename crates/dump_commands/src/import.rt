@@ -1,0 +1,59 @@
+//! The command `import`: a bundle map becomes requests.
+ghost use Rattle.std.specs.Prelude.{◌≡◌, ◌<◌, ◌-◌, ◌^◌, Err, IfOk, IfErr};
+ghost use Rattle.commands.specs.Streams.{streams};
+ghost use Rattle.commands.specs.declared.fault.Fault.TheVariants.{Front};
+ghost use Rattle.dump_commands.specs.Import.{NoRequests, RequestsOf};
+ghost use Rattle.dump_commands.specs.Reading.{Filters, Writes};
+ghost use Rattle.frame_front.specs.declared.error.FrontError.TheVariants.{ReadFault, WriteFault};
+
+use bundle_map::{MapError, requests_of_map};
+use commands::{Fault, read_input, write_flushed};
+use frame_front::{Counted, FrontError};
+use std::alloc::Global;
+use std::io::{Read, Write};
+
+/// Reads a bundle map and writes the requests that set each of its bundles; answers the exit status.
+pub fn import_over<R: Read, W: Write, E: Write>(
+    alloc: Global,
+    reader: &mut Counted<R>,
+    out: &mut Counted<W>,
+    err: &mut Counted<E>,
+) -> u8
+    requires reader_count { reader.old.faults < 2 ^ 64 - 1 }
+    requires out_count { out.old.faults < 2 ^ 64 - 1 }
+    requires err_count { err.old.faults < 2 ^ 64 - 1 }
+    ensures imports { Filters RequestsOf NoRequests result
+        (streams R.remaining W.contents E.contents reader.old out.old err.old)
+        (streams R.remaining W.contents E.contents reader.new out.new err.new) }
+    ensures silent { result ≡ 0 → err.new ≡ err.old }
+{
+    match import_input(alloc, reader, out) {
+        Ok(()) => 0,
+        Err(fault) => fault.tell(err),
+    }
+}
+
+fn import_input<R: Read, W: Write>(
+    alloc: Global,
+    reader: &mut Counted<R>,
+    out: &mut Counted<W>,
+) -> Result<(), Fault>
+    requires reader_count { reader.old.faults < 2 ^ 64 - 1 }
+    requires out_count { out.old.faults < 2 ^ 64 - 1 }
+    ensures imports { Writes RequestsOf NoRequests result
+        (R.remaining reader.old.end) (R.remaining reader.new.end) (W.contents out.old.end) (W.contents out.new.end) }
+    ensures read_fault { result ≡ Err (Front ReadFault) → reader.old.faults < reader.new.faults }
+    ensures write_fault { result ≡ Err (Front WriteFault) → out.old.faults < out.new.faults }
+{
+    let input = match read_input(alloc, reader) {
+        Ok(input) => input,
+        Err(fault) => return Err(fault),
+    };
+    let requests = match requests_of_map(alloc, input.as_slice()) {
+        Ok(requests) => requests,
+        Err(MapError::NotMap) => return Err(Fault::BadMap),
+        Err(MapError::BadMember { place, .. }) => return Err(Fault::BadMember(place as u64)),
+        Err(MapError::Memory) => return Err(Fault::Front(FrontError::Memory)),
+    };
+    write_flushed(out, requests.as_slice())
+}

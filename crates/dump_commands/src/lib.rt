@@ -1,0 +1,18 @@
+//! The commands of the program that look at dumps and bundle maps.
+//!
+//! `map_over`, `pem_over` and `digest_over` read a dump, `import_over` reads a bundle map, and `diff_over` reads two files of
+//! dumps. Each writes to a writer, tells its fault to another, and answers the exit status.
+#![tactic(auto)]
+
+mod diff;
+mod digest;
+mod import;
+mod map;
+mod pem;
+mod reading;
+
+pub use diff::diff_over;
+pub use digest::digest_over;
+pub use import::import_over;
+pub use map::map_over;
+pub use pem::pem_over;

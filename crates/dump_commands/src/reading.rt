@@ -1,0 +1,32 @@
+//! Dumps that are read whole.
+ghost use Rattle.std.specs.Prelude.{◌≡◌, ◌<◌, ◌-◌, ◌^◌, Err, IfOk, IfErr};
+ghost use Rattle.commands.specs.declared.fault.Fault.TheVariants.{Front};
+ghost use Rattle.dump_commands.specs.Reading.{IsRead, Unread};
+ghost use Rattle.frame_front.specs.declared.error.FrontError.TheVariants.{ReadFault, WriteFault};
+
+use commands::{Fault, read_input};
+use frame_front::{Counted, read_dump};
+use map_core::Snapshot;
+use std::alloc::Global;
+use std::io::Read;
+
+/// The domains of the dump that is the input.
+pub(crate) fn read_domains<R: Read>(
+    alloc: Global,
+    reader: &mut Counted<R>,
+) -> Result<Snapshot, Fault>
+    requires { reader.old.faults < 2 ^ 64 - 1 }
+    ensures ok { IfOk result (λ items. IsRead items (R.remaining reader.old.end) (R.remaining reader.new.end)) }
+    ensures err { IfErr result (λ fault. Unread fault (R.remaining reader.old.end) (R.remaining reader.new.end)) }
+    ensures read_fault { result ≡ Err (Front ReadFault) → reader.old.faults < reader.new.faults }
+    ensures no_write_fault { result ≡ Err (Front WriteFault) → ⊥ }
+{
+    let input = match read_input(alloc, reader) {
+        Ok(input) => input,
+        Err(fault) => return Err(fault),
+    };
+    match read_dump(alloc, input.as_slice()) {
+        Ok(domains) => Ok(domains),
+        Err(error) => Err(Fault::Dump(error)),
+    }
+}
