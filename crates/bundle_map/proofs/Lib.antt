@@ -6,4 +6,5 @@ pub mod Named
 pub mod Orders
 pub mod Readings
 pub mod Maps
+pub mod Parts
 pub mod MapLaws

@@ -18,40 +18,37 @@ use Rattle.frame_front.specs.declared.request.Version.TheVariants.{One}
 use Rattle.frame_front.specs.declared.request.Request.{Request}
 use Rattle.frame_front.specs.declared.request.Request.TheVariants.{Ask}
 use Rattle.frame_front.specs.Request.{◌>>=◌, parse_name, parse_bundle, named_bundle, set_of, request_of}
-use Rattle.frame_front.specs.Dump.{Domains, IsDump, AreValid}
-use Rattle.frame_front.proofs.MigrationLemmas.{migration, split_name-name, name_of-name, bundle_of-text}
+use Rattle.frame_front.specs.Dump.{Domains, AreValid}
+use Rattle.frame_front.proofs.MigrationLemmas.{split_name-name, name_of-name, bundle_of-text}
 use Rattle.bundle_map.specs.declared.error.MapError.{MapError}
 use Rattle.bundle_map.specs.declared.error.MapError.TheVariants.{NotMap, BadMember, Memory}
 use Rattle.bundle_map.specs.declared.error.MemberFault.{MemberFault}
 use Rattle.bundle_map.specs.declared.error.MemberFault.TheVariants.{BadName, Twice, BadBundle}
 use Rattle.bundle_map.specs.Choice.{is_named}
-use Rattle.bundle_map.specs.Map.{map_tree, map_text}
+use Rattle.bundle_map.specs.Map.{map_tree, map_text, AreOrdered}
 use Rattle.bundle_map.specs.Import.{Member, member_names, StandOnce, bundle_in, IsMemberOf, AreMembersOf, IsMap, IsFaultOf, FaultOfMap, set_request}
 use Rattle.bundle_map.proofs.Members.{or_parts, other_way}
 use Rattle.bundle_map.proofs.Orders.{StandOnce-ascending, found_at}
 use Rattle.bundle_map.proofs.Readings.{map_read, map_data, bundle_data}
 
--- ---- maps of dumps
+-- ---- maps of ordered domains
 
-valid_dump : (dump : List ℕ) (items : Domains) → IsDump dump items → AreValid items
-valid_dump dump items is = (migration dump items is).0
+pub map_of_domains : (items : Domains) → AreOrdered items → IsMap (map_text items) items
+map_of_domains items ordered = map_read items ordered.0 ordered.1
 
-pub map_of_dump : (dump : List ℕ) (items : Domains) → IsDump dump items → IsMap (map_text items) items
-map_of_dump dump items is = map_read items (valid_dump dump items is) is.ascending
-
-pub tree_of_dump : (dump : List ℕ) (items : Domains) → IsDump dump items → json_tree (map_text items) ≡ Some (map_tree items)
-tree_of_dump dump items is = map_data items (valid_dump dump items is) is.ascending
+pub tree_of_domains : (items : Domains) → AreOrdered items → json_tree (map_text items) ≡ Some (map_tree items)
+tree_of_domains items ordered = map_data items ordered.0 ordered.1
 
 valid_at : (items : Domains) (k : ℕ) (d : Name × BundleValue) → AreValid items → k < length items → IsBundle (get_or items k d).1
 valid_at [] k d valid inside = absurd (omega (arith, inside))
 valid_at (item ∷ items) zero d valid inside = valid.0.1
 valid_at (item ∷ items) (suc k) d valid inside = valid_at items k d valid.1 (omega (arith, inside))
 
-pub bundles_of_dump : (dump : List ℕ) (items : Domains) → IsDump dump items
+pub bundles_of_domains : (items : Domains) → AreOrdered items
     → All (λ item. option_and_then (get item.0) (get (codes "trust_domains") (map_tree items)) ≡ json_tree (text_of item.1)) items
-bundles_of_dump dump items is k d inside =
-    found_at items k d (StandOnce-ascending None items is.ascending) inside
-    ∙ sym (bundle_data (get_or items k d).1 (valid_at items k d (valid_dump dump items is) inside))
+bundles_of_domains items ordered k d inside =
+    found_at items k d (StandOnce-ascending None items ordered.1) inside
+    ∙ sym (bundle_data (get_or items k d).1 (valid_at items k d ordered.0 inside))
 
 -- ---- one reading
 

@@ -7,7 +7,8 @@ use Rattle.spiffe_doc.specs.declared.authority.Authority.TheVariants.{X509, Jwt}
 use Rattle.spiffe_doc.specs.Authority.{BundleValue}
 use Rattle.spiffe_doc.specs.Text.{document_tree}
 use Rattle.map_core.specs.Name.{Name}
-use Rattle.frame_front.specs.Dump.{Domains}
+use Rattle.map_core.specs.Laws.{Ascends}
+use Rattle.frame_front.specs.Dump.{Domains, AreValid}
 use Rattle.bundle_map.specs.declared.profile.Profile.{Profile}
 use Rattle.bundle_map.specs.declared.profile.Profile.TheVariants as profiles
 
@@ -23,6 +24,10 @@ map_tree items = object (member (codes "trust_domains") (object (domain_members 
 -- its text: that tree's JSON, with no space
 unfoldable pub map_text : Domains → List ℕ
 map_text items = compact_text (map_tree items)
+
+-- valid domains, in order of their names
+abbrev pub AreOrdered : Domains → Type 0
+AreOrdered items = AreValid items × Ascends None items
 
 -- ---- what a map shows of a bundle
 

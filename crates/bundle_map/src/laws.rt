@@ -1,5 +1,5 @@
 //! What follows from the definitions. Each law is the contract of a function that does nothing.
-ghost use Rattle.std.specs.Prelude.{◌≡◌, ℕ, List, Ok, Some, codes, option_and_then};
+ghost use Rattle.std.specs.Prelude.{◌≡◌, ℕ, List, map, Ok, Some, codes, option_and_then};
 ghost use Rattle.std.specs.List.{All};
 ghost use Rattle.serde_json.specs.Find.{get};
 ghost use Rattle.spiffe_doc.specs.Document.{json_tree};
@@ -9,23 +9,33 @@ ghost use Rattle.frame_front.specs.declared.request.Version.TheVariants.{One};
 ghost use Rattle.frame_front.specs.declared.request.Request.TheVariants.{Ask};
 ghost use Rattle.frame_front.specs.Request.{request_of};
 ghost use Rattle.frame_front.specs.Dump.{Domains, IsDump, AreValid};
-ghost use Rattle.bundle_map.specs.Map.{map_tree, map_text};
+ghost use Rattle.bundle_map.specs.Map.{map_tree, map_text, shown, AreOrdered};
+ghost use Rattle.bundle_map.specs.Choice.{chosen};
+ghost use Rattle.bundle_map.specs.declared.profile.Profile.{Profile};
 ghost use Rattle.bundle_map.specs.declared.error.MemberFault.{MemberFault};
 ghost use Rattle.bundle_map.specs.declared.error.MapError.{MapError};
 ghost use Rattle.bundle_map.specs.Import.{IsMap, FaultOfMap, set_request};
 ghost use Rattle.bundle_map.specs.declared.error.MapError.TheVariants.{Memory};
 
-/// The map of a dump reads as its tree, also for a reader that keeps each member once: under each name stands the tree
-/// of the canonical text of that bundle.
+/// The domains of a dump are valid and in order of their names, and so are those that are chosen of them, and what a
+/// map shows of them.
+pub fn parts_of_dumps_are_ordered()
+    ensures dumps { (dump : List ℕ) (items : Domains) → IsDump dump items → AreOrdered items }
+    ensures chosen { (names : List (List ℕ)) (items : Domains) → AreOrdered items → AreOrdered (chosen names items) }
+    ensures shown { (profile : Profile) (items : Domains) → AreOrdered items → AreOrdered (map (shown profile) items) }
+{}
+
+/// The map of such domains reads as its tree, also for a reader that keeps each member once: under each name stands
+/// the tree of the canonical text of that bundle.
 pub fn maps_tell_each_bundle()
-    ensures tree { (dump : List ℕ) (items : Domains) → IsDump dump items → json_tree (map_text items) ≡ Some (map_tree items) }
-    ensures bundles { (dump : List ℕ) (items : Domains) → IsDump dump items
+    ensures tree { (items : Domains) → AreOrdered items → json_tree (map_text items) ≡ Some (map_tree items) }
+    ensures bundles { (items : Domains) → AreOrdered items
         → All (λ item. option_and_then (get item.0) (get (codes "trust_domains") (map_tree items)) ≡ json_tree (text_of item.1)) items }
 {}
 
-/// The map of a dump is a bundle map of the domains of the dump, so the requests that it becomes set each of them.
-pub fn maps_of_dumps_are_maps()
-    ensures { (dump : List ℕ) (items : Domains) → IsDump dump items → IsMap (map_text items) items }
+/// The map of such domains is a bundle map of just them, so the requests that it becomes set each of them.
+pub fn written_maps_are_maps()
+    ensures { (items : Domains) → AreOrdered items → IsMap (map_text items) items }
 {}
 
 /// A file is a map of no other domains, and what is a map has no fault.

@@ -34,7 +34,7 @@ is_known_curve text = bytes_eq text (codes "P-256") || bytes_eq text (codes "P-3
 
 -- ---- the reason
 
--- of an EC key, by its `crv`; one that has no such text is malformed
+-- of an EC key, by its `crv`; without a text there it is malformed
 abbrev pub curve_reason : Option (List ℕ) → Option Reason
 curve_reason None = None
 curve_reason (Some text) = if is_known_curve text then None else Some (OtherCurve text)

@@ -35,7 +35,7 @@ kinds_words report = kind_words report.x509 (codes " X.509, ") ++ kind_words rep
 abbrev pub kept_words : ReportValue → List ℕ
 kept_words report = counted (report.x509 + report.jwt) (codes " authority (") (codes " authorities (") ++ kinds_words report
 
--- a number of this name, or that there is none
+-- a number of this name, or that it is missing
 abbrev pub named_words : List ℕ → Option ℕ → List ℕ
 named_words name None = codes ", no " ++ name
 named_words name (Some number) = codes ", " ++ (name ++ (codes " " ++ decimal number))
@@ -61,7 +61,7 @@ repeated_lines name report =
 
 -- ---- the entries that are ignored
 
--- a text under a name, which is none of those that are known
+-- a text under a name, which is not a known one
 abbrev pub its_words : List ℕ → List ℕ → List ℕ
 its_words name verb = codes "its " ++ (name ++ verb)
 

@@ -18,7 +18,7 @@ pub enum Reason {
     OtherType(Held),
     /// What it has as `use` is neither x509-svid nor jwt-svid.
     OtherUse(Held),
-    /// It is an EC key over this curve, which is none of P-256, P-384 and P-521.
+    /// It is an EC key over this curve, which is not P-256, P-384 or P-521.
     OtherCurve(MemberText),
 }
 

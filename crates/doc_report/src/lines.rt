@@ -136,7 +136,7 @@ fn put_numbers(out: &mut Vec<u8>, report: &Report) -> Result<(), AllocError>
     put_named(out, "refresh hint", report.refresh_hint)
 }
 
-/// Puts a number of this name, or that there is none.
+/// Puts a number of this name, or that it is missing.
 fn put_named(out: &mut Vec<u8>, name: &str, number: Option<u64>) -> Result<(), AllocError>
     ensures { OnOk result (out.new.items ≡ out.old.items ++ named_words name.now number) }
 {
@@ -160,7 +160,7 @@ fn put_value(out: &mut Vec<u8>, number: u64) -> Result<(), AllocError>
     put_number(out, number)
 }
 
-/// Puts that there are no authorities, if there are none.
+/// Puts that nothing would be kept, if there are no authorities.
 #[tactic(auto, unfolding(crate::specs::Lines::empty_lines))]
 fn put_empty(out: &mut Vec<u8>, name: &str, report: &Report) -> Result<(), AllocError>
     ensures { OnOk result (out.new.items ≡ out.old.items ++ empty_lines name.now (value_of report.now)) }
@@ -240,7 +240,7 @@ fn put_held(out: &mut Vec<u8>, name: &str, known: &str, held: &Held) -> Result<(
     }
 }
 
-/// Puts a text under this name that is none of those that are known.
+/// Puts a text under this name that is not a known one.
 fn put_other(
     out: &mut Vec<u8>,
     name: &str,

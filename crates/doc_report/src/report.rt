@@ -30,8 +30,9 @@ pub struct Report {
     pub ignored: Vec<Ignored>,
 }
 
-/// Judges a document as `read_document` does, and reports what of it is kept and what is ignored. Its errors are those of
-/// `read_document`.
+/// Judges a bundle document as `read_document` does, and reports what of it is kept and what is ignored (SPIFFE Trust
+/// Domain and Bundle, section 4; RFC 7517, section 5). Its errors are those of `read_document`. Memory can run out only for
+/// a document of at most 1,048,576 bytes.
 #[tactic(auto, unfolding(crate::specs::Report::report_of))]
 pub fn report_on(alloc: Global, document: &[u8]) -> Result<Report, DocError>
     ensures value { MatchResult result

@@ -1,4 +1,7 @@
-//! What a dump is looked at for: its certificates as PEM, what changed since another dump, and its digest.
+//! What is told of a dump: the certificates of a domain as PEM, what changed since another dump, and its digest.
+//!
+//! `put_pem`, `put_diff` and `digest_line` take what was read; `put_dump_pem`, `put_dump_diff` and `dump_digest_line` take
+//! the bytes of dumps, and judge them first.
 #![tactic(auto)]
 
 mod authority_changes;

@@ -13,11 +13,12 @@ fn dump_of(alloc: Global, domains: &[(&str, &str)]) -> Result<Vec<u8>, AllocErro
     let mut dump = Vec::from_slice(alloc, b"\x00\x00\x00\x09a")?;
     dump.extend_from_slice(&(domains.len() as u64).to_be_bytes())?;
     for (name, document) in domains {
-        let size = 2 + name.len() as u32 + document.len() as u32;
-        dump.extend_from_slice(&size.to_be_bytes())?;
-        dump.extend_from_slice(&[b'i', name.len() as u8])?;
-        dump.extend_from_slice(name.as_bytes())?;
-        dump.extend_from_slice(document.as_bytes())?;
+        let mut item = Vec::from_slice(alloc, b"i")?;
+        item.extend_from_slice(&u8::try_from(name.len()).unwrap_or(0).to_be_bytes())?;
+        item.extend_from_slice(name.as_bytes())?;
+        item.extend_from_slice(document.as_bytes())?;
+        dump.extend_from_slice(&u32::try_from(item.len()).unwrap_or(0).to_be_bytes())?;
+        dump.extend_from_slice(&item)?;
     }
     Ok(dump)
 }

@@ -300,11 +300,12 @@ fn changes_of_real_bundles(rt: HostRuntime) -> Result<(), Fail> {
 fn no_changes_of_what_is_no_dump(rt: HostRuntime) -> Result<(), Fail> {
     let alloc = rt.alloc();
     let good = dump_of(alloc, &[("a", WITHDRAWN)])?;
-    let bad = &good[..good.len() - 1];
+    let mut bad = dump_of(alloc, &[("a", WITHDRAWN)])?;
+    let _last = bad.pop();
     let rows: [(&[u8], &[u8], DiffError); 4] = [
-        (bad, &good, DiffError::BadOld(1)),
-        (&good, bad, DiffError::BadNew(1)),
-        (b"", bad, DiffError::BadOld(0)),
+        (&bad, &good, DiffError::BadOld(1)),
+        (&good, &bad, DiffError::BadNew(1)),
+        (b"", &bad, DiffError::BadOld(0)),
         (&good, b"", DiffError::BadNew(0)),
     ];
     for (old, new, wanted) in rows {

@@ -64,8 +64,9 @@ fn digests_of_dumps(rt: HostRuntime) -> Result<(), Fail> {
 #[test]
 fn no_digest_of_what_is_no_dump(rt: HostRuntime) -> Result<(), Fail> {
     let alloc = rt.alloc();
-    let dump = dump_of(alloc, &[("a", WITHDRAWN)])?;
-    let rows: [(&[u8], u64); 3] = [(b"", 0), (&dump[..13], 1), (b"abc", 0)];
+    let mut short = dump_of(alloc, &[("a", WITHDRAWN)])?;
+    let _last = short.pop();
+    let rows: [(&[u8], u64); 3] = [(b"", 0), (&short, 1), (b"abc", 0)];
     for (bytes, place) in rows {
         let found = dump_digest_line(alloc, bytes);
         is_equal_at(&rt, &found, &Err(DumpError::BadDump(place)), &bytes);

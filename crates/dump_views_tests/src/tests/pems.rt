@@ -3,7 +3,7 @@ use super::bundles::{DEFAULT, LARGE_CURVE, LARGE_KEY, ROTATION, WITHDRAWN};
 use super::{dump_of, is_equal_at};
 use dump_views::{PemError, put_dump_pem, put_pem};
 use spiffe_doc::{TrustDomain, read_document};
-use std::alloc::Global;
+use std::alloc::{AllocError, Global};
 use std::test::Fail;
 
 const DEFAULT_PEM: &str =
@@ -19,54 +19,62 @@ const LARGE_KEY_PEM: &str =
     "-----BEGIN CERTIFICATE-----\nMIIE+DCCAuCgAwIBAgIJAJdV1ME6kCkxMA0GCSqGSIb3DQEBCwUAMB0xDjAMBgNV\nBAoMBVNQSVJFMQswCQYDVQQGEwJVUzAeFw0yNjAxMDEwMDAwMDBaFw0yNzAxMDEw\nMDAwMDBaMB0xDjAMBgNVBAoMBVNQSVJFMQswCQYDVQQGEwJVUzCCAiIwDQYJKoZI\nhvcNAQEBBQADggIPADCCAgoCggIBAMgGrFbJduaC4zu/31rl4zRZLmkb8QSLB8u/\nt7r3rfz3upFDhmk5iCrkKgh1K9EkS8hZmHtOAb0Q5VfA5SWvztKfcmExsIviDPW8\nOdtTs0Qcl7Nn8ASHWd2Fs410ZcIh14Tg/q/vPWrxF53744dM1gx3y/OZAEltJIFU\nvPIar8wkbvajboJnz1J5w1xXdl/U7JAeiD57rn0uDAXChvES0rxRrJBYG870Mqf9\nFfmeSRX5LBm0Vh5TSAkRA2d7bB+x2gxdqGgeycsyllP28Q7bCRpGK3WoI9CEk8eJ\nYEFcPYneBb+w1tHUrNdljOGw0hOuKASpKtLEAP6Y/nFLeXcLIYsFNJwJVfT3YZKT\noe8LXIBMQ8UqzPT8p1SAQcFWp4bMAFGacHtG3XnMDDoEAcr3g15Po7GNrM4N0RN3\nmQGEAFtyNCCMdAmy/7WlepOmett4wzsVkZ2+JYkBk1d2IzoZkKd1NImUQA9dSqIq\n44KJ1rpkk9UmZIupJbIbz4PCMTQK4nOhBUn1+Ecc9IQDQjTYVEfD+S2vvMXnJuik\nn3+Gq2Osy7zeBD5Q6vKsEFCUU3u+S9Aw+lQ9DC72FrRrhluAXCUDQG7la/AglbFS\n5saP+b9AfZ0R4mLxNaLpuU3267OshRq5Jh98j4EPyTdUDfEwDfP+uyfE3ZCuvs9e\nFaEqc1d3AgMBAAGjOzA5MA8GA1UdEwEB/wQFMAMBAf8wJgYDVR0RBB8wHYYbc3Bp\nZmZlOi8vbGVnYWN5LmV4YW1wbGUuY29tMA0GCSqGSIb3DQEBCwUAA4ICAQDAsk8I\nxfsQzBrDaRoQ8oU5BiC4u6vJPnvzyTl1x5jtUHDOA5IzsLQXbjNJCz7lgzhCit3S\ndJAVjsX6PVU+PYei/vaF0XTJXjaJFAQ8RrhhY45XoAu8aaAQ/q6id6wDJNnjYaB/\n9zrkZo4Ed8nqB6PkxPSMxcW7A9YAfYq3UsdiQiakapi2c8lgUBbm2WaZuyHtFju8\nlMoeFShXIaEMLMTgeUCuZOtFkxUZE9eAvx8m7kKJTwjjVOhQ9rij8F2aAiAtfGK+\n7GS5+aELeKYtL837l/TVZqZe9k4ukpCtIfLSeHCuIQlzn9/uPEYqsHwXGu+3ckHp\nq8++cOHOErnjhUAeEoNeuagemJyuM550Yh2NO52SjjKaz1glTX0+dxfMDjU5wO1m\nKmg240qJcVHOtHao7ycm7b56H+E78LB1yBjR8NOOBvLuTNchMX7Ba0xCxV9fpnNz\nXITGNyxiBf26ZMe5UslDLgfEyJBOAF8FeUryUlbeCabqqFL2izNlQxWNaCb2S1dg\n1xdyRbrtA/iXZ9xzSbeGd7jM4hKYDeebCQZi7g2ozn89mxxSpMan1bht8BPpH6ps\nyLrCsuRe0fc6NiEDh/MjSZiM3lciQjaJWPBXjivk/JcBHeGWtR8oDZj27h5LdCEU\nkeR4UUQvN4bd6COYrPRLQi7B70Pf33d9lykgaw==\n-----END CERTIFICATE-----\n";
 
 /// Bytes of a certificate as base64, and its lines.
-const LINES: [(&str, &str); 11] = [
+const LINES: [(&[u8], &[u8]); 11] = [
     // 1 bytes
-    ("AQ==", "AQ=="),
+    (b"AQ==", b"AQ=="),
     // 2 bytes
-    ("Agk=", "Agk="),
+    (b"Agk=", b"Agk="),
     // 3 bytes
-    ("AwoR", "AwoR"),
+    (b"AwoR", b"AwoR"),
     // 46 bytes
     (
-        "LjU8Q0pRWF9mbXR7gomQl56lrLO6wcjP1t3k6/L5AAcOFRwjKjE4P0ZNVFtiaQ==",
-        "LjU8Q0pRWF9mbXR7gomQl56lrLO6wcjP1t3k6/L5AAcOFRwjKjE4P0ZNVFtiaQ==",
+        b"LjU8Q0pRWF9mbXR7gomQl56lrLO6wcjP1t3k6/L5AAcOFRwjKjE4P0ZNVFtiaQ==",
+        b"LjU8Q0pRWF9mbXR7gomQl56lrLO6wcjP1t3k6/L5AAcOFRwjKjE4P0ZNVFtiaQ==",
     ),
     // 47 bytes
     (
-        "LzY9REtSWWBnbnV8g4qRmJ+mrbS7wsnQ197l7PP6AQgPFh0kKzI5QEdOVVxjanE=",
-        "LzY9REtSWWBnbnV8g4qRmJ+mrbS7wsnQ197l7PP6AQgPFh0kKzI5QEdOVVxjanE=",
+        b"LzY9REtSWWBnbnV8g4qRmJ+mrbS7wsnQ197l7PP6AQgPFh0kKzI5QEdOVVxjanE=",
+        b"LzY9REtSWWBnbnV8g4qRmJ+mrbS7wsnQ197l7PP6AQgPFh0kKzI5QEdOVVxjanE=",
     ),
     // 48 bytes
     (
-        "MDc+RUxTWmFob3Z9hIuSmaCnrrW8w8rR2N/m7fT7AgkQFx4lLDM6QUhPVl1ka3J5",
-        "MDc+RUxTWmFob3Z9hIuSmaCnrrW8w8rR2N/m7fT7AgkQFx4lLDM6QUhPVl1ka3J5",
+        b"MDc+RUxTWmFob3Z9hIuSmaCnrrW8w8rR2N/m7fT7AgkQFx4lLDM6QUhPVl1ka3J5",
+        b"MDc+RUxTWmFob3Z9hIuSmaCnrrW8w8rR2N/m7fT7AgkQFx4lLDM6QUhPVl1ka3J5",
     ),
     // 49 bytes
     (
-        "MTg/Rk1UW2JpcHd+hYyTmqGor7a9xMvS2eDn7vX8AwoRGB8mLTQ7QklQV15lbHN6gQ==",
-        "MTg/Rk1UW2JpcHd+hYyTmqGor7a9xMvS2eDn7vX8AwoRGB8mLTQ7QklQV15lbHN6\ngQ==",
+        b"MTg/Rk1UW2JpcHd+hYyTmqGor7a9xMvS2eDn7vX8AwoRGB8mLTQ7QklQV15lbHN6gQ==",
+        b"MTg/Rk1UW2JpcHd+hYyTmqGor7a9xMvS2eDn7vX8AwoRGB8mLTQ7QklQV15lbHN6\ngQ==",
     ),
     // 95 bytes
     (
-        "X2ZtdHuCiZCXnqWss7rByM/W3eTr8vkABw4VHCMqMTg/Rk1UW2JpcHd+hYyTmqGor7a9xMvS2eDn7vX8AwoRGB8mLTQ7QklQV15lbHN6gYiPlp2kq7K5wMfO1dzj6vE=",
-        "X2ZtdHuCiZCXnqWss7rByM/W3eTr8vkABw4VHCMqMTg/Rk1UW2JpcHd+hYyTmqGo\nr7a9xMvS2eDn7vX8AwoRGB8mLTQ7QklQV15lbHN6gYiPlp2kq7K5wMfO1dzj6vE=",
+        b"X2ZtdHuCiZCXnqWss7rByM/W3eTr8vkABw4VHCMqMTg/Rk1UW2JpcHd+hYyTmqGor7a9xMvS2eDn7vX8AwoRGB8mLTQ7QklQV15lbHN6gYiPlp2kq7K5wMfO1dzj6vE=",
+        b"X2ZtdHuCiZCXnqWss7rByM/W3eTr8vkABw4VHCMqMTg/Rk1UW2JpcHd+hYyTmqGo\nr7a9xMvS2eDn7vX8AwoRGB8mLTQ7QklQV15lbHN6gYiPlp2kq7K5wMfO1dzj6vE=",
     ),
     // 96 bytes
     (
-        "YGdudXyDipGYn6attLvCydDX3uXs8/oBCA8WHSQrMjlAR05VXGNqcXh/ho2Um6KpsLe+xczT2uHo7/b9BAsSGSAnLjU8Q0pRWF9mbXR7gomQl56lrLO6wcjP1t3k6/L5",
-        "YGdudXyDipGYn6attLvCydDX3uXs8/oBCA8WHSQrMjlAR05VXGNqcXh/ho2Um6Kp\nsLe+xczT2uHo7/b9BAsSGSAnLjU8Q0pRWF9mbXR7gomQl56lrLO6wcjP1t3k6/L5",
+        b"YGdudXyDipGYn6attLvCydDX3uXs8/oBCA8WHSQrMjlAR05VXGNqcXh/ho2Um6KpsLe+xczT2uHo7/b9BAsSGSAnLjU8Q0pRWF9mbXR7gomQl56lrLO6wcjP1t3k6/L5",
+        b"YGdudXyDipGYn6attLvCydDX3uXs8/oBCA8WHSQrMjlAR05VXGNqcXh/ho2Um6Kp\nsLe+xczT2uHo7/b9BAsSGSAnLjU8Q0pRWF9mbXR7gomQl56lrLO6wcjP1t3k6/L5",
     ),
     // 97 bytes
     (
-        "YWhvdn2Ei5KZoKeutbzDytHY3+bt9PsCCRAXHiUsMzpBSE9WXWRrcnmAh46VnKOqsbi/xs3U2+Lp8Pf+BQwTGiEoLzY9REtSWWBnbnV8g4qRmJ+mrbS7wsnQ197l7PP6AQ==",
-        "YWhvdn2Ei5KZoKeutbzDytHY3+bt9PsCCRAXHiUsMzpBSE9WXWRrcnmAh46VnKOq\nsbi/xs3U2+Lp8Pf+BQwTGiEoLzY9REtSWWBnbnV8g4qRmJ+mrbS7wsnQ197l7PP6\nAQ==",
+        b"YWhvdn2Ei5KZoKeutbzDytHY3+bt9PsCCRAXHiUsMzpBSE9WXWRrcnmAh46VnKOqsbi/xs3U2+Lp8Pf+BQwTGiEoLzY9REtSWWBnbnV8g4qRmJ+mrbS7wsnQ197l7PP6AQ==",
+        b"YWhvdn2Ei5KZoKeutbzDytHY3+bt9PsCCRAXHiUsMzpBSE9WXWRrcnmAh46VnKOq\nsbi/xs3U2+Lp8Pf+BQwTGiEoLzY9REtSWWBnbnV8g4qRmJ+mrbS7wsnQ197l7PP6\nAQ==",
     ),
     // 144 bytes
     (
-        "kJeepayzusHIz9bd5Ovy+QAHDhUcIyoxOD9GTVRbYmlwd36FjJOaoaivtr3Ey9LZ4Ofu9fwDChEYHyYtNDtCSVBXXmVsc3qBiI+WnaSrsrnAx87V3OPq8fj/Bg0UGyIpMDc+RUxTWmFob3Z9hIuSmaCnrrW8w8rR2N/m7fT7AgkQFx4lLDM6QUhPVl1ka3J5",
-        "kJeepayzusHIz9bd5Ovy+QAHDhUcIyoxOD9GTVRbYmlwd36FjJOaoaivtr3Ey9LZ\n4Ofu9fwDChEYHyYtNDtCSVBXXmVsc3qBiI+WnaSrsrnAx87V3OPq8fj/Bg0UGyIp\nMDc+RUxTWmFob3Z9hIuSmaCnrrW8w8rR2N/m7fT7AgkQFx4lLDM6QUhPVl1ka3J5",
+        b"kJeepayzusHIz9bd5Ovy+QAHDhUcIyoxOD9GTVRbYmlwd36FjJOaoaivtr3Ey9LZ4Ofu9fwDChEYHyYtNDtCSVBXXmVsc3qBiI+WnaSrsrnAx87V3OPq8fj/Bg0UGyIpMDc+RUxTWmFob3Z9hIuSmaCnrrW8w8rR2N/m7fT7AgkQFx4lLDM6QUhPVl1ka3J5",
+        b"kJeepayzusHIz9bd5Ovy+QAHDhUcIyoxOD9GTVRbYmlwd36FjJOaoaivtr3Ey9LZ\n4Ofu9fwDChEYHyYtNDtCSVBXXmVsc3qBiI+WnaSrsrnAx87V3OPq8fj/Bg0UGyIp\nMDc+RUxTWmFob3Z9hIuSmaCnrrW8w8rR2N/m7fT7AgkQFx4lLDM6QUhPVl1ka3J5",
     ),
 ];
+
+/// The three, one after the other.
+fn joined(alloc: Global, first: &[u8], second: &[u8], third: &[u8]) -> Result<Vec<u8>, AllocError> {
+    let mut all = Vec::from_slice(alloc, first)?;
+    all.extend_from_slice(second)?;
+    all.extend_from_slice(third)?;
+    Ok(all)
+}
 
 /// The PEM of a document.
 fn pem_of(alloc: Global, document: &str) -> Result<Vec<u8>, Fail> {
@@ -95,15 +103,20 @@ fn certificates_of_real_bundles(rt: HostRuntime) -> Result<(), Fail> {
 #[test]
 fn lines_of_64_characters(rt: HostRuntime) -> Result<(), Fail> {
     let alloc = rt.alloc();
+    let entry: &[u8] =
+        b"{\"keys\":[{\"kty\":\"RSA\",\"use\":\"x509-svid\",\"n\":\"AQAB\",\"e\":\"AQAB\",\"x5c\":[\"";
     for (der, lines) in LINES {
-        let document = format!(in alloc;
-            "{{\"keys\":[{{\"kty\":\"RSA\",\"use\":\"x509-svid\",\"n\":\"AQAB\",\"e\":\"AQAB\",\"x5c\":[\"{der}\"]}}]}}"
+        let document = joined(alloc, entry, der, b"\"]}]}")?;
+        let bundle = read_document(alloc, &document)?;
+        let mut found = Vec::new(alloc);
+        put_pem(&bundle, &mut found)?;
+        let wanted = joined(
+            alloc,
+            b"-----BEGIN CERTIFICATE-----\n",
+            lines,
+            b"\n-----END CERTIFICATE-----\n",
         )?;
-        let found = pem_of(alloc, document.as_str())?;
-        let wanted = format!(in alloc;
-            "-----BEGIN CERTIFICATE-----\n{lines}\n-----END CERTIFICATE-----\n"
-        )?;
-        is_equal_at(&rt, &found.as_slice(), &wanted.as_bytes(), &der);
+        is_equal_at(&rt, &found, &wanted, &der);
     }
     Ok(())
 }
@@ -127,8 +140,8 @@ fn certificates_of_a_domain_of_a_dump(rt: HostRuntime) -> Result<(), Fail> {
         let mut out = Vec::from_slice(alloc, b"before\n")?;
         let found = put_dump_pem(alloc, &dump, &TrustDomain::parse(alloc, name)?, &mut out);
         is_equal_at(&rt, &found, &wanted, &name);
-        let text = format!(in alloc; "before\n{pem}")?;
-        is_equal_at(&rt, &out.as_slice(), &text.as_bytes(), &name);
+        let text = joined(alloc, b"before\n", pem.as_bytes(), b"")?;
+        is_equal_at(&rt, &out, &text, &name);
     }
     Ok(())
 }
@@ -136,12 +149,17 @@ fn certificates_of_a_domain_of_a_dump(rt: HostRuntime) -> Result<(), Fail> {
 #[test]
 fn no_certificates_of_what_is_no_dump(rt: HostRuntime) -> Result<(), Fail> {
     let alloc = rt.alloc();
-    let whole = dump_of(alloc, &[("a", DEFAULT), ("b", WITHDRAWN)])?;
+    let mut short = dump_of(alloc, &[("a", DEFAULT), ("b", WITHDRAWN)])?;
+    let _last = short.pop();
     let reversed = dump_of(alloc, &[("b", DEFAULT), ("a", WITHDRAWN)])?;
     let rows: [(&str, &[u8], u64); 4] = [
         ("no bytes", b"", 0),
-        ("a byte is missing", &whole[..whole.len() - 1], 2),
-        ("no domain", &whole[..13], 1),
+        ("a byte is missing", &short, 2),
+        (
+            "no domain",
+            b"\x00\x00\x00\x09a\x00\x00\x00\x00\x00\x00\x00\x02",
+            1,
+        ),
         ("out of order", &reversed, 2),
     ];
     let name = TrustDomain::parse(alloc, "a")?;
@@ -161,8 +179,8 @@ fn a_refused_growth_leaves_no_part_of_a_pem(rt: HostRuntime) -> Result<(), Fail>
     let mut out = Vec::from_slice(alloc, b"before\n")?;
     match put_pem(&bundle, &mut out) {
         Ok(()) => {
-            let text = format!(in alloc; "before\n{ROTATION_PEM}")?;
-            is_equal_at(&rt, &out.as_slice(), &text.as_bytes(), &"whole");
+            let text = joined(alloc, b"before\n", ROTATION_PEM.as_bytes(), b"")?;
+            is_equal_at(&rt, &out, &text, &"whole");
         }
         Err(_) => is_equal_at(&rt, &out.as_slice(), &b"before\n".as_slice(), &"nothing"),
     }

@@ -1,0 +1,5 @@
+//! Tests of `bundle_map`, over its public contract: worked examples, and what no clause says.
+#![tactic(auto)]
+
+#[cfg(test)]
+mod tests;
