@@ -1,25 +1,48 @@
--- What the command `trace` does to its input and its output; what its lines say is not defined here.
-use Rattle.std.specs.Prelude.{◌≡◌, ℕ, List, Option, Result, Ok, Err}
+-- What the command `trace` does to its input and its output.
+use Rattle.std.specs.Prelude.{◌≡◌, ℕ, List, length, Option, Result, Ok, Err}
+use Rattle.std.specs.Io.KnownBytes.{Appends}
 use Rattle.frame_front.specs.declared.error.FrontError.TheVariants.{ReadFault, WriteFault, TurnsUsed, Memory}
+use Rattle.frame_front.specs.Outbox.{WritesFront}
+use Rattle.step_core.specs.declared.event.Event.{Event}
+use Rattle.step_core.specs.declared.trace.OpRecord.{OpRecord}
+use Rattle.step_core.specs.Records.{IsLinearized}
+use Rattle.step_core.specs.Run.{run_of, order_of}
+use Rattle.step_core.specs.Trace.{records_of}
+use Rattle.trace_lines.specs.Events.{lines_in, AreEvents, IsFirstBad}
+use Rattle.trace_lines.specs.TraceText.{trace_text}
 use Rattle.commands.specs.declared.fault.Fault.{Fault}
 use Rattle.commands.specs.declared.fault.Fault.TheVariants.{Front, BadLine, InputTooLong}
 use Rattle.commands.specs.Input.{IsInput, InputFault}
 use Rattle.commands.specs.Streams.{Streams, EndsWith}
 
--- The input is read whole; what is written then is not said. Or one of its lines is not an event, or it is not read, or
--- memory runs out, and nothing is written.
-abbrev pub Traces : Result (Unit {0}) Fault → Option (List ℕ) → Option (List ℕ) → Option (List ℕ) → Option (List ℕ) → Type 0
-Traces (Ok done) left_old left_new held_old held_new = (input : List ℕ) × IsInput input left_old left_new
-Traces (Err (BadLine line)) left_old left_new held_old held_new = (input : List ℕ) × IsInput input left_old left_new × (held_new ≡ held_old)
-Traces (Err InputTooLong) left_old left_new held_old held_new = InputFault InputTooLong left_old left_new × (held_new ≡ held_old)
-Traces (Err (Front TurnsUsed)) left_old left_new held_old held_new = InputFault (Front TurnsUsed) left_old left_new × (held_new ≡ held_old)
-Traces (Err (Front ReadFault)) left_old left_new held_old held_new = held_new ≡ held_old
-Traces (Err (Front WriteFault)) left_old left_new held_old held_new = (input : List ℕ) × IsInput input left_old left_new
-Traces (Err (Front Memory)) left_old left_new held_old held_new = held_new ≡ held_old
-Traces ended left_old left_new held_old held_new = ⊥
+-- the records of the run of these events over so many shards, a fetch-all in so many rounds, and the order that linearizes them
+pub record IsTraceOf (shards rounds : ℕ) (events : List Event) (records : List OpRecord) (order : List ℕ) : Type 0 where
+  pub records_are : records ≡ records_of (run_of shards rounds events)
+  pub order_is : order ≡ order_of (run_of shards rounds events)
+  pub linearized : IsLinearized (length events) records order
+
+-- the input is read whole, its lines are those of events, and these are the records and the order of their run
+abbrev pub RunsInput : ℕ → ℕ → List OpRecord → List ℕ → Option (List ℕ) → Option (List ℕ) → Type 0
+RunsInput shards rounds records order left_old left_new =
+    (input : List ℕ) × (events : List Event) × IsInput input left_old left_new × AreEvents (lines_in input) events × IsTraceOf shards rounds events records order
+
+-- The run of the input is printed; a front of that if the writer failed. Or this line is the first that is not an event's,
+-- or the input is not read, or memory runs out, and nothing is written.
+abbrev pub Traces : ℕ → ℕ → Result (Unit {0}) Fault → Option (List ℕ) → Option (List ℕ) → Option (List ℕ) → Option (List ℕ) → Type 0
+Traces shards rounds (Ok done) left_old left_new held_old held_new =
+    (records : List OpRecord) × (order : List ℕ) × RunsInput shards rounds records order left_old left_new × Appends held_old held_new (trace_text records order)
+Traces shards rounds (Err (Front WriteFault)) left_old left_new held_old held_new =
+    (records : List OpRecord) × (order : List ℕ) × RunsInput shards rounds records order left_old left_new × WritesFront held_old held_new (trace_text records order)
+Traces shards rounds (Err (BadLine line)) left_old left_new held_old held_new =
+    (input : List ℕ) × IsInput input left_old left_new × IsFirstBad line (lines_in input) × (held_new ≡ held_old)
+Traces shards rounds (Err InputTooLong) left_old left_new held_old held_new = InputFault InputTooLong left_old left_new × (held_new ≡ held_old)
+Traces shards rounds (Err (Front TurnsUsed)) left_old left_new held_old held_new = InputFault (Front TurnsUsed) left_old left_new × (held_new ≡ held_old)
+Traces shards rounds (Err (Front ReadFault)) left_old left_new held_old held_new = held_new ≡ held_old
+Traces shards rounds (Err (Front Memory)) left_old left_new held_old held_new = held_new ≡ held_old
+Traces shards rounds ended left_old left_new held_old held_new = ⊥
 
 -- The whole command.
-pub record Tracing (status : ℕ) (old new : Streams) : Type 0 where
+pub record Tracing (shards rounds status : ℕ) (old new : Streams) : Type 0 where
   pub ended : Result (Unit {0}) Fault
   pub ends : EndsWith ended status old new
-  pub traces : Traces ended old.input.bytes new.input.bytes old.output.bytes new.output.bytes
+  pub traces : Traces shards rounds ended old.input.bytes new.input.bytes old.output.bytes new.output.bytes

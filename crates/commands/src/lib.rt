@@ -11,10 +11,8 @@ mod explain;
 mod fault;
 mod file_texts;
 mod input;
-mod lines;
 mod migrate;
 mod output;
-mod refusal_words;
 mod run;
 mod trace;
 
@@ -25,6 +23,5 @@ pub use file_texts::FileTexts;
 pub use input::read_input;
 pub use migrate::migrate_over;
 pub use output::{tell, tell_flushed, write_flushed, write_whole};
-pub use refusal_words::{write_error, write_refusal};
 pub use run::run_over;
 pub use trace::trace_over;

@@ -1,23 +1,20 @@
 //! The command `trace`: a run of the machine over a list of events.
 ghost use Rattle.std.specs.Prelude.{◌≡◌, ◌<◌, ◌-◌, ◌^◌, List, ℕ, Option, Err, IfOk, IfErr};
 ghost use Rattle.frame_front.specs.declared.error.FrontError.TheVariants.{ReadFault, WriteFault};
+ghost use Rattle.step_core.specs.declared.event.Event.{Event};
+ghost use Rattle.trace_lines.specs.Events.{lines_in, AreEvents};
 ghost use Rattle.commands.specs.Input.{IsInput};
 ghost use Rattle.commands.specs.Streams.{streams};
-ghost use Rattle.commands.specs.Trace.{Traces, Tracing};
+ghost use Rattle.commands.specs.Trace.{IsTraceOf, Traces, Tracing};
 ghost use Rattle.commands.specs.declared.fault.Fault.TheVariants.{Front};
-
-mod event_lines;
-mod record_lines;
 
 use crate::fault::Fault;
 use crate::input::read_input;
-use crate::lines::Lines;
-use event_lines::{LinesError, read_events};
 use frame_front::{Counted, FrontError};
-use record_lines::write_trace;
 use std::alloc::Global;
 use std::io::{Read, Write};
 use step_core::{Trace, run_events};
+use trace_lines::{LinesError, put_trace, read_events};
 
 /// Reads events, a line each, runs them over so many shards, a fetch-all in so many rounds, and writes a line for each
 /// operation and one for their order; answers the exit status. A line that is not an event is a fault, and then nothing
@@ -33,8 +30,9 @@ pub fn trace_over<R: Read, W: Write, E: Write>(
     requires shards { 0 < shards }
     requires rounds { 0 < rounds }
     requires reader_count { reader.old.faults < 2 ^ 64 - 1 }
+    requires out_count { out.old.faults < 2 ^ 64 - 1 }
     requires err_count { err.old.faults < 2 ^ 64 - 1 }
-    ensures traces { Tracing result
+    ensures traces { Tracing shards rounds result
         (streams R.remaining W.contents E.contents reader.old out.old err.old)
         (streams R.remaining W.contents E.contents reader.new out.new err.new) }
     ensures silent { result ≡ 0 → err.new ≡ err.old }
@@ -55,7 +53,8 @@ fn trace_input<R: Read, W: Write>(
     requires shards { 0 < shards }
     requires rounds { 0 < rounds }
     requires reader_count { reader.old.faults < 2 ^ 64 - 1 }
-    ensures traces { Traces result (R.remaining reader.old.end) (R.remaining reader.new.end) (W.contents out.old.end) (W.contents out.new.end) }
+    requires out_count { out.old.faults < 2 ^ 64 - 1 }
+    ensures traces { Traces shards rounds result (R.remaining reader.old.end) (R.remaining reader.new.end) (W.contents out.old.end) (W.contents out.new.end) }
     ensures read_fault { result ≡ Err (Front ReadFault) → reader.old.faults < reader.new.faults }
     ensures write_fault { result ≡ Err (Front WriteFault) → out.old.faults < out.new.faults }
 {
@@ -63,7 +62,10 @@ fn trace_input<R: Read, W: Write>(
         Ok(trace) => trace,
         Err(fault) => return Err(fault),
     };
-    write_lines(out, &trace)
+    match put_trace(out, &trace) {
+        Ok(()) => Ok(()),
+        Err(_) => Err(Fault::Front(FrontError::WriteFault)),
+    }
 }
 
 /// The trace of the events of an input.
@@ -76,8 +78,9 @@ fn traced<R: Read>(
     requires shards { 0 < shards }
     requires rounds { 0 < rounds }
     requires reader_count { reader.old.faults < 2 ^ 64 - 1 }
-    ensures ok { IfOk result (λ trace. (input : List ℕ) × IsInput input (R.remaining reader.old.end) (R.remaining reader.new.end)) }
-    ensures err { IfErr result (λ fault. (held : Option (List ℕ)) → Traces (Err fault) (R.remaining reader.old.end) (R.remaining reader.new.end) held held) }
+    ensures ok { IfOk result (λ trace. (input : List ℕ) × (events : List Event) × IsInput input (R.remaining reader.old.end) (R.remaining reader.new.end)
+        × AreEvents (lines_in input) events × IsTraceOf shards rounds events trace.ops.items trace.order.items) }
+    ensures err { IfErr result (λ fault. (held : Option (List ℕ)) → Traces shards rounds (Err fault) (R.remaining reader.old.end) (R.remaining reader.new.end) held held) }
     ensures read_fault { result ≡ Err (Front ReadFault) → reader.old.faults < reader.new.faults }
     ensures no_write_fault { result ≡ Err (Front WriteFault) → ⊥ }
 {
@@ -91,21 +94,4 @@ fn traced<R: Read>(
         Ok(trace) => Ok(trace),
         Err(_) => Err(Fault::Front(FrontError::Memory)),
     }
-}
-
-/// Writes the lines of a trace. It takes no memory.
-fn write_lines<W: Write>(out: &mut Counted<W>, trace: &Trace) -> Result<(), Fault>
-    ensures fault { IfErr result (λ fault. fault ≡ Front WriteFault) }
-    ensures failed { IfErr result (λ fault. out.old.faults < out.new.faults) }
-{
-    let before = out.faults();
-    let mut lines = Lines::new(&mut *out);
-    // It fails only if a call of `out` does, and such a call is counted.
-    if write_trace(&mut lines, trace).is_ok() {
-        let _ = lines.flush();
-    }
-    if before < out.faults() {
-        return Err(Fault::Front(FrontError::WriteFault));
-    }
-    Ok(())
 }

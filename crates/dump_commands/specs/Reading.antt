@@ -20,14 +20,14 @@ Unread (Dump (dumps.BadDump place)) left_old left_new = (input : List ℕ) × Is
 Unread (Dump dumps.Memory) left_old left_new = Unit {0}
 Unread fault left_old left_new = InputFault fault left_old left_new
 
--- what a text is of the input, and why there is none
+-- what a text is of the input, and why it has no text
 abbrev pub TextOf : Type 1
 TextOf = List ℕ → Option (List ℕ) → Option (List ℕ) → Type 0
 
 abbrev pub NoText : Type 1
 NoText = Fault → Option (List ℕ) → Option (List ℕ) → Type 0
 
--- The text is written; a front of it if the writer failed; nothing if there is none.
+-- The text is written; a front of it if the writer failed; nothing if the input has no text.
 abbrev pub Writes : TextOf → NoText → Result (Unit {0}) Fault → Option (List ℕ) → Option (List ℕ) → Option (List ℕ) → Option (List ℕ) → Type 0
 Writes Of Lacks (Ok done) left_old left_new held_old held_new =
     (text : List ℕ) × Of text left_old left_new × Appends held_old held_new text

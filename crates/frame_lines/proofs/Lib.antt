@@ -13,4 +13,7 @@ pub mod Encoders
 pub mod Streams
 pub mod Decodes
 pub mod Texts
+pub mod AnswerLines
+pub mod RefusalLines
+pub mod SessionLines
 pub mod OneLine

@@ -1,6 +1,6 @@
 -- Numbers in decimal.
 use Rattle.std.proofs.Common.{◌≡◌, ℕ, ◌<◌, ◌^◌, Bool, true, false, nat_lt, List, Option, Some, None, Result, Ok, Err, refl, sym, ap, subst, ◌∙◌, arith, Bor}
-use Rattle.std.specs.Prelude.{◌&&◌, if◌then◌else◌, decimal, bytes_eq, IfSome, MatchResult}
+use Rattle.std.specs.Prelude.{◌&&◌, if◌then◌else◌, decimal, bytes_eq, IfSome, MatchOption, MatchResult}
 use Rattle.std.specs.Result.{result_ok}
 use Rattle.std.specs.Str.{IsUtf8}
 use Rattle.std.specs.Str.Parse.{digits_value, ParsesUnsigned}
@@ -40,6 +40,10 @@ number_is word None found only = by (number_of word) refl
     by : (o : Option ℕ) → number_of word ≡ o → ◌≡◌ {A = Option ℕ} None o
     by None is = refl
     by (Some n) is = let h = number_found word n is in absurd (none-some n (only n h.0 h.1))
+
+pub number_told : (word : List ℕ) (r : Option ℕ) → r ≡ number_of word → MatchOption r ((n : ℕ) → n < 2 ^ 64 → word ≡ decimal n → ⊥) (λ n. (n < 2 ^ 64) × (word ≡ decimal n))
+number_told word (Some n) is = number_found word n (sym is)
+number_told word None is = λ n small same. none-some n (is ∙ ap number_of same ∙ number_of-decimal n small)
 
 -- ---- what a parse of the word tells
 

@@ -20,7 +20,7 @@ use Rattle.frame_lines.proofs.Fields.{no_number, decimal_is_word, expect_found, 
 
 -- ---- numbers
 
-below_found : (limit : ℕ) (word : List ℕ) (n : ℕ) → number_below limit word ≡ Some n → (n < limit) × (word ≡ decimal n)
+pub below_found : (limit : ℕ) (word : List ℕ) (n : ℕ) → number_below limit word ≡ Some n → (n < limit) × (word ≡ decimal n)
 unfolding number_below
 below_found limit word n is =
     let b = bind_some (number_of word) (λ m. if nat_lt m limit then Some m else None) n is in
@@ -29,7 +29,7 @@ below_found limit word n is =
       | inr h ↦ absurd (none-some n h.1)
     ]
 
-below_read : (limit n : ℕ) → n < limit → n < 2 ^ 64 → number_below limit (decimal n) ≡ Some n
+pub below_read : (limit n : ℕ) → n < limit → n < 2 ^ 64 → number_below limit (decimal n) ≡ Some n
 unfolding number_below
 below_read limit n low fits =
     let lower : nat_lt n limit ≡ true = grind (arith, low) in

@@ -83,7 +83,7 @@ by_verb_found verb rest r is = elim (if_some (bytes_eq verb (codes "set")) (set_
   ]
 ]
 
-line_found : (line : List ℕ) (r : Request) → read_line line ≡ Some r → (line ≡ line_of r) × HasLine r
+pub line_found : (line : List ℕ) (r : Request) → read_line line ≡ Some r → (line ≡ line_of r) × HasLine r
 unfolding read_line
 line_found line r is = by (split_word line) refl is
   where
@@ -103,7 +103,7 @@ verb_read : (verb rest : List ℕ) (r : Request) → IsWord verb → request_by_
 unfolding read_line
 verb_read verb rest r word is = ap (request_by_split (verb then rest)) (split_then verb rest word) ∙ is
 
-line_read : (r : Request) → HasLine r → read_line (line_of r) ≡ Some r
+pub line_read : (r : Request) → HasLine r → read_line (line_of r) ≡ Some r
 unfolding read_line request_by_verb set_of set_if_of append_of remove_of get_of speak_of
 line_read (Set name text) word = verb_read (codes "set") (name then text) (Set name text) refl (ap (λ o. o >>= λ parts. Some (Set parts.0 parts.1)) (name_split_then name text word))
 line_read (SetIf name expect text) fits = verb_read (codes "setif") (name then expect_word expect then text) (SetIf name expect text) refl

@@ -86,3 +86,8 @@ split_is (byte ∷ bytes) = step (is_space byte) (position_or_len is_space bytes
         let one : suc at ≡ 1 + at = omega arith in
         ap (after_byte byte) is ∙ within (nat_lt at (length bytes)) at
         ∙ ap (λ (c : Bool). option_map (λ n. (take n (byte ∷ bytes), drop (n + 1) (byte ∷ bytes))) (cond c (Some (suc at)) None)) (sym (shifted at)) ∙ ap (λ (m : ℕ). option_map (λ n. (take n (byte ∷ bytes), drop (n + 1) (byte ∷ bytes))) (cond (nat_lt (1 + at) (suc (length bytes))) (Some m) None)) one
+
+-- ---- what a split tells
+
+pub words_of : (bytes front back : List ℕ) → split_word bytes ≡ Some (front, back) → IsWord front × (bytes ≡ front then back)
+words_of bytes front back is = let found = split_found bytes (front, back) is in (found.1, found.0)

@@ -1,5 +1,6 @@
 pub mod RequestForm
 pub mod ReplyForm
+pub mod Answers
 pub mod Encoding
 pub mod EncodedStream
 pub mod Decoding

@@ -14,7 +14,7 @@ pub const HEAD_BYTES: usize = 283;
 /// What stands before a text, which stays where it is.
 pub type Head = ArrayVec<u8, HEAD_BYTES>;
 
-pub(crate) fn head_of(bytes: &[u8]) -> Head
+pub fn head_of(bytes: &[u8]) -> Head
     requires { length bytes.now ≤ 283 }
     ensures { result.items ≡ bytes.now }
 {
@@ -23,7 +23,7 @@ pub(crate) fn head_of(bytes: &[u8]) -> Head
     head
 }
 
-pub(crate) fn put(head: &mut Head, more: &[u8])
+pub fn put(head: &mut Head, more: &[u8])
     requires { array_vec_len head.old + length more.now ≤ 283 }
     ensures { head.new.items ≡ head.old.items ++ more.now }
 {
@@ -31,7 +31,7 @@ pub(crate) fn put(head: &mut Head, more: &[u8])
 }
 
 /// Puts the number in decimal.
-pub(crate) fn put_number(head: &mut Head, number: u64)
+pub fn put_number(head: &mut Head, number: u64)
     requires { array_vec_len head.old ≤ 263 }
     ensures items { head.new.items ≡ head.old.items ++ decimal number }
     ensures few { array_vec_len head.new ≤ array_vec_len head.old + 20 }

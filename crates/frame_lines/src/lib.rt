@@ -1,9 +1,10 @@
 //! The text form of requests and replies: a line for each, of words that people and scripts write.
 #![tactic(auto)]
 
+mod answer;
 mod decode;
 mod encoder;
-mod head;
+pub mod head;
 pub mod laws;
 mod line_decoder;
 mod line_frame;
@@ -19,7 +20,7 @@ mod request_payload;
 mod request_words;
 mod stream;
 mod text_source;
-mod word;
+pub mod word;
 
 pub use decode::{DecodeError, decode_stream};
 pub use encoder::{EncodeError, Encoder};

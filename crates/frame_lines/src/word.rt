@@ -1,5 +1,6 @@
 //! Words with single spaces between.
-ghost use Rattle.std.specs.Prelude.{◌≡◌, ◌<◌, ◌^◌, ◌==◌, ℕ, None, Some, decimal, position, IfSome, MatchOption};
+ghost use Rattle.std.specs.Prelude.{◌≡◌, ◌<◌, ◌^◌, ◌==◌, ℕ, None, Some, decimal, position, MatchOption};
+ghost use Rattle.frame_lines.specs.RequestForm.{IsWord, ◌then◌};
 ghost use Rattle.frame_lines.specs.Private.RequestReading.{split_word as word_split, lone_word as word_alone, short_name as name_short, split_name as name_split, lone_name as name_alone, number_of};
 
 use itoa::Buffer;
@@ -12,8 +13,9 @@ fn first_space(bytes: &[u8]) -> Option<usize>
 }
 
 /// The bytes up to the first space, and those after it. None if there is no space.
-pub(crate) fn split_word(bytes: &[u8]) -> Option<(&[u8], &[u8])>
-    ensures { MatchOption result (word_split bytes.now ≡ None) (λ parts. word_split bytes.now ≡ Some (parts.0.now, parts.1.now)) }
+pub fn split_word(bytes: &[u8]) -> Option<(&[u8], &[u8])>
+    ensures words { MatchOption result (IsWord bytes.now) (λ parts. IsWord parts.0.now × (bytes.now ≡ parts.0.now then parts.1.now)) }
+    ensures read { MatchOption result (word_split bytes.now ≡ None) (λ parts. word_split bytes.now ≡ Some (parts.0.now, parts.1.now)) }
 {
     let at = first_space(bytes)?;
     let (word, rest) = bytes.split_at(at);
@@ -57,8 +59,10 @@ pub(crate) fn lone_name(bytes: &[u8]) -> Option<&[u8]>
 }
 
 /// The number that a word writes in decimal, with no leading zeros and no sign.
-pub(crate) fn read_number(word: &[u8]) -> Option<u64>
-    ensures { result ≡ number_of word.now }
+pub fn read_number(word: &[u8]) -> Option<u64>
+    ensures number { MatchOption result ((number : ℕ) → number < 2 ^ 64 → word.now ≡ decimal number → ⊥)
+        (λ number. (number < 2 ^ 64) × (word.now ≡ decimal number)) }
+    ensures read { result ≡ number_of word.now }
 {
     let text = str::from_utf8(word).ok()?;
     let number = text.parse::<u64>().ok()?;

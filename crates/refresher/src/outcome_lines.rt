@@ -1,7 +1,9 @@
 //! Outcomes of refreshes as lines: what the command `refresh` prints.
-use commands::{write_error, write_refusal};
+ghost use Rattle.frame_lines.specs.ReplyForm.{reply, IsLined};
+
 use frame_front::Refusal;
-use map_core::Reply;
+use frame_lines::ReplyForm;
+use map_core::{AskError, Reply};
 use refresh::What;
 use spiffe_doc::{DocError, TrustDomain};
 use std::io;
@@ -47,7 +49,7 @@ fn write_taken<W: Write>(out: &mut W, reply: &Reply, told: &Told<'_>) -> io::Res
         Reply::Stored if told.has_emptied => write!(out, "{} empty", told.stored),
         Reply::Stored => write!(out, "{}", told.stored),
         Reply::Unchanged => write!(out, "unchanged"),
-        Reply::Refused(refusal) => write_refusal(out, refusal),
+        Reply::Refused(refusal) => write_form(out, &ReplyForm::of_refusal(refusal)),
         // No other reply comes to a Set.
         _ => write!(out, "answered"),
     }
@@ -58,5 +60,23 @@ fn write_bad_document<W: Write>(out: &mut W, error: &DocError) -> io::Result<()>
     match Refusal::BadDocument(*error).place() {
         Some(place) => write!(out, " at {place}"),
         None => Ok(()),
+    }
+}
+
+fn write_error<W: Write>(out: &mut W, error: &AskError) -> io::Result<()> {
+    match error {
+        // Told by its number, as refusals are.
+        AskError::GateShut => write!(out, "refused {}", error.number()),
+        _ => write_form(out, &ReplyForm::of_error(error)),
+    }
+}
+
+/// Writes the line of a reply that has no text.
+fn write_form<W: Write>(out: &mut W, form: &ReplyForm<'_>) -> io::Result<()>
+    requires { IsLined (reply form.now) }
+{
+    match form.line_head() {
+        Some(head) => out.write_all(head.as_slice()),
+        None => unreachable!(),
     }
 }

@@ -1,0 +1,6 @@
+pub mod Operations
+pub mod EventLines
+pub mod InputLines
+pub mod EventLists
+pub mod Writes
+pub mod TraceTexts

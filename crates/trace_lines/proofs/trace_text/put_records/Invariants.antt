@@ -1,0 +1,10 @@
+use Rattle.std.proofs.Common.{◌≡◌, ℕ, List, ◌++◌, drop}
+use Rattle.trace_lines.specs.TraceText.{records_text}
+use Rattle.trace_lines.specs.Private.Puts.{PutsAll, out_of}
+use Rattle.trace_lines.proofs.trace_text.put_records.Given as goal
+
+-- what was put so far, and the rest follows
+abbrev pub invariant-loop-number : goal.invariant-loop-number
+invariant-loop-number g l =
+    (so_far : List ℕ) × PutsAll (out_of g.W.Write.contents l.fn.out l.fn.gathered) (out_of g.W.Write.contents l.out l.gathered) so_far
+    × (records_text 0 l.records ≡ so_far ++ records_text l.number (drop l.number l.records))

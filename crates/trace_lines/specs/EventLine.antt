@@ -1,0 +1,48 @@
+-- Events of a run as lines of text.
+use Rattle.std.specs.Prelude.{◌≡◌, ℕ, ◌<◌, ◌^◌, List, codes, decimal, Some, Ok}
+use Rattle.spiffe_doc.specs.Authority.{BundleValue}
+use Rattle.spiffe_doc.specs.Document.{document, entry}
+use Rattle.spiffe_doc.specs.Name.{trust_domain}
+use Rattle.spiffe_doc.specs.declared.authority.Authority.{Authority}
+use Rattle.map_core.specs.Name.{Name}
+use Rattle.map_core.specs.declared.op.Op.{Op}
+use Rattle.map_core.specs.declared.op.Op.TheVariants as op
+use Rattle.step_core.specs.declared.event.Event.{Event}
+use Rattle.step_core.specs.declared.event.Event.TheVariants.{Begin, Step, Quit, End}
+use Rattle.step_core.specs.declared.event.Why.{Why}
+use Rattle.step_core.specs.declared.event.Why.TheVariants.{Held, Memory}
+use Rattle.frame_lines.specs.RequestForm.{Request, Set, SetIf, Append, Remove, Get, Fetch, Speak, HasLine, line_of, ◌then◌}
+
+-- A request asks for an operation: its name is a trust domain's, its document a bundle's, its JWK an authority's. One that
+-- only sets the version asks for none.
+abbrev pub AsksFor : Request → Op → Type 0
+AsksFor (Set name text) asked = (domain : Name) × (bundle : BundleValue) × (trust_domain name ≡ Ok domain) × (document text ≡ Ok bundle) × (asked ≡ op.Set domain bundle)
+AsksFor (SetIf name expect text) asked =
+    (domain : Name) × (bundle : BundleValue) × (trust_domain name ≡ Ok domain) × (document text ≡ Ok bundle) × (asked ≡ op.SetIf domain expect bundle)
+AsksFor (Append name jwk) asked = (domain : Name) × (authority : Authority) × (trust_domain name ≡ Ok domain) × (entry jwk ≡ Ok (Some authority)) × (asked ≡ op.Append domain authority)
+AsksFor (Remove name) asked = (domain : Name) × (trust_domain name ≡ Ok domain) × (asked ≡ op.Remove domain)
+AsksFor (Get name) asked = (domain : Name) × (trust_domain name ≡ Ok domain) × (asked ≡ op.Get domain)
+AsksFor Fetch asked = asked ≡ op.FetchAll
+AsksFor (Speak version) asked = ⊥
+
+-- why an operation is given up: memory ran out, or another caller held the shard at this revision
+abbrev pub why_words : Why → List ℕ
+why_words Memory = codes "memory"
+why_words (Held shard revision) = codes "held" then decimal shard then decimal revision
+
+-- shards are below 256, and revisions have 8 bytes
+abbrev pub WhyFits : Why → Type 0
+WhyFits Memory = Unit {0}
+WhyFits (Held shard revision) = (shard < 256) × (revision < 2 ^ 64)
+
+-- a caller has 4 bytes
+abbrev pub IsCaller : ℕ → Type 0
+IsCaller caller = caller < 2 ^ 32
+
+-- The line, without its line feed, is that of the event: words with single spaces between, of which a request is the last.
+abbrev pub IsEventOf : List ℕ → Event → Type 0
+IsEventOf line (Begin caller asked) =
+    IsCaller caller × ((request : Request) × HasLine request × AsksFor request asked × (line ≡ codes "begin" then decimal caller then line_of request))
+IsEventOf line (Step caller) = IsCaller caller × (line ≡ codes "step" then decimal caller)
+IsEventOf line (End caller) = IsCaller caller × (line ≡ codes "end" then decimal caller)
+IsEventOf line (Quit caller why) = IsCaller caller × WhyFits why × (line ≡ codes "quit" then decimal caller then why_words why)

@@ -1,0 +1,5 @@
+pub mod EventLine
+pub mod Events
+pub mod TraceText
+pub mod Laws
+pub mod Private

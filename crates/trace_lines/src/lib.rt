@@ -1,0 +1,13 @@
+//! The text form of the machine's runs: a line for each event that happens, and a line for each operation that began.
+#![tactic(auto)]
+
+mod event_line;
+mod events;
+mod gathered;
+pub mod laws;
+mod operation;
+mod record_head;
+mod trace_text;
+
+pub use events::{LinesError, read_events};
+pub use trace_text::put_trace;
