@@ -162,7 +162,7 @@ fn certificates_of<'a>(alloc: Global, pem: &ArgMatches<'a>) -> Result<Wanted<'a>
 fn names_of(alloc: Global, map: &ArgMatches<'_>) -> Result<Vec<TrustDomain>, NameError> {
     let mut names = Vec::new(alloc);
     for name in map.get_strs("names").unwrap_or_default() {
-        if let Err(AllocError) = names.push(TrustDomain::parse(alloc, name)?) {
+        if let Err(_) = names.push(TrustDomain::parse(alloc, name)?) {
             return Err(NameError::Memory);
         }
     }
@@ -170,7 +170,7 @@ fn names_of(alloc: Global, map: &ArgMatches<'_>) -> Result<Vec<TrustDomain>, Nam
 }
 
 /// A name is not that of a trust domain, or there is no memory for it.
-fn bad_name(command: Command<'_>, error: NameError) -> Result<Error, AllocError> {
+fn bad_name(mut command: Command<'_>, error: NameError) -> Result<Error, AllocError> {
     if error == NameError::Memory {
         return Err(AllocError);
     }

@@ -1,5 +1,6 @@
 //! Command lines: which command they want, with which settings.
 use command_line::{Wanted, wanted_by};
+use spiffe_doc::TrustDomain;
 use std::alloc::{AllocError, Global};
 use std::fmt::Debug;
 use std::process::Abort;
@@ -7,6 +8,16 @@ use std::process::Abort;
 /// It is so in this case.
 fn holds_at<C: Debug>(rt: &impl Abort, is_so: bool, case: &C) {
     assert!(rt; is_so, "{case:?}");
+}
+
+/// Names, with a space before each.
+fn told(alloc: Global, names: &[TrustDomain]) -> Result<String, AllocError> {
+    let mut told = String::new(alloc);
+    for name in names {
+        told.push_str(" ")?;
+        told.push_str(name.as_str())?;
+    }
+    Ok(told)
 }
 
 /// What the command line of these words wants, in words: or the text that is shown in its place.
@@ -18,6 +29,20 @@ fn wanted(alloc: Global, words: &[&str]) -> Result<String, AllocError> {
     match wanted_by(alloc, line.as_slice()) {
         Ok(Wanted::Run { shards, turns }) => format!(in alloc; "run {shards} {turns}"),
         Ok(Wanted::Trace { shards, rounds }) => format!(in alloc; "trace {shards} {rounds}"),
+        Ok(Wanted::Encode) => format!(in alloc; "encode"),
+        Ok(Wanted::Decode) => format!(in alloc; "decode"),
+        Ok(Wanted::Explain(text)) => format!(in alloc; "explain {text}"),
+        Ok(Wanted::Map { names, x509 }) => {
+            let names = told(alloc, names.as_slice())?;
+            format!(in alloc; "map {x509}{names}")
+        }
+        Ok(Wanted::Import) => format!(in alloc; "import"),
+        Ok(Wanted::Pem(name)) => {
+            let name = name.as_str();
+            format!(in alloc; "pem {name}")
+        }
+        Ok(Wanted::Diff(old, new)) => format!(in alloc; "diff {old} {new}"),
+        Ok(Wanted::Digest) => format!(in alloc; "digest"),
         Ok(Wanted::Migrate) => format!(in alloc; "migrate"),
         Ok(Wanted::Refresh(wanted)) => {
             let (list, folder, at_least) = (wanted.list, wanted.folder, wanted.at_least);
@@ -47,6 +72,36 @@ fn wanted(alloc: Global, words: &[&str]) -> Result<String, AllocError> {
 
 const NO_COUNT: &str =
     "error: --connections takes a number in 1..=1000, or `unlimited`\n\nUsage: serve [OPTIONS] --port <PORT>\n\nFor more information, try '--help'.\n";
+
+#[test]
+fn reads_the_commands_over_lines_and_dumps(rt: HostRuntime) -> Result<(), AllocError> {
+    let alloc = rt.alloc();
+    let rows: [(&[&str], &str); 12] = [
+        (&["bundled", "encode"], "encode"),
+        (&["bundled", "decode"], "decode"),
+        (
+            &["bundled", "explain", "72"],
+            "explain 72 NoClock\nThe clock of the machine cannot be read.\nWhat to do: Give the time with --now.\n",
+        ),
+        (&["bundled", "map"], "map false"),
+        (&["bundled", "map", "b", "a", "b"], "map false b a b"),
+        (&["bundled", "map", "a", "--x509"], "map true a"),
+        (&["bundled", "map", "--x509", "--", "-x"], "map true -x"),
+        (&["bundled", "import"], "import"),
+        (&["bundled", "pem", "a.example"], "pem a.example"),
+        (&["bundled", "diff", "old", "-"], "diff old -"),
+        (&["bundled", "digest"], "digest"),
+        (
+            &["bundled", "explain", "6"],
+            "error: no refusal and no fault has this number\n\nUsage: explain <NUMBER>\n\nFor more information, try '--help'.\n",
+        ),
+    ];
+    for (words, text) in rows {
+        let found = wanted(alloc, words)?;
+        holds_at(&rt, found.as_str() == text, &found);
+    }
+    Ok(())
+}
 
 // The numbers that a line gives or leaves to their defaults, of which no reply tells.
 #[test]

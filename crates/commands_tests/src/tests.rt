@@ -3,6 +3,7 @@ ghost use Rattle.std.specs.Prelude.{◌<◌, ◌≤◌};
 
 mod dumps;
 mod ends;
+mod lines;
 mod sessions;
 mod traces;
 
