@@ -3,4 +3,5 @@ pub mod Map
 pub mod Import
 pub mod Pem
 pub mod Diff
+pub mod Check
 pub mod Private

@@ -4,6 +4,7 @@
 //! dumps. Each writes to a writer, tells its fault to another, and answers the exit status.
 #![tactic(auto)]
 
+mod check;
 mod diff;
 mod digest;
 mod import;
@@ -11,6 +12,7 @@ mod map;
 mod pem;
 mod reading;
 
+pub use check::check_over;
 pub use diff::diff_over;
 pub use digest::digest_over;
 pub use import::import_over;

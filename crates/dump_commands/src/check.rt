@@ -1,0 +1,181 @@
+//! The command `check`: what documents would give as bundles.
+ghost use Rattle.std.specs.Prelude.{◌≡◌, ◌≢◌, ◌<◌, ◌-◌, ◌^◌, map, Err, OnOk};
+ghost use Rattle.commands.specs.Streams.{end_of, streams};
+ghost use Rattle.commands.specs.declared.fault.Fault.TheVariants.{Front};
+ghost use Rattle.dump_commands.specs.Check.{Checks, status_of};
+ghost use Rattle.dump_commands.specs.Private.Checking.{ChecksFiles, ChecksInput, ChecksOne, Told, given_by, joined};
+ghost use Rattle.frame_front.specs.declared.error.FrontError.TheVariants.{ReadFault, WriteFault};
+
+use commands::{Fault, read_input, write_flushed};
+use doc_report::{Report, put_report, report_on};
+use frame_front::{Counted, FrontError};
+use frame_lines::{TextError, TextSource};
+use spiffe_doc::DocError;
+use std::alloc::Global;
+use std::io::{Read, Write};
+
+/// The name of a document that is the input.
+const INPUT: &str = "-";
+
+/// What was found of documents.
+#[derive(Clone, Copy)]
+struct Findings {
+    /// Some document is not a bundle.
+    no_bundle: bool,
+    /// Something is ignored of a document that is a bundle.
+    ignored: bool,
+}
+
+impl Findings {
+    /// The findings of these documents and of those.
+    fn and(self, others: Findings) -> Findings
+        ensures { result ≡ joined self others }
+    {
+        Findings {
+            no_bundle: self.no_bundle || others.no_bundle,
+            ignored: self.ignored || others.ignored,
+        }
+    }
+
+    fn status(self) -> u8
+        ensures { result ≡ status_of self.no_bundle self.ignored }
+    {
+        if self.no_bundle {
+            1
+        } else if self.ignored {
+            3
+        } else {
+            0
+        }
+    }
+}
+
+/// Judges documents, which are the texts of these files, or the input if there are no files, and writes what a person is told
+/// of each, before the next is read; answers the exit status: 0 if each is a bundle of which nothing is ignored, 3 if something is
+/// ignored, 1 if some document is not a bundle, or after a fault.
+pub fn check_over<T: TextSource, R: Read, W: Write, E: Write>(
+    alloc: Global,
+    texts: &T,
+    files: &[&str],
+    reader: &mut Counted<R>,
+    out: &mut Counted<W>,
+    err: &mut Counted<E>,
+) -> u8
+    requires reader_count { reader.old.faults < 2 ^ 64 - 1 }
+    requires out_count { out.old.faults < 2 ^ 64 - 1 }
+    requires err_count { err.old.faults < 2 ^ 64 - 1 }
+    ensures checks { Checks (T.gives texts.now) (map (λ file. file.now) files.now) result
+        (streams R.remaining W.contents E.contents reader.old out.old err.old)
+        (streams R.remaining W.contents E.contents reader.new out.new err.new) }
+    ensures silent { result ≢ 1 → err.new ≡ err.old }
+{
+    if files.is_empty() {
+        return tell(check_input(alloc, reader, out), err);
+    }
+    tell(check_files(alloc, texts, files, out), err)
+}
+
+/// Tells a fault, and answers the exit status.
+fn tell<E: Write>(checked: Result<Findings, Fault>, err: &mut Counted<E>) -> u8
+    requires { err.old.faults < 2 ^ 64 - 1 }
+    ensures tells { Told checked result (end_of E.contents err.old) (end_of E.contents err.new) }
+    ensures silent { result ≢ 1 → err.new ≡ err.old }
+{
+    match checked {
+        Ok(findings) => findings.status(),
+        Err(fault) => fault.tell(err),
+    }
+}
+
+/// Judges the input.
+fn check_input<R: Read, W: Write>(
+    alloc: Global,
+    reader: &mut Counted<R>,
+    out: &mut Counted<W>,
+) -> Result<Findings, Fault>
+    requires reader_count { reader.old.faults < 2 ^ 64 - 1 }
+    requires out_count { out.old.faults < 2 ^ 64 - 1 }
+    ensures checks { ChecksInput result
+        (R.remaining reader.old.end) (R.remaining reader.new.end) (W.contents out.old.end) (W.contents out.new.end) }
+    ensures read_fault { result ≡ Err (Front ReadFault) → reader.old.faults < reader.new.faults }
+    ensures write_fault { result ≡ Err (Front WriteFault) → out.old.faults < out.new.faults }
+{
+    let input = match read_input(alloc, reader) {
+        Ok(input) => input,
+        Err(fault) => return Err(fault),
+    };
+    check_document(alloc, INPUT, input.as_slice(), out)
+}
+
+/// Judges the text of each file.
+fn check_files<T: TextSource, W: Write>(
+    alloc: Global,
+    texts: &T,
+    files: &[&str],
+    out: &mut Counted<W>,
+) -> Result<Findings, Fault>
+    requires { out.old.faults < 2 ^ 64 - 1 }
+    ensures checks { ChecksFiles (T.gives texts.now) (map (λ file. file.now) files.now) result
+        (W.contents out.old.end) (W.contents out.new.end) }
+    ensures write_fault { result ≡ Err (Front WriteFault) → out.old.faults < out.new.faults }
+    ensures no_read_fault { result ≡ Err (Front ReadFault) → ⊥ }
+{
+    let mut findings = Findings {
+        no_bundle: false,
+        ignored: false,
+    };
+    for (place, file) in files.iter().enumerate() {
+        let text = match texts.text(alloc, file.as_bytes()) {
+            Ok(text) => text,
+            Err(TextError::Unreadable) => return Err(Fault::UnreadText(place as u64 + 1)),
+            Err(TextError::Memory) => return Err(Fault::Front(FrontError::Memory)),
+        };
+        match check_document(alloc, file, text.as_slice(), out) {
+            Ok(found) => findings = findings.and(found),
+            Err(fault) => return Err(fault),
+        }
+    }
+    Ok(findings)
+}
+
+/// Judges a document, and writes what a person is told of it.
+fn check_document<W: Write>(
+    alloc: Global,
+    name: &str,
+    document: &[u8],
+    out: &mut Counted<W>,
+) -> Result<Findings, Fault>
+    requires { out.old.faults < 2 ^ 64 - 1 }
+    ensures checks { ChecksOne result (record { name = name.now; text = document.now }) (W.contents out.old.end) (W.contents out.new.end) }
+    ensures quiet { OnOk result (out.new.faults ≡ out.old.faults) }
+    ensures write_fault { result ≡ Err (Front WriteFault) → out.old.faults < out.new.faults }
+{
+    let outcome = report_on(alloc, document);
+    if let Err(DocError::Memory) = outcome {
+        return Err(Fault::Front(FrontError::Memory));
+    }
+    let mut lines = Vec::new(alloc);
+    if let Err(_) = put_report(name, &outcome, &mut lines) {
+        return Err(Fault::Front(FrontError::Memory));
+    }
+    match write_flushed(out, lines.as_slice()) {
+        Ok(()) => Ok(findings_of(&outcome)),
+        Err(fault) => Err(fault),
+    }
+}
+
+/// What was found of a document by its report.
+fn findings_of(outcome: &Result<Report, DocError>) -> Findings
+    ensures { result ≡ given_by outcome.now }
+{
+    match outcome {
+        Ok(report) => Findings {
+            no_bundle: false,
+            ignored: !report.ignored.is_empty(),
+        },
+        Err(_) => Findings {
+            no_bundle: true,
+            ignored: false,
+        },
+    }
+}
