@@ -44,6 +44,8 @@ MOVED_ONCE = (
     b"record 0 caller 1 first 0 last 6 reply moved 0 0 1\nrecord 1 caller 2 first 2 last 4 reply stored\norder 1\n"
 )
 
+NOTHING = b"-: no authorities: nothing would be kept of 0 entries\n"
+
 # Lines that become the first run, and what its replies are as lines.
 FIRST_LINES = b'# two requests\nset a {"keys":[]}\n\nget a\n'
 TOLD = b'stored\nfound {"keys":[]}\n'
@@ -77,6 +79,7 @@ RUNS = [
     ("decode", FIRST_REPLIES, TOLD),
     ("decode", FIRST_RUN, b'set a {"keys":[]}\nget a\n'),
     ("decode", DUMP_OF_ONE, b'all 1\nbundle a {"keys":[]}\n'),
+    ("check", EMPTY, b"-: bundle of 0 authorities (0 X.509, 0 JWT), no sequence, no refresh hint\n" + NOTHING),
     ("map", DUMP_OF_TWO, MAP_OF_TWO + b"\n"),
     ("map a", DUMP_OF_TWO, MAP_OF_ONE + b"\n"),
     ("map rotation a a", DUMP_OF_TWO, MAP_OF_TWO + b"\n"),
@@ -130,6 +133,7 @@ SHOWN = [
     ("run --help", "Usage: bundled run [OPTIONS]"),
     ("encode --help", "set D DOC"),
     ("decode --help", "moved S A B"),
+    ("check --help", "its kty is"),
     ("map --help", "spiffe_trust_bundle_map_file"),
     ("import --help", "fault 65 MEMBER"),
     ("pem --help", "bundled pem a.example < dump > ca.pem"),
@@ -226,6 +230,20 @@ def refuses_other_lines():
         assert told.startswith(b"error: ") and part in told.decode(), line
 
 
+def tells_what_is_kept():
+    """Of documents: status 0 if all is kept, 3 if something is ignored, 1 if one is not a bundle or cannot be read."""
+    whole, part = f"{ROOT}/gate/bundles/rotation.json", f"{ROOT}/gate/bundles/with-unknown.json"
+    status, output, told = ran(f"check {whole}")
+    assert (status, told, output.count(b"\n")) == (0, b"", 1)
+    assert output.startswith(f"{whole}: bundle of 4 authorities (2 X.509, 2 JWT), sequence 7".encode()), output
+    status, output, told = ran(f"check {whole} {part}")
+    assert (status, told) == (3, b"") and f"{part}: keys[".encode() in output and b"is ignored: " in output, output
+    status, output, told = ran(f"check {part} {ROOT}/README.md {whole}")
+    assert (status, told) == (1, b"") and f"{ROOT}/README.md: not a bundle: ".encode() in output, output
+    status, output, told = ran(f"check {whole} {ROOT}/nowhere {part}")
+    assert (status, told, output.count(b"\n")) == (1, b"fault 53 2\n", 1), (status, told)
+
+
 def tells_what_changed():
     """From one dump to another, with status 3; nothing where they hold the same, with status 0."""
     sequence = json.loads(ROTATION)["spiffe_sequence"]
@@ -269,6 +287,7 @@ CHECKS = [
     faults,
     shows_what_is_asked_for,
     refuses_other_lines,
+    tells_what_is_kept,
     tells_what_changed,
     explains_each_number,
 ]

@@ -125,9 +125,11 @@ def program_runs():
     yield pieces("encode", b"".join(lines[:2]), frames[:2])
     yield pieces("encode", f"fetch\nset a @{ROOT}/gate/bundles/rotation.json".encode(), [frame(b"F"), frame(b"S\x01a" + real)])
     yield pieces("decode", b"".join(frames), lines)
+    told = b"-: bundle of 4 authorities (2 X.509, 2 JWT), sequence 7, refresh hint 300\n"
     of_two = b'{"trust_domains":{"a":%s,"b":%s}}\n' % (text, empty)
     yield command(["map"], b"".join(map(frame, dump)), lambda it: it == Ended(0, of_two, b""))
     requests = b"".join(map(frame, [b"S\x01a" + text, b"S\x01b" + empty]))
+    yield pieces("check", real, [told])
     yield command(["import"], of_two, lambda it: it == Ended(0, requests, b""))
     yield command(["pem", "a"], b"".join(map(frame, dump)), lambda it: it.status == 0 and it.out and not it.err)
     yield command(["digest"], b"".join(map(frame, dump)), lambda it: it.status == 0 and it.out and not it.err)

@@ -1,10 +1,10 @@
 -- What the program does: one of its commands, or a text in place of one.
-use Rattle.std.specs.Prelude.{◌≡◌, ℕ, Bool, true, false, List, Result, Ok, Err, ◌⊎◌}
+use Rattle.std.specs.Prelude.{◌≡◌, ℕ, Bool, true, false, List, map, Result, Ok, Err, ◌⊎◌}
 use Rattle.std.specs.Io.KnownBytes.{Appends}
 use Rattle.frame_front.specs.Outbox.{WritesFront}
 use Rattle.frame_front.specs.declared.error.FrontError.TheVariants.{Memory, WriteFault}
 use Rattle.command_line.specs.declared.wanted.Wanted.{Wanted}
-use Rattle.command_line.specs.declared.wanted.Wanted.TheVariants.{Run, Encode, Decode, Explain, Map, Import, Pem, Diff, Digest, Trace, Migrate, Refresh, Serve}
+use Rattle.command_line.specs.declared.wanted.Wanted.TheVariants.{Run, Encode, Decode, Explain, Check, Map, Import, Pem, Diff, Digest, Trace, Migrate, Refresh, Serve}
 use Rattle.commands.specs.declared.fault.Fault.{Fault}
 use Rattle.commands.specs.declared.fault.Fault.TheVariants.{Front}
 use Rattle.command_line.specs.Settings.{AreSettings}
@@ -17,6 +17,7 @@ use Rattle.commands.specs.Migrate.{Migration}
 use Rattle.bundle_map.specs.declared.profile.Profile.{Profile}
 use Rattle.bundle_map.specs.declared.profile.Profile.TheVariants.{Whole, X509}
 use Rattle.dump_commands.specs.Reading.{Filters, Unread}
+use Rattle.dump_commands.specs.Check.{Checks}
 use Rattle.dump_commands.specs.Map.{MapOf, NoMap}
 use Rattle.dump_commands.specs.Import.{RequestsOf, NoRequests}
 use Rattle.dump_commands.specs.Pem.{PemOf, NoPem, DigestOf}
@@ -35,6 +36,7 @@ Does (Run shards turns) status old new = Runs turns status old new
 Does Encode status old new = Encodes of_files status old new
 Does Decode status old new = Decodes status old new
 Does (Explain text) status old new = Explains text.now status old new
+Does (Check files) status old new = Checks of_files (map (λ file. file.now) files.items) status old new
 Does (Map names x509) status old new = Filters (MapOf names.items (profile x509)) (NoMap names.items) status old new
 Does Import status old new = Filters RequestsOf NoRequests status old new
 Does (Pem name) status old new = Filters (PemOf name) (NoPem name) status old new

@@ -13,7 +13,7 @@ use commands::{
     Fault, FileTexts, decode_over, encode_over, explain_over, migrate_over, run_over, tell,
     trace_over, write_flushed,
 };
-use dump_commands::{diff_over, digest_over, import_over, map_over, pem_over};
+use dump_commands::{check_over, diff_over, digest_over, import_over, map_over, pem_over};
 use frame_front::{Counted, FrontError};
 use server::LineLog;
 use std::alloc::{AllocError, Global};
@@ -95,6 +95,16 @@ fn run_wanted<
         Wanted::Encode => encode_over(alloc, &FileTexts::new(host), reader, out, err),
         Wanted::Decode => decode_over(alloc, reader, out, err),
         Wanted::Explain(text) => explain_over(text, out, err),
+        Wanted::Check(files) => {
+            check_over(
+                alloc,
+                &FileTexts::new(host),
+                files.as_slice(),
+                reader,
+                out,
+                err,
+            )
+        }
         Wanted::Map { names, x509 } => {
             map_over(alloc, names.as_slice(), profile_of(*x509), reader, out, err)
         }

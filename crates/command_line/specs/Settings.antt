@@ -1,7 +1,7 @@
 -- What the command line may ask for.
 use Rattle.std.specs.Prelude.{◌<◌, ◌≤◌, IfSome}
 use Rattle.command_line.specs.declared.wanted.Wanted.{Wanted}
-use Rattle.command_line.specs.declared.wanted.Wanted.TheVariants.{Run, Encode, Decode, Explain, Map, Import, Pem, Diff, Digest, Trace, Migrate, Refresh, Serve}
+use Rattle.command_line.specs.declared.wanted.Wanted.TheVariants.{Run, Encode, Decode, Explain, Check, Map, Import, Pem, Diff, Digest, Trace, Migrate, Refresh, Serve}
 
 -- numbers within their ranges
 abbrev pub AreSettings : Wanted → Type 0
@@ -10,6 +10,7 @@ AreSettings (Trace shards rounds) = (0 < shards) × (shards ≤ 256) × (0 < rou
 AreSettings Encode = Unit {0}
 AreSettings Decode = Unit {0}
 AreSettings (Explain text) = Unit {0}
+AreSettings (Check files) = Unit {0}
 AreSettings (Map names x509) = Unit {0}
 AreSettings Import = Unit {0}
 AreSettings (Pem name) = Unit {0}

@@ -1,5 +1,5 @@
 //! The commands that look at documents, dumps and bundle maps, as `clap` knows them.
-use crate::texts::{CHANGES, IMPORTS, MAPS};
+use crate::texts::{CHANGES, IMPORTS, MAPS, REPORTS};
 use clap::{Arg, ArgAction, Command};
 use std::alloc::{AllocError, Global};
 
@@ -18,6 +18,14 @@ fn words<'a>(alloc: Global, name: &'a str, value: &'a str, help: &'a str) -> Arg
         .help(help)
         .num_args(1..)
         .action(ArgAction::Append)
+}
+
+pub fn check_command<'a>(alloc: Global) -> Result<Command<'a>, AllocError> {
+    let help = "The files of the documents; by default the document is standard input";
+    Command::new(alloc, "check")
+        .about("Tells what is kept of bundle documents, what is ignored and why, and what is wrong")
+        .after_help(REPORTS)
+        .arg(words(alloc, "files", "FILE", help))
 }
 
 pub fn map_command<'a>(alloc: Global) -> Result<Command<'a>, AllocError> {

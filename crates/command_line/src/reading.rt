@@ -3,7 +3,7 @@ ghost use Rattle.std.specs.Prelude.{◌≡◌, ◌<◌, ◌≤◌, IfOk, IfSome}
 ghost use Rattle.command_line.specs.Settings.{AreSettings};
 
 use crate::dump_options::{
-    diff_command, digest_command, import_command, map_command, pem_command,
+    check_command, diff_command, digest_command, import_command, map_command, pem_command,
 };
 use crate::explanations::explanation;
 use crate::options::{
@@ -75,7 +75,8 @@ fn with_dump_commands<'a>(
     alloc: Global,
     command: Result<Command<'a>, AllocError>,
 ) -> Result<Command<'a>, AllocError> {
-    let map = with(command, map_command(alloc));
+    let check = with(command, check_command(alloc));
+    let map = with(check, map_command(alloc));
     let import = with(map, Ok(import_command(alloc)));
     let pem = with(import, pem_command(alloc));
     let diff = with(pem, diff_command(alloc));
@@ -98,6 +99,7 @@ fn wanted_of<'a>(alloc: Global, matches: &ArgMatches<'a>) -> Result<Wanted<'a>, 
         Some(("encode", _)) => Ok(Wanted::Encode),
         Some(("explain", explain)) => explaining_of(alloc, explain),
         Some(("decode", _)) => Ok(Wanted::Decode),
+        Some(("check", check)) => Ok(Wanted::Check(files_of(alloc, check)?)),
         Some(("map", map)) => mapping_of(alloc, map),
         Some(("import", _)) => Ok(Wanted::Import),
         Some(("pem", pem)) => certificates_of(alloc, pem),
@@ -136,6 +138,14 @@ fn serving_of<'a>(alloc: Global, serve: &ArgMatches<'a>) -> Result<Wanted<'a>, E
         }),
         Err(NoCount) => Err(bad_connections(alloc)?),
     }
+}
+
+fn files_of<'a>(alloc: Global, check: &ArgMatches<'a>) -> Result<Vec<&'a str>, AllocError> {
+    let mut files = Vec::new(alloc);
+    for file in check.get_strs("files").unwrap_or_default() {
+        files.push(*file)?;
+    }
+    Ok(files)
 }
 
 fn mapping_of<'a>(alloc: Global, map: &ArgMatches<'a>) -> Result<Wanted<'a>, Error>

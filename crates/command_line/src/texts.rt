@@ -64,6 +64,14 @@ A frame that is neither, or that has no line, is `fault 51 FRAME`, counted from 
 space, a name or a text with a line feed, or a document that begins with `@`. The lines of the frames before it have
 been written.";
 
+pub const REPORTS: &str = "\
+  a.json: bundle of 2 authorities (1 X.509, 1 JWT), sequence 1, refresh hint 300
+  a.json: keys[1] is ignored: its kty is \"OKP\", not EC or RSA
+  b.json: not a bundle: keys[0] has a malformed x: it has to be 32 bytes of unpadded base64url (17)
+
+The status is 0 if each document is a bundle and nothing is ignored, 3 if something is ignored, and 1 if a document
+is not a bundle or a file cannot be read, which is `fault 53 FILE`, counted from 1.";
+
 pub const MAPS: &str = "\
 A dump is the reply to a fetch-all. The file has under each name the bundle, in order of the names, and shows one moment:
 

@@ -21,6 +21,8 @@ pub enum Wanted<'a> {
     Decode,
     /// What the number of a refusal or a fault means: a text of some lines.
     Explain(&'static str),
+    /// What is kept of the documents of these files, or of the input if no file is named.
+    Check(Vec<&'a str>),
     /// The bundle map of a dump: of the domains of these names, or of all; with only their X.509 authorities, or whole.
     Map {
         names: Vec<TrustDomain>,

@@ -32,6 +32,11 @@ fn wanted(alloc: Global, words: &[&str]) -> Result<String, AllocError> {
         Ok(Wanted::Encode) => format!(in alloc; "encode"),
         Ok(Wanted::Decode) => format!(in alloc; "decode"),
         Ok(Wanted::Explain(text)) => format!(in alloc; "explain {text}"),
+        Ok(Wanted::Check(files)) => {
+            let count = files.len();
+            let first = files.as_slice().first().copied().unwrap_or_default();
+            format!(in alloc; "check {count} {first}")
+        }
         Ok(Wanted::Map { names, x509 }) => {
             let names = told(alloc, names.as_slice())?;
             format!(in alloc; "map {x509}{names}")
@@ -76,13 +81,15 @@ const NO_COUNT: &str =
 #[test]
 fn reads_the_commands_over_lines_and_dumps(rt: HostRuntime) -> Result<(), AllocError> {
     let alloc = rt.alloc();
-    let rows: [(&[&str], &str); 12] = [
+    let rows: [(&[&str], &str); 14] = [
         (&["bundled", "encode"], "encode"),
         (&["bundled", "decode"], "decode"),
         (
             &["bundled", "explain", "72"],
             "explain 72 NoClock\nThe clock of the machine cannot be read.\nWhat to do: Give the time with --now.\n",
         ),
+        (&["bundled", "check"], "check 0 "),
+        (&["bundled", "check", "a.json", "b.json"], "check 2 a.json"),
         (&["bundled", "map"], "map false"),
         (&["bundled", "map", "b", "a", "b"], "map false b a b"),
         (&["bundled", "map", "a", "--x509"], "map true a"),
