@@ -120,11 +120,11 @@ def program_runs():
     yield command(["migrate"], b"".join(map(frame, dump)), lambda it: it == Ended(0, stream, b""))
     race, lines = ["trace", "--shards", "2", "--rounds", "2"], file("examples/race.trace")
     yield command(race, file("examples/race.events"), lambda it: it == Ended(0, lines, b""))
-    lines = [b"set a %s\n" % text, b"fetch\n", b"found %s\n" % text, b"stored\n"]
+    words = [b"set a %s\n" % text, b"fetch\n", b"found %s\n" % text, b"stored\n"]
     frames = [frame(it) for it in (b"S\x01a" + text, b"F", b"f" + text, b"s")]
-    yield pieces("encode", b"".join(lines[:2]), frames[:2])
+    yield pieces("encode", b"".join(words[:2]), frames[:2])
     yield pieces("encode", f"fetch\nset a @{ROOT}/gate/bundles/rotation.json".encode(), [frame(b"F"), frame(b"S\x01a" + real)])
-    yield pieces("decode", b"".join(frames), lines)
+    yield pieces("decode", b"".join(frames), words)
     told = b"-: bundle of 4 authorities (2 X.509, 2 JWT), sequence 7, refresh hint 300\n"
     of_two = b'{"trust_domains":{"a":%s,"b":%s}}\n' % (text, empty)
     yield command(["map"], b"".join(map(frame, dump)), lambda it: it == Ended(0, of_two, b""))
