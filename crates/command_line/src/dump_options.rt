@@ -50,7 +50,9 @@ pub fn import_command<'a>(alloc: Global) -> Command<'a> {
 pub fn pem_command<'a>(alloc: Global) -> Result<Command<'a>, AllocError> {
     Command::new(alloc, "pem")
         .about("Writes the X.509 authorities of a trust domain of a dump as PEM")
-        .after_help("A bundle without X.509 authorities gives nothing.\n\n  bundled pem a.example < dump > ca.pem")
+        .after_help(
+            "A bundle without X.509 authorities gives nothing.\n\n  bundled pem a.example < dump > ca.pem",
+        )
         .arg(word(alloc, "name", "NAME", "The trust domain"))
 }
 

@@ -37,7 +37,12 @@ fn readers_that_fail(rt: HostRuntime) -> Result<(), Fail> {
         let mut reader = Counted::new(FaultyReader::new(bytes, after));
         let mut writer = Counted::new(Vec::new(rt.alloc()));
         let ended = encode_stream(rt.alloc(), &OneText, &mut reader, &mut writer);
-        is_equal_at(&rt, &ended, &Err(StreamError::Front(FrontError::ReadFault)), &after);
+        is_equal_at(
+            &rt,
+            &ended,
+            &Err(StreamError::Front(FrontError::ReadFault)),
+            &after,
+        );
         let written = if after < 12 { b"".as_slice() } else { GET_A };
         is_equal_at(&rt, &writer.end.as_slice(), &written, &after);
     }
@@ -50,7 +55,12 @@ fn writers_that_fail(rt: HostRuntime) {
         let mut reader = Counted::new(INPUT);
         let mut writer = Counted::new(FaultyWriter::new(rt.alloc(), room));
         let ended = encode_stream(rt.alloc(), &OneText, &mut reader, &mut writer);
-        is_equal_at(&rt, &ended, &Err(StreamError::Front(FrontError::WriteFault)), &room);
+        is_equal_at(
+            &rt,
+            &ended,
+            &Err(StreamError::Front(FrontError::WriteFault)),
+            &room,
+        );
         is_equal_at(&rt, &writer.faults(), &1, &room);
     }
 }
@@ -74,7 +84,11 @@ fn streams_that_end_inside_a_frame(rt: HostRuntime) {
         (0, Ok(()), b""),
         (3, Err(DecodeError::Front(FrontError::Truncated)), b""),
         (7, Ok(()), b"get a\n"),
-        (13, Err(DecodeError::Front(FrontError::Truncated)), b"get a\n"),
+        (
+            13,
+            Err(DecodeError::Front(FrontError::Truncated)),
+            b"get a\n",
+        ),
         (14, Ok(()), b"get a\nfound {}\n"),
     ];
     for (size, wanted, lines) in rows {
@@ -93,7 +107,12 @@ fn bad_lengths(rt: HostRuntime) {
         let mut reader = Counted::new(stream);
         let mut writer = Counted::new(Vec::new(rt.alloc()));
         let ended = decode_stream(rt.alloc(), &mut reader, &mut writer);
-        is_equal_at(&rt, &ended, &Err(DecodeError::Front(FrontError::BadLength)), &stream);
+        is_equal_at(
+            &rt,
+            &ended,
+            &Err(DecodeError::Front(FrontError::BadLength)),
+            &stream,
+        );
     }
 }
 
@@ -103,12 +122,22 @@ fn ends_that_fail_while_decoding(rt: HostRuntime) -> Result<(), Fail> {
     let mut reader = Counted::new(FaultyReader::new(bytes, 9));
     let mut writer = Counted::new(Vec::new(rt.alloc()));
     let ended = decode_stream(rt.alloc(), &mut reader, &mut writer);
-    is_equal_at(&rt, &ended, &Err(DecodeError::Front(FrontError::ReadFault)), &9);
+    is_equal_at(
+        &rt,
+        &ended,
+        &Err(DecodeError::Front(FrontError::ReadFault)),
+        &9,
+    );
     is_equal_at(&rt, &writer.end.as_slice(), &b"get a\n".as_slice(), &9);
     let mut reader = Counted::new(FRAMES);
     let mut writer = Counted::new(FaultyWriter::new(rt.alloc(), 9));
     let ended = decode_stream(rt.alloc(), &mut reader, &mut writer);
-    is_equal_at(&rt, &ended, &Err(DecodeError::Front(FrontError::WriteFault)), &9);
+    is_equal_at(
+        &rt,
+        &ended,
+        &Err(DecodeError::Front(FrontError::WriteFault)),
+        &9,
+    );
     Ok(())
 }
 
