@@ -27,7 +27,7 @@ pub enum Fault {
     BadLine(u64),
     /// This frame of the input, from 0, is not a request or a reply that has a line.
     BadFrame(u64),
-    /// The text that this line of the input, from 1, names cannot be read.
+    /// The text that this line of the input names, or this file of the command line, from 1, cannot be read.
     UnreadText(u64),
     /// No domain of the dump has this name of the command line, from 1.
     NoDomain(u64),

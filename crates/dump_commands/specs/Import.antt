@@ -2,9 +2,8 @@
 use Rattle.std.specs.Prelude.{◌≡◌, ℕ, List, [], map, Option}
 use Rattle.frame_front.specs.Frame.{stream_of}
 use Rattle.frame_front.specs.Dump.{Domains}
-use Rattle.frame_front.specs.declared.error.FrontError.TheVariants.{Memory}
 use Rattle.commands.specs.declared.fault.Fault.{Fault}
-use Rattle.commands.specs.declared.fault.Fault.TheVariants.{Front, BadMap, BadMember}
+use Rattle.commands.specs.declared.fault.Fault.TheVariants.{BadMap, BadMember}
 use Rattle.commands.specs.Input.{IsInput, InputFault}
 use Rattle.bundle_map.specs.declared.error.MapError.TheVariants as maps
 use Rattle.bundle_map.specs.declared.error.MemberFault.{MemberFault}

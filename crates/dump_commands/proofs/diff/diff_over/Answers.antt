@@ -1,4 +1,4 @@
-use Rattle.std.proofs.Common.{◌≡◌, true, false, Bool, Ok, refl, subst, sym}
+use Rattle.std.proofs.Common.{true, false, Bool, Ok, refl, subst}
 use Rattle.commands.specs.Streams.{end_of}
 use Rattle.commands.proofs.Telling.{tells_nothing}
 use Rattle.dump_commands.specs.Diff.{WritesDiff}
