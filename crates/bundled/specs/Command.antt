@@ -2,11 +2,12 @@
 use Rattle.std.specs.Prelude.{◌≡◌, ℕ, Bool, true, false, List, map, Result, Ok, Err, ◌⊎◌}
 use Rattle.std.specs.Io.KnownBytes.{Appends}
 use Rattle.frame_front.specs.Outbox.{WritesFront}
-use Rattle.frame_front.specs.declared.error.FrontError.TheVariants.{Memory, WriteFault}
+use Rattle.frame_front.specs.declared.error.FrontError.TheVariants.{Memory, ReadFault, WriteFault}
 use Rattle.command_line.specs.declared.wanted.Wanted.{Wanted}
 use Rattle.command_line.specs.declared.wanted.Wanted.TheVariants.{Run, Encode, Decode, Explain, Check, Map, Import, Pem, Diff, Digest, Trace, Migrate, Refresh, Serve}
 use Rattle.commands.specs.declared.fault.Fault.{Fault}
 use Rattle.commands.specs.declared.fault.Fault.TheVariants.{Front}
+use Rattle.commands.specs.Fault.{fault_line}
 use Rattle.command_line.specs.Settings.{AreSettings}
 use Rattle.commands.specs.Streams.{Streams, End, EndsWith, Tells}
 use Rattle.commands.specs.Run.{Runs}
@@ -21,7 +22,7 @@ use Rattle.dump_commands.specs.Check.{Checks}
 use Rattle.dump_commands.specs.Map.{MapOf, NoMap}
 use Rattle.dump_commands.specs.Import.{RequestsOf, NoRequests}
 use Rattle.dump_commands.specs.Pem.{PemOf, NoPem, DigestOf}
-use Rattle.dump_commands.specs.Diff.{DiffRun}
+use Rattle.dump_commands.specs.Diff.{Inputs, DiffRun}
 use Rattle.bundled.specs.Refresh.{RefreshRun}
 use Rattle.server.specs.Serve.{ServeCommand}
 
@@ -29,6 +30,12 @@ use Rattle.server.specs.Serve.{ServeCommand}
 abbrev pub profile : Bool → Profile
 profile true = X509
 profile false = Whole
+
+-- What two files hold, as the host gives it, is told apart; or one of them cannot be opened, and nothing is written.
+abbrev pub DiffFiles : ℕ → End → End → End → End → Type 0
+DiffFiles status output_old output_new error_old error_new =
+    ((inputs : Inputs) × DiffRun inputs status output_old output_new error_old error_new)
+    ⊎ ((status ≡ 1) × (output_new ≡ output_old) × Tells error_old error_new (fault_line (Front ReadFault)))
 
 -- a command, with its settings
 abbrev pub Does : Wanted → ℕ → Streams → Streams → Type 0
@@ -40,7 +47,8 @@ Does (Check files) status old new = Checks of_files (map (λ file. file.now) fil
 Does (Map names x509) status old new = Filters (MapOf names.items (profile x509)) (NoMap names.items) status old new
 Does Import status old new = Filters RequestsOf NoRequests status old new
 Does (Pem name) status old new = Filters (PemOf name) (NoPem name) status old new
-Does (Diff old_file new_file) status old new = DiffRun status old new
+Does (Diff old_file new_file) status old new =
+    (new.input ≡ old.input) × DiffFiles status old.output new.output old.error new.error
 Does Digest status old new = Filters DigestOf Unread status old new
 Does (Trace shards rounds) status old new = Tracing shards rounds status old new
 Does Migrate status old new = Migration status old new

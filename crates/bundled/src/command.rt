@@ -1,6 +1,6 @@
 //! The program, from its arguments to its exit status.
 ghost use Rattle.std.specs.Prelude.{◌≡◌, ◌<◌, ◌-◌, ◌^◌, ◌⊎◌};
-ghost use Rattle.bundled.specs.Command.{Commands, Does, Refuses, Shows, profile};
+ghost use Rattle.bundled.specs.Command.{Commands, DiffFiles, Does, Refuses, Shows, profile};
 ghost use Rattle.command_line.specs.Settings.{AreSettings};
 ghost use Rattle.commands.specs.Streams.{End, Streams, Tells, end_of, streams};
 
@@ -18,7 +18,7 @@ use frame_front::{Counted, FrontError};
 use server::LineLog;
 use std::alloc::{AllocError, Global};
 use std::env::Env;
-use std::fs::Files;
+use std::fs::{File, Files};
 use std::io::{Read, Write};
 use std::net::{Net, TcpListener, TcpStream};
 use std::thread::Threads;
@@ -110,7 +110,7 @@ fn run_wanted<
         }
         Wanted::Import => import_over(alloc, reader, out, err),
         Wanted::Pem(name) => pem_over(alloc, name, reader, out, err),
-        Wanted::Diff(old, new) => diff_over(alloc, host, old, new, out, err),
+        Wanted::Diff(old, new) => diff_files(alloc, host, old, new, out, err),
         Wanted::Digest => digest_over(alloc, reader, out, err),
         Wanted::Migrate => migrate_over(alloc, reader, out, err),
         Wanted::Trace { shards, rounds } => {
@@ -130,6 +130,29 @@ fn run_wanted<
             serve_over(alloc, host, reader, out, err, &log, *port, *load, *settings)
         }
     }
+}
+
+/// Tells what changed from the dump of the old file to that of the new one.
+fn diff_files<H: Files, W: Write, E: Write>(
+    alloc: Global,
+    host: &H,
+    old: &str,
+    new: &str,
+    out: &mut Counted<W>,
+    err: &mut Counted<E>,
+) -> u8
+    requires out_count { out.old.faults < 2 ^ 64 - 1 }
+    requires err_count { err.old.faults < 2 ^ 64 - 1 }
+    ensures { DiffFiles result (end_of W.contents out.old) (end_of W.contents out.new) (end_of E.contents err.old) (end_of E.contents err.new) }
+{
+    let Ok(old) = File::open(host, old) else {
+        return Fault::Front(FrontError::ReadFault).tell(err);
+    };
+    let Ok(new) = File::open(host, new) else {
+        return Fault::Front(FrontError::ReadFault).tell(err);
+    };
+    let (mut old, mut new) = (Counted::new(old), Counted::new(new));
+    diff_over(alloc, &mut old, &mut new, out, err)
 }
 
 /// What is shown of a bundle in a map.

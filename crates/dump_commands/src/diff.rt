@@ -1,34 +1,42 @@
 //! The command `diff`: what changed from one dump to another.
-ghost use Rattle.std.specs.Prelude.{◌≡◌, ◌<◌, ◌-◌, ◌^◌, Err};
-ghost use Rattle.commands.specs.Streams.{End, end_of};
+ghost use Rattle.std.specs.Prelude.{◌≡◌, ◌<◌, ◌-◌, ◌^◌, List, Err, IfOk, IfErr};
+ghost use Rattle.commands.specs.Streams.{end_of};
 ghost use Rattle.commands.specs.declared.fault.Fault.TheVariants.{Front};
-ghost use Rattle.dump_commands.specs.Diff.{DiffRun, WritesDiff};
+ghost use Rattle.dump_commands.specs.Diff.{Differ, DiffRun, NoDiff, WritesDiff};
+ghost use Rattle.dump_views.specs.ChangeLines.{lines_of};
+ghost use Rattle.dump_views.specs.Changes.{Change};
 ghost use Rattle.frame_front.specs.declared.error.FrontError.TheVariants.{WriteFault};
+ghost use Rattle.map_core.specs.Name.{Name};
 
 use commands::{Fault, read_input, write_flushed};
 use dump_views::{DiffError, put_dump_diff};
 use frame_front::{Counted, DumpError, FrontError};
 use std::alloc::Global;
-use std::fs::{File, Files};
-use std::io::Write;
+use std::io::{Read, Write};
 
-/// Writes what changed from the dump of the old file to that of the new one; answers the exit status: 0 if nothing changed, 3
-/// if something did, 1 after a fault.
-pub fn diff_over<H: Files, W: Write, E: Write>(
+/// Writes what changed from the dump of the old reader to that of the new one; answers the exit status: 0 if nothing changed,
+/// 3 if something did, 1 after a fault. The old one is read and judged first.
+pub fn diff_over<R: Read, S: Read, W: Write, E: Write>(
     alloc: Global,
-    host: &H,
-    old: &str,
-    new: &str,
+    old: &mut Counted<R>,
+    new: &mut Counted<S>,
     out: &mut Counted<W>,
     err: &mut Counted<E>,
 ) -> u8
+    requires old_count { old.old.faults < 2 ^ 64 - 1 }
+    requires new_count { new.old.faults < 2 ^ 64 - 1 }
     requires out_count { out.old.faults < 2 ^ 64 - 1 }
     requires err_count { err.old.faults < 2 ^ 64 - 1 }
-    ensures { (input : End) → DiffRun result
-        (record { input = input; output = end_of W.contents out.old; error = end_of E.contents err.old })
-        (record { input = input; output = end_of W.contents out.new; error = end_of E.contents err.new }) }
+    ensures { DiffRun
+        (record {
+          old_before = R.remaining old.old.end;
+          old_after = R.remaining old.new.end;
+          new_before = S.remaining new.old.end;
+          new_after = S.remaining new.new.end;
+        })
+        result (end_of W.contents out.old) (end_of W.contents out.new) (end_of E.contents err.old) (end_of E.contents err.new) }
 {
-    match diff_files(alloc, host, old, new, out) {
+    match diff_inputs(alloc, old, new, out) {
         Ok(false) => 0,
         Ok(true) => 3,
         Err(fault) => fault.tell(err),
@@ -36,31 +44,28 @@ pub fn diff_over<H: Files, W: Write, E: Write>(
 }
 
 /// Writes what changed, and says whether something did.
-fn diff_files<H: Files, W: Write>(
+fn diff_inputs<R: Read, S: Read, W: Write>(
     alloc: Global,
-    host: &H,
-    old: &str,
-    new: &str,
+    old: &mut Counted<R>,
+    new: &mut Counted<S>,
     out: &mut Counted<W>,
 ) -> Result<bool, Fault>
-    requires { out.old.faults < 2 ^ 64 - 1 }
-    ensures { WritesDiff result (W.contents out.old.end) (W.contents out.new.end) }
+    requires old_count { old.old.faults < 2 ^ 64 - 1 }
+    requires new_count { new.old.faults < 2 ^ 64 - 1 }
+    requires out_count { out.old.faults < 2 ^ 64 - 1 }
+    ensures { WritesDiff
+        (record {
+          old_before = R.remaining old.old.end;
+          old_after = R.remaining old.new.end;
+          new_before = S.remaining new.old.end;
+          new_after = S.remaining new.new.end;
+        })
+        result (W.contents out.old.end) (W.contents out.new.end) }
 {
-    let old = match read_file(alloc, host, old) {
-        Ok(dump) => dump,
+    let lines = match lines_between(alloc, old, new) {
+        Ok(lines) => lines,
         Err(fault) => return Err(fault),
     };
-    let new = match read_file(alloc, host, new) {
-        Ok(dump) => dump,
-        Err(fault) => return Err(fault),
-    };
-    let mut lines = Vec::new(alloc);
-    match put_dump_diff(alloc, old.as_slice(), new.as_slice(), &mut lines) {
-        Ok(()) => {}
-        Err(DiffError::BadOld(frame)) => return Err(Fault::Dump(DumpError::BadDump(frame))),
-        Err(DiffError::BadNew(frame)) => return Err(Fault::Dump(DumpError::BadDump(frame))),
-        Err(DiffError::Memory) => return Err(Fault::Front(FrontError::Memory)),
-    }
     let text = lines.as_slice();
     match write_flushed(out, text) {
         Ok(()) => Ok(!text.is_empty()),
@@ -68,12 +73,43 @@ fn diff_files<H: Files, W: Write>(
     }
 }
 
-/// All of a file.
-fn read_file<H: Files>(alloc: Global, host: &H, path: &str) -> Result<Vec<u8>, Fault>
-    ensures { result ≡ Err (Front WriteFault) → ⊥ }
+/// The lines of what changed.
+fn lines_between<R: Read, S: Read>(
+    alloc: Global,
+    old: &mut Counted<R>,
+    new: &mut Counted<S>,
+) -> Result<Vec<u8>, Fault>
+    requires old_count { old.old.faults < 2 ^ 64 - 1 }
+    requires new_count { new.old.faults < 2 ^ 64 - 1 }
+    ensures ok { IfOk result (λ lines. (changes : List (Name × Change)) × Differ
+        (record {
+          old_before = R.remaining old.old.end;
+          old_after = R.remaining old.new.end;
+          new_before = S.remaining new.old.end;
+          new_after = S.remaining new.new.end;
+        }) changes × (lines.items ≡ lines_of changes)) }
+    ensures err { IfErr result (λ fault. NoDiff
+        (record {
+          old_before = R.remaining old.old.end;
+          old_after = R.remaining old.new.end;
+          new_before = S.remaining new.old.end;
+          new_after = S.remaining new.new.end;
+        }) fault) }
+    ensures no_write_fault { result ≡ Err (Front WriteFault) → ⊥ }
 {
-    let Ok(file) = File::open(host, path) else {
-        return Err(Fault::Front(FrontError::ReadFault));
+    let old = match read_input(alloc, old) {
+        Ok(dump) => dump,
+        Err(fault) => return Err(fault),
     };
-    read_input(alloc, &mut Counted::new(file))
+    let new = match read_input(alloc, new) {
+        Ok(dump) => dump,
+        Err(fault) => return Err(fault),
+    };
+    let mut lines = Vec::new(alloc);
+    match put_dump_diff(alloc, old.as_slice(), new.as_slice(), &mut lines) {
+        Ok(()) => Ok(lines),
+        Err(DiffError::BadOld(frame)) => Err(Fault::Dump(DumpError::BadDump(frame))),
+        Err(DiffError::BadNew(frame)) => Err(Fault::Dump(DumpError::BadDump(frame))),
+        Err(DiffError::Memory) => Err(Fault::Front(FrontError::Memory)),
+    }
 }

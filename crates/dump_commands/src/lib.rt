@@ -1,6 +1,6 @@
-//! The commands of the program that look at dumps and bundle maps.
+//! The commands of the program that look at documents, dumps and bundle maps.
 //!
-//! `map_over`, `pem_over` and `digest_over` read a dump, `import_over` reads a bundle map, and `diff_over` reads two files of
+//! `check_over` reads documents, `map_over`, `pem_over` and `digest_over` a dump, `import_over` a bundle map, and `diff_over` two
 //! dumps. Each writes to a writer, tells its fault to another, and answers the exit status.
 #![tactic(auto)]
 
