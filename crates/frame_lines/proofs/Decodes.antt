@@ -13,7 +13,6 @@ use Rattle.frame_lines.specs.Encoding.{count_after}
 use Rattle.frame_front.specs.Counted.{next_count}
 use Rattle.frame_lines.specs.declared.decode.DecodeError.{DecodeError}
 use Rattle.frame_lines.specs.declared.decode.DecodeError.TheVariants.{BadFrame, Front}
-use Rattle.frame_front.specs.declared.error.FrontError.{FrontError}
 use Rattle.frame_front.specs.declared.error.FrontError.TheVariants.{BadLength, Truncated, Memory, ReadFault, WriteFault, TurnsUsed}
 use Rattle.frame_lines.specs.Private.Decoders.{FramesSoFar, DecodesKept, EndsKept, DecodedSoFar}
 

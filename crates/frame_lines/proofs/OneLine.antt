@@ -1,5 +1,5 @@
 -- A payload has one line at most.
-use Rattle.std.proofs.Common.{◌≡◌, ℕ, List, [], ◌∷◌, ◌++◌, false, Option, Some, None, refl, sym, ap, ◌∙◌, inl, inr}
+use Rattle.std.proofs.Common.{◌≡◌, ℕ, List, [], false, None, refl, sym, ap, ◌∙◌, inl, inr}
 use Rattle.std.proofs.lemmas.Option.{same_Some, none-some}
 use Rattle.frame_front.specs.Frame.{frame}
 use Rattle.frame_lines.specs.RequestForm as requests
@@ -10,8 +10,7 @@ use Rattle.frame_lines.specs.Decoding.{IsLineOf, IsRequestLine, IsReplyLine}
 use Rattle.frame_lines.specs.Encoding.{Gives, Becomes, is_comment}
 use Rattle.frame_lines.specs.Laws.{nothing_given}
 use Rattle.frame_lines.specs.Private.PayloadReading as request_reading
-use Rattle.frame_lines.specs.Private.ReplyReading as reply_reading
-use Rattle.frame_lines.specs.Private.ReplyReading.{read_payload, error_by_number, reply_by_letter}
+use Rattle.frame_lines.specs.Private.ReplyReading.{read_payload, reply_by_letter}
 use Rattle.frame_lines.proofs.RequestPayloads as request_payloads
 use Rattle.frame_lines.proofs.ReplyPayloads as reply_payloads
 

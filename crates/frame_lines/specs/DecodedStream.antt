@@ -4,7 +4,7 @@ use Rattle.std.specs.List.{flat_map, AllByRecursion}
 use Rattle.std.specs.Io.KnownBytes.{Appends, Consumes, IsAtEnd}
 use Rattle.frame_front.specs.Frame.{frame, IsPayload, IsUnfinished, IsBadLength}
 use Rattle.frame_front.specs.Outbox.{WritesFront}
-use Rattle.frame_front.specs.declared.error.FrontError.TheVariants.{BadLength, Truncated, Memory, ReadFault, WriteFault, TurnsUsed}
+use Rattle.frame_front.specs.declared.error.FrontError.TheVariants.{BadLength, Truncated, WriteFault, TurnsUsed}
 use Rattle.frame_lines.specs.Encoding.{count_after}
 use Rattle.frame_lines.specs.Decoding.{IsLineOf}
 use Rattle.frame_lines.specs.declared.decode.DecodeError.{DecodeError}

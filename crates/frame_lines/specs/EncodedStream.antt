@@ -5,14 +5,14 @@ use Rattle.std.specs.Io.KnownBytes.{Appends, Consumes, IsAtEnd}
 use Rattle.frame_front.specs.Outbox.{WritesFront}
 use Rattle.frame_front.specs.Counted.{next_count}
 use Rattle.frame_front.specs.declared.error.FrontError.TheVariants.{Memory, ReadFault, WriteFault, TurnsUsed}
-use Rattle.frame_lines.specs.Encoding.{Gives, Becomes, IsBadLine, NamesText, BeginsWith, BeginsLong, lines_of, frames_of, count_after}
+use Rattle.frame_lines.specs.Encoding.{Gives, EncodesLine, IsBadLine, NamesText, BeginsWith, BeginsLong, lines_of, frames_of, count_after}
 use Rattle.frame_lines.specs.declared.stream.StreamError.{StreamError}
 use Rattle.frame_lines.specs.declared.stream.StreamError.TheVariants.{BadLine, Unreadable, Front}
 
 -- How it ends, after lines that became something: what is left of the bytes that were read, and what that became.
 abbrev pub EndsStream : Gives → Result (Unit {0}) StreamError → List (List ℕ × List ℕ) → List ℕ → List ℕ → Option (List ℕ) → Type 0
 -- the reader is at its end, and the last line may lack its line feed
-EndsStream gives (Ok done) items rest last left = IsAtEnd left × Becomes gives (rest, last)
+EndsStream gives (Ok done) items rest last left = IsAtEnd left × EncodesLine gives (rest, last)
 -- the next line is bad, or too long already; or the last is bad
 EndsStream gives (Err (BadLine number)) items rest last left =
     (number ≡ next_count (count_after 0 items)) × (last ≡ [])
@@ -20,7 +20,7 @@ EndsStream gives (Err (BadLine number)) items rest last left =
 -- the text that the next line names, or the last, was not given
 EndsStream gives (Err (Unreadable number)) items rest last left =
     (number ≡ next_count (count_after 0 items)) × (last ≡ []) × (BeginsWith NamesText rest ⊎ (IsAtEnd left × NamesText rest))
-EndsStream gives (Err (Front WriteFault)) items rest last left = (last ≡ []) ⊎ Becomes gives (rest, last)
+EndsStream gives (Err (Front WriteFault)) items rest last left = (last ≡ []) ⊎ EncodesLine gives (rest, last)
 EndsStream gives (Err (Front ReadFault)) items rest last left = last ≡ []
 EndsStream gives (Err (Front Memory)) items rest last left = last ≡ []
 EndsStream gives (Err (Front TurnsUsed)) items rest last left = last ≡ []
@@ -40,7 +40,7 @@ pub record EncodesStream (gives : Gives) (result : Result (Unit {0}) StreamError
   pub items : List (List ℕ × List ℕ)
   pub rest : List ℕ
   pub last : List ℕ
-  pub each : AllByRecursion (Becomes gives) items
+  pub each : AllByRecursion (EncodesLine gives) items
   pub consumes : Consumes left_old left_new (lines_of items ++ rest)
   pub ends : EndsStream gives result items rest last left_new
   pub writes : WritesStream result held_old held_new (frames_of items ++ last)

@@ -1,6 +1,6 @@
 -- Lines of requests on a stream, and the frames that they become.
 use Rattle.std.specs.Prelude.{◌≡◌, ◌⊎◌, ℕ, ◌<◌, ◌≤◌, Bool, true, false, List, [], ◌∷◌, ◌++◌, drop, length, ◌==◌, Result, Ok, Err}
-use Rattle.std.specs.List.{flat_map, AllByRecursion}
+use Rattle.std.specs.List.{flat_map}
 use Rattle.frame_front.specs.Counted.{next_count}
 use Rattle.frame_front.specs.Frame.{frame}
 use Rattle.frame_lines.specs.RequestForm.{Request, HasLine, IsFramed, IsOneLine, line_of, payload_of, text_of, with_text, is_text_name}
@@ -30,6 +30,10 @@ IsFrameOf gives line bytes =
 -- a line, and what it becomes: nothing, or the frame of its request
 abbrev pub Becomes : Gives → List ℕ × List ℕ → Type 0
 Becomes gives item = ((is_comment item.0 ≡ true) × (item.1 ≡ [])) ⊎ ((is_comment item.0 ≡ false) × IsFrameOf gives item.0 item.1)
+
+-- the same, of one line
+abbrev pub EncodesLine : Gives → List ℕ × List ℕ → Type 0
+EncodesLine gives item = IsOneLine item.0 × Becomes gives item
 
 -- it asks something, and is not the line of a request; or it is, and the text is one with which no frame carries the request
 abbrev pub IsBadLine : Gives → List ℕ → Type 0
@@ -76,20 +80,14 @@ StopsAt gives (BadLine number) lines bytes = (number ≡ next_count lines) × (B
 StopsAt gives (Unreadable number) lines bytes = (number ≡ next_count lines) × BeginsWith NamesText bytes
 StopsAt gives Memory lines bytes = Unit {0}
 
--- how it ends, after so many lines
-abbrev pub EndsSo : Gives → Result (Unit {0}) EncodeError → ℕ → List ℕ → EncoderState → Type 0
-EndsSo gives (Ok done) lines rest new = IsOneLine rest × (new.kept ≡ rest) × (new.lines ≡ lines) × (length rest ≤ most_line)
-EndsSo gives (Err error) lines rest new = StopsAt gives error lines rest
-
--- These bytes have come. Of the lines among them each became what it becomes; what is left is no whole line, or why
--- it became nothing is told.
-pub record Encodes (gives : Gives) (result : Result (Unit {0}) EncodeError) (old : EncoderState) (came : List ℕ) (new : EncoderState) (written : List ℕ) : Type 0 where
-  pub items : List (List ℕ × List ℕ)
-  pub rest : List ℕ
-  pub came_is : old.kept ++ came ≡ lines_of items ++ rest
-  pub each : AllByRecursion (Becomes gives) items
-  pub written_is : written ≡ frames_of items
-  pub ends : EndsSo gives result (count_after old.lines items) rest new
+-- What encoding the next line of the bytes that are kept does to them, and what is written.
+abbrev pub EncodesNext : Gives → Result Bool EncodeError → EncoderState → EncoderState → List ℕ → Type 0
+-- the first line is taken out, and what it becomes is written
+EncodesNext gives (Ok true) old new written =
+    (line : List ℕ) × (old.kept ≡ line ++ 10 ∷ new.kept) × EncodesLine gives (line, written) × (new.lines ≡ next_count old.lines)
+-- no line is whole
+EncodesNext gives (Ok false) old new written = IsOneLine old.kept × (length old.kept ≤ most_line) × (new ≡ old) × (written ≡ [])
+EncodesNext gives (Err error) old new written = StopsAt gives error old.lines old.kept × (new ≡ old) × (written ≡ [])
 
 -- The stream has ended, so what is left is its last line, if it is not empty.
 abbrev pub Finishes : Gives → Result (Unit {0}) EncodeError → EncoderState → List ℕ → Type 0

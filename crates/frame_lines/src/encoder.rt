@@ -1,7 +1,7 @@
 //! Lines of requests become frames.
 ghost use Rattle.std.specs.Prelude.{◌≡◌, ◌++◌, List, ℕ, [], Err, IfOk, OnOk, OnErr};
 ghost use Rattle.frame_front.specs.Counted.{next_count};
-ghost use Rattle.frame_lines.specs.Encoding.{Becomes, Encodes, Finishes, IsBadLine, NamesText, is_comment as comment};
+ghost use Rattle.frame_lines.specs.Encoding.{Becomes, EncodesNext, Finishes, IsBadLine, NamesText, is_comment as comment};
 ghost use Rattle.frame_lines.specs.Private.Encoders.{stopped};
 
 use crate::line_decoder::LineDecoder;
@@ -27,7 +27,7 @@ pub enum EncodeError {
     Memory,
 }
 
-/// Turns lines of requests, which come in pieces, into frames. A line that is empty or begins with `#` asks nothing. A document
+/// Turns lines of requests, which come in pieces, into frames, one line at a time, so it keeps no frames. A line that is empty or begins with `#` asks nothing. A document
 /// or a JWK that begins with `@` is the name of a text, and the frame has that text.
 #[derive(Drop)]
 pub struct Encoder {
@@ -55,44 +55,38 @@ impl Encoder {
         })
     }
 
-    /// Takes the next piece of the stream, and appends the frames that its lines become, with the texts that they name. After
-    /// an error the encoder is of no more use.
-    pub fn take<T: TextSource>(
-        &mut self,
-        alloc: Global,
-        texts: &T,
-        piece: &[u8],
-        out: &mut Vec<u8>,
-    ) -> Result<(), EncodeError>
-        ensures { (written : List ℕ) × (out.new.items ≡ out.old.items ++ written) × Encodes (T.gives texts.now) result self.old piece.now self.new written }
+    /// Takes the next piece of the stream. Without memory nothing of it is kept.
+    pub fn feed(&mut self, piece: &[u8]) -> Result<(), AllocError>
+        ensures lines { self.new.lines ≡ self.old.lines }
+        ensures ok { OnOk result (self.new.kept ≡ self.old.kept ++ piece.now) }
+        ensures err { OnErr result (self.new.kept ≡ self.old.kept) }
     {
-        if let Err(_) = self.decoder.feed(piece) {
-            return Err(EncodeError::Memory);
-        }
-        self.encode_kept(alloc, texts, out)
+        self.decoder.feed(piece)
     }
 
-    /// Appends the frames of the whole lines that are kept.
-    fn encode_kept<T: TextSource>(
+    /// Takes out the first line of the bytes that are kept, and appends the frame that it becomes, with the text that it names.
+    /// False if no line is whole. After an error the line is still kept, and nothing was appended.
+    pub fn encode_next<T: TextSource>(
         &mut self,
         alloc: Global,
         texts: &T,
         out: &mut Vec<u8>,
-    ) -> Result<(), EncodeError>
-        ensures { (written : List ℕ) × (out.new.items ≡ out.old.items ++ written) × Encodes (T.gives texts.now) result self.old [] self.new written }
+    ) -> Result<bool, EncodeError>
+        ensures { (written : List ℕ) × (out.new.items ≡ out.old.items ++ written) × EncodesNext (T.gives texts.now) result self.old self.new written }
     {
-        while let Some(size) = self.decoder.next_line() {
-            let (line, _) = self.decoder.kept().split_at(size);
-            if let Err(error) = put_line(alloc, texts, line, out) {
-                return Err(self.stopped(error));
+        let Some(size) = self.decoder.next_line() else {
+            if self.decoder.kept().len() > MAX_LINE {
+                return Err(self.stopped(LineError::Bad));
             }
-            self.decoder.pass(size);
-            self.lines = self.lines.saturating_add(1);
+            return Ok(false);
+        };
+        let (line, _) = self.decoder.kept().split_at(size);
+        if let Err(error) = put_line(alloc, texts, line, out) {
+            return Err(self.stopped(error));
         }
-        if self.decoder.kept().len() > MAX_LINE {
-            return Err(self.stopped(LineError::Bad));
-        }
-        Ok(())
+        self.decoder.pass(size);
+        self.lines = self.lines.saturating_add(1);
+        Ok(true)
     }
 
     /// Appends the frame of the last line, which no line feed has ended, if there is one.

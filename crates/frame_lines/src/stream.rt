@@ -1,11 +1,11 @@
 //! A stream of lines becomes a stream of frames.
-ghost use Rattle.std.specs.Prelude.{◌≡◌, ◌-◌, ◌^◌, ◌<◌, [], Err, OnOk, IfErr};
+ghost use Rattle.std.specs.Prelude.{◌≡◌, ◌-◌, ◌^◌, ◌<◌, ◌++◌, ℕ, List, [], Err, OnOk, OnErr, IfErr};
 ghost use Rattle.std.specs.Io.KnownBytes.{Appends};
 ghost use Rattle.frame_front.specs.Outbox.{WritesFront};
 ghost use Rattle.frame_front.specs.declared.error.FrontError.TheVariants.{ReadFault, WriteFault};
 ghost use Rattle.frame_lines.specs.EncodedStream.{EncodesStream};
 ghost use Rattle.frame_lines.specs.declared.stream.StreamError.TheVariants.{Front};
-ghost use Rattle.frame_lines.specs.Private.Encoders.{stream_result};
+ghost use Rattle.frame_lines.specs.Private.Encoders.{EncodesKept, EncodesLast, stream_error as stream_error_of};
 
 use crate::encoder::{EncodeError, Encoder};
 use crate::text_source::TextSource;
@@ -17,6 +17,9 @@ use thiserror::Error;
 
 /// The most bytes of one read.
 pub(crate) const PIECE_BYTES: usize = 4096;
+
+/// Frames wait until so many bytes of them are there, or the lines of a read are used up.
+const SEND_BYTES: usize = 65_536;
 
 /// Why a stream of lines is not encoded to its end.
 #[derive(Clone, Copy, Debug, PartialEq, Eq, Error)]
@@ -44,7 +47,7 @@ impl From<FrontError> for StreamError {
 }
 
 /// Writes the frames that lines become, with the texts that they name, those of each read before the next. If a line is bad, the
-/// frames of the lines before it stand written.
+/// frames of the lines before it stand written. It keeps one line, one text and one frame, and some 64 KiB of frames beside them.
 pub fn encode_stream<T: TextSource, R: Read, W: Write>(
     alloc: Global,
     texts: &T,
@@ -68,17 +71,94 @@ pub fn encode_stream<T: TextSource, R: Read, W: Write>(
             Err(_) => return Err(StreamError::Front(FrontError::ReadFault)),
         };
         if count == 0 {
-            let ended = encoder.finish(alloc, texts, &mut out);
-            send(writer, out.as_slice())?;
-            return told(ended);
+            return encode_last(alloc, encoder, texts, writer);
         }
         let (fresh, _) = piece.split_at(count);
-        let taken = encoder.take(alloc, texts, fresh, &mut out);
-        send(writer, out.as_slice())?;
-        out.clear();
-        told(taken)?;
+        if let Err(_) = encoder.feed(fresh) {
+            return Err(StreamError::Front(FrontError::Memory));
+        }
+        encode_kept(alloc, &mut encoder, texts, &mut out, writer)?;
     }
     Err(StreamError::Front(FrontError::TurnsUsed))
+}
+
+/// Sends the frames of the whole lines that are kept. If a line is bad, those of the lines before it are sent.
+fn encode_kept<T: TextSource, W: Write>(
+    alloc: Global,
+    encoder: &mut Encoder,
+    texts: &T,
+    out: &mut Vec<u8>,
+    writer: &mut Counted<W>,
+) -> Result<(), StreamError>
+    requires count { writer.old.faults < 2 ^ 64 - 1 }
+    requires empty { out.old.items ≡ [] }
+    ensures encodes { EncodesKept (T.gives texts.now) result encoder.old encoder.new (W.contents writer.old.end) (W.contents writer.new.end) }
+    ensures cleared { OnOk result (out.new.items ≡ []) }
+    ensures quiet { OnOk result (writer.new.faults ≡ writer.old.faults) }
+    ensures read_fault { result ≡ Err (Front ReadFault) → ⊥ }
+    ensures write_fault { result ≡ Err (Front WriteFault) → writer.old.faults < writer.new.faults }
+{
+    loop {
+        match encoder.encode_next(alloc, texts, out) {
+            Ok(true) => send_much(writer, out)?,
+            Ok(false) => {
+                send_out(writer, out)?;
+                return Ok(());
+            }
+            Err(error) => {
+                send_out(writer, out)?;
+                return Err(stream_error(error));
+            }
+        }
+    }
+}
+
+/// Sends the frame of the last line, which no line feed has ended, if there is one.
+fn encode_last<T: TextSource, W: Write>(
+    alloc: Global,
+    encoder: Encoder,
+    texts: &T,
+    writer: &mut Counted<W>,
+) -> Result<(), StreamError>
+    requires count { writer.old.faults < 2 ^ 64 - 1 }
+    ensures encodes { EncodesLast (T.gives texts.now) result encoder (W.contents writer.old.end) (W.contents writer.new.end) }
+    ensures read_fault { result ≡ Err (Front ReadFault) → ⊥ }
+    ensures write_fault { result ≡ Err (Front WriteFault) → writer.old.faults < writer.new.faults }
+{
+    let mut out = Vec::new(alloc);
+    if let Err(error) = encoder.finish(alloc, texts, &mut out) {
+        return Err(stream_error(error));
+    }
+    send(writer, out.as_slice())?;
+    Ok(())
+}
+
+/// Sends what waits, if it is much.
+fn send_much<W: Write>(writer: &mut Counted<W>, out: &mut Vec<u8>) -> Result<(), FrontError>
+    requires { writer.old.faults < 2 ^ 64 - 1 }
+    ensures ok { OnOk result ((sent : List ℕ) × (out.old.items ≡ sent ++ out.new.items) × Appends (W.contents writer.old.end) (W.contents writer.new.end) sent) }
+    ensures quiet { OnOk result (writer.new.faults ≡ writer.old.faults) }
+    ensures fault { IfErr result (λ error. (error ≡ WriteFault) × (writer.old.faults < writer.new.faults)) }
+    ensures front { OnErr result (WritesFront (W.contents writer.old.end) (W.contents writer.new.end) out.old.items) }
+{
+    if out.len() < SEND_BYTES {
+        return Ok(());
+    }
+    send_out(writer, out)
+}
+
+/// Sends all that waits.
+fn send_out<W: Write>(writer: &mut Counted<W>, out: &mut Vec<u8>) -> Result<(), FrontError>
+    requires { writer.old.faults < 2 ^ 64 - 1 }
+    ensures cleared { OnOk result (out.new.items ≡ []) }
+    ensures ok { OnOk result (Appends (W.contents writer.old.end) (W.contents writer.new.end) out.old.items) }
+    ensures quiet { OnOk result (writer.new.faults ≡ writer.old.faults) }
+    ensures fault { IfErr result (λ error. (error ≡ WriteFault) × (writer.old.faults < writer.new.faults)) }
+    ensures front { OnErr result (WritesFront (W.contents writer.old.end) (W.contents writer.new.end) out.old.items) }
+{
+    send(writer, out.as_slice())?;
+    out.clear();
+    Ok(())
 }
 
 /// Writes all of the bytes, and sees that the writer keeps nothing back.
@@ -99,13 +179,12 @@ pub(crate) fn send<W: Write>(writer: &mut Counted<W>, bytes: &[u8]) -> Result<()
 }
 
 /// The same error of the stream.
-fn told(ended: Result<(), EncodeError>) -> Result<(), StreamError>
-    ensures { result ≡ stream_result ended }
+fn stream_error(error: EncodeError) -> StreamError
+    ensures { result ≡ stream_error_of error }
 {
-    match ended {
-        Ok(()) => Ok(()),
-        Err(EncodeError::BadLine(line)) => Err(StreamError::BadLine(line)),
-        Err(EncodeError::Unreadable(line)) => Err(StreamError::Unreadable(line)),
-        Err(EncodeError::Memory) => Err(StreamError::Front(FrontError::Memory)),
+    match error {
+        EncodeError::BadLine(line) => StreamError::BadLine(line),
+        EncodeError::Unreadable(line) => StreamError::Unreadable(line),
+        EncodeError::Memory => StreamError::Front(FrontError::Memory),
     }
 }

@@ -13,12 +13,23 @@ fn encoded(
     let mut out = Vec::new(alloc);
     let mut encoder = Encoder::new(alloc)?;
     for piece in stream.chunks(size.max(1)) {
-        if let Err(error) = encoder.take(alloc, &OneText, piece, &mut out) {
+        encoder.feed(piece)?;
+        if let Err(error) = encode_kept(alloc, &mut encoder, &mut out) {
             return Ok((out, Err(error)));
         }
     }
     let ended = encoder.finish(alloc, &OneText, &mut out);
     Ok((out, ended))
+}
+
+/// Appends the frames of the lines that are whole.
+fn encode_kept(
+    alloc: Global,
+    encoder: &mut Encoder,
+    out: &mut Vec<u8>,
+) -> Result<(), EncodeError> {
+    while encoder.encode_next(alloc, &OneText, out)? {}
+    Ok(())
 }
 
 const GET_A: &[u8] = b"\x00\x00\x00\x03G\x01a";
@@ -107,11 +118,33 @@ fn a_line_may_be_so_long(rt: HostRuntime) -> Result<(), Fail> {
 }
 
 #[test]
+fn lines_are_taken_one_at_a_time(rt: HostRuntime) -> Result<(), Fail> {
+    let alloc = rt.alloc();
+    let mut out = Vec::new(alloc);
+    let mut encoder = Encoder::new(alloc)?;
+    encoder.feed(b"# none\nget a\nfetch\nget b")?;
+    let rows: [(&[u8], Result<bool, EncodeError>); 4] = [
+        (b"", Ok(true)),
+        (GET_A, Ok(true)),
+        (b"\x00\x00\x00\x01F", Ok(true)),
+        (b"", Ok(false)),
+    ];
+    for (frame, taken) in rows {
+        let next = encoder.encode_next(alloc, &OneText, &mut out);
+        is_equal_at(&rt, &next, &taken, &frame);
+        is_equal_at(&rt, &out.as_slice(), &frame, &taken);
+        out.clear();
+    }
+    Ok(())
+}
+
+#[test]
 fn a_refused_growth_leaves_whole_frames(rt: HostRuntime) -> Result<(), Fail> {
     let alloc = rt.alloc();
     let mut out = Vec::new(alloc);
     let mut encoder = Encoder::new(alloc)?;
-    match encoder.take(alloc, &OneText, b"get a\nfetch\n", &mut out) {
+    encoder.feed(b"get a\nfetch\n")?;
+    match encode_kept(alloc, &mut encoder, &mut out) {
         Ok(()) => {
             let wanted = b"\x00\x00\x00\x03G\x01a\x00\x00\x00\x01F".as_slice();
             is_equal_at(&rt, &out.as_slice(), &wanted, &"both frames");

@@ -1,5 +1,5 @@
 use Rattle.std.proofs.Common.{◌≡◌, ℕ, List, false, refl, sym, ap, subst, ◌∙◌, inr}
-use Rattle.frame_lines.specs.Encoding.{Gives, IsBadLine, is_comment, StandsFor}
+use Rattle.frame_lines.specs.Encoding.{Gives, IsBadLine, is_comment}
 use Rattle.frame_lines.specs.RequestForm.{Request, Set, SetIf, Append, Remove, Get, Fetch, Speak, HasLine, IsFramed, is_text_name, line_of, request, text_of, with_text}
 use Rattle.frame_lines.proofs.line_frame.put_line.Goals as goal
 

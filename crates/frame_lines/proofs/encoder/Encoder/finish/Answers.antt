@@ -1,8 +1,7 @@
-use Rattle.std.proofs.Common.{◌≡◌, List, ℕ, [], Err, refl, rules, sym, ap, subst, ◌∙◌, append-nil}
+use Rattle.std.proofs.Common.{◌≡◌, [], Err, refl, rules, sym, ap, subst, ◌∙◌, append-nil}
 use Rattle.frame_front.specs.Counted.{next_count}
 use Rattle.frame_lines.specs.Encoding.{EncoderState, Gives, Finishes, IsBadLine, NamesText}
 use Rattle.frame_lines.specs.Private.Encoders.{stopped}
-use Rattle.frame_lines.specs.declared.encoder.EncodeError.{EncodeError}
 use Rattle.frame_lines.specs.declared.line_frame.LineError.{LineError}
 use Rattle.frame_lines.specs.declared.line_frame.LineError.TheVariants.{Bad, Unreadable, Memory}
 use Rattle.frame_lines.proofs.encoder.Encoder.finish.Goals as goal
