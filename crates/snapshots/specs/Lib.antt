@@ -1,0 +1,7 @@
+pub mod Names
+pub mod Files
+pub mod Deeds
+pub mod Update
+pub mod Fetch
+pub mod Laws
+pub mod Private

@@ -1,0 +1,35 @@
+-- A folder of snapshots comes to show these domains.
+use Rattle.std.specs.Prelude.{◌≡◌, ℕ, List, ◌++◌, ◌∷◌, Bool, true, false, Option}
+use Rattle.std.specs.List.{AllByRecursion}
+use Rattle.frame_front.specs.Dump.{Domains}
+use Rattle.snapshots.specs.declared.error.SnapshotError.{SnapshotError}
+use Rattle.snapshots.specs.declared.error.SnapshotError.TheVariants.{LongName, Folder, Memory}
+use Rattle.snapshots.specs.Names.{HaveShortNames, IsFirstLong}
+use Rattle.snapshots.specs.Files.{File, files_of}
+use Rattle.snapshots.specs.Deeds.{Deed, deeds_of, then_done}
+
+-- one of the files isn't there, or has other bytes there
+pub record SomeDiffers (there : File → Bool → Type 0) (files : List File) : Type 0 where
+  pub before : List File
+  pub file : File
+  pub after : List File
+  pub placed : files ≡ before ++ file ∷ after
+  pub differs : there file false
+
+-- whether all files are there, with their bytes
+abbrev pub AreThere : (File → Bool → Type 0) → List File → Bool → Type 0
+AreThere there files true = AllByRecursion (λ file. there file true) files
+AreThere there files false = SomeDiffers there files
+
+module _ {F : Type 0} (done_in : F → Option (List Deed)) (shows : F → File → Bool → Type 0) where
+  -- Something was new: a file differs from the current snapshot's, and a new snapshot is written and shown. Or each file is as
+  -- it was, and nothing is done.
+  abbrev pub Updates : F → F → Domains → Bool → Type 0
+  Updates old new items true = HaveShortNames items × AreThere (shows old) (files_of items) false × (done_in new ≡ then_done (done_in old) (deeds_of items))
+  Updates old new items false = HaveShortNames items × AreThere (shows old) (files_of items) true × (new ≡ old)
+
+-- Why no snapshot is written.
+abbrev pub WhyNot : SnapshotError → Domains → Type 0
+WhyNot (LongName place) items = IsFirstLong items place
+WhyNot Folder items = Unit {0}
+WhyNot Memory items = Unit {0}

@@ -1,0 +1,34 @@
+//! All domains of a server, as they stood at one moment.
+ghost use Rattle.std.specs.Prelude.{◌≡◌, None};
+ghost use Rattle.snapshots.specs.Fetch.{Fetches};
+
+use frame_client::{Client, ClientError};
+use map_core::{Ask, AskError, Op, Reply, Snapshot};
+use std::io::{Read, Write};
+use thiserror::Error;
+
+/// Why there are no domains.
+#[derive(Clone, Copy, Debug, PartialEq, Eq, Drop, Error)]
+pub enum FetchError {
+    /// The server refuses, or memory ran out before the request was begun.
+    #[error("the request is refused: {0}")]
+    Refused(AskError),
+    /// The client has ended: a stream failed, or what came is no reply.
+    #[error("the client has ended: {0}")]
+    Ended(ClientError),
+}
+
+/// Asks a client that hasn't ended for all domains, once. A reply that is torn off or malformed is an error.
+pub fn fetch<R: Read, W: Write>(client: &mut Client<R, W>) -> Result<Snapshot, FetchError>
+    requires { client.old.ended ≡ None }
+    ensures { Fetches result client.old client.new }
+{
+    match client.ask(Op::FetchAll) {
+        Ok(Reply::All(domains)) => Ok(domains),
+        Ok(_) => unreachable!(),
+        Err(why) => match client.ended() {
+            Some(error) => Err(FetchError::Ended(error)),
+            None => Err(FetchError::Refused(why)),
+        },
+    }
+}

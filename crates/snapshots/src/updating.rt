@@ -1,0 +1,150 @@
+//! A snapshot that is written and shown if it is new.
+ghost use Rattle.std.specs.Prelude.{◌≡◌, ◌∷◌, [], ◌++◌, map, flat_map, true, false, string_bytes, IfOk, IfErr, OnOk, OnErr};
+ghost use Rattle.dump_views.specs.Pem.{pem_of};
+ghost use Rattle.snapshots.specs.Names.{map_name};
+ghost use Rattle.snapshots.specs.Files.{domain_files, files_of, map_file};
+ghost use Rattle.snapshots.specs.Deeds.{deeds_of, then_done, IsCutShort};
+ghost use Rattle.snapshots.specs.Deeds.Deed.{Put};
+ghost use Rattle.snapshots.specs.Update.{AreThere, Updates, WhyNot};
+ghost use Rattle.snapshots.specs.Private.Errors.{IsOfFolder};
+
+use crate::error::SnapshotError;
+use crate::folder::Folder;
+use crate::names::{MAP, first_long, json_name, pem_name};
+use bundle_map::{Profile, write_map};
+use dump_views::put_pem;
+use spiffe_doc::{Bundle, TrustDomain};
+use std::alloc::{AllocError, Global};
+
+/// Brings the folder to show these domains, and answers whether they are new there. If each file is as in the current
+/// snapshot, nothing is done. If not, a new snapshot is written, file by file, and then shown. After an error it is not shown.
+pub fn update<F: Folder>(
+    alloc: Global,
+    folder: &mut F,
+    domains: &[(TrustDomain, Bundle)],
+) -> Result<bool, SnapshotError>
+    ensures ok { IfOk result (λ is_new. Updates F.done F.shows folder.old folder.new domains.now is_new) }
+    ensures why { IfErr result (λ why. WhyNot why domains.now) }
+    ensures err { OnErr result (IsCutShort (F.done folder.old) (F.done folder.new) (deeds_of domains.now)) }
+{
+    if let Some(place) = first_long(domains) {
+        return Err(SnapshotError::LongName(place));
+    }
+    let map = map_bytes(alloc, domains)?;
+    if is_current(alloc, folder, map.as_slice(), domains)? {
+        return Ok(false);
+    }
+    write_snapshot(alloc, folder, map.as_slice(), domains)?;
+    Ok(true)
+}
+
+/// The bytes of the map of all domains.
+fn map_bytes(alloc: Global, domains: &[(TrustDomain, Bundle)]) -> Result<Vec<u8>, AllocError>
+    ensures { IfOk result (λ bytes. (map_name, bytes.items) ≡ map_file domains.now) }
+{
+    let mut bytes = write_map(alloc, domains, Profile::Whole)?;
+    bytes.push(b'\n')?;
+    Ok(bytes)
+}
+
+/// The certificates of a bundle.
+fn pem_bytes(alloc: Global, bundle: &Bundle) -> Result<Vec<u8>, AllocError>
+    ensures { IfOk result (λ bytes. bytes.items ≡ pem_of bundle.now) }
+{
+    let mut bytes = Vec::new(alloc);
+    put_pem(bundle, &mut bytes)?;
+    Ok(bytes)
+}
+
+/// Whether the current snapshot has all the files, with their bytes.
+fn is_current<F: Folder>(
+    alloc: Global,
+    folder: &F,
+    map: &[u8],
+    domains: &[(TrustDomain, Bundle)],
+) -> Result<bool, SnapshotError>
+    requires { (map_name, map.now) ≡ map_file domains.now }
+    ensures ok { IfOk result (λ same. AreThere (F.shows folder.now) (files_of domains.now) same) }
+    ensures err { IfErr result IsOfFolder }
+{
+    if !folder.holds(MAP, map)? {
+        return Ok(false);
+    }
+    for item in domains {
+        if !has_domain(alloc, folder, &item.0, &item.1)? {
+            return Ok(false);
+        }
+    }
+    Ok(true)
+}
+
+/// Whether the current snapshot has the two files of a domain.
+fn has_domain<F: Folder>(
+    alloc: Global,
+    folder: &F,
+    domain: &TrustDomain,
+    bundle: &Bundle,
+) -> Result<bool, SnapshotError>
+    ensures ok { IfOk result (λ same. AreThere (F.shows folder.now) (domain_files (domain.now, bundle.now)) same) }
+    ensures err { IfErr result IsOfFolder }
+{
+    let json = json_name(alloc, domain)?;
+    if !folder.holds(json.as_str(), bundle.text())? {
+        return Ok(false);
+    }
+    let (pem, bytes) = (pem_name(alloc, domain)?, pem_bytes(alloc, bundle)?);
+    Ok(folder.holds(pem.as_str(), bytes.as_slice())?)
+}
+
+/// Writes a snapshot, and then shows it.
+fn write_snapshot<F: Folder>(
+    alloc: Global,
+    folder: &mut F,
+    map: &[u8],
+    domains: &[(TrustDomain, Bundle)],
+) -> Result<(), SnapshotError>
+    requires { (map_name, map.now) ≡ map_file domains.now }
+    ensures ok { OnOk result (F.done folder.new ≡ then_done (F.done folder.old) (deeds_of domains.now)) }
+    ensures err { OnErr result (IsCutShort (F.done folder.old) (F.done folder.new) (deeds_of domains.now)) }
+    ensures why { IfErr result IsOfFolder }
+{
+    folder.begin()?;
+    folder.put(MAP, map)?;
+    put_domains(alloc, folder, domains)?;
+    folder.show()?;
+    Ok(())
+}
+
+/// Writes the files of the domains.
+fn put_domains<F: Folder>(
+    alloc: Global,
+    folder: &mut F,
+    domains: &[(TrustDomain, Bundle)],
+) -> Result<(), SnapshotError>
+    ensures ok { OnOk result (F.done folder.new ≡ then_done (F.done folder.old) (map Put (flat_map domain_files domains.now))) }
+    ensures err { OnErr result (IsCutShort (F.done folder.old) (F.done folder.new) (map Put (flat_map domain_files domains.now))) }
+    ensures why { IfErr result IsOfFolder }
+{
+    for item in domains {
+        put_domain(alloc, folder, &item.0, &item.1)?;
+    }
+    Ok(())
+}
+
+/// Writes the two files of a domain.
+fn put_domain<F: Folder>(
+    alloc: Global,
+    folder: &mut F,
+    domain: &TrustDomain,
+    bundle: &Bundle,
+) -> Result<(), SnapshotError>
+    ensures ok { OnOk result (F.done folder.new ≡ then_done (F.done folder.old) (map Put (domain_files (domain.now, bundle.now)))) }
+    ensures err { OnErr result (IsCutShort (F.done folder.old) (F.done folder.new) (map Put (domain_files (domain.now, bundle.now)))) }
+    ensures why { IfErr result IsOfFolder }
+{
+    let (json, pem) = (json_name(alloc, domain)?, pem_name(alloc, domain)?);
+    let bytes = pem_bytes(alloc, bundle)?;
+    folder.put(json.as_str(), bundle.text())?;
+    folder.put(pem.as_str(), bytes.as_slice())?;
+    Ok(())
+}
