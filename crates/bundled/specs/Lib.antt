@@ -1,2 +1,3 @@
 pub mod Refresh
+pub mod Snapshot
 pub mod Command

@@ -6,6 +6,7 @@ ghost use Rattle.commands.specs.Streams.{End, Streams, Tells, end_of, streams};
 
 use crate::refreshing::refresh_over;
 use crate::serving::serve_over;
+use crate::snapshotting::snapshot_over;
 use bundle_map::Profile;
 use clap::error::ErrorKind;
 use command_line::{Wanted, wanted_by};
@@ -117,6 +118,7 @@ fn run_wanted<
             trace_over(alloc, reader, out, err, *shards, *rounds)
         }
         Wanted::Refresh(refreshing) => refresh_over(alloc, host, out, err, refreshing),
+        Wanted::Snapshot(snapshotting) => snapshot_over(alloc, host, out, err, snapshotting),
         Wanted::Serve {
             port,
             load,

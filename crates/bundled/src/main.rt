@@ -4,6 +4,7 @@
 mod command;
 mod refreshing;
 mod serving;
+mod snapshotting;
 
 use command::command_over;
 use frame_front::Counted;

@@ -117,7 +117,7 @@ fn connect<H: Net>(
 }
 
 /// A stream to a port of this machine, to read from and to write to.
-fn streams<H: Net>(host: &H, port: u16) -> io::Result<(H::Stream, H::Stream)> {
+pub fn streams<H: Net>(host: &H, port: u16) -> io::Result<(H::Stream, H::Stream)> {
     let stream = host.connect(SocketAddr::from((Ipv4Addr::LOCALHOST, port)))?;
     let patience = Some(Duration::from_secs(PATIENCE));
     stream.set_read_timeout(patience)?;

@@ -1,7 +1,7 @@
 -- What the command line may ask for.
 use Rattle.std.specs.Prelude.{◌<◌, ◌≤◌, IfSome}
 use Rattle.command_line.specs.declared.wanted.Wanted.{Wanted}
-use Rattle.command_line.specs.declared.wanted.Wanted.TheVariants.{Run, Encode, Decode, Explain, Check, Map, Import, Pem, Diff, Digest, Trace, Migrate, Refresh, Serve}
+use Rattle.command_line.specs.declared.wanted.Wanted.TheVariants.{Run, Encode, Decode, Explain, Check, Map, Import, Pem, Diff, Digest, Trace, Migrate, Refresh, Snapshot, Serve}
 
 -- numbers within their ranges
 abbrev pub AreSettings : Wanted → Type 0
@@ -18,6 +18,7 @@ AreSettings (Diff old new) = Unit {0}
 AreSettings Digest = Unit {0}
 AreSettings Migrate = Unit {0}
 AreSettings (Refresh wanted) = Unit {0}
+AreSettings (Snapshot wanted) = Unit {0}
 AreSettings (Serve port load log settings) = (0 < settings.workers) × (settings.workers ≤ 64) × IfSome settings.connections (λ n. (0 < n) × (n ≤ 1000))
     × (0 < settings.shards) × (settings.shards ≤ 256) × (0 < settings.rounds) × (settings.rounds ≤ 16)
     × (settings.retries ≤ 1000000) × (0 < settings.idle) × (settings.idle ≤ 86400)

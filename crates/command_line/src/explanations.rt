@@ -1,7 +1,7 @@
 //! What the numbers of refusals and faults mean, and what to do about them.
 
 /// What is known of the numbers, in their order.
-const EXPLANATIONS: [(u64, &str); 48] = [
+const EXPLANATIONS: [(u64, &str); 50] = [
     (
         1,
         "\
@@ -405,6 +405,23 @@ What to do: Split it.
 72 NoClock
 The clock of the machine cannot be read.
 What to do: Give the time with --now.
+",
+    ),
+    (
+        73,
+        "\
+73 LongName, DOMAIN
+The name of the domain, from 1 in order of the names, has over 250 bytes: with `.json` it is too
+long for a file.
+What to do: Remove the bundle, or read the dump in another way.
+",
+    ),
+    (
+        74,
+        "\
+74 BadFolder
+The folder of snapshots cannot be read or written, or its `current` is not a link to a snapshot.
+What to do: Make the folder, see its permissions and the room on the disk, and run again.
 ",
     ),
 ];

@@ -1,5 +1,5 @@
 //! The commands and their options, as `clap` knows them.
-use crate::texts::{EVENTS, FRAMES, LINES, RELATIONSHIPS, REPLIES, SERVING};
+use crate::texts::{EVENTS, FRAMES, LINES, RELATIONSHIPS, REPLIES, SERVING, SNAPSHOTS};
 use clap::builder::ValueParser;
 use clap::{Arg, ArgAction, Command, value_parser};
 use std::alloc::{AllocError, Global};
@@ -186,6 +186,19 @@ pub fn refresh_command<'a>(alloc: Global) -> Result<Command<'a>, AllocError> {
         .arg(now(alloc))?
         .arg(at_least(alloc))?
         .arg(server_port(alloc))
+}
+
+pub fn snapshot_command<'a>(alloc: Global) -> Result<Command<'a>, AllocError> {
+    let port = required(alloc, "port", "PORT", "The port of 127.0.0.1 where the server listens")
+        .value_parser(value_parser!(u16).range(1..=65535));
+    let every = optional(alloc, "every", "SECONDS", "Repeat, with a pause of so many seconds")
+        .value_parser(value_parser!(u64).range(1..=86400));
+    Command::new(alloc, "snapshot")
+        .about("Writes the bundles of a server as files, all as they stood at one moment")
+        .after_help(SNAPSHOTS)
+        .arg(port)?
+        .arg(required(alloc, "out", "FOLDER", "The folder of the snapshots, which has to be there"))?
+        .arg(every)
 }
 
 /// The options of how connections are served.

@@ -8,11 +8,11 @@ use crate::dump_options::{
 use crate::explanations::explanation;
 use crate::options::{
     decode_command, encode_command, explain_command, migrate_command, refresh_command, run_command,
-    serve_command, trace_command,
+    serve_command, snapshot_command, trace_command,
 };
 use crate::settings::Settings;
 use crate::texts::FRAMES;
-use crate::wanted::{Refreshing, Wanted};
+use crate::wanted::{Refreshing, Snapshotting, Wanted};
 use clap::error::ErrorKind;
 use clap::{ArgMatches, Command, Error};
 use spiffe_doc::{NameError, TrustDomain};
@@ -66,7 +66,8 @@ fn command<'a>(alloc: Global) -> Result<Command<'a>, AllocError> {
     let explain = with(decode, explain_command(alloc));
     let refresh = with(explain, refresh_command(alloc));
     let serve = with(refresh, serve_command(alloc));
-    let of_dumps = with_dump_commands(alloc, serve);
+    let snapshot = with(serve, snapshot_command(alloc));
+    let of_dumps = with_dump_commands(alloc, snapshot);
     with(of_dumps, trace_command(alloc))
 }
 
@@ -110,6 +111,7 @@ fn wanted_of<'a>(alloc: Global, matches: &ArgMatches<'a>) -> Result<Wanted<'a>, 
         Some(("digest", _)) => Ok(Wanted::Digest),
         Some(("migrate", _)) => Ok(Wanted::Migrate),
         Some(("refresh", refresh)) => Ok(Wanted::Refresh(refreshing_of(refresh))),
+        Some(("snapshot", snapshot)) => Ok(Wanted::Snapshot(snapshotting_of(snapshot))),
         Some(("serve", serve)) => serving_of(alloc, serve),
         Some(("trace", trace)) => Ok(Wanted::Trace {
             shards: shards_of(trace),
@@ -280,6 +282,14 @@ fn bad_connections(alloc: Global) -> Result<Error, AllocError> {
         ErrorKind::ValueValidation,
         "--connections takes a number in 1..=1000, or `unlimited`",
     )
+}
+
+fn snapshotting_of<'a>(snapshot: &ArgMatches<'a>) -> Snapshotting<'a> {
+    Snapshotting {
+        port: snapshot.get_one::<u16>("port").unwrap_or(0),
+        folder: snapshot.get_str("out").unwrap_or_default(),
+        every: snapshot.get_one::<u64>("every"),
+    }
 }
 
 fn refreshing_of<'a>(refresh: &ArgMatches<'a>) -> Refreshing<'a> {

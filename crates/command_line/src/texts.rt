@@ -138,6 +138,21 @@ has no authorities any more.
 
 The status is 0 if each bundle was stored, unchanged or sent, and 3 if not.";
 
+pub const SNAPSHOTS: &str = "\
+A snapshot is a folder: NAME.json is the document of the trust domain NAME, NAME.pem has its X.509 authorities, and map
+is the bundle map of all. The link FOLDER/current is renamed to show it once it is written, so whoever follows the link
+first, and then reads, sees one moment. If no file differs from those of the current snapshot, nothing is written.
+
+  bundled snapshot --port 8443 --out /run/bundles --every 60
+
+  shown snapshot-7 domains 2        with /run/bundles/current a link to snapshot-7
+
+A line is printed for each snapshot that is shown. The two before it are kept, and older ones are removed. A name of over
+250 bytes is too long for a file: `fault 73 DOMAIN`, counted from 1, and nothing is written. A folder that cannot be read
+or written is `fault 74`. With --every a server that is not there, a connection that is lost, and the refusals 22, 41
+and 42 are told and tried again; any other fault ends the command, with status 1. One command at a time may write to a
+folder.";
+
 pub const SERVING: &str = "\
 Each worker is a thread: it accepts one connection after the other, and serves each to its end. All workers
 share one store, which is empty at the start, or holds what --load gives it: a dump, judged whole and stored before

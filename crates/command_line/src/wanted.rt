@@ -40,6 +40,8 @@ pub enum Wanted<'a> {
     Migrate,
     /// A refresh of each relationship of a list.
     Refresh(Refreshing<'a>),
+    /// A snapshot of a server's bundles in a folder.
+    Snapshot(Snapshotting<'a>),
     /// A server at this port of 127.0.0.1; one that is free, if it is 0. Its store is filled with the dump in a file, if one
     /// is named.
     Serve {
@@ -48,6 +50,17 @@ pub enum Wanted<'a> {
         log: bool,
         settings: Settings,
     },
+}
+
+/// What snapshots are to be made.
+#[derive(Clone, Copy, Debug)]
+pub struct Snapshotting<'a> {
+    /// Where the server listens on this machine.
+    pub port: u16,
+    /// The folder of the snapshots.
+    pub folder: &'a str,
+    /// In how many seconds another one is made; without it, there is one.
+    pub every: Option<u64>,
 }
 
 /// What a refresh is to do.

@@ -9,8 +9,11 @@ use Rattle.refresh.specs.Number.{relation_number}
 use Rattle.frame_front.specs.declared.dump.DumpError.TheVariants as dumps
 use Rattle.commands.specs.declared.fault.RefreshFault.{RefreshFault}
 use Rattle.commands.specs.declared.fault.RefreshFault.TheVariants.{BadRelationship, Client, NoConnection, NoClock}
+use Rattle.map_core.specs.Reply.{error_number}
+use Rattle.commands.specs.declared.fault.SnapshotFault.{SnapshotFault}
+use Rattle.commands.specs.declared.fault.SnapshotFault.TheVariants.{Refused, LongName, BadFolder}
 use Rattle.commands.specs.declared.fault.Fault.{Fault}
-use Rattle.commands.specs.declared.fault.Fault.TheVariants.{Front, Dump, BadLine, BadFrame, UnreadText, NoDomain, BadMap, BadMember, InputTooLong, Refresh, Listen, Close}
+use Rattle.commands.specs.declared.fault.Fault.TheVariants.{Front, Dump, BadLine, BadFrame, UnreadText, NoDomain, BadMap, BadMember, InputTooLong, Refresh, Snapshot, Listen, Close}
 
 abbrev pub refresh_number : RefreshFault → ℕ
 refresh_number (BadRelationship error line) = relation_number error
@@ -21,6 +24,15 @@ refresh_number NoClock = 72
 abbrev pub refresh_place : RefreshFault → Option ℕ
 refresh_place (BadRelationship error line) = Some line
 refresh_place fault = None
+
+abbrev pub snapshot_number : SnapshotFault → ℕ
+snapshot_number (Refused error) = error_number error
+snapshot_number (LongName domain) = 73
+snapshot_number BadFolder = 74
+
+abbrev pub snapshot_place : SnapshotFault → Option ℕ
+snapshot_place (LongName domain) = Some domain
+snapshot_place fault = None
 
 abbrev pub fault_number : Fault → ℕ
 fault_number (Front error) = front_number error
@@ -33,10 +45,11 @@ fault_number BadMap = 64
 fault_number (BadMember member) = 65
 fault_number InputTooLong = 71
 fault_number (Refresh fault) = refresh_number fault
+fault_number (Snapshot fault) = snapshot_number fault
 fault_number Listen = 57
 fault_number (Close error) = close_number error
 
--- the place of the fault, if it has one: a frame or a member, a line or a name, or a shard
+-- the place of the fault, if it has one: a frame or a member, a line, a name or a domain, or a shard
 abbrev pub fault_place : Fault → Option ℕ
 fault_place (Dump (dumps.BadDump frame)) = Some frame
 fault_place (BadLine line) = Some line
@@ -45,6 +58,7 @@ fault_place (UnreadText line) = Some line
 fault_place (NoDomain name) = Some name
 fault_place (BadMember member) = Some member
 fault_place (Refresh fault) = refresh_place fault
+fault_place (Snapshot fault) = snapshot_place fault
 fault_place (Close (closing.HeldAtEnd shard)) = Some shard
 fault_place fault = None
 

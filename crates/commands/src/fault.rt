@@ -1,6 +1,6 @@
 //! Faults of commands.
 ghost use Rattle.std.specs.Prelude.{◌≡◌, ◌<◌, ◌-◌, ◌^◌, ◌++◌};
-ghost use Rattle.commands.specs.Fault.{fault_number, fault_place, fault_line, refresh_number, refresh_place};
+ghost use Rattle.commands.specs.Fault.{fault_number, fault_place, fault_line, refresh_number, refresh_place, snapshot_number, snapshot_place};
 ghost use Rattle.commands.specs.Streams.{Tells, TellsUnlessFailed, end_of};
 
 use crate::output::tell;
@@ -8,6 +8,7 @@ use arrayvec::ArrayVec;
 use frame_client::ClientError;
 use frame_front::{Counted, DumpError, FrontError};
 use itoa::Buffer;
+use map_core::AskError;
 use refresh::RelationError;
 use shard_store::CloseError;
 use std::io::Write;
@@ -39,6 +40,8 @@ pub enum Fault {
     InputTooLong,
     /// Relationships cannot be refreshed.
     Refresh(RefreshFault),
+    /// No snapshot is written, or it is not shown.
+    Snapshot(SnapshotFault),
     /// No connection can be accepted.
     Listen,
     /// The store gave no map at its end.
@@ -80,6 +83,38 @@ impl RefreshFault {
     }
 }
 
+/// Why no snapshot is written, or why it is not shown.
+#[derive(Clone, Copy, Debug, PartialEq, Eq)]
+pub enum SnapshotFault {
+    /// The server refuses the fetch-all.
+    Refused(AskError),
+    /// The name of this domain, from 1, is too long for a file.
+    LongName(u64),
+    /// The folder of snapshots cannot be read or written.
+    BadFolder,
+}
+
+impl SnapshotFault {
+    fn number(&self) -> u8
+        ensures { result ≡ snapshot_number self.now }
+    {
+        match self {
+            SnapshotFault::Refused(error) => error.number(),
+            SnapshotFault::LongName(_) => 73,
+            SnapshotFault::BadFolder => 74,
+        }
+    }
+
+    fn place(&self) -> Option<u64>
+        ensures { result ≡ snapshot_place self.now }
+    {
+        match self {
+            SnapshotFault::LongName(domain) => Some(*domain),
+            _ => None,
+        }
+    }
+}
+
 impl Fault {
     pub fn number(&self) -> u8
         ensures { result ≡ fault_number self.now }
@@ -95,12 +130,13 @@ impl Fault {
             Fault::BadMember(_) => 65,
             Fault::InputTooLong => 71,
             Fault::Refresh(fault) => fault.number(),
+            Fault::Snapshot(fault) => fault.number(),
             Fault::Listen => 57,
             Fault::Close(error) => error.number(),
         }
     }
 
-    /// The place of the fault: a frame or a member, from 0, a line or a name, from 1, or a shard.
+    /// The place of the fault: a frame or a member, from 0, a line, a name or a domain, from 1, or a shard.
     fn place(&self) -> Option<u64>
         ensures { result ≡ fault_place self.now }
     {
@@ -112,6 +148,7 @@ impl Fault {
             Fault::NoDomain(name) => Some(*name),
             Fault::BadMember(member) => Some(*member),
             Fault::Refresh(fault) => fault.place(),
+            Fault::Snapshot(fault) => fault.place(),
             Fault::Close(CloseError::HeldAtEnd(shard)) => Some(*shard as u64),
             _ => None,
         }

@@ -18,7 +18,7 @@ mod trace;
 
 pub use encode::{decode_over, encode_over};
 pub use explain::explain_over;
-pub use fault::{Fault, RefreshFault};
+pub use fault::{Fault, RefreshFault, SnapshotFault};
 pub use file_texts::FileTexts;
 pub use input::read_input;
 pub use migrate::migrate_over;

@@ -1,0 +1,141 @@
+//! The command `snapshot`: the bundles of a server as files in a folder.
+ghost use Rattle.std.specs.Prelude.{◌≡◌, ◌<◌, ◌-◌, ◌^◌, ◌++◌, List, ℕ};
+ghost use Rattle.bundled.specs.Snapshot.{SnapshotRun};
+ghost use Rattle.commands.specs.Streams.{End, Tells, TellsUnlessFailed, end_of};
+ghost use Rattle.commands.specs.Fault.{fault_line};
+
+use crate::refreshing::streams;
+use command_line::Snapshotting;
+use commands::{Fault, RefreshFault, SnapshotFault, write_flushed};
+use frame_client::{Client, ClientError};
+use frame_front::{Counted, FrontError};
+use map_core::{AskError, Snapshot};
+use snapshots::{FetchError, FolderError, HostFolder, SnapshotError, fetch, update};
+use std::alloc::Global;
+use std::fs::Files;
+use std::io::Write;
+use std::net::Net;
+use std::thread;
+use std::time::{Clock, Duration};
+
+/// Writes what a server holds into the folder, once or again and again, and answers the exit status: 0 if that is done, 1
+/// after a fault. A line for each snapshot that is shown goes to standard output.
+pub fn snapshot_over<H: Files + Clock + Net, W: Write, E: Write>(
+    alloc: Global,
+    host: &H,
+    out: &mut Counted<W>,
+    err: &mut Counted<E>,
+    wanted: &Snapshotting<'_>,
+) -> u8
+    requires out_count { out.old.faults < 2 ^ 64 - 1 }
+    requires err_count { err.old.faults < 2 ^ 64 - 1 }
+    ensures { (input : End) → SnapshotRun result
+        (record { input = input; output = end_of W.contents out.old; error = end_of E.contents err.old })
+        (record { input = input; output = end_of W.contents out.new; error = end_of E.contents err.new }) }
+{
+    let before = err.faults();
+    match repeat(alloc, host, out, err, wanted) {
+        Ok(()) => 0,
+        Err(fault) => {
+            fault.tell_unless_failed(err, before);
+            1
+        }
+    }
+}
+
+/// Makes snapshots until a fault comes that is not of the moment; one, if there are no more wanted.
+fn repeat<H: Files + Clock + Net, W: Write, E: Write>(
+    alloc: Global,
+    host: &H,
+    out: &mut Counted<W>,
+    err: &mut Counted<E>,
+    wanted: &Snapshotting<'_>,
+) -> Result<(), Fault>
+    requires out_count { out.old.faults < 2 ^ 64 - 1 }
+    requires err_count { err.old.faults < 2 ^ 64 - 1 }
+    ensures { (lines : List ℕ) × Tells (end_of E.contents err.old) (end_of E.contents err.new) lines }
+{
+    let before = err.faults();
+    for _ in 0..u64::MAX {
+        let taken = take_and_tell(alloc, host, out, wanted);
+        let Some(pause) = wanted.every else {
+            return taken;
+        };
+        if let Err(fault) = taken {
+            if !is_of_the_moment(&fault) {
+                return Err(fault);
+            }
+            fault.tell_unless_failed(err, before);
+        }
+        thread::sleep(host, Duration::from_secs(pause));
+    }
+    Ok(())
+}
+
+/// Makes one snapshot, and tells if it is new.
+fn take_and_tell<H: Files + Net, W: Write>(
+    alloc: Global,
+    host: &H,
+    out: &mut Counted<W>,
+    wanted: &Snapshotting<'_>,
+) -> Result<(), Fault> {
+    let domains = fetch_from(alloc, host, wanted.port)?;
+    let mut folder = match HostFolder::open(alloc, host, wanted.folder) {
+        Ok(folder) => folder,
+        Err(error) => return Err(fault_of(SnapshotError::from(error))),
+    };
+    match update(alloc, &mut folder, domains.pairs()) {
+        Ok(false) => return Ok(()),
+        Ok(true) => {}
+        Err(error) => return Err(fault_of(error)),
+    }
+    let (number, count) = (folder.number(), domains.len());
+    let Ok(line) = format!(in alloc; "shown snapshot-{number} domains {count}\n") else {
+        return Err(Fault::Front(FrontError::Memory));
+    };
+    write_flushed(out, line.as_bytes())?;
+    match folder.tidy() {
+        Ok(()) => Ok(()),
+        Err(error) => Err(fault_of(SnapshotError::from(error))),
+    }
+}
+
+/// All domains of the server that listens at a port of this machine.
+fn fetch_from<H: Net>(alloc: Global, host: &H, port: u16) -> Result<Snapshot, Fault> {
+    let Ok((stream, other)) = streams(host, port) else {
+        return Err(Fault::Refresh(RefreshFault::NoConnection));
+    };
+    let mut client = Client::new(alloc, Counted::new(stream), Counted::new(other));
+    match fetch(&mut client) {
+        Ok(domains) => Ok(domains),
+        Err(FetchError::Refused(why)) => Err(Fault::Snapshot(SnapshotFault::Refused(why))),
+        Err(FetchError::Ended(why)) => Err(Fault::Refresh(RefreshFault::Client(why))),
+    }
+}
+
+fn fault_of(error: SnapshotError) -> Fault {
+    match error {
+        SnapshotError::LongName(place) => {
+            Fault::Snapshot(SnapshotFault::LongName((place as u64).saturating_add(1)))
+        }
+        SnapshotError::Folder => Fault::Snapshot(SnapshotFault::BadFolder),
+        SnapshotError::Memory => Fault::Front(FrontError::Memory),
+    }
+}
+
+/// Whether the next turn may go well though nothing is changed by hand: others were in the way, memory ran out, or there is
+/// no connection.
+fn is_of_the_moment(fault: &Fault) -> bool {
+    match fault {
+        Fault::Front(FrontError::Memory) => true,
+        Fault::Snapshot(SnapshotFault::Refused(why)) => matches!(
+            why,
+            AskError::Memory | AskError::Moved { .. } | AskError::Held { .. }
+        ),
+        Fault::Refresh(RefreshFault::NoConnection) => true,
+        Fault::Refresh(RefreshFault::Client(why)) => {
+            !matches!(why, ClientError::BadLength | ClientError::BadReply)
+        }
+        _ => false,
+    }
+}
