@@ -13,7 +13,7 @@ use Rattle.frame_front.specs.Frame.{IsPayload, HasFrames, frame}
 use Rattle.frame_front.specs.Reply.{answer_frames}
 use Rattle.frame_client.specs.Asking.{request_bytes}
 use Rattle.frame_client.specs.Reading.{CountsFault}
-use Rattle.frame_client.specs.Private.Stops.{NoFrame}
+use Rattle.frame_client.specs.Reading.{NoFrame}
 use Rattle.frame_client.specs.Answer.{Answer, MayAnswer, IsValidAnswer}
 use Rattle.frame_client.specs.Client.{Breaks, BeginsNoReply, reply_preface, reply_bytes, ends, Exchange}
 use Rattle.frame_client.specs.declared.client_error.ClientError.{ClientError}

@@ -23,7 +23,7 @@ use Rattle.frame_front.specs.Frame.{IsPayload, IsUnfinished, frame}
 use Rattle.frame_front.specs.Reply.{answer_frames, code_of, item_frame, map_detail, error_detail}
 use Rattle.frame_front.specs.Dump.{Domains, AreValid, item_of, unless_refused}
 use Rattle.map_core.specs.Laws.{IsAfter, Ascends}
-use Rattle.frame_client.specs.Private.Stops.{NoFrame}
+use Rattle.frame_client.specs.Reading.{NoFrame}
 use Rattle.frame_client.specs.Answer.{Answer, MayAnswer, IsValidAnswer, is_code_for}
 use Rattle.frame_client.specs.Private.Payloads.{number_of}
 use Rattle.frame_client.specs.Client.{Breaks, BeginsNoReply}

@@ -4,7 +4,8 @@ use Rattle.std.specs.Prelude.{Option}
 use Rattle.std.proofs.lemmas.List.{take_at, take_all}
 use Rattle.std.specs.Int.{w32, to_be_bytes, from_be_bytes}
 use Rattle.frame_front.specs.Frame.{IsUnfinished, frame, length_field, most_payload}
-use Rattle.frame_client.specs.Private.Stops.{StopsShort, NoFrame}
+use Rattle.frame_client.specs.Private.Stops.{StopsShort}
+use Rattle.frame_client.specs.Reading.{NoFrame}
 use Rattle.frame_client.specs.declared.client_error.ClientError.{ClientError}
 use Rattle.frame_client.specs.declared.client_error.ClientError.TheVariants.{Memory, BadLength, BadReply, Truncated, ReadFault, WriteFault}
 

@@ -15,3 +15,4 @@ mod reading;
 pub use asking::{RequestError, write_request};
 pub use client::Client;
 pub use client_error::ClientError;
+pub use reading::read_frame;

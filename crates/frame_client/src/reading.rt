@@ -2,8 +2,8 @@
 ghost use Rattle.std.specs.Prelude.{◌≡◌, ◌<◌, ◌-◌, ◌^◌, ℕ, List, length, take, OnOk, IfOk, IfErr};
 ghost use Rattle.std.specs.Io.KnownBytes.{Consumes};
 ghost use Rattle.frame_front.specs.Frame.{IsPayload, frame};
-ghost use Rattle.frame_client.specs.Reading.{CountsFault};
-ghost use Rattle.frame_client.specs.Private.Stops.{StopsShort, NoFrame};
+ghost use Rattle.frame_client.specs.Reading.{CountsFault, NoFrame};
+ghost use Rattle.frame_client.specs.Private.Stops.{StopsShort};
 
 use crate::ClientError;
 use frame_front::Counted;
@@ -32,8 +32,8 @@ fn fill<R: Read>(reader: &mut Counted<R>, buffer: &mut [u8]) -> Result<(), Clien
     Ok(())
 }
 
-/// Reads one frame into the front of the buffer, and says how many bytes its payload has.
-pub(crate) fn read_frame<R: Read>(
+/// Reads one frame, and no byte beyond it, into the front of the buffer, and says how many bytes its payload has.
+pub fn read_frame<R: Read>(
     reader: &mut Counted<R>,
     buffer: &mut [u8],
 ) -> Result<usize, ClientError>

@@ -1,19 +1,11 @@
--- Where the reading of a frame stops short.
-use Rattle.std.specs.Prelude.{◌≡◌, ℕ, List, length, Option}
+-- Where a read stops short.
+use Rattle.std.specs.Prelude.{List, ℕ, Option}
 use Rattle.std.specs.Io.KnownBytes.{IsAtEnd}
-use Rattle.frame_front.specs.Frame.{IsUnfinished, IsBadLength}
 use Rattle.frame_client.specs.declared.client_error.ClientError.{ClientError}
-use Rattle.frame_client.specs.declared.client_error.ClientError.TheVariants.{BadLength, Truncated, ReadFault}
+use Rattle.frame_client.specs.declared.client_error.ClientError.TheVariants.{Truncated, ReadFault}
 
 -- Why a read stops short, and what the reader has left then.
 abbrev pub StopsShort : ClientError → Option (List ℕ) → Type 0
 StopsShort Truncated left = IsAtEnd left
 StopsShort ReadFault left = Unit {0}
 StopsShort error left = ⊥
-
--- Why no frame was read, what was read instead, and what the reader has left then.
-abbrev pub NoFrame : ClientError → List ℕ → Option (List ℕ) → Type 0
-NoFrame Truncated read left = IsUnfinished read × IsAtEnd left
-NoFrame ReadFault read left = IsUnfinished read
-NoFrame BadLength read left = IsBadLength read × (length read ≡ 4)
-NoFrame error read left = ⊥

@@ -1,0 +1,4 @@
+pub mod Replies
+pub mod Requests
+pub mod OneLine
+pub mod ManyLines

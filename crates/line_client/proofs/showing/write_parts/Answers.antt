@@ -1,0 +1,13 @@
+use Rattle.std.proofs.Common.{◌++◌}
+use Rattle.line_client.proofs.Replies.{then_front}
+use Rattle.line_client.proofs.showing.write_parts.Goals as goal
+
+pub returns-in-Err-write_both-clause-front : goal.returns-in-Err-write_both-clause-front
+returns-in-Err-write_both-clause-front g c =
+    then_front (g.O.Write.contents c.args.out.now.end) (g.O.Write.contents c.write_both.new.writer.end) (g.O.Write.contents c.write_both-2.new.writer.end) (c.args.head.now ++ c.args.text.now) c.args.end.now
+    c.in_default.ensures.ok c.in-Err-write_both.ensures.front
+
+pub returns-clause-front : goal.returns-clause-front
+returns-clause-front g c =
+    then_front (g.O.Write.contents c.args.out.now.end) (g.O.Write.contents c.write_both.new.writer.end) (g.O.Write.contents c.write_both-2.new.writer.end) (c.args.head.now ++ c.args.text.now) c.args.end.now
+    c.in_default.ensures.ok c.in_default-write_both.ensures.front

@@ -1,0 +1,3 @@
+pub mod Replies
+pub mod Asking
+pub mod Private

@@ -1,0 +1,19 @@
+//! How a server is asked.
+
+/// What replies are shown as.
+#[derive(Clone, Copy, Debug, PartialEq, Eq)]
+pub enum Form {
+    /// A line for each reply.
+    Lines,
+    /// The frames as they came, so that those of a fetch are a dump.
+    Frames,
+}
+
+/// How a server is asked.
+#[derive(Clone, Copy, Debug, PartialEq, Eq)]
+pub struct Asking {
+    pub form: Form,
+    /// How often a request is asked again whose reply is that memory ran out, that a shard was moved, or that it was held: such a
+    /// request has changed nothing.
+    pub retries: u32,
+}

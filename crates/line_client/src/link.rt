@@ -1,0 +1,11 @@
+//! The two ends that lead to a server.
+use frame_front::Counted;
+
+/// What a server is told and heard by.
+#[derive(Drop)]
+pub struct Link<R, W> {
+    /// The replies of the server.
+    pub from: Counted<R>,
+    /// The requests to the server.
+    pub to: Counted<W>,
+}

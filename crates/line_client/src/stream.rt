@@ -1,0 +1,157 @@
+//! Asking a stream of lines.
+ghost use Rattle.std.specs.Prelude.{◌≡◌, ◌<◌, ◌≤◌, ◌-◌, ◌^◌, ◌++◌, [], ℕ, List, Bool, true, false, length, Err, OnOk, IfOk, IfErr};
+ghost use Rattle.std.specs.Io.KnownBytes.{Consumes, IsAtEnd};
+ghost use Rattle.frame_front.specs.declared.error.FrontError.TheVariants.{ReadFault, WriteFault};
+ghost use Rattle.frame_lines.specs.RequestForm.{IsOneLine};
+ghost use Rattle.line_client.specs.Asking.{AsksStream, AsksLines, ends};
+ghost use Rattle.line_client.specs.Private.Steps.{AsksLast, ReadsMore};
+ghost use Rattle.line_client.specs.declared.fault.AskFault.TheVariants.{Front};
+
+use crate::asking::Asking;
+use crate::exchange::greet;
+use crate::fault::{AskFault, fault_of};
+use crate::line::ask_line;
+use crate::link::Link;
+use frame_front::wire::MAX_PAYLOAD;
+use frame_front::{Counted, FrontError};
+use frame_lines::{Encoder, TextSource};
+use std::alloc::{AllocError, Global};
+use std::io::{Read, Write};
+
+/// The most bytes of one read of the lines.
+const PIECE_BYTES: usize = 4096;
+
+/// Asks the lines one after another, with the texts that they name, and shows the replies to each before the next is asked. Version
+/// 2 of the session is set first, which conditional sets need, and the reply to that is not shown. True if some reply that was shown
+/// is a refusal.
+///
+/// At the first line that is bad, or at the first exchange that fails, it ends; what was shown stands. It takes room for the
+/// longest reply, and keeps one line and one request.
+pub fn ask_stream<T: TextSource, L: Read, R: Read, W: Write, O: Write>(
+    alloc: Global,
+    how: Asking,
+    texts: &T,
+    lines: &mut Counted<L>,
+    link: &mut Link<R, W>,
+    out: &mut Counted<O>,
+) -> Result<bool, AskFault>
+    requires lines_count { lines.old.faults < 2 ^ 64 - 1 }
+    requires from_count { link.old.from.faults < 2 ^ 64 - 1 }
+    requires to_count { link.old.to.faults < 2 ^ 64 - 1 }
+    requires out_count { out.old.faults < 2 ^ 64 - 1 }
+    ensures asks { AsksStream (T.gives texts.now) how result
+        (ends (L.remaining lines.old.end) (R.remaining link.old.from.end) (W.contents link.old.to.end) (O.contents out.old.end))
+        (ends (L.remaining lines.new.end) (R.remaining link.new.from.end) (W.contents link.new.to.end) (O.contents out.new.end)) }
+    ensures read_fault { result ≡ Err (Front ReadFault) → lines.old.faults < lines.new.faults }
+    ensures write_fault { result ≡ Err (Front WriteFault) → out.old.faults < out.new.faults }
+{
+    let Ok(mut room) = room(alloc) else {
+        return Err(AskFault::Front(FrontError::Memory));
+    };
+    let Ok(encoder) = Encoder::new(alloc) else {
+        return Err(AskFault::Front(FrontError::Memory));
+    };
+    greet(link, &mut room)?;
+    ask_lines(alloc, how, texts, lines, encoder, link, &mut room, out)
+}
+
+/// Room for the payload of a reply.
+fn room(alloc: Global) -> Result<Vec<u8>, AllocError>
+    ensures { IfOk result (λ room. length room.items ≡ 1049000) }
+{
+    vec![in alloc; 0; MAX_PAYLOAD]
+}
+
+/// Asks the lines of a server that was greeted.
+fn ask_lines<T: TextSource, L: Read, R: Read, W: Write, O: Write>(
+    alloc: Global,
+    how: Asking,
+    texts: &T,
+    lines: &mut Counted<L>,
+    mut encoder: Encoder,
+    link: &mut Link<R, W>,
+    room: &mut [u8],
+    out: &mut Counted<O>,
+) -> Result<bool, AskFault>
+    requires new { encoder ≡ record { kept = []; lines = 0 } }
+    requires room { length room.old ≡ 1049000 }
+    requires lines_count { lines.old.faults < 2 ^ 64 - 1 }
+    requires from_count { link.old.from.faults < 2 ^ 64 - 1 }
+    requires to_count { link.old.to.faults < 2 ^ 64 - 1 }
+    requires out_count { out.old.faults < 2 ^ 64 - 1 }
+    ensures asks { AsksLines (T.gives texts.now) how result
+        (ends (L.remaining lines.old.end) (R.remaining link.old.from.end) (W.contents link.old.to.end) (O.contents out.old.end))
+        (ends (L.remaining lines.new.end) (R.remaining link.new.from.end) (W.contents link.new.to.end) (O.contents out.new.end)) }
+    ensures read_fault { result ≡ Err (Front ReadFault) → lines.old.faults < lines.new.faults }
+    ensures write_fault { result ≡ Err (Front WriteFault) → out.old.faults < out.new.faults }
+{
+    let mut request = Vec::new(alloc);
+    let mut refused = false;
+    for _turn in 0..u64::MAX {
+        match encoder.encode_next(alloc, texts, &mut request) {
+            Ok(true) => {
+                let one = ask_line(how, request.as_slice(), link, room, out)?;
+                refused |= one;
+                request.clear();
+                continue;
+            }
+            Ok(false) => {
+                if !read_more(lines, &mut encoder)? {
+                    let one = ask_last(alloc, how, texts, encoder, link, room, out)?;
+                    return Ok(refused | one);
+                }
+            }
+            Err(error) => return Err(fault_of(error)),
+        }
+    }
+    Err(AskFault::Front(FrontError::TurnsUsed))
+}
+
+/// Reads a piece of the lines. False if they are at their end.
+fn read_more<L: Read>(lines: &mut Counted<L>, encoder: &mut Encoder) -> Result<bool, AskFault>
+    requires { lines.old.faults < 2 ^ 64 - 1 }
+    ensures reads { ReadsMore result encoder.old encoder.new (L.remaining lines.old.end) (L.remaining lines.new.end) }
+    ensures quiet { OnOk result (lines.new.faults ≡ lines.old.faults) }
+    ensures read_fault { result ≡ Err (Front ReadFault) → lines.old.faults < lines.new.faults }
+    ensures write_fault { result ≡ Err (Front WriteFault) → ⊥ }
+{
+    let mut piece = [0; PIECE_BYTES];
+    let count = match lines.read(&mut piece) {
+        Ok(count) => count,
+        Err(_) => return Err(AskFault::Front(FrontError::ReadFault)),
+    };
+    if count == 0 {
+        return Ok(false);
+    }
+    let (fresh, _) = piece.split_at(count);
+    match encoder.feed(fresh) {
+        Ok(()) => Ok(true),
+        Err(_) => Err(AskFault::Front(FrontError::Memory)),
+    }
+}
+
+/// Asks the last line, which no line feed has ended, if there is one.
+fn ask_last<T: TextSource, R: Read, W: Write, O: Write>(
+    alloc: Global,
+    how: Asking,
+    texts: &T,
+    encoder: Encoder,
+    link: &mut Link<R, W>,
+    room: &mut [u8],
+    out: &mut Counted<O>,
+) -> Result<bool, AskFault>
+    requires room { length room.old ≡ 1049000 }
+    requires from_count { link.old.from.faults < 2 ^ 64 - 1 }
+    requires to_count { link.old.to.faults < 2 ^ 64 - 1 }
+    requires out_count { out.old.faults < 2 ^ 64 - 1 }
+    ensures asks { AsksLast (T.gives texts.now) how encoder result (R.remaining link.old.from.end) (R.remaining link.new.from.end)
+        (W.contents link.old.to.end) (W.contents link.new.to.end) (O.contents out.old.end) (O.contents out.new.end) }
+    ensures write_fault { result ≡ Err (Front WriteFault) → out.old.faults < out.new.faults }
+    ensures read_fault { result ≡ Err (Front ReadFault) → ⊥ }
+{
+    let mut request = Vec::new(alloc);
+    match encoder.finish(alloc, texts, &mut request) {
+        Ok(()) => ask_line(how, request.as_slice(), link, room, out),
+        Err(error) => Err(fault_of(error)),
+    }
+}
