@@ -1,5 +1,5 @@
 -- One fetch-all of a client.
-use Rattle.std.specs.Prelude.{◌≡◌, ◌⊎◌, ◌×◌, Result, Ok, Err, None, Some}
+use Rattle.std.specs.Prelude.{◌≡◌, ◌⊎◌, Result, Ok, Err, None, Some}
 use Rattle.map_core.specs.declared.op.Op.TheVariants.{FetchAll}
 use Rattle.map_core.specs.declared.reply.Reply.TheVariants.{All}
 use Rattle.map_core.specs.declared.reply.AskError.TheVariants as error

@@ -1,6 +1,7 @@
 -- The names of the files of a snapshot, and of the folders.
 use Rattle.std.specs.Prelude.{◌≡◌, ◌≢◌, ℕ, ◌<◌, ◌≤◌, ◌==◌, ◌||◌, List, ◌++◌, length, not, codes, decimal, slice_index_or, []}
 use Rattle.std.specs.List.{All, AllPass}
+use Rattle.spiffe_doc.specs.Authority.{BundleValue}
 use Rattle.map_core.specs.Name.{Name}
 use Rattle.frame_front.specs.Dump.{Domains}
 
@@ -39,5 +40,5 @@ HaveShortNames items = All (λ item. IsShort item.0) items
 -- the first of the domains, by its place from 0, whose name is longer
 pub record IsFirstLong (items : Domains) (place : ℕ) : Type 0 where
   pub inside : place < length items
-  pub long : (d : Name × _) → 250 < length (slice_index_or items place d).0
-  pub before : (k : ℕ) (d : Name × _) → k < place → IsShort (slice_index_or items k d).0
+  pub long : (d : Name × BundleValue) → 250 < length (slice_index_or items place d).0
+  pub before : (k : ℕ) (d : Name × BundleValue) → k < place → IsShort (slice_index_or items k d).0

@@ -1,5 +1,7 @@
 //! All domains of a server, as they stood at one moment.
-ghost use Rattle.std.specs.Prelude.{◌≡◌, None};
+ghost use Rattle.std.specs.Prelude.{◌≡◌, ◌≢◌, None, MatchOption};
+ghost use Rattle.frame_front.specs.Dump.{Domains};
+ghost use Rattle.map_core.specs.declared.reply.Reply.TheVariants.{All};
 ghost use Rattle.snapshots.specs.Fetch.{Fetches};
 
 use frame_client::{Client, ClientError};
@@ -24,11 +26,23 @@ pub fn fetch<R: Read, W: Write>(client: &mut Client<R, W>) -> Result<Snapshot, F
     ensures { Fetches result client.old client.new }
 {
     match client.ask(Op::FetchAll) {
-        Ok(Reply::All(domains)) => Ok(domains),
-        Ok(_) => unreachable!(),
+        Ok(reply) => match domains_of(reply) {
+            Some(domains) => Ok(domains),
+            None => unreachable!(),
+        },
         Err(why) => match client.ended() {
             Some(error) => Err(FetchError::Ended(error)),
             None => Err(FetchError::Refused(why)),
         },
+    }
+}
+
+/// The domains that a reply has, if it is that to a fetch-all.
+fn domains_of(reply: Reply) -> Option<Snapshot>
+    ensures { MatchOption result ((items : Domains) → reply ≢ All items) (λ items. reply ≡ All items) }
+{
+    match reply {
+        Reply::All(domains) => Some(domains),
+        _ => None,
     }
 }

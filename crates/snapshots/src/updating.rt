@@ -1,6 +1,6 @@
 //! A snapshot that is written and shown if it is new.
 ghost use Rattle.std.specs.Prelude.{◌≡◌, ◌∷◌, [], ◌++◌, map, flat_map, true, false, string_bytes, IfOk, IfErr, OnOk, OnErr};
-ghost use Rattle.dump_views.specs.Pem.{pem_of};
+ghost use Rattle.spiffe_doc.specs.Text.{text_of};
 ghost use Rattle.snapshots.specs.Names.{map_name};
 ghost use Rattle.snapshots.specs.Files.{domain_files, files_of, map_file};
 ghost use Rattle.snapshots.specs.Deeds.{deeds_of, then_done, IsCutShort};
@@ -47,13 +47,32 @@ fn map_bytes(alloc: Global, domains: &[(TrustDomain, Bundle)]) -> Result<Vec<u8>
     Ok(bytes)
 }
 
-/// The certificates of a bundle.
-fn pem_bytes(alloc: Global, bundle: &Bundle) -> Result<Vec<u8>, AllocError>
-    ensures { IfOk result (λ bytes. bytes.items ≡ pem_of bundle.now) }
+/// The names of the two files of a domain, and the bytes of the second: the first has the bundle's text.
+#[derive(Drop)]
+struct DomainFiles {
+    json: String,
+    pem: String,
+    certificates: Vec<u8>,
+}
+
+/// The files of a domain.
+fn files_of_domain(
+    alloc: Global,
+    domain: &TrustDomain,
+    bundle: &Bundle,
+) -> Result<DomainFiles, AllocError>
+    ensures { IfOk result (λ files. domain_files (domain.now, bundle.now)
+        ≡ (string_bytes files.json, text_of bundle.now) ∷ (string_bytes files.pem, files.certificates.items) ∷ []) }
 {
-    let mut bytes = Vec::new(alloc);
-    put_pem(bundle, &mut bytes)?;
-    Ok(bytes)
+    let json = json_name(alloc, domain)?;
+    let pem = pem_name(alloc, domain)?;
+    let mut certificates = Vec::new(alloc);
+    put_pem(bundle, &mut certificates)?;
+    Ok(DomainFiles {
+        json,
+        pem,
+        certificates,
+    })
 }
 
 /// Whether the current snapshot has all the files, with their bytes.
@@ -88,12 +107,11 @@ fn has_domain<F: Folder>(
     ensures ok { IfOk result (λ same. AreThere (F.shows folder.now) (domain_files (domain.now, bundle.now)) same) }
     ensures err { IfErr result IsOfFolder }
 {
-    let json = json_name(alloc, domain)?;
-    if !folder.holds(json.as_str(), bundle.text())? {
+    let files = files_of_domain(alloc, domain, bundle)?;
+    if !folder.holds(files.json.as_str(), bundle.text())? {
         return Ok(false);
     }
-    let (pem, bytes) = (pem_name(alloc, domain)?, pem_bytes(alloc, bundle)?);
-    Ok(folder.holds(pem.as_str(), bytes.as_slice())?)
+    Ok(folder.holds(files.pem.as_str(), files.certificates.as_slice())?)
 }
 
 /// Writes a snapshot, and then shows it.
@@ -142,9 +160,8 @@ fn put_domain<F: Folder>(
     ensures err { OnErr result (IsCutShort (F.done folder.old) (F.done folder.new) (map Put (domain_files (domain.now, bundle.now)))) }
     ensures why { IfErr result IsOfFolder }
 {
-    let (json, pem) = (json_name(alloc, domain)?, pem_name(alloc, domain)?);
-    let bytes = pem_bytes(alloc, bundle)?;
-    folder.put(json.as_str(), bundle.text())?;
-    folder.put(pem.as_str(), bytes.as_slice())?;
+    let files = files_of_domain(alloc, domain, bundle)?;
+    folder.put(files.json.as_str(), bundle.text())?;
+    folder.put(files.pem.as_str(), files.certificates.as_slice())?;
     Ok(())
 }

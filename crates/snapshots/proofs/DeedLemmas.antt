@@ -1,0 +1,32 @@
+-- Lemmas on what is done, one deed after the other.
+use Rattle.std.proofs.Common.{◌≡◌, List, [], ◌∷◌, ◌++◌, Option, Some, None, refl, sym, ap, ◌∙◌, append_assoc, append-nil}
+use Rattle.snapshots.specs.Deeds.{Deed, then_done, IsCutShort}
+
+pub then_nothing : (known : Option (List Deed)) → then_done known [] ≡ known
+then_nothing None = refl
+then_nothing (Some done) = ap Some (append-nil done)
+
+pub then_twice : (known : Option (List Deed)) (first second : List Deed) → then_done (then_done known first) second ≡ then_done known (first ++ second)
+then_twice None first second = refl
+then_twice (Some done) first second = ap Some (append_assoc done first second)
+
+-- one after the other
+pub done_both : (old mid new : Option (List Deed)) (first second : List Deed) → mid ≡ then_done old first → new ≡ then_done mid second
+    → new ≡ then_done old (first ++ second)
+done_both old mid new first second one two = two ∙ ap (λ known. then_done known second) one ∙ then_twice old first second
+
+-- nothing was done of some deeds
+pub cut_first : (old new : Option (List Deed)) (next : Deed) (rest : List Deed) → new ≡ old → IsCutShort old new (next ∷ rest)
+cut_first old new next rest same = record { done = []; next = next; rest = rest; cut = refl; log = same ∙ sym (then_nothing old) }
+
+-- some were done, and then not all of the next
+pub cut_later : (old mid new : Option (List Deed)) (first part after : List Deed) → mid ≡ then_done old first → IsCutShort mid new part
+    → IsCutShort old new (first ++ (part ++ after))
+cut_later old mid new first part after one short = record {
+  done = first ++ short.done;
+  next = short.next;
+  rest = short.rest ++ after;
+  cut = ap (λ deeds. first ++ (deeds ++ after)) short.cut ∙ ap (λ deeds. first ++ deeds) (append_assoc short.done (short.next ∷ short.rest) after)
+      ∙ sym (append_assoc first short.done (short.next ∷ short.rest ++ after));
+  log = done_both old mid new first short.done one short.log;
+}

@@ -1,0 +1,4 @@
+pub mod DeedLemmas
+pub mod CompareLemmas
+pub mod NameLaws
+pub mod FetchLemmas
