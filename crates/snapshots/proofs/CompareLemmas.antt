@@ -4,6 +4,9 @@ use Rattle.std.specs.List.{AllByRecursion}
 use Rattle.snapshots.specs.Files.{File}
 use Rattle.snapshots.specs.Update.{AreThere, SomeDiffers}
 
+false_true : false ≡ true → ⊥
+false_true same = cc
+
 -- those before are there
 pub there_after : (there : File → Bool → Type 0) (files more : List File) (yes : Bool) → AreThere there files true → AreThere there more yes → AreThere there (files ++ more) yes
 there_after there files more false first second = record {
@@ -25,3 +28,25 @@ differs_before there files more first = record {
   placed = ap (λ others. others ++ more) first.placed ∙ append_assoc first.before (first.file ∷ first.after) more;
   differs = first.differs;
 }
+
+-- the first of some files differs
+pub head_differs : (there : File → Bool → Type 0) (file found : File) (rest : List File) (yes : Bool) → found ≡ file → yes ≡ false → there found yes
+    → SomeDiffers there (file ∷ rest)
+head_differs there file found rest false same other answer = record { before = []; file = found; after = rest; placed = ap (λ f. f ∷ rest) (sym same); differs = answer }
+head_differs there file found rest true same other answer = absurd (false_true (sym other))
+
+-- the first of two is there, so both are if the second is
+pub two_there : (there : File → Bool → Type 0) (first second one two : File) (yes last : Bool) → one ≡ first → two ≡ second → yes ≡ true
+    → there one yes → there two last → AreThere there (first ∷ second ∷ []) last
+two_there there first second one two true true same-one same-two other a b = rw (sym same-one, sym same-two) (a, (b, tt))
+two_there there first second one two true false same-one same-two other a b =
+    record { before = first ∷ []; file = two; after = []; placed = ap (λ f. first ∷ f ∷ []) (sym same-two); differs = b }
+two_there there first second one two false last same-one same-two other a b = absurd (false_true other)
+
+pub head_there : (there : File → Bool → Type 0) (file found : File) (yes : Bool) → found ≡ file → yes ≡ true → there found yes → AreThere there (file ∷ []) true
+head_there there file found true same other answer = rw (sym same) (answer, tt)
+head_there there file found false same other answer = absurd (false_true other)
+
+pub differs_at : (there : File → Bool → Type 0) (files : List File) (yes : Bool) → yes ≡ false → AreThere there files yes → SomeDiffers there files
+differs_at there files false other answer = answer
+differs_at there files true other answer = absurd (false_true (sym other))

@@ -1,5 +1,10 @@
 -- Lemmas on what is done, one deed after the other.
-use Rattle.std.proofs.Common.{◌≡◌, List, [], ◌∷◌, ◌++◌, Option, Some, None, refl, sym, ap, ◌∙◌, append_assoc, append-nil}
+use Rattle.std.proofs.Common.{◌≡◌, List, [], ◌∷◌, ◌++◌, Option, Some, None, Result, Ok, Err, ℕ, ◌<◌, ◌+◌, map, length, take, drop, get_or, refl, sym, ap, ◌∙◌, append_assoc, append-nil}
+use Rattle.std.specs.Prelude.{OnErr, flat_map}
+use Rattle.std.proofs.lemmas.List.{map-append, take-append-drop, drop_more}
+use Rattle.std.proofs.lemmas.List.Concat.{flat_map-append}
+use Rattle.snapshots.specs.Files.{File}
+use Rattle.snapshots.specs.Deeds.Deed.{Put}
 use Rattle.snapshots.specs.Deeds.{Deed, then_done, IsCutShort}
 
 pub then_nothing : (known : Option (List Deed)) → then_done known [] ≡ known
@@ -30,3 +35,20 @@ cut_later old mid new first part after one short = record {
       ∙ sym (append_assoc first short.done (short.next ∷ short.rest ++ after));
   log = done_both old mid new first short.done one short.log;
 }
+
+pub on_err : {T E : Type 0} (r : Result T E) (P : Type 0) → P → OnErr r P
+on_err (Ok value) P p = tt
+on_err (Err error) P p = p
+
+-- what a list gives, piece by piece: that of those before one, its own, and that of those behind it
+pub flat_at : {X Y : Type 0} (f : X → List Y) (xs : List X) (i : ℕ) (x : X) → i < length xs → get_or xs i x ≡ x
+    → flat_map f xs ≡ flat_map f (take i xs) ++ (f x ++ flat_map f (drop (i + 1) xs))
+flat_at f xs i x inside at =
+    ap (flat_map f) (sym (take-append-drop i xs) ∙ ap (λ rest. take i xs ++ rest) (drop_more xs i x inside ∙ ap (λ y. y ∷ drop (i + 1) xs) at))
+    ∙ flat_map-append f (take i xs) (x ∷ drop (i + 1) xs)
+
+pub puts_at : {X : Type 0} (f : X → List File) (xs : List X) (i : ℕ) (x : X) → i < length xs → get_or xs i x ≡ x
+    → map Put (flat_map f xs) ≡ map Put (flat_map f (take i xs)) ++ (map Put (f x) ++ map Put (flat_map f (drop (i + 1) xs)))
+puts_at f xs i x inside at =
+    ap (map Put) (flat_at f xs i x inside at) ∙ map-append Put (flat_map f (take i xs)) (f x ++ flat_map f (drop (i + 1) xs))
+    ∙ ap (λ more. map Put (flat_map f (take i xs)) ++ more) (map-append Put (f x) (flat_map f (drop (i + 1) xs)))

@@ -40,17 +40,20 @@ only_all (Found bundle) may other = other_code 102 _ refl may
 only_all (Refused why) may other = not_refused why may
 only_all (All items) may other = other items refl
 
+ok_err : {A B : Type 0} (x : A) (e : B) → Ok x ≡ Err e → ⊥
+ok_err x e same = cc
+
 -- an answer of a client that hasn't ended is a reply that it has read
 asked_ok : (ended : Option ClientError) (reply : Reply) (old new : Ends) → IsAsked ended FetchAll (Ok reply) old new
     → (ended ≡ None) × Exchange FetchAll (Ok (Ok reply)) old new
 asked_ok None reply old new asked = (refl, asked)
-asked_ok (Some why) reply old new asked = absurd (cc' (asked.0))
-  where
-  cc' : {E : Type 0} {x : Reply} {e : AskError} → Ok x ≡ Err e → ⊥
-  cc' same = cc
+asked_ok (Some why) reply old new asked = absurd (ok_err reply error.GateShut asked.0)
 
 pub ok_is_read : (old new : ClientState) (reply : Reply) → Asks old FetchAll (Ok reply) new
     → (new.ended ≡ None) × Exchange FetchAll (Ok (Ok reply)) old.ends new.ends
-ok_is_read old new reply (inr asked) = asked_ok new.ended reply old.ends new.ends asked.1.1
-ok_is_read old new reply (inl (same, inl bad)) = absurd (let e = bad.0 in cc)
-ok_is_read old new reply (inl (same, inr bad)) = absurd (let e = bad.0 in cc)
+ok_is_read old new reply (inr asked) = asked_ok new.ended reply old.ends new.ends asked.2
+ok_is_read old new reply (inl (same, inl bad)) = absurd (ok_err reply error.GateShut bad.0)
+ok_is_read old new reply (inl (same, inr bad)) = absurd (ok_err reply error.Memory bad.0)
+
+pub ok_may : (old new : ClientState) (reply : Reply) → Asks old FetchAll (Ok reply) new → MayAnswer FetchAll (Ok reply)
+ok_may old new reply asked = (ok_is_read old new reply asked).1.may

@@ -1,12 +1,15 @@
 -- The laws of the names of files.
-use Rattle.std.proofs.Common.{◌≡◌, ◌≢◌, ℕ, ◌==◌, ◌<◌, ◌≤◌, List, [], ◌∷◌, ◌++◌, length, get_or, reverse, not, true, false, refl, sym, ap, ◌∙◌, arith, codes}
+use Rattle.std.proofs.Common.{◌≡◌, ◌≢◌, ℕ, ◌==◌, ◌<◌, ◌≤◌, List, [], ◌∷◌, ◌++◌, length, get_or, reverse, not, true, false, refl, sym, ap, ◌∙◌, arith, codes, Bool}
 use Rattle.std.proofs.lemmas.List.{append_cancel_right, reverse-append, length-append}
-use Rattle.std.proofs.lemmas.List.Elements.{All-append}
-use Rattle.std.specs.List.{All, AllPass}
+use Rattle.std.proofs.lemmas.List.Elements.{All-append, All-from_recursion}
+use Rattle.std.specs.List.{All, AllPass, AllByRecursion}
 use Rattle.spiffe_doc.specs.Name.{IsName, is_name_byte}
 use Rattle.map_core.specs.Name.{Name}
 use Rattle.snapshots.specs.Names.{json_name, pem_name, map_name, IsFileName, IsShort}
 use Rattle.snapshots.specs.Laws.{StayInside, AreApart}
+
+passes : (p : ℕ → Bool) (xs : List ℕ) → AllByRecursion (λ x. p x ≡ true) xs → AllPass p xs
+passes p xs each = All-from_recursion (λ x. p x ≡ true) xs each
 
 -- a byte of a name is another one than this
 other_byte : (wrong x : ℕ) → is_name_byte wrong ≡ false → is_name_byte x ≡ true → not (x == wrong) ≡ true
@@ -19,7 +22,7 @@ none_of wrong name ending bad good rest =
     All-append (λ x. not (x == wrong) ≡ true) name ending (λ k d inside. other_byte wrong (get_or name k d) bad (good k d inside)) rest
 
 -- a list has the last element of what it ends with
-last_of : List ℕ → ℕ
+abbrev last_of : List ℕ → ℕ
 last_of xs = get_or (reverse xs) 0 0
 
 last_behind : (xs ys : List ℕ) → get_or (reverse (xs ++ ys)) 0 0 ≡ get_or (reverse ys ++ reverse xs) 0 0
@@ -27,6 +30,39 @@ last_behind xs ys = ap (λ zs. get_or zs 0 0) (reverse-append xs ys)
 
 longer : (name ending other : List ℕ) → length other < length ending → name ++ ending ≢ other
 longer name ending other more same = omega (arith, ap length same, length-append name ending, more)
+
+apart : (x y : ℕ) → (x == y) ≡ false → x ≡ y → ⊥
+apart x y other same = grind arith
+
+json_no_slash : AllPass (λ x. not (x == 47)) (codes ".json")
+json_no_slash =
+    let each : AllByRecursion (λ x. not (x == 47) ≡ true) (codes ".json") = (refl, (refl, (refl, (refl, (refl, tt))))) in
+    passes (λ x. not (x == 47)) (codes ".json") each
+
+json_no_nul : AllPass (λ x. not (x == 0)) (codes ".json")
+json_no_nul =
+    let each : AllByRecursion (λ x. not (x == 0) ≡ true) (codes ".json") = (refl, (refl, (refl, (refl, (refl, tt))))) in
+    passes (λ x. not (x == 0)) (codes ".json") each
+
+pem_no_slash : AllPass (λ x. not (x == 47)) (codes ".pem")
+pem_no_slash =
+    let each : AllByRecursion (λ x. not (x == 47) ≡ true) (codes ".pem") = (refl, (refl, (refl, (refl, tt)))) in
+    passes (λ x. not (x == 47)) (codes ".pem") each
+
+pem_no_nul : AllPass (λ x. not (x == 0)) (codes ".pem")
+pem_no_nul =
+    let each : AllByRecursion (λ x. not (x == 0) ≡ true) (codes ".pem") = (refl, (refl, (refl, (refl, tt)))) in
+    passes (λ x. not (x == 0)) (codes ".pem") each
+
+map_no_slash : AllPass (λ x. not (x == 47)) map_name
+map_no_slash =
+    let each : AllByRecursion (λ x. not (x == 47) ≡ true) map_name = (refl, (refl, (refl, tt))) in
+    passes (λ x. not (x == 47)) map_name each
+
+map_no_nul : AllPass (λ x. not (x == 0)) map_name
+map_no_nul =
+    let each : AllByRecursion (λ x. not (x == 0) ≡ true) map_name = (refl, (refl, (refl, tt))) in
+    passes (λ x. not (x == 0)) map_name each
 
 file_name : (name ending : List ℕ) → IsName name → length name ≤ 250 → 2 < length ending → length ending ≤ 5
     → AllPass (λ x. not (x == 47)) ending → AllPass (λ x. not (x == 0)) ending → IsFileName (name ++ ending)
@@ -37,4 +73,27 @@ file_name name ending is fits some few no_slash no_nul = record {
   no_nul = none_of 0 name ending refl is.allowed no_nul;
   not_the_folder = longer name ending (codes ".") (omega (arith, some));
   not_its_parent = longer name ending (codes "..") some;
+}
+
+pub files_stay_inside : StayInside
+files_stay_inside = record {
+  json = λ name is fits. file_name name (codes ".json") is fits (omega arith) (omega arith) json_no_slash json_no_nul;
+  pem = λ name is fits. file_name name (codes ".pem") is fits (omega arith) (omega arith) pem_no_slash pem_no_nul;
+  map = record {
+    some = omega arith;
+    short = omega arith;
+    no_slash = map_no_slash;
+    no_nul = map_no_nul;
+    not_the_folder = λ same. longer [] map_name (codes ".") (omega arith) same;
+    not_its_parent = λ same. longer [] map_name (codes "..") (omega arith) same;
+  };
+}
+
+pub files_are_apart : AreApart
+files_are_apart = record {
+  json = λ a b same. append_cancel_right a b (codes ".json") same;
+  pem = λ a b same. append_cancel_right a b (codes ".pem") same;
+  kinds = λ a b same. apart 110 109 refl (sym (last_behind a (codes ".json")) ∙ ap last_of same ∙ last_behind b (codes ".pem"));
+  json_map = λ a same. apart 110 112 refl (sym (last_behind a (codes ".json")) ∙ ap last_of same);
+  pem_map = λ a same. apart 109 112 refl (sym (last_behind a (codes ".pem")) ∙ ap last_of same);
 }
