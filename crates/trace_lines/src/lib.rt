@@ -6,8 +6,11 @@ mod events;
 mod gathered;
 pub mod laws;
 mod operation;
+mod picture;
+mod picture_row;
 mod record_head;
 mod trace_text;
 
 pub use events::{LinesError, read_events};
+pub use picture::put_picture;
 pub use trace_text::put_trace;

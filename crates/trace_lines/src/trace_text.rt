@@ -32,7 +32,7 @@ pub fn put_trace<W: Write>(out: &mut Counted<W>, trace: &Trace) -> Result<(), Fr
     gathered.flush(out)
 }
 
-fn put_text<W: Write>(
+pub(crate) fn put_text<W: Write>(
     gathered: &mut Gathered,
     out: &mut Counted<W>,
     trace: &Trace,

@@ -1,5 +1,6 @@
 //! Worked examples of traces as text.
 mod events;
+mod picture;
 mod printed;
 
 use std::fmt::Debug;

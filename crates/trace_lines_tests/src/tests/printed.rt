@@ -12,7 +12,7 @@ use trace_lines::{put_trace, read_events};
 const DOCUMENT: &[u8] = b"{\"spiffe_sequence\": 3, \"keys\": []}";
 
 /// A trace of one operation, with this reply.
-fn trace_of(
+pub(super) fn trace_of(
     alloc: Global,
     last: Option<u64>,
     reply: Option<Result<Reply, AskError>>,
@@ -166,10 +166,10 @@ fn what_has_not_ended_has_a_dash(rt: HostRuntime) -> Result<(), Fail> {
 }
 
 /// The events of examples/race.events, and examples/race.trace.
-const RACE: &[u8] =
+pub(super) const RACE: &[u8] =
     b"begin 1 fetch\nstep 1\nbegin 2 set b {\"keys\":[]}\nstep 2\nend 2\nbegin 2 set a {\"keys\":[]}\nstep 2\nend 2\nstep 1\nstep 1\nstep 1\nstep 1\nstep 1\nstep 1\nend 1\n";
 
-const RACE_TRACE: &[u8] =
+pub(super) const RACE_TRACE: &[u8] =
     b"record 0 caller 1 first 0 last 14 reply all 2 a {\"keys\":[]} b {\"keys\":[]}\nrecord 1 caller 2 first 2 last 4 reply stored\nrecord 2 caller 2 first 5 last 7 reply stored\norder 1 2 0\n";
 
 #[test]
