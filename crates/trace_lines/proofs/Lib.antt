@@ -4,3 +4,4 @@ pub mod InputLines
 pub mod EventLists
 pub mod Writes
 pub mod TraceTexts
+pub mod Pictures

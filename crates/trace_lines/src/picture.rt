@@ -1,10 +1,17 @@
 //! What is printed of a run as a picture: a row for each caller, a column for each event.
+ghost use Rattle.std.specs.Prelude.{◌≡◌, ◌≤◌, ◌<◌, ◌-◌, ◌^◌, ◌*◌, ◌++◌, [], take, codes, OnOk, IfErr};
+ghost use Rattle.std.specs.Io.KnownBytes.{Appends};
+ghost use Rattle.std.specs.List.{flat_map};
+ghost use Rattle.frame_front.specs.Outbox.{WritesFront};
+ghost use Rattle.trace_lines.specs.TraceText.{ended};
+ghost use Rattle.trace_lines.specs.Picture.{callers_of, with_caller, caller_line as line_of_caller, event_line as line_of_events, order_row as row_of_order, numbered_band, bands_text, picture_text};
+ghost use Rattle.trace_lines.specs.Private.Puts.{Puts, out_of};
+
 use crate::gathered::Gathered;
 use crate::picture_row::{caller_line, drawn, event_line, order_row};
 use crate::trace_text::put_text;
 use arrayvec::ArrayVec;
 use frame_front::{Counted, FrontError};
-use frame_lines::Head;
 use std::io::Write;
 use step_core::{OpRecord, Trace};
 
@@ -30,17 +37,36 @@ Up to 960 events and 16 callers are drawn.
 
 ";
 
-/// Writes a run of so many events as a picture, and below it what `put_trace` writes of it.
+/// Writes a run of so many events as a picture, and below it what `put_trace` writes of it. It takes no memory. If the
+/// writer fails, a front of that is written.
 pub fn put_picture<W: Write>(
     out: &mut Counted<W>,
     events: usize,
     trace: &Trace,
-) -> Result<(), FrontError> {
+) -> Result<(), FrontError>
+    requires { out.old.faults < 2 ^ 64 - 1 }
+    ensures ok { OnOk result (Appends (W.contents out.old.end) (W.contents out.new.end) (picture_text events trace.now.ops.items trace.now.order.items)) }
+    ensures quiet { OnOk result (out.new.faults ≡ out.old.faults) }
+    ensures fault { IfErr result (λ fault. (fault ≡ FrontError.WriteFault) × (out.old.faults < out.new.faults)) }
+    ensures front { WritesFront (W.contents out.old.end) (W.contents out.new.end) (picture_text events trace.now.ops.items trace.now.order.items) }
+{
     let mut gathered = Gathered::new();
-    gathered.put(out, LEGEND, &[])?;
-    put_bands(&mut gathered, out, events, trace)?;
-    put_text(&mut gathered, out, trace)?;
+    put_page(&mut gathered, out, events, trace)?;
     gathered.flush(out)
+}
+
+fn put_page<W: Write>(
+    gathered: &mut Gathered,
+    out: &mut Counted<W>,
+    events: usize,
+    trace: &Trace,
+) -> Result<(), FrontError>
+    requires { out.old.faults < 2 ^ 64 - 1 }
+    ensures { Puts result (out_of W.contents out.old gathered.old) (out_of W.contents out.new gathered.new) (picture_text events trace.now.ops.items trace.now.order.items) }
+{
+    gathered.put(out, LEGEND, &[])?;
+    put_bands(gathered, out, events.min(COLUMNS), trace)?;
+    put_text(gathered, out, trace)
 }
 
 fn put_bands<W: Write>(
@@ -48,26 +74,38 @@ fn put_bands<W: Write>(
     out: &mut Counted<W>,
     events: usize,
     trace: &Trace,
-) -> Result<(), FrontError> {
-    let columns = events.min(COLUMNS);
+) -> Result<(), FrontError>
+    requires count { out.old.faults < 2 ^ 64 - 1 }
+    requires few { events ≤ 960 }
+    ensures { Puts result (out_of W.contents out.old gathered.old) (out_of W.contents out.new gathered.new)
+        (bands_text trace.now.ops.items trace.now.order.items (callers_of [] (take 960 trace.now.ops.items)) events) }
+{
     let callers = callers(trace.ops.as_slice());
-    for band in 0..(columns + (BAND - 1)) / BAND {
-        let from = BAND * band;
-        let width = (columns - from).min(BAND);
-        put_band(gathered, out, trace, callers.as_slice(), from, width)?;
+    for band in 0..(events + (BAND - 1)) / BAND {
+        put_band(gathered, out, trace, callers.as_slice(), events, band)?;
     }
     Ok(())
 }
 
-fn callers(records: &[OpRecord]) -> ArrayVec<u32, CALLERS> {
+/// The callers that are drawn, in the order in which they first begin.
+fn callers(records: &[OpRecord]) -> ArrayVec<u32, CALLERS>
+    ensures { result.items ≡ callers_of [] (take 960 records.now) }
+{
     let mut callers = ArrayVec::new();
-    for entry in drawn(records) {
-        let caller = entry.caller;
-        if !callers.contains(&caller) {
-            let _full = callers.try_push(caller);
-        }
+    let shown = drawn(records);
+    for entry in shown {
+        add_caller(&mut callers, entry.caller);
     }
     callers
+}
+
+/// Adds a caller, if it is new and there is room.
+fn add_caller(callers: &mut ArrayVec<u32, CALLERS>, caller: u32)
+    ensures { callers.new.items ≡ with_caller callers.old.items caller }
+{
+    if !callers.contains(&caller) {
+        let _full = callers.try_push(caller);
+    }
 }
 
 fn put_band<W: Write>(
@@ -75,26 +113,87 @@ fn put_band<W: Write>(
     out: &mut Counted<W>,
     trace: &Trace,
     callers: &[u32],
-    from: usize,
-    width: usize,
-) -> Result<(), FrontError> {
-    put_line(gathered, out, &event_line(from, width))?;
-    for caller in callers {
-        put_line(
-            gathered,
-            out,
-            &caller_line(trace.ops.as_slice(), from, width, *caller),
-        )?;
-    }
-    let row = order_row(trace.ops.as_slice(), trace.order.as_slice(), from, width);
-    put_line(gathered, out, &row)?;
-    gathered.put(out, b"\n", &[])
+    events: usize,
+    band: usize,
+) -> Result<(), FrontError>
+    requires count { out.old.faults < 2 ^ 64 - 1 }
+    requires few { events ≤ 960 }
+    requires inside { 60 * band < events }
+    ensures { Puts result (out_of W.contents out.old gathered.old) (out_of W.contents out.new gathered.new)
+        (numbered_band trace.now.ops.items trace.now.order.items callers.now events band) }
+{
+    let from = BAND * band;
+    let width = BAND.min(events - from);
+    put_events(gathered, out, from, width)?;
+    put_rows(gathered, out, trace.ops.as_slice(), callers, from, width)?;
+    put_last_row(gathered, out, trace, from, width)
 }
 
-fn put_line<W: Write>(
+fn put_rows<W: Write>(
     gathered: &mut Gathered,
     out: &mut Counted<W>,
-    line: &Head,
-) -> Result<(), FrontError> {
+    records: &[OpRecord],
+    callers: &[u32],
+    from: usize,
+    width: usize,
+) -> Result<(), FrontError>
+    requires count { out.old.faults < 2 ^ 64 - 1 }
+    requires few { from ≤ 960 }
+    requires narrow { width ≤ 60 }
+    ensures { Puts result (out_of W.contents out.old gathered.old) (out_of W.contents out.new gathered.new)
+        (flat_map (λ caller. ended (line_of_caller records.now from width caller)) callers.now) }
+{
+    for caller in callers {
+        put_row(gathered, out, records, *caller, from, width)?;
+    }
+    Ok(())
+}
+
+fn put_row<W: Write>(
+    gathered: &mut Gathered,
+    out: &mut Counted<W>,
+    records: &[OpRecord],
+    caller: u32,
+    from: usize,
+    width: usize,
+) -> Result<(), FrontError>
+    requires count { out.old.faults < 2 ^ 64 - 1 }
+    requires few { from ≤ 960 }
+    requires narrow { width ≤ 60 }
+    ensures { Puts result (out_of W.contents out.old gathered.old) (out_of W.contents out.new gathered.new) (ended (line_of_caller records.now from width caller)) }
+{
+    let line = caller_line(records, from, width, caller);
     gathered.put(out, line.as_slice(), b"\n")
+}
+
+fn put_events<W: Write>(
+    gathered: &mut Gathered,
+    out: &mut Counted<W>,
+    from: usize,
+    width: usize,
+) -> Result<(), FrontError>
+    requires count { out.old.faults < 2 ^ 64 - 1 }
+    requires few { from ≤ 960 }
+    requires narrow { width ≤ 60 }
+    ensures { Puts result (out_of W.contents out.old gathered.old) (out_of W.contents out.new gathered.new) (ended (line_of_events from width)) }
+{
+    let line = event_line(from, width);
+    gathered.put(out, line.as_slice(), b"\n")
+}
+
+fn put_last_row<W: Write>(
+    gathered: &mut Gathered,
+    out: &mut Counted<W>,
+    trace: &Trace,
+    from: usize,
+    width: usize,
+) -> Result<(), FrontError>
+    requires count { out.old.faults < 2 ^ 64 - 1 }
+    requires few { from ≤ 960 }
+    requires narrow { width ≤ 60 }
+    ensures { Puts result (out_of W.contents out.old gathered.old) (out_of W.contents out.new gathered.new)
+        (row_of_order trace.now.ops.items trace.now.order.items from width ++ codes "\n\n") }
+{
+    let row = order_row(trace.ops.as_slice(), trace.order.as_slice(), from, width);
+    gathered.put(out, row.as_slice(), b"\n\n")
 }

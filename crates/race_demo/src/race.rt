@@ -1,0 +1,217 @@
+//! Writers and readers beside each other.
+ghost use Rattle.std.specs.Prelude.{◌≡◌, ◌<◌};
+ghost use Rattle.shard_store.specs.Pass.{IsOf};
+
+use crate::judge::{DOMAINS, RING, Tally};
+use crate::seats::{read_all, read_each, set_at};
+use shard_store::{Pass, Store};
+use std::alloc::Global;
+use std::thread;
+use std::thread::Threads;
+use std::time::{Clock, Instant};
+use thiserror::Error;
+
+/// The shards of the store, how often a fetch-all reads them, and how often an operation is tried.
+const SHARDS: usize = 4;
+
+const ROUNDS: u64 = 16;
+
+const TRIES: u64 = 1000;
+
+/// How many changes each of the writers can make.
+const CHANGES: u64 = 1 << 30;
+
+/// What a race has shown.
+#[derive(Clone, Copy, Debug, PartialEq, Eq)]
+pub struct Findings {
+    /// How many bundles were set.
+    pub sets: u64,
+    /// What was read domain by domain.
+    pub each: Tally,
+    /// What was fetched at once.
+    pub all: Tally,
+}
+
+/// Why there was no race.
+#[derive(Clone, Copy, Debug, PartialEq, Eq, Error)]
+pub enum RaceError {
+    #[error("out of memory")]
+    Memory,
+    /// The clock cannot be read.
+    #[error("the clock cannot be read")]
+    NoClock,
+}
+
+/// When a race began, and how many seconds it takes.
+#[derive(Clone, Copy)]
+struct Time {
+    start: Instant,
+    seconds: u64,
+}
+
+impl Time {
+    /// Whether the time has passed, or cannot be told any more.
+    fn is_over<H: Clock>(&self, host: &H) -> bool {
+        match self.start.elapsed(host) {
+            Ok(passed) => self.seconds <= passed.as_secs(),
+            Err(_) => true,
+        }
+    }
+}
+
+/// Sets the four domains from this place on in turn, over and over, each to the number of its round, from 1. A set that is
+/// refused is tried again, so that none is left out. Answers how many were set.
+fn write_restlessly<H: Clock>(
+    host: &H,
+    alloc: Global,
+    store: &Store,
+    mut pass: Pass,
+    from: usize,
+    time: Time,
+) -> (Pass, u64)
+    requires { IsOf pass store.now }
+    ensures { IsOf result.0 store.now }
+{
+    let mut sets = 0;
+    for _ in 0..CHANGES {
+        if time.is_over(host) {
+            break;
+        }
+        let place = from + (sets % RING as u64) as usize;
+        if set_at(alloc, store, &mut pass, place, sets / RING as u64 + 1) {
+            sets += 1;
+        }
+    }
+    (pass, sets)
+}
+
+/// Reads the domains one after another, over and over.
+fn read_restlessly<H: Clock>(
+    host: &H,
+    alloc: Global,
+    store: &Store,
+    mut pass: Pass,
+    time: Time,
+) -> (Pass, Tally)
+    requires { IsOf pass store.now }
+    ensures { IsOf result.0 store.now }
+{
+    let mut tally = Tally::NONE;
+    for _ in 0..u64::MAX {
+        if time.is_over(host) {
+            break;
+        }
+        if let Some(reading) = read_each(alloc, store, &mut pass) {
+            tally.count(reading);
+        }
+    }
+    (pass, tally)
+}
+
+/// Fetches all, over and over.
+fn fetch_restlessly<H: Clock>(host: &H, store: &Store, mut pass: Pass, time: Time) -> (Pass, Tally)
+    requires { IsOf pass store.now }
+    ensures { IsOf result.0 store.now }
+{
+    let mut tally = Tally::NONE;
+    for _ in 0..u64::MAX {
+        if time.is_over(host) {
+            break;
+        }
+        if let Some(reading) = read_all(store, &mut pass) {
+            tally.count(reading);
+        }
+    }
+    (pass, tally)
+}
+
+/// Two writers beside each other.
+fn write_both<H: Clock + Threads + Sync>(
+    host: &H,
+    alloc: Global,
+    store: &Store,
+    one: Pass,
+    two: Pass,
+    time: Time,
+) -> u64
+    requires { IsOf one store.now × IsOf two store.now }
+{
+    let ((_, sets), (_, more)) = thread::join(
+        host,
+        move ||
+            requires { IsOf one store.now }
+        { write_restlessly(host, alloc, store, one, 0, time) },
+        move ||
+            requires { IsOf two store.now }
+        { write_restlessly(host, alloc, store, two, RING, time) },
+    );
+    sets.saturating_add(more)
+}
+
+/// Two readers beside each other.
+fn read_both<H: Clock + Threads + Sync>(
+    host: &H,
+    alloc: Global,
+    store: &Store,
+    one: Pass,
+    two: Pass,
+    time: Time,
+) -> (Tally, Tally)
+    requires { IsOf one store.now × IsOf two store.now }
+{
+    let ((_, each), (_, all)) = thread::join(
+        host,
+        move ||
+            requires { IsOf one store.now }
+        { read_restlessly(host, alloc, store, one, time) },
+        move ||
+            requires { IsOf two store.now }
+        { fetch_restlessly(host, store, two, time) },
+    );
+    (each, all)
+}
+
+/// Sets each domain to 0.
+fn fill(alloc: Global, store: &Store, pass: &mut Pass) -> bool
+    requires { IsOf pass.old store.now }
+    ensures { IsOf pass.new store.now }
+{
+    for place in 0..DOMAINS {
+        if !set_at(alloc, store, pass, place, 0) {
+            return false;
+        }
+    }
+    true
+}
+
+/// Lets two writers and two readers run beside each other for so many seconds.
+pub fn run_race<H: Clock + Threads + Sync>(
+    host: &H,
+    alloc: Global,
+    seconds: u64,
+) -> Result<Findings, RaceError> {
+    let Ok((store, mut first)) = Store::new(alloc, SHARDS, ROUNDS, TRIES) else {
+        return Err(RaceError::Memory);
+    };
+    if !fill(alloc, &store, &mut first) {
+        return Err(RaceError::Memory);
+    }
+    let second = store.split(&mut first, CHANGES);
+    let reader = store.split(&mut first, 2);
+    let fetcher = store.split(&mut first, 1);
+    let Ok(start) = Instant::now(host) else {
+        return Err(RaceError::NoClock);
+    };
+    let time = Time { start, seconds };
+    let store = &store;
+    let (sets, (each, all)) = thread::join(
+        host,
+        move ||
+            requires { IsOf first store.now × IsOf second store.now }
+        { write_both(host, alloc, store, first, second, time) },
+        move ||
+            requires { IsOf reader store.now × IsOf fetcher store.now }
+        { read_both(host, alloc, store, reader, fetcher, time) },
+    );
+    Ok(Findings { sets, each, all })
+}
