@@ -1,10 +1,10 @@
 //! What is printed of a run as a picture: a row for each caller, a column for each event.
-ghost use Rattle.std.specs.Prelude.{◌≡◌, ◌≤◌, ◌<◌, ◌-◌, ◌^◌, ◌*◌, ◌++◌, [], take, codes, OnOk, IfErr};
+ghost use Rattle.std.specs.Prelude.{◌≡◌, ◌≤◌, ◌<◌, ◌-◌, ◌^◌, ◌*◌, ◌++◌, [], ◌∷◌, take, codes, OnOk, IfErr};
 ghost use Rattle.std.specs.Io.KnownBytes.{Appends};
 ghost use Rattle.std.specs.List.{flat_map};
 ghost use Rattle.frame_front.specs.Outbox.{WritesFront};
 ghost use Rattle.trace_lines.specs.TraceText.{ended};
-ghost use Rattle.trace_lines.specs.Picture.{callers_of, with_caller, caller_line as line_of_caller, event_line as line_of_events, order_row as row_of_order, numbered_band, bands_text, picture_text};
+ghost use Rattle.trace_lines.specs.Picture.{callers_of, with_caller, caller_line as line_of_caller, event_line as line_of_events, order_row as row_of_order, numbered_band, bands_text, legend, picture_text};
 ghost use Rattle.trace_lines.specs.Private.Puts.{Puts, out_of};
 
 use crate::gathered::Gathered;
@@ -64,12 +64,20 @@ fn put_page<W: Write>(
     requires { out.old.faults < 2 ^ 64 - 1 }
     ensures { Puts result (out_of W.contents out.old gathered.old) (out_of W.contents out.new gathered.new) (picture_text events trace.now.ops.items trace.now.order.items) }
 {
-    gathered.put(out, LEGEND, &[])?;
-    put_bands(gathered, out, events.min(COLUMNS), trace)?;
+    put_legend(gathered, out)?;
+    put_drawn(gathered, out, COLUMNS.min(events), trace)?;
     put_text(gathered, out, trace)
 }
 
-fn put_bands<W: Write>(
+#[tactic(auto, unfolding(crate::specs::Picture::legend))]
+fn put_legend<W: Write>(gathered: &mut Gathered, out: &mut Counted<W>) -> Result<(), FrontError>
+    requires { out.old.faults < 2 ^ 64 - 1 }
+    ensures { Puts result (out_of W.contents out.old gathered.old) (out_of W.contents out.new gathered.new) legend }
+{
+    gathered.put(out, LEGEND, &[])
+}
+
+fn put_drawn<W: Write>(
     gathered: &mut Gathered,
     out: &mut Counted<W>,
     events: usize,
@@ -81,8 +89,23 @@ fn put_bands<W: Write>(
         (bands_text trace.now.ops.items trace.now.order.items (callers_of [] (take 960 trace.now.ops.items)) events) }
 {
     let callers = callers(trace.ops.as_slice());
+    put_bands(gathered, out, events, trace, callers.as_slice())
+}
+
+fn put_bands<W: Write>(
+    gathered: &mut Gathered,
+    out: &mut Counted<W>,
+    events: usize,
+    trace: &Trace,
+    callers: &[u32],
+) -> Result<(), FrontError>
+    requires count { out.old.faults < 2 ^ 64 - 1 }
+    requires few { events ≤ 960 }
+    ensures { Puts result (out_of W.contents out.old gathered.old) (out_of W.contents out.new gathered.new)
+        (bands_text trace.now.ops.items trace.now.order.items callers.now events) }
+{
     for band in 0..(events + (BAND - 1)) / BAND {
-        put_band(gathered, out, trace, callers.as_slice(), events, band)?;
+        put_band(gathered, out, trace, callers, events, band)?;
     }
     Ok(())
 }
@@ -104,7 +127,16 @@ fn add_caller(callers: &mut ArrayVec<u32, CALLERS>, caller: u32)
     ensures { callers.new.items ≡ with_caller callers.old.items caller }
 {
     if !callers.contains(&caller) {
-        let _full = callers.try_push(caller);
+        add_new(callers, caller);
+    }
+}
+
+/// Adds a caller, if there is room.
+fn add_new(callers: &mut ArrayVec<u32, CALLERS>, caller: u32)
+    ensures { callers.new.items ≡ take 16 (callers.old.items ++ caller ∷ []) }
+{
+    if callers.len() < CALLERS {
+        callers.push(caller);
     }
 }
 
@@ -125,14 +157,14 @@ fn put_band<W: Write>(
     let from = BAND * band;
     let width = BAND.min(events - from);
     put_events(gathered, out, from, width)?;
-    put_rows(gathered, out, trace.ops.as_slice(), callers, from, width)?;
+    put_rows(gathered, out, trace, callers, from, width)?;
     put_last_row(gathered, out, trace, from, width)
 }
 
 fn put_rows<W: Write>(
     gathered: &mut Gathered,
     out: &mut Counted<W>,
-    records: &[OpRecord],
+    trace: &Trace,
     callers: &[u32],
     from: usize,
     width: usize,
@@ -141,10 +173,10 @@ fn put_rows<W: Write>(
     requires few { from ≤ 960 }
     requires narrow { width ≤ 60 }
     ensures { Puts result (out_of W.contents out.old gathered.old) (out_of W.contents out.new gathered.new)
-        (flat_map (λ caller. ended (line_of_caller records.now from width caller)) callers.now) }
+        (flat_map (λ caller. ended (line_of_caller trace.now.ops.items from width caller)) callers.now) }
 {
     for caller in callers {
-        put_row(gathered, out, records, *caller, from, width)?;
+        put_row(gathered, out, trace, *caller, from, width)?;
     }
     Ok(())
 }
@@ -152,7 +184,7 @@ fn put_rows<W: Write>(
 fn put_row<W: Write>(
     gathered: &mut Gathered,
     out: &mut Counted<W>,
-    records: &[OpRecord],
+    trace: &Trace,
     caller: u32,
     from: usize,
     width: usize,
@@ -160,9 +192,9 @@ fn put_row<W: Write>(
     requires count { out.old.faults < 2 ^ 64 - 1 }
     requires few { from ≤ 960 }
     requires narrow { width ≤ 60 }
-    ensures { Puts result (out_of W.contents out.old gathered.old) (out_of W.contents out.new gathered.new) (ended (line_of_caller records.now from width caller)) }
+    ensures { Puts result (out_of W.contents out.old gathered.old) (out_of W.contents out.new gathered.new) (ended (line_of_caller trace.now.ops.items from width caller)) }
 {
-    let line = caller_line(records, from, width, caller);
+    let line = caller_line(trace.ops.as_slice(), from, width, caller);
     gathered.put(out, line.as_slice(), b"\n")
 }
 

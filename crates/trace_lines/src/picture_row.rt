@@ -1,5 +1,5 @@
 //! The lines of a picture: its events, its callers, and the order.
-ghost use Rattle.std.specs.Prelude.{◌≡◌, ◌+◌, ◌≤◌, ◌<◌, ◌^◌, ◌%◌, ◌++◌, take, decimal, replicate};
+ghost use Rattle.std.specs.Prelude.{◌≡◌, ◌+◌, ◌≤◌, ◌<◌, ◌^◌, ◌%◌, ◌++◌, codes, take, decimal, replicate};
 ghost use Rattle.arrayvec.specs.ArrayVec.{array_vec_len};
 ghost use Rattle.trace_lines.specs.Picture as drawing;
 
@@ -62,13 +62,22 @@ pub(crate) fn caller_line(records: &[OpRecord], from: usize, width: usize, calle
     requires narrow { width ≤ 60 }
     ensures { result.items ≡ drawing.caller_line records.now from width caller }
 {
+    let mut line = caller_label(caller);
+    for event in from..from + width {
+        line.push(caller_mark(records, caller, event as u64));
+    }
+    line
+}
+
+/// What stands before the columns of a caller.
+fn caller_label(caller: u32) -> Head
+    ensures items { result.items ≡ drawing.label (codes "caller " ++ decimal caller) }
+    ensures few { array_vec_len result ≤ 18 }
+{
     let mut line = head_of(b"caller ");
     put_number(&mut line, u64::from(caller));
     let room = LABEL - line.len();
     put_spaces(&mut line, room);
-    for event in from..from + width {
-        line.push(caller_mark(records, caller, event as u64));
-    }
     line
 }
 

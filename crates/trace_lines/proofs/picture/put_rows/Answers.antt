@@ -10,7 +10,7 @@ use Rattle.trace_lines.proofs.picture.put_rows.Goals as goal
 pub returns-in_err-put_row : goal.returns-in_err-put_row
 returns-in_err-put_row g c =
     let so = c.loop-caller.invariant in
-    let line : ℕ → List ℕ = λ caller. ended (caller_line c.args.records.now c.args.from c.args.width caller) in
+    let line : ℕ → List ℕ = λ caller. ended (caller_line c.args.trace.now.ops.items c.args.from c.args.width caller) in
     let rest = flat_map line (drop (c.loop-caller.caller-index + 1) c.args.callers.now) in
     let cut : flat_map line (drop c.loop-caller.caller-index c.args.callers.now) ≡ line (get_or c.args.callers.now c.loop-caller.caller-index 0) ++ rest =
     at_drop_more (flat_map line) c.args.callers.now c.loop-caller.caller-index 0 c.loop-caller-test.true in
@@ -19,7 +19,7 @@ returns-in_err-put_row g c =
 pub loop-caller-preserved : goal.loop-caller-preserved
 loop-caller-preserved g c =
     let so = c.loop-caller.invariant in
-    let line : ℕ → List ℕ = λ caller. ended (caller_line c.args.records.now c.args.from c.args.width caller) in
+    let line : ℕ → List ℕ = λ caller. ended (caller_line c.args.trace.now.ops.items c.args.from c.args.width caller) in
     let rest = flat_map line (drop (c.loop-caller.caller-index + 1) c.args.callers.now) in
     let cut : flat_map line (drop c.loop-caller.caller-index c.args.callers.now) ≡ line (get_or c.args.callers.now c.loop-caller.caller-index 0) ++ rest =
     at_drop_more (flat_map line) c.args.callers.now c.loop-caller.caller-index 0 c.loop-caller-test.true in
