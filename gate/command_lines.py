@@ -44,6 +44,23 @@ MOVED_ONCE = (
     b"record 0 caller 1 first 0 last 6 reply moved 0 0 1\nrecord 1 caller 2 first 2 last 4 reply stored\norder 1\n"
 )
 
+# The picture of that, drawn by hand.
+LEGEND = b"""\
+A row for each caller, a column for each event, counted from 0.
+[ an operation begins   ] it ends   - it is open   . no operation is open
+order: each operation at a moment when it can take effect, by the last digit of
+its number, so that one after another they give these replies.
+Up to 960 events and 16 callers are drawn.
+
+"""
+OVERTAKEN_PICTURE = b"""\
+event             0
+caller 1          [-----]
+caller 2          ..[-]..
+order             ..1....
+
+"""
+
 NOTHING = b"-: no authorities: nothing would be kept of 0 entries\n"
 
 # Lines that become the first run, and what its replies are as lines.
@@ -100,6 +117,7 @@ RUNS = [
     ("trace --shards 1 --rounds 1", OVERTAKEN_ONCE, MOVED_ONCE),
     ("trace --shards 2 --rounds 1", FETCH_ALL, UNFINISHED),
     ("trace --shards 1 --rounds 2", FETCH_ALL, FETCHED),
+    ("trace --shards 1 --rounds 1 --picture", OVERTAKEN_ONCE, LEGEND + OVERTAKEN_PICTURE + MOVED_ONCE),
 ]
 
 FAULTS = [
@@ -142,6 +160,7 @@ SHOWN = [
     ("explain --help", "Usage: bundled explain <NUMBER>"),
     ("explain 31", "lower than the stored one"),
     ("trace --help", "--rounds <COUNT>"),
+    ("trace --help", "--picture"),
     ("migrate --help", "bundled migrate < dump"),
     ("refresh --help", "--relationships <FILE>"),
     ("refresh --help", "1000 a.example sent due 1300"),

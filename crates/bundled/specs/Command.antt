@@ -51,7 +51,7 @@ Does (Pem name) status old new = Filters (PemOf name) (NoPem name) status old ne
 Does (Diff old_file new_file) status old new =
     (new.input ≡ old.input) × DiffFiles status old.output new.output old.error new.error
 Does Digest status old new = Filters DigestOf Unread status old new
-Does (Trace shards rounds) status old new = Tracing shards rounds status old new
+Does (Trace shards rounds picture) status old new = Tracing shards rounds picture status old new
 Does Migrate status old new = Migration status old new
 Does (Refresh wanted) status old new = RefreshRun status old new
 Does (Snapshot wanted) status old new = SnapshotRun status old new

@@ -114,9 +114,11 @@ fn run_wanted<
         Wanted::Diff(old, new) => diff_files(alloc, host, old, new, out, err),
         Wanted::Digest => digest_over(alloc, reader, out, err),
         Wanted::Migrate => migrate_over(alloc, reader, out, err),
-        Wanted::Trace { shards, rounds } => {
-            trace_over(alloc, reader, out, err, *shards, *rounds)
-        }
+        Wanted::Trace {
+            shards,
+            rounds,
+            picture,
+        } => trace_over(alloc, reader, out, err, *shards, *rounds, *picture),
         Wanted::Refresh(refreshing) => refresh_over(alloc, host, out, err, refreshing),
         Wanted::Snapshot(snapshotting) => snapshot_over(alloc, host, out, err, snapshotting),
         Wanted::Serve {

@@ -6,7 +6,7 @@ use Rattle.command_line.specs.declared.wanted.Wanted.TheVariants.{Run, Encode, D
 -- numbers within their ranges
 abbrev pub AreSettings : Wanted → Type 0
 AreSettings (Run shards turns) = (0 < shards) × (shards ≤ 256) × (0 < turns) × (turns ≤ 1000000000)
-AreSettings (Trace shards rounds) = (0 < shards) × (shards ≤ 256) × (0 < rounds) × (rounds ≤ 16)
+AreSettings (Trace shards rounds picture) = (0 < shards) × (shards ≤ 256) × (0 < rounds) × (rounds ≤ 16)
 AreSettings Encode = Unit {0}
 AreSettings Decode = Unit {0}
 AreSettings (Explain text) = Unit {0}

@@ -159,13 +159,15 @@ pub fn explain_command<'a>(alloc: Global) -> Result<Command<'a>, AllocError> {
 }
 
 pub fn trace_command<'a>(alloc: Global) -> Result<Command<'a>, AllocError> {
+    let picture = "Draw the run first: a row for each caller, a column for each event";
     Command::new(alloc, "trace")
         .about(
             "Runs events on standard input over an empty store, and explains every reply by one order",
         )
         .after_help(EVENTS)
         .arg(shards(alloc))?
-        .arg(rounds(alloc))
+        .arg(rounds(alloc))?
+        .arg(flag(alloc, "picture", picture))
 }
 
 pub fn migrate_command<'a>(alloc: Global) -> Command<'a> {

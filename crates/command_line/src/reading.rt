@@ -116,6 +116,7 @@ fn wanted_of<'a>(alloc: Global, matches: &ArgMatches<'a>) -> Result<Wanted<'a>, 
         Some(("trace", trace)) => Ok(Wanted::Trace {
             shards: shards_of(trace),
             rounds: rounds_of(trace),
+            picture: trace.get_flag("picture"),
         }),
         Some((_, run)) => Ok(Wanted::Run {
             shards: shards_of(run),

@@ -10,10 +10,11 @@ pub enum Wanted<'a> {
         shards: usize,
         turns: u64,
     },
-    /// A run of events over so many shards, a fetch-all in so many rounds.
+    /// A run of events over so many shards, a fetch-all in so many rounds; as a picture too, or not.
     Trace {
         shards: usize,
         rounds: usize,
+        picture: bool,
     },
     /// Frames of requests, out of lines.
     Encode,

@@ -28,7 +28,13 @@ fn wanted(alloc: Global, words: &[&str]) -> Result<String, AllocError> {
     }
     match wanted_by(alloc, line.as_slice()) {
         Ok(Wanted::Run { shards, turns }) => format!(in alloc; "run {shards} {turns}"),
-        Ok(Wanted::Trace { shards, rounds }) => format!(in alloc; "trace {shards} {rounds}"),
+        Ok(
+            Wanted::Trace {
+                shards,
+                rounds,
+                picture,
+            },
+        ) => format!(in alloc; "trace {shards} {rounds} {picture}"),
         Ok(Wanted::Encode) => format!(in alloc; "encode"),
         Ok(Wanted::Decode) => format!(in alloc; "decode"),
         Ok(Wanted::Explain(text)) => format!(in alloc; "explain {text}"),
@@ -145,10 +151,10 @@ fn reads_the_command_line(rt: HostRuntime) -> Result<(), AllocError> {
             ],
             "refresh -l f/g Some(18446744073709551615) 0 Some(65535)",
         ),
-        (&["bundled", "trace"], "trace 4 3"),
+        (&["bundled", "trace"], "trace 4 3 false"),
         (
             &["bundled", "trace", "--shards=1", "--rounds=16"],
-            "trace 1 16",
+            "trace 1 16 false",
         ),
         (&["bundled", "migrate"], "migrate"),
         (

@@ -1,11 +1,13 @@
 //! The command `trace`: a run of the machine over a list of events.
-ghost use Rattle.std.specs.Prelude.{◌≡◌, ◌<◌, ◌-◌, ◌^◌, List, ℕ, Option, Err, IfOk, IfErr};
+ghost use Rattle.std.specs.Prelude.{◌≡◌, ◌<◌, ◌-◌, ◌^◌, List, ℕ, Bool, Option, Err, length, OnOk, IfOk, IfErr};
+ghost use Rattle.std.specs.Io.KnownBytes.{Appends};
+ghost use Rattle.frame_front.specs.Outbox.{WritesFront};
 ghost use Rattle.frame_front.specs.declared.error.FrontError.TheVariants.{ReadFault, WriteFault};
 ghost use Rattle.step_core.specs.declared.event.Event.{Event};
 ghost use Rattle.trace_lines.specs.Events.{lines_in, AreEvents};
 ghost use Rattle.commands.specs.Input.{IsInput};
 ghost use Rattle.commands.specs.Streams.{streams};
-ghost use Rattle.commands.specs.Trace.{IsTraceOf, Traces, Tracing};
+ghost use Rattle.commands.specs.Trace.{IsTraceOf, Traces, Tracing, printed};
 ghost use Rattle.commands.specs.declared.fault.Fault.TheVariants.{Front};
 
 use crate::fault::Fault;
@@ -14,10 +16,10 @@ use frame_front::{Counted, FrontError};
 use std::alloc::Global;
 use std::io::{Read, Write};
 use step_core::{Trace, run_events};
-use trace_lines::{LinesError, put_trace, read_events};
+use trace_lines::{LinesError, put_picture, put_trace, read_events};
 
 /// Reads events, a line each, runs them over so many shards, a fetch-all in so many rounds, and writes a line for each
-/// operation and one for their order; answers the exit status. A line that is not an event is a fault, and then nothing
+/// operation and one for their order, below a picture of the run if one is wanted; answers the exit status. A line that is not an event is a fault, and then nothing
 /// is written.
 pub fn trace_over<R: Read, W: Write, E: Write>(
     alloc: Global,
@@ -26,18 +28,19 @@ pub fn trace_over<R: Read, W: Write, E: Write>(
     err: &mut Counted<E>,
     shards: usize,
     rounds: usize,
+    picture: bool,
 ) -> u8
     requires shards { 0 < shards }
     requires rounds { 0 < rounds }
     requires reader_count { reader.old.faults < 2 ^ 64 - 1 }
     requires out_count { out.old.faults < 2 ^ 64 - 1 }
     requires err_count { err.old.faults < 2 ^ 64 - 1 }
-    ensures traces { Tracing shards rounds result
+    ensures traces { Tracing shards rounds picture result
         (streams R.remaining W.contents E.contents reader.old out.old err.old)
         (streams R.remaining W.contents E.contents reader.new out.new err.new) }
     ensures silent { result ≡ 0 → err.new ≡ err.old }
 {
-    match trace_input(alloc, reader, out, shards, rounds) {
+    match trace_input(alloc, reader, out, shards, rounds, picture) {
         Ok(()) => 0,
         Err(fault) => fault.tell(err),
     }
@@ -49,38 +52,58 @@ fn trace_input<R: Read, W: Write>(
     out: &mut Counted<W>,
     shards: usize,
     rounds: usize,
+    picture: bool,
 ) -> Result<(), Fault>
     requires shards { 0 < shards }
     requires rounds { 0 < rounds }
     requires reader_count { reader.old.faults < 2 ^ 64 - 1 }
     requires out_count { out.old.faults < 2 ^ 64 - 1 }
-    ensures traces { Traces shards rounds result (R.remaining reader.old.end) (R.remaining reader.new.end) (W.contents out.old.end) (W.contents out.new.end) }
+    ensures traces { Traces shards rounds picture result (R.remaining reader.old.end) (R.remaining reader.new.end) (W.contents out.old.end) (W.contents out.new.end) }
     ensures read_fault { result ≡ Err (Front ReadFault) → reader.old.faults < reader.new.faults }
     ensures write_fault { result ≡ Err (Front WriteFault) → out.old.faults < out.new.faults }
 {
-    let trace = match traced(alloc, reader, shards, rounds) {
-        Ok(trace) => trace,
+    let (events, trace) = match traced(alloc, reader, shards, rounds) {
+        Ok(traced) => traced,
         Err(fault) => return Err(fault),
     };
-    match put_trace(out, &trace) {
+    match print(out, picture, events, &trace) {
         Ok(()) => Ok(()),
         Err(_) => Err(Fault::Front(FrontError::WriteFault)),
     }
 }
 
-/// The trace of the events of an input.
+/// Prints a run of so many events.
+fn print<W: Write>(
+    out: &mut Counted<W>,
+    picture: bool,
+    events: usize,
+    trace: &Trace,
+) -> Result<(), FrontError>
+    requires { out.old.faults < 2 ^ 64 - 1 }
+    ensures ok { OnOk result (Appends (W.contents out.old.end) (W.contents out.new.end) (printed picture events trace.now.ops.items trace.now.order.items)) }
+    ensures fault { IfErr result (λ fault. (fault ≡ FrontError.WriteFault) × (out.old.faults < out.new.faults)) }
+    ensures front { WritesFront (W.contents out.old.end) (W.contents out.new.end) (printed picture events trace.now.ops.items trace.now.order.items) }
+{
+    if picture {
+        put_picture(out, events, trace)
+    } else {
+        put_trace(out, trace)
+    }
+}
+
+/// How many events an input has, and the trace of them.
 fn traced<R: Read>(
     alloc: Global,
     reader: &mut Counted<R>,
     shards: usize,
     rounds: usize,
-) -> Result<Trace, Fault>
+) -> Result<(usize, Trace), Fault>
     requires shards { 0 < shards }
     requires rounds { 0 < rounds }
     requires reader_count { reader.old.faults < 2 ^ 64 - 1 }
-    ensures ok { IfOk result (λ trace. (input : List ℕ) × (events : List Event) × IsInput input (R.remaining reader.old.end) (R.remaining reader.new.end)
-        × AreEvents (lines_in input) events × IsTraceOf shards rounds events trace.ops.items trace.order.items) }
-    ensures err { IfErr result (λ fault. (held : Option (List ℕ)) → Traces shards rounds (Err fault) (R.remaining reader.old.end) (R.remaining reader.new.end) held held) }
+    ensures ok { IfOk result (λ traced. (input : List ℕ) × (events : List Event) × IsInput input (R.remaining reader.old.end) (R.remaining reader.new.end)
+        × AreEvents (lines_in input) events × IsTraceOf shards rounds events traced.1.ops.items traced.1.order.items × (traced.0 ≡ length events)) }
+    ensures err { IfErr result (λ fault. (picture : Bool) (held : Option (List ℕ)) → Traces shards rounds picture (Err fault) (R.remaining reader.old.end) (R.remaining reader.new.end) held held) }
     ensures read_fault { result ≡ Err (Front ReadFault) → reader.old.faults < reader.new.faults }
     ensures no_write_fault { result ≡ Err (Front WriteFault) → ⊥ }
 {
@@ -91,7 +114,7 @@ fn traced<R: Read>(
         Err(LinesError::Memory) => return Err(Fault::Front(FrontError::Memory)),
     };
     match run_events(alloc, shards, rounds, events.as_slice()) {
-        Ok(trace) => Ok(trace),
+        Ok(trace) => Ok((events.len(), trace)),
         Err(_) => Err(Fault::Front(FrontError::Memory)),
     }
 }

@@ -82,7 +82,7 @@ fn trace<R: Read + Drop>(alloc: Global, reader: R) -> Left {
     let mut reader = Counted::new(reader);
     let mut out = Counted::new(Vec::new(alloc));
     let mut err = Counted::new(Vec::new(alloc));
-    let status = trace_over(alloc, &mut reader, &mut out, &mut err, 4, 4);
+    let status = trace_over(alloc, &mut reader, &mut out, &mut err, 4, 4, false);
     Left {
         output: out.end,
         faults: err.end,

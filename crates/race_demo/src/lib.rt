@@ -3,10 +3,11 @@
 #![tactic(auto)]
 
 mod judge;
+pub mod laws;
 mod race;
 mod report;
 mod seats;
 
 pub use judge::{Reading, Tally, is_map, is_moment};
-pub use race::{Findings, RaceError, run_race};
-pub use report::report_text;
+pub use race::{RaceError, run_race};
+pub use report::{Findings, report_text};

@@ -1,8 +1,10 @@
 //! Writers and readers beside each other.
-ghost use Rattle.std.specs.Prelude.{◌≡◌, ◌<◌};
+ghost use Rattle.std.specs.Prelude.{◌≤◌, IfOk};
+ghost use Rattle.race_demo.specs.Report.{IsHonest};
 ghost use Rattle.shard_store.specs.Pass.{IsOf};
 
 use crate::judge::{DOMAINS, RING, Tally};
+use crate::report::Findings;
 use crate::seats::{read_all, read_each, set_at};
 use shard_store::{Pass, Store};
 use std::alloc::Global;
@@ -20,17 +22,6 @@ const TRIES: u64 = 1000;
 
 /// How many changes each of the writers can make.
 const CHANGES: u64 = 1 << 30;
-
-/// What a race has shown.
-#[derive(Clone, Copy, Debug, PartialEq, Eq)]
-pub struct Findings {
-    /// How many bundles were set.
-    pub sets: u64,
-    /// What was read domain by domain.
-    pub each: Tally,
-    /// What was fetched at once.
-    pub all: Tally,
-}
 
 /// Why there was no race.
 #[derive(Clone, Copy, Debug, PartialEq, Eq, Error)]
@@ -69,7 +60,8 @@ fn write_restlessly<H: Clock>(
     from: usize,
     time: Time,
 ) -> (Pass, u64)
-    requires { IsOf pass store.now }
+    requires own { IsOf pass store.now }
+    requires small { from ≤ 4 }
     ensures { IsOf result.0 store.now }
 {
     let mut sets = 0;
@@ -94,7 +86,8 @@ fn read_restlessly<H: Clock>(
     time: Time,
 ) -> (Pass, Tally)
     requires { IsOf pass store.now }
-    ensures { IsOf result.0 store.now }
+    ensures own { IsOf result.0 store.now }
+    ensures honest { IsHonest result.1 }
 {
     let mut tally = Tally::NONE;
     for _ in 0..u64::MAX {
@@ -102,7 +95,7 @@ fn read_restlessly<H: Clock>(
             break;
         }
         if let Some(reading) = read_each(alloc, store, &mut pass) {
-            tally.count(reading);
+            tally = tally.and(reading);
         }
     }
     (pass, tally)
@@ -111,7 +104,8 @@ fn read_restlessly<H: Clock>(
 /// Fetches all, over and over.
 fn fetch_restlessly<H: Clock>(host: &H, store: &Store, mut pass: Pass, time: Time) -> (Pass, Tally)
     requires { IsOf pass store.now }
-    ensures { IsOf result.0 store.now }
+    ensures own { IsOf result.0 store.now }
+    ensures honest { IsHonest result.1 }
 {
     let mut tally = Tally::NONE;
     for _ in 0..u64::MAX {
@@ -119,7 +113,7 @@ fn fetch_restlessly<H: Clock>(host: &H, store: &Store, mut pass: Pass, time: Tim
             break;
         }
         if let Some(reading) = read_all(store, &mut pass) {
-            tally.count(reading);
+            tally = tally.and(reading);
         }
     }
     (pass, tally)
@@ -158,14 +152,17 @@ fn read_both<H: Clock + Threads + Sync>(
     time: Time,
 ) -> (Tally, Tally)
     requires { IsOf one store.now × IsOf two store.now }
+    ensures { IsHonest result.0 × IsHonest result.1 }
 {
     let ((_, each), (_, all)) = thread::join(
         host,
         move ||
             requires { IsOf one store.now }
+            ensures { IsHonest result.1 }
         { read_restlessly(host, alloc, store, one, time) },
         move ||
             requires { IsOf two store.now }
+            ensures { IsHonest result.1 }
         { fetch_restlessly(host, store, two, time) },
     );
     (each, all)
@@ -185,11 +182,17 @@ fn fill(alloc: Global, store: &Store, pass: &mut Pass) -> bool
 }
 
 /// Lets two writers and two readers run beside each other for so many seconds.
+///
+/// What it tells is honest: it counts no more maps that never were than readings, and what it shows as a map that never
+/// was is none at any moment of two such writers. How many readings there are, and how many of them never were, no proof
+/// says: that is up to the threads.
 pub fn run_race<H: Clock + Threads + Sync>(
     host: &H,
     alloc: Global,
     seconds: u64,
-) -> Result<Findings, RaceError> {
+) -> Result<Findings, RaceError>
+    ensures { IfOk result (λ found. IsHonest found.each × IsHonest found.all) }
+{
     let Ok((store, mut first)) = Store::new(alloc, SHARDS, ROUNDS, TRIES) else {
         return Err(RaceError::Memory);
     };
@@ -211,6 +214,7 @@ pub fn run_race<H: Clock + Threads + Sync>(
         { write_both(host, alloc, store, first, second, time) },
         move ||
             requires { IsOf reader store.now × IsOf fetcher store.now }
+            ensures { IsHonest result.0 × IsHonest result.1 }
         { read_both(host, alloc, store, reader, fetcher, time) },
     );
     Ok(Findings { sets, each, all })

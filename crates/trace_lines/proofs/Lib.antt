@@ -5,3 +5,4 @@ pub mod EventLists
 pub mod Writes
 pub mod TraceTexts
 pub mod Pictures
+pub mod PictureLaws

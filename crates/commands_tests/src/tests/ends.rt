@@ -33,7 +33,7 @@ fn program<R: Read + Drop, W: Write, E: Write>(
     let mut err = Counted::new(err);
     let status = match command {
         Command::Run => run_over(alloc, &mut reader, &mut out, &mut err, 4, 1_000_000),
-        Command::Trace => trace_over(alloc, &mut reader, &mut out, &mut err, 4, 3),
+        Command::Trace => trace_over(alloc, &mut reader, &mut out, &mut err, 4, 3, false),
         Command::Migrate => migrate_over(alloc, &mut reader, &mut out, &mut err),
     };
     (status, out.end, err.end)

@@ -24,6 +24,7 @@ fn left_by(alloc: Global, shards: usize, rounds: usize, input: &[u8]) -> Left {
         &mut err,
         shards.max(1),
         rounds.max(1),
+        false,
     );
     Left {
         status,

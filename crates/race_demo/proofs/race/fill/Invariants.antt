@@ -1,0 +1,7 @@
+use Rattle.std.proofs.Common.{◌≡◌}
+use Rattle.shard_store.specs.Pass.{IsOf}
+use Rattle.race_demo.proofs.race.fill.Given as goal
+
+-- the pass is of the store
+abbrev pub invariant-loop-place : goal.invariant-loop-place
+invariant-loop-place l = IsOf l.pass l.fn.store
