@@ -12,5 +12,5 @@ shown (Some r) reading before not = before
 
 -- a reading more leaves a tally honest
 pub honest_then : (old new : Tally) (reading : List ℕ) → IsHonest old → Counts old reading new → IsHonest new
-honest_then old new reading honest (inl was) = subst IsHonest (sym was.1) record { fewer = omega (arith, honest.fewer); first = honest.first }
-honest_then old new reading honest (inr never) = subst IsHonest (sym never.1) record { fewer = omega (arith, honest.fewer); first = shown old.first reading honest.first never.0 }
+honest_then old new reading honest (inl was) = subst IsHonest (sym was.1) record { fits = omega (arith, honest.fits); fewer = omega (arith, honest.fits, honest.fewer); first = honest.first }
+honest_then old new reading honest (inr never) = subst IsHonest (sym never.1) record { fits = omega (arith, honest.fits); fewer = omega (arith, honest.fits, honest.fewer); first = shown old.first reading honest.first never.0 }

@@ -1,5 +1,5 @@
 -- What is counted and told of a race.
-use Rattle.std.specs.Prelude.{◌≡◌, ◌≤◌, ◌⊎◌, IfSome, ℕ, ◌+◌, ◌-◌, ◌^◌, min, List, [], ◌∷◌, ◌++◌, codes, decimal, Option, Some, None}
+use Rattle.std.specs.Prelude.{◌≡◌, ◌≤◌, ◌<◌, ◌⊎◌, IfSome, ℕ, ◌+◌, ◌-◌, ◌^◌, min, List, [], ◌∷◌, ◌++◌, codes, decimal, Option, Some, None}
 use Rattle.std.specs.Option.{unwrap_or}
 use Rattle.race_demo.specs.Moment.{IsMap}
 use Rattle.race_demo.specs.declared.judge.Tally.{Tally}
@@ -23,6 +23,7 @@ Counts old reading new = (IsMap reading × (new ≡ counted old)) ⊎ ((IsMap re
 
 -- what a tally tells: there are no more maps that never were than readings, and the first of them never was
 pub record IsHonest (tally : Tally) : Type 0 where
+  pub fits : tally.readings < 2 ^ 64
   pub fewer : tally.mixed ≤ tally.readings
   pub first : IfSome tally.first (λ reading. IsMap reading → ⊥)
 

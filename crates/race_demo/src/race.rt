@@ -196,12 +196,12 @@ pub fn run_race<H: Clock + Threads + Sync>(
     let Ok((store, mut first)) = Store::new(alloc, SHARDS, ROUNDS, TRIES) else {
         return Err(RaceError::Memory);
     };
-    if !fill(alloc, &store, &mut first) {
-        return Err(RaceError::Memory);
-    }
     let second = store.split(&mut first, CHANGES);
     let reader = store.split(&mut first, 2);
     let fetcher = store.split(&mut first, 1);
+    if !fill(alloc, &store, &mut first) {
+        return Err(RaceError::Memory);
+    }
     let Ok(start) = Instant::now(host) else {
         return Err(RaceError::NoClock);
     };
