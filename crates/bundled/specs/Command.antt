@@ -4,7 +4,7 @@ use Rattle.std.specs.Io.KnownBytes.{Appends}
 use Rattle.frame_front.specs.Outbox.{WritesFront}
 use Rattle.frame_front.specs.declared.error.FrontError.TheVariants.{Memory, ReadFault, WriteFault}
 use Rattle.command_line.specs.declared.wanted.Wanted.{Wanted}
-use Rattle.command_line.specs.declared.wanted.Wanted.TheVariants.{Run, Encode, Decode, Explain, Check, Map, Import, Pem, Diff, Digest, Trace, Migrate, Refresh, Snapshot, Serve}
+use Rattle.command_line.specs.declared.wanted.Wanted.TheVariants.{Run, Encode, Decode, Explain, Check, Map, Import, Pem, Diff, Digest, Trace, Migrate, Race, Refresh, Snapshot, Serve}
 use Rattle.commands.specs.declared.fault.Fault.{Fault}
 use Rattle.commands.specs.declared.fault.Fault.TheVariants.{Front}
 use Rattle.commands.specs.Fault.{fault_line}
@@ -25,6 +25,7 @@ use Rattle.dump_commands.specs.Pem.{PemOf, NoPem, DigestOf}
 use Rattle.dump_commands.specs.Diff.{Inputs, DiffRun}
 use Rattle.bundled.specs.Refresh.{RefreshRun}
 use Rattle.bundled.specs.Snapshot.{SnapshotRun}
+use Rattle.bundled.specs.Race.{RaceRun}
 use Rattle.server.specs.Serve.{ServeCommand}
 
 -- what a map shows of a bundle: its X.509 authorities, or all
@@ -53,6 +54,7 @@ Does (Diff old_file new_file) status old new =
 Does Digest status old new = Filters DigestOf Unread status old new
 Does (Trace shards rounds picture) status old new = Tracing shards rounds picture status old new
 Does Migrate status old new = Migration status old new
+Does (Race seconds) status old new = RaceRun status old new
 Does (Refresh wanted) status old new = RefreshRun status old new
 Does (Snapshot wanted) status old new = SnapshotRun status old new
 Does (Serve port load log settings) status old new =

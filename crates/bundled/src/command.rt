@@ -4,6 +4,7 @@ ghost use Rattle.bundled.specs.Command.{Commands, DiffFiles, Does, Refuses, Show
 ghost use Rattle.command_line.specs.Settings.{AreSettings};
 ghost use Rattle.commands.specs.Streams.{End, Streams, Tells, end_of, streams};
 
+use crate::racing::race_over;
 use crate::refreshing::refresh_over;
 use crate::serving::serve_over;
 use crate::snapshotting::snapshot_over;
@@ -119,6 +120,7 @@ fn run_wanted<
             rounds,
             picture,
         } => trace_over(alloc, reader, out, err, *shards, *rounds, *picture),
+        Wanted::Race { seconds } => race_over(alloc, host, out, err, *seconds),
         Wanted::Refresh(refreshing) => refresh_over(alloc, host, out, err, refreshing),
         Wanted::Snapshot(snapshotting) => snapshot_over(alloc, host, out, err, snapshotting),
         Wanted::Serve {

@@ -2,6 +2,7 @@
 #![tactic(auto)]
 
 mod command;
+mod racing;
 mod refreshing;
 mod serving;
 mod snapshotting;

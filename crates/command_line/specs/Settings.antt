@@ -1,7 +1,7 @@
 -- What the command line may ask for.
 use Rattle.std.specs.Prelude.{◌<◌, ◌≤◌, IfSome}
 use Rattle.command_line.specs.declared.wanted.Wanted.{Wanted}
-use Rattle.command_line.specs.declared.wanted.Wanted.TheVariants.{Run, Encode, Decode, Explain, Check, Map, Import, Pem, Diff, Digest, Trace, Migrate, Refresh, Snapshot, Serve}
+use Rattle.command_line.specs.declared.wanted.Wanted.TheVariants.{Run, Encode, Decode, Explain, Check, Map, Import, Pem, Diff, Digest, Trace, Migrate, Race, Refresh, Snapshot, Serve}
 
 -- numbers within their ranges
 abbrev pub AreSettings : Wanted → Type 0
@@ -17,6 +17,7 @@ AreSettings (Pem name) = Unit {0}
 AreSettings (Diff old new) = Unit {0}
 AreSettings Digest = Unit {0}
 AreSettings Migrate = Unit {0}
+AreSettings (Race seconds) = (0 < seconds) × (seconds ≤ 60)
 AreSettings (Refresh wanted) = Unit {0}
 AreSettings (Snapshot wanted) = Unit {0}
 AreSettings (Serve port load log settings) = (0 < settings.workers) × (settings.workers ≤ 64) × IfSome settings.connections (λ n. (0 < n) × (n ≤ 1000))

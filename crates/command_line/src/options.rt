@@ -1,5 +1,5 @@
 //! The commands and their options, as `clap` knows them.
-use crate::texts::{EVENTS, FRAMES, LINES, RELATIONSHIPS, REPLIES, SERVING, SNAPSHOTS};
+use crate::texts::{EVENTS, FRAMES, LINES, RACE, RELATIONSHIPS, REPLIES, SERVING, SNAPSHOTS};
 use clap::builder::ValueParser;
 use clap::{Arg, ArgAction, Command, value_parser};
 use std::alloc::{AllocError, Global};
@@ -168,6 +168,19 @@ pub fn trace_command<'a>(alloc: Global) -> Result<Command<'a>, AllocError> {
         .arg(shards(alloc))?
         .arg(rounds(alloc))?
         .arg(flag(alloc, "picture", picture))
+}
+
+pub fn demo_command<'a>(alloc: Global) -> Result<Command<'a>, AllocError> {
+    let range = value_parser!(u64).range(1..=60);
+    let help = "How long the race takes";
+    let race = Command::new(alloc, "race")
+        .about("Counts the maps that never were that a naive reader shows, and a fetch-all")
+        .after_help(RACE)
+        .arg(number(alloc, "seconds", "SECONDS", range, "5", help))?;
+    Command::new(alloc, "demo")
+        .about("Shows what the store is for")
+        .subcommand_required(true)
+        .subcommand(race)
 }
 
 pub fn migrate_command<'a>(alloc: Global) -> Command<'a> {

@@ -7,8 +7,8 @@ use crate::dump_options::{
 };
 use crate::explanations::explanation;
 use crate::options::{
-    decode_command, encode_command, explain_command, migrate_command, refresh_command, run_command,
-    serve_command, snapshot_command, trace_command,
+    decode_command, demo_command, encode_command, explain_command, migrate_command,
+    refresh_command, run_command, serve_command, snapshot_command, trace_command,
 };
 use crate::settings::Settings;
 use crate::texts::FRAMES;
@@ -42,6 +42,9 @@ const IDLE: u64 = 60;
 /// The tries of a call at a shard that others hold if the command line doesn't say.
 const TRIES: u64 = 1000;
 
+/// The seconds of a race if the command line doesn't say.
+const SECONDS: u64 = 5;
+
 /// In how many seconds, at the least, a relationship is due again if the command line doesn't say.
 const AT_LEAST: u64 = 60;
 
@@ -68,7 +71,8 @@ fn command<'a>(alloc: Global) -> Result<Command<'a>, AllocError> {
     let serve = with(refresh, serve_command(alloc));
     let snapshot = with(serve, snapshot_command(alloc));
     let of_dumps = with_dump_commands(alloc, snapshot);
-    with(of_dumps, trace_command(alloc))
+    let trace = with(of_dumps, trace_command(alloc));
+    with(trace, demo_command(alloc))
 }
 
 /// A command with those that look at documents, dumps and bundle maps.
@@ -117,6 +121,9 @@ fn wanted_of<'a>(alloc: Global, matches: &ArgMatches<'a>) -> Result<Wanted<'a>, 
             shards: shards_of(trace),
             rounds: rounds_of(trace),
             picture: trace.get_flag("picture"),
+        }),
+        Some(("demo", demo)) => Ok(Wanted::Race {
+            seconds: seconds_of(demo),
         }),
         Some((_, run)) => Ok(Wanted::Run {
             shards: shards_of(run),
@@ -224,6 +231,17 @@ fn rounds_of(trace: &ArgMatches<'_>) -> usize
 {
     let asked = trace.get_one::<u64>("rounds");
     asked.unwrap_or(ROUNDS as u64).clamp(1, 16) as usize
+}
+
+fn seconds_of(demo: &ArgMatches<'_>) -> u64
+    ensures some { 0 < result }
+    ensures few { result ≤ 60 }
+{
+    let asked = match demo.subcommand() {
+        Some((_, race)) => race.get_one::<u64>("seconds"),
+        None => None,
+    };
+    asked.unwrap_or(SECONDS).clamp(1, 60)
 }
 
 fn turns_of(run: &ArgMatches<'_>) -> u64

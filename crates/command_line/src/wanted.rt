@@ -39,6 +39,10 @@ pub enum Wanted<'a> {
     Digest,
     /// The requests that store a dump again.
     Migrate,
+    /// A race of so many seconds: readers beside writers that do not rest.
+    Race {
+        seconds: u64,
+    },
     /// A refresh of each relationship of a list.
     Refresh(Refreshing<'a>),
     /// A snapshot of a server's bundles in a folder.

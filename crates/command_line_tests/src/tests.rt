@@ -28,6 +28,7 @@ fn wanted(alloc: Global, words: &[&str]) -> Result<String, AllocError> {
     }
     match wanted_by(alloc, line.as_slice()) {
         Ok(Wanted::Run { shards, turns }) => format!(in alloc; "run {shards} {turns}"),
+        Ok(Wanted::Race { seconds }) => format!(in alloc; "race {seconds}"),
         Ok(
             Wanted::Trace {
                 shards,
@@ -120,7 +121,7 @@ fn reads_the_commands_over_lines_and_dumps(rt: HostRuntime) -> Result<(), AllocE
 #[test]
 fn reads_the_command_line(rt: HostRuntime) -> Result<(), AllocError> {
     let alloc = rt.alloc();
-    let rows: [(&[&str], &str); 18] = [
+    let rows: [(&[&str], &str); 21] = [
         (&["bundled", "run"], "run 4 1000000"),
         (&["bundled", "run", "--turns", "7"], "run 4 7"),
         (
@@ -156,6 +157,9 @@ fn reads_the_command_line(rt: HostRuntime) -> Result<(), AllocError> {
             &["bundled", "trace", "--shards=1", "--rounds=16"],
             "trace 1 16 false",
         ),
+        (&["bundled", "trace", "--picture"], "trace 4 3 true"),
+        (&["bundled", "demo", "race"], "race 5"),
+        (&["bundled", "demo", "race", "--seconds=60"], "race 60"),
         (&["bundled", "migrate"], "migrate"),
         (
             &["bundled", "serve", "--port", "0"],

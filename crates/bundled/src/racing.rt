@@ -1,0 +1,62 @@
+//! The command `demo race`: readers beside writers that do not rest.
+ghost use Rattle.std.specs.Prelude.{◌≡◌, ◌<◌, ◌-◌, ◌^◌};
+ghost use Rattle.bundled.specs.Race.{RaceRun, Raced, race_status};
+ghost use Rattle.commands.specs.Streams.{End, end_of};
+
+use commands::{Fault, RefreshFault, write_flushed};
+use frame_front::{Counted, FrontError};
+use race_demo::{Findings, RaceError, report_text, run_race};
+use std::alloc::Global;
+use std::io::Write;
+use std::thread::Threads;
+use std::time::Clock;
+
+/// Lets writers and readers run beside each other for so many seconds, writes what that has shown, and answers the exit
+/// status: 0 if no fetch-all showed a map that never was.
+pub fn race_over<H: Clock + Threads + Sync, W: Write, E: Write>(
+    alloc: Global,
+    host: &H,
+    out: &mut Counted<W>,
+    err: &mut Counted<E>,
+    seconds: u64,
+) -> u8
+    requires out_count { out.old.faults < 2 ^ 64 - 1 }
+    requires err_count { err.old.faults < 2 ^ 64 - 1 }
+    ensures { (input : End) → RaceRun result
+        (record { input = input; output = end_of W.contents out.old; error = end_of E.contents err.old })
+        (record { input = input; output = end_of W.contents out.new; error = end_of E.contents err.new }) }
+{
+    match race(alloc, host, out, seconds) {
+        Ok(found) => status_of(&found),
+        Err(fault) => fault.tell(err),
+    }
+}
+
+fn status_of(found: &Findings) -> u8
+    ensures { result ≡ race_status found.now }
+{
+    if found.all.mixed == 0 { 0 } else { 1 }
+}
+
+fn race<H: Clock + Threads + Sync, W: Write>(
+    alloc: Global,
+    host: &H,
+    out: &mut Counted<W>,
+    seconds: u64,
+) -> Result<Findings, Fault>
+    requires { out.old.faults < 2 ^ 64 - 1 }
+    ensures { Raced result (end_of W.contents out.old) (end_of W.contents out.new) }
+{
+    let found = match run_race(host, alloc, seconds) {
+        Ok(found) => found,
+        Err(RaceError::Memory) => return Err(Fault::Front(FrontError::Memory)),
+        Err(RaceError::NoClock) => return Err(Fault::Refresh(RefreshFault::NoClock)),
+    };
+    let Ok(text) = report_text(alloc, &found) else {
+        return Err(Fault::Front(FrontError::Memory));
+    };
+    match write_flushed(out, text.as_slice()) {
+        Ok(()) => Ok(found),
+        Err(_) => Err(Fault::Front(FrontError::WriteFault)),
+    }
+}
