@@ -183,8 +183,8 @@ fn fill(alloc: Global, store: &Store, pass: &mut Pass) -> bool
 
 /// Lets two writers and two readers run beside each other for so many seconds.
 ///
-/// What it tells is honest: it counts no more maps that never were than readings, and what it shows as a map that never
-/// was is none at any moment of two such writers. How many readings there are, and how many of them never were, no proof
+/// What it tells is honest: it counts no more maps that never were than readings, and two such writers leave at no moment
+/// what it shows as a map that never was. How many readings there are, and how many of them never were, no proof
 /// says: that is up to the threads.
 pub fn run_race<H: Clock + Threads + Sync>(
     host: &H,
