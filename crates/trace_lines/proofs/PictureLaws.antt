@@ -1,5 +1,5 @@
 -- What a picture shows can be, and fits a page.
-use Rattle.std.proofs.Common.{◌≡◌, ℕ, suc, zero, ◌+◌, ◌-◌, ◌*◌, ◌/◌, ◌<◌, ◌≤◌, ◌^◌, arith, max, List, [], ◌∷◌, ◌++◌, length, map, replicate, get_or, Option, Some, None, refl, sym, ap, ◌∙◌, length-append}
+use Rattle.std.proofs.Common.{◌≡◌, ℕ, suc, zero, ◌+◌, ◌-◌, ◌*◌, ◌/◌, ◌<◌, ◌≤◌, ◌^◌, arith, List, [], ◌∷◌, ◌++◌, length, map, replicate, get_or, Option, Some, None, refl, ap, ◌∙◌, length-append}
 use Rattle.std.specs.Prelude.{codes, decimal, IfSome}
 use Rattle.std.specs.List.{flat_map, range_with_len}
 use Rattle.std.proofs.lemmas.Fmt.{length-decimal-le}
@@ -7,7 +7,7 @@ use Rattle.std.proofs.lemmas.List.{length-replicate}
 use Rattle.std.proofs.lemmas.List.FromFn.{length-map-range_with_len}
 use Rattle.step_core.specs.declared.trace.OpRecord.{OpRecord}
 use Rattle.step_core.specs.Linearization.{HavePoints}
-use Rattle.step_core.specs.Records.{no_record, operations, IsLinearized}
+use Rattle.step_core.specs.Records.{no_record, operations}
 use Rattle.trace_lines.specs.Picture.{moment, moments, tick, event_line, label, caller_mark, caller_line, order_mark, order_row}
 use Rattle.trace_lines.specs.Laws.{AreWithin, IsNarrow, CanTakeEffect, FitPage}
 

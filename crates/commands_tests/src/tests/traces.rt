@@ -13,7 +13,7 @@ struct Left {
     err: Vec<u8>,
 }
 
-fn left_by(alloc: Global, shards: usize, rounds: usize, input: &[u8]) -> Left {
+fn left_by(alloc: Global, shards: usize, rounds: usize, picture: bool, input: &[u8]) -> Left {
     let mut reader = Counted::new(input);
     let mut out = Counted::new(Vec::new(alloc));
     let mut err = Counted::new(Vec::new(alloc));
@@ -24,7 +24,7 @@ fn left_by(alloc: Global, shards: usize, rounds: usize, input: &[u8]) -> Left {
         &mut err,
         shards.max(1),
         rounds.max(1),
-        false,
+        picture,
     );
     Left {
         status,
@@ -159,7 +159,7 @@ fn traces(rt: HostRuntime) -> Result<(), Fail> {
         ),
     ];
     for (name, shards, rounds, input, wanted) in rows {
-        let left = left_by(alloc, shards, rounds, input.as_bytes());
+        let left = left_by(alloc, shards, rounds, false, input.as_bytes());
         if left.err.as_slice() == b"fault 22\n".as_slice() {
             is_equal_at(&rt, &left.out.as_slice(), &b"".as_slice(), &name);
             is_equal_at(&rt, &left.status, &1, &name);
@@ -217,7 +217,7 @@ fn lines_that_are_no_events(rt: HostRuntime) -> Result<(), Fail> {
         ),
     ];
     for (input, wanted) in rows {
-        let left = left_by(alloc, 2, 3, input);
+        let left = left_by(alloc, 2, 3, false, input);
         if left.err.as_slice() == b"fault 22\n".as_slice() {
             return Err("out of memory")?;
         }
@@ -227,5 +227,27 @@ fn lines_that_are_no_events(rt: HostRuntime) -> Result<(), Fail> {
             is_equal_at(&rt, &left.out.as_slice(), &b"".as_slice(), &input);
         }
     }
+    Ok(())
+}
+
+#[test]
+fn a_picture_stands_above_the_text(rt: HostRuntime) -> Result<(), Fail> {
+    let left = left_by(rt.alloc(), 1, 1, true, b"begin 1 get a\nstep 1\nend 1\n");
+    let page = b"\
+A row for each caller, a column for each event, counted from 0.
+[ an operation begins   ] it ends   - it is open   . no operation is open
+order: each operation at a moment when it can take effect, by the last digit of
+its number, so that one after another they give these replies.
+Up to 960 events and 16 callers are drawn.
+
+event             0
+caller 1          [-]
+order             0..
+
+record 0 caller 1 first 0 last 2 reply refused 30
+order 0
+";
+    is_equal_at(&rt, &left.out.as_slice(), &page.as_slice(), &"one get");
+    is_equal_at(&rt, &(left.status, left.err.len()), &(0, 0), &"one get");
     Ok(())
 }

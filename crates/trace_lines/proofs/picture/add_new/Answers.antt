@@ -1,4 +1,4 @@
-use Rattle.std.proofs.Common.{◌≡◌, ◌≤◌, ◌+◌, [], ◌∷◌, ◌++◌, length, arith, sym, ◌∙◌, length-append}
+use Rattle.std.proofs.Common.{[], ◌∷◌, ◌++◌, arith, sym, ◌∙◌, length-append}
 use Rattle.std.proofs.lemmas.List.{take_all}
 use Rattle.trace_lines.proofs.Pictures.{take_front}
 use Rattle.trace_lines.proofs.picture.add_new.Goals as goal

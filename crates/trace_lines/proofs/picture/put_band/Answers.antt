@@ -1,9 +1,9 @@
-use Rattle.std.proofs.Common.{ℕ, List, ◌≡◌, ◌*◌, ◌++◌, ap, ◌∙◌}
+use Rattle.std.proofs.Common.{ℕ, List, ◌*◌, ◌++◌, ap, ◌∙◌}
 use Rattle.std.specs.Prelude.{codes}
 use Rattle.std.specs.List.{flat_map}
 use Rattle.step_core.specs.declared.trace.OpRecord.{OpRecord}
 use Rattle.trace_lines.specs.TraceText.{ended}
-use Rattle.trace_lines.specs.Picture.{event_line, caller_line, order_row, band_text, numbered_band}
+use Rattle.trace_lines.specs.Picture.{event_line, caller_line, order_row, band_text}
 use Rattle.trace_lines.proofs.Pictures.{band_in_parts}
 use Rattle.trace_lines.proofs.Writes.{hands_on, front_longer, second_cut, third_put}
 use Rattle.trace_lines.proofs.picture.put_band.Goals as goal

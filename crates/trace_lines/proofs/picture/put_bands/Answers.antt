@@ -1,4 +1,4 @@
-use Rattle.std.proofs.Common.{ℕ, List, [], ◌≡◌, ◌+◌, ◌-◌, ◌/◌, ◌<◌, ◌≤◌, arith, ◌∙◌}
+use Rattle.std.proofs.Common.{ℕ, List, [], ◌+◌, ◌-◌, ◌/◌}
 use Rattle.std.specs.List.{flat_map, range_with_len}
 use Rattle.trace_lines.specs.Picture.{numbered_band}
 use Rattle.trace_lines.proofs.Pictures.{range_first, range_none, all_bands}

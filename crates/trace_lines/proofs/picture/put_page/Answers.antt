@@ -1,4 +1,4 @@
-use Rattle.std.proofs.Common.{ℕ, List, [], ◌≡◌, ◌++◌, take, ap, ◌∙◌}
+use Rattle.std.proofs.Common.{[], ◌++◌, take, ap, ◌∙◌}
 use Rattle.trace_lines.specs.TraceText.{trace_text}
 use Rattle.trace_lines.specs.Picture.{legend, bands_text, callers_of}
 use Rattle.trace_lines.proofs.Pictures.{page_in_parts}

@@ -1,5 +1,4 @@
-use Rattle.std.proofs.Common.{◌≡◌, ◌+◌, ◌≤◌, ◌++◌, length, arith, ap, ◌∙◌, length-append}
-use Rattle.std.specs.Prelude.{decimal}
+use Rattle.std.proofs.Common.{length, arith, ap, ◌∙◌, length-append}
 use Rattle.std.proofs.lemmas.Fmt.{length-decimal-le}
 use Rattle.trace_lines.proofs.picture_row.put_tick.Goals as goal
 
