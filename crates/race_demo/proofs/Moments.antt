@@ -1,6 +1,6 @@
 -- Maps at moments of writers.
 use Rattle.std.proofs.Common.{◌≡◌, ◌≢◌, ℕ, suc, zero, ◌+◌, ◌-◌, ◌*◌, ◌/◌, ◌%◌, ◌<◌, ◌≤◌, arith, Bool, true, false, cond, List, [], ◌∷◌, ◌++◌, length, replicate, set, refl, sym, ap, subst, ◌∙◌, inl, inr, append-nil, append_assoc, take, drop, length-drop}
-use Rattle.std.specs.Prelude.{◌==◌, MatchBool, Option, Some, get_or, slice_get}
+use Rattle.std.specs.Prelude.{◌==◌, MatchBool, Some, get_or, slice_get}
 use Rattle.std.proofs.Math.Nat.{eq-or-lt_of_le}
 use Rattle.std.proofs.lemmas.Bool.{eq-eqb}
 use Rattle.std.proofs.lemmas.Bool.Decides.{eqb_tells}

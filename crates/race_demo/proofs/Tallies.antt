@@ -1,10 +1,10 @@
 -- Tallies of readings.
-use Rattle.std.proofs.Common.{◌≡◌, ℕ, ◌≤◌, arith, List, Option, Some, None, inl, inr, sym, subst}
+use Rattle.std.proofs.Common.{ℕ, arith, List, Option, Some, None, inl, inr, sym, subst}
 use Rattle.std.specs.Prelude.{IfSome}
 use Rattle.std.specs.Option.{unwrap_or}
 use Rattle.race_demo.specs.Moment.{IsMap}
 use Rattle.race_demo.specs.declared.judge.Tally.{Tally}
-use Rattle.race_demo.specs.Report.{Counts, IsHonest, counted, counted_mixed}
+use Rattle.race_demo.specs.Report.{Counts, IsHonest}
 
 shown : (first : Option (List ℕ)) (reading : List ℕ) → IfSome first (λ r. IsMap r → ⊥) → (IsMap reading → ⊥) → IsMap (unwrap_or first reading) → ⊥
 shown None reading before not = not

@@ -1,5 +1,5 @@
 -- The maps of writers that do not rest.
-use Rattle.std.specs.Prelude.{◌≡◌, ℕ, suc, zero, ◌+◌, ◌-◌, ◌/◌, ◌%◌, ◌<◌, ◌≤◌, List, ◌++◌, length, replicate, set}
+use Rattle.std.specs.Prelude.{◌≡◌, ℕ, suc, zero, ◌+◌, ◌-◌, ◌/◌, ◌%◌, ◌<◌, List, ◌++◌, length, replicate, set}
 
 -- What a writer leaves that sets so many domains in turn, over and over, after so many sets: each has 0 at first, and a set
 -- gives the next domain in turn the number of its round, from 1.

@@ -1,4 +1,3 @@
-use Rattle.std.proofs.Common.{◌≡◌, length}
 use Rattle.race_demo.proofs.Moments.{moment_told}
 use Rattle.race_demo.proofs.judge.is_moment.Goals as goal
 

@@ -1,4 +1,3 @@
-use Rattle.std.proofs.Common.{◌≡◌}
 use Rattle.race_demo.specs.Report.{IsHonest}
 use Rattle.shard_store.specs.Pass.{IsOf}
 use Rattle.race_demo.proofs.race.fetch_restlessly.Given as goal

@@ -1,4 +1,4 @@
-use Rattle.std.proofs.Common.{◌≡◌, ◌≤◌}
+use Rattle.std.proofs.Common.{◌≤◌}
 use Rattle.shard_store.specs.Pass.{IsOf}
 use Rattle.race_demo.proofs.race.write_restlessly.Given as goal
 

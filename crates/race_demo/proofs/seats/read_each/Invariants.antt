@@ -1,4 +1,3 @@
-use Rattle.std.proofs.Common.{◌≡◌}
 use Rattle.shard_store.specs.Pass.{IsOf}
 use Rattle.race_demo.proofs.seats.read_each.Given as goal
 
