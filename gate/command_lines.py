@@ -166,6 +166,8 @@ SHOWN = [
     ("migrate --help", "bundled migrate < dump"),
     ("refresh --help", "--relationships <FILE>"),
     ("refresh --help", "1000 a.example sent due 1300"),
+    ("snapshot --help", "shown snapshot-7 domains 2"),
+    ("explain 73", "over 250 bytes"),
     ("serve --help", "worker 0 set a.example none to 7"),
 ]
 
@@ -212,6 +214,9 @@ REFUSED = [
     (f"{REFRESH} --port 65536", "--port <PORT>"),
     (f"{REFRESH} --now -1", "unexpected argument '-1'"),
     (f"{REFRESH} --at-least 18446744073709551616", "--at-least <SECONDS>"),
+    ("snapshot --port 1", "--out <FOLDER>"),
+    ("snapshot --out a", "--port <PORT>"),
+    ("snapshot --port 1 --out a --every 86401", "86401 is not in 1..=86400"),
     ("serve", "--port <PORT>"),
     ("serve --port 1 --workers 65", "65 is not in 1..=64"),
     ("serve --port 1 --connections 0", "--connections takes a number in 1..=1000, or `unlimited`"),

@@ -61,6 +61,10 @@ fn wanted(alloc: Global, words: &[&str]) -> Result<String, AllocError> {
             let (now, port) = (wanted.now, wanted.port);
             format!(in alloc; "refresh {list} {folder} {now:?} {at_least} {port:?}")
         }
+        Ok(Wanted::Snapshot(wanted)) => {
+            let (port, folder, every) = (wanted.port, wanted.folder, wanted.every);
+            format!(in alloc; "snapshot {port} {folder} {every:?}")
+        }
         Ok(
             Wanted::Serve {
                 port,
@@ -213,6 +217,40 @@ fn reads_the_command_line(rt: HostRuntime) -> Result<(), AllocError> {
         (
             &["bundled", "run", "--turns", "0"],
             "error: invalid value '0' for '--turns <READS>': 0 is not in 1..=1000000000\n\nFor more information, try '--help'.\n",
+        ),
+    ];
+    for (words, text) in rows {
+        let wanted = wanted(alloc, words)?;
+        holds_at(&rt, wanted.as_str() == text, &wanted);
+    }
+    Ok(())
+}
+
+#[test]
+fn reads_which_snapshots_are_wanted(rt: HostRuntime) -> Result<(), AllocError> {
+    let alloc = rt.alloc();
+    let rows: [(&[&str], &str); 4] = [
+        (
+            &["bundled", "snapshot", "--port", "1", "--out", "a/b"],
+            "snapshot 1 a/b None",
+        ),
+        (
+            &[
+                "bundled",
+                "snapshot",
+                "--port=65535",
+                "--every=86400",
+                "--out=-",
+            ],
+            "snapshot 65535 - Some(86400)",
+        ),
+        (
+            &["bundled", "snapshot", "--port=0", "--out=a"],
+            "error: invalid value '0' for '--port <PORT>': 0 is not in 1..=65535\n\nFor more information, try '--help'.\n",
+        ),
+        (
+            &["bundled", "snapshot", "--port=1", "--out=a", "--every=0"],
+            "error: invalid value '0' for '--every <SECONDS>': 0 is not in 1..=86400\n\nFor more information, try '--help'.\n",
         ),
     ];
     for (words, text) in rows {

@@ -228,3 +228,35 @@ fn replies(rt: HostRuntime) {
         is_equal(&rt, &fetched(alloc, reply), &wanted);
     }
 }
+
+/// If memory runs out, nothing is shown, and no domains are given.
+#[test]
+fn a_refused_growth_shows_nothing(rt: HostRuntime) -> Result<(), Fail> {
+    let alloc = rt.alloc();
+    let bundle = read_document(alloc, X509.as_bytes())?;
+    let domains = vec![in alloc; (TrustDomain::parse(alloc, "a")?, bundle)]?;
+    let mut folder = Told::new(alloc, 100);
+    match update(alloc, &mut folder, domains.as_slice()) {
+        Ok(is_new) => {
+            is_equal(&rt, &is_new, &true);
+            assert!(&rt;
+                folder.lines.as_str().ends_with("show\n"),
+                "{}",
+                folder.lines
+            );
+        }
+        Err(error) => {
+            is_equal(&rt, &error, &SnapshotError::Memory);
+            assert!(&rt; !folder.lines.as_str().contains("show"), "{}", folder.lines);
+        }
+    }
+    match fetched(
+        alloc,
+        b"\0\0\0\x09a\0\0\0\0\0\0\0\x01\0\0\0\x0ei\x01a{\"keys\":[]}",
+    ) {
+        Ok(count) => is_equal(&rt, &count, &1),
+        Err(FetchError::Refused(why)) => is_equal(&rt, &why, &AskError::Memory),
+        Err(FetchError::Ended(why)) => is_equal(&rt, &why, &ClientError::Memory),
+    }
+    Ok(())
+}
