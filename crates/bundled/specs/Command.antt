@@ -4,7 +4,7 @@ use Rattle.std.specs.Io.KnownBytes.{Appends}
 use Rattle.frame_front.specs.Outbox.{WritesFront}
 use Rattle.frame_front.specs.declared.error.FrontError.TheVariants.{Memory, ReadFault, WriteFault}
 use Rattle.command_line.specs.declared.wanted.Wanted.{Wanted}
-use Rattle.command_line.specs.declared.wanted.Wanted.TheVariants.{Run, Encode, Decode, Explain, Check, Map, Import, Pem, Diff, Digest, Trace, Migrate, Race, Refresh, Snapshot, Serve}
+use Rattle.command_line.specs.declared.wanted.Wanted.TheVariants.{Run, Ask, Encode, Decode, Explain, Check, Map, Import, Pem, Diff, Digest, Trace, Migrate, Race, Refresh, Snapshot, Serve}
 use Rattle.commands.specs.declared.fault.Fault.{Fault}
 use Rattle.commands.specs.declared.fault.Fault.TheVariants.{Front}
 use Rattle.commands.specs.Fault.{fault_line}
@@ -23,6 +23,7 @@ use Rattle.dump_commands.specs.Map.{MapOf, NoMap}
 use Rattle.dump_commands.specs.Import.{RequestsOf, NoRequests}
 use Rattle.dump_commands.specs.Pem.{PemOf, NoPem, DigestOf}
 use Rattle.dump_commands.specs.Diff.{Inputs, DiffRun}
+use Rattle.bundled.specs.Ask.{AskRun}
 use Rattle.bundled.specs.Refresh.{RefreshRun}
 use Rattle.bundled.specs.Snapshot.{SnapshotRun}
 use Rattle.bundled.specs.Race.{RaceRun}
@@ -42,6 +43,7 @@ DiffFiles status output_old output_new error_old error_new =
 -- a command, with its settings
 abbrev pub Does : Wanted → ℕ → Streams → Streams → Type 0
 Does (Run shards turns) status old new = Runs turns status old new
+Does (Ask inquiry) status old new = AskRun inquiry status old new
 Does Encode status old new = Encodes of_files status old new
 Does Decode status old new = Decodes status old new
 Does (Explain text) status old new = Explains text.now status old new

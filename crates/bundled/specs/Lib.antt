@@ -1,3 +1,4 @@
+pub mod Ask
 pub mod Refresh
 pub mod Snapshot
 pub mod Race

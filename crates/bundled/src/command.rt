@@ -4,6 +4,7 @@ ghost use Rattle.bundled.specs.Command.{Commands, DiffFiles, Does, Refuses, Show
 ghost use Rattle.command_line.specs.Settings.{AreSettings};
 ghost use Rattle.commands.specs.Streams.{End, Streams, Tells, end_of, streams};
 
+use crate::asking::ask_server;
 use crate::racing::race_over;
 use crate::refreshing::refresh_over;
 use crate::serving::serve_over;
@@ -94,6 +95,7 @@ fn run_wanted<
 {
     match wanted {
         Wanted::Run { shards, turns } => run_over(alloc, reader, out, err, *shards, *turns),
+        Wanted::Ask(inquiry) => ask_server(alloc, host, reader, out, err, inquiry),
         Wanted::Encode => encode_over(alloc, &FileTexts::new(host), reader, out, err),
         Wanted::Decode => decode_over(alloc, reader, out, err),
         Wanted::Explain(text) => explain_over(text, out, err),

@@ -1,6 +1,7 @@
 //! A store of the trust bundles of SPIFFE trust domains, as a program.
 #![tactic(auto)]
 
+mod asking;
 mod command;
 mod racing;
 mod refreshing;

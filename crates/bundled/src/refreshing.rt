@@ -4,7 +4,7 @@ ghost use Rattle.bundled.specs.Refresh.{RefreshRun};
 ghost use Rattle.commands.specs.Streams.{End, Tells, end_of};
 
 use command_line::Refreshing;
-use commands::{Fault, RefreshFault};
+use commands::{Fault, RefreshFault, ServerFault};
 use frame_client::Client;
 use frame_front::{Counted, FrontError};
 use refresher::{Folder, Sender, Server, Times, read_schedule, refresh_each};
@@ -112,7 +112,7 @@ fn connect<H: Net>(
             let client = Client::new(alloc, Counted::new(stream), Counted::new(other));
             Ok(Server::new(client))
         }
-        Err(_) => Err(Fault::Refresh(RefreshFault::NoConnection)),
+        Err(_) => Err(Fault::Server(ServerFault::NoConnection)),
     }
 }
 

@@ -6,7 +6,7 @@ ghost use Rattle.commands.specs.Fault.{fault_line};
 
 use crate::refreshing::streams;
 use command_line::Snapshotting;
-use commands::{Fault, RefreshFault, SnapshotFault, write_flushed};
+use commands::{Fault, ServerFault, SnapshotFault, write_flushed};
 use frame_client::{Client, ClientError};
 use frame_front::{Counted, FrontError};
 use map_core::{AskError, Snapshot};
@@ -103,13 +103,13 @@ fn take_and_tell<H: Files + Net, W: Write>(
 /// All domains of the server that listens at a port of this machine.
 fn fetch_from<H: Net>(alloc: Global, host: &H, port: u16) -> Result<Snapshot, Fault> {
     let Ok((stream, other)) = streams(host, port) else {
-        return Err(Fault::Refresh(RefreshFault::NoConnection));
+        return Err(Fault::Server(ServerFault::NoConnection));
     };
     let mut client = Client::new(alloc, Counted::new(stream), Counted::new(other));
     match fetch(&mut client) {
         Ok(domains) => Ok(domains),
         Err(FetchError::Refused(why)) => Err(Fault::Snapshot(SnapshotFault::Refused(why))),
-        Err(FetchError::Ended(why)) => Err(Fault::Refresh(RefreshFault::Client(why))),
+        Err(FetchError::Ended(why)) => Err(Fault::Server(ServerFault::Client(why))),
     }
 }
 
@@ -132,8 +132,8 @@ fn is_of_the_moment(fault: &Fault) -> bool {
             why,
             AskError::Memory | AskError::Moved { .. } | AskError::Held { .. }
         ),
-        Fault::Refresh(RefreshFault::NoConnection) => true,
-        Fault::Refresh(RefreshFault::Client(why)) => {
+        Fault::Server(ServerFault::NoConnection) => true,
+        Fault::Server(ServerFault::Client(why)) => {
             !matches!(why, ClientError::BadLength | ClientError::BadReply)
         }
         _ => false,

@@ -1,12 +1,13 @@
 -- What the command line may ask for.
 use Rattle.std.specs.Prelude.{◌<◌, ◌≤◌, IfSome}
 use Rattle.command_line.specs.declared.wanted.Wanted.{Wanted}
-use Rattle.command_line.specs.declared.wanted.Wanted.TheVariants.{Run, Encode, Decode, Explain, Check, Map, Import, Pem, Diff, Digest, Trace, Migrate, Race, Refresh, Snapshot, Serve}
+use Rattle.command_line.specs.declared.wanted.Wanted.TheVariants.{Run, Ask, Encode, Decode, Explain, Check, Map, Import, Pem, Diff, Digest, Trace, Migrate, Race, Refresh, Snapshot, Serve}
 
 -- numbers within their ranges
 abbrev pub AreSettings : Wanted → Type 0
 AreSettings (Run shards turns) = (0 < shards) × (shards ≤ 256) × (0 < turns) × (turns ≤ 1000000000)
 AreSettings (Trace shards rounds picture) = (0 < shards) × (shards ≤ 256) × (0 < rounds) × (rounds ≤ 16)
+AreSettings (Ask inquiry) = Unit {0}
 AreSettings Encode = Unit {0}
 AreSettings Decode = Unit {0}
 AreSettings (Explain text) = Unit {0}

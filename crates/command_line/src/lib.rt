@@ -14,4 +14,4 @@ mod wanted;
 
 pub use reading::wanted_by;
 pub use settings::Settings;
-pub use wanted::{Refreshing, Snapshotting, Wanted};
+pub use wanted::{Inquiry, Refreshing, Snapshotting, Wanted};

@@ -1,5 +1,7 @@
 //! The commands and their options, as `clap` knows them.
-use crate::texts::{EVENTS, FRAMES, LINES, RACE, RELATIONSHIPS, REPLIES, SERVING, SNAPSHOTS};
+use crate::texts::{
+    ASKING, EVENTS, FRAMES, LINES, RACE, RELATIONSHIPS, REPLIES, SERVING, SNAPSHOTS,
+};
 use clap::builder::ValueParser;
 use clap::{Arg, ArgAction, Command, value_parser};
 use std::alloc::{AllocError, Global};
@@ -147,6 +149,34 @@ pub fn decode_command<'a>(alloc: Global) -> Command<'a> {
         .after_help(REPLIES)
 }
 
+pub fn ask_command<'a>(alloc: Global) -> Result<Command<'a>, AllocError> {
+    let port = required(
+        alloc,
+        "port",
+        "PORT",
+        "The port of 127.0.0.1 where the server listens",
+    )
+    .value_parser(value_parser!(u16).range(1..=65535));
+    let retry = "How often a request is asked again that others were in the way of";
+    let range = value_parser!(u64).range(0..=1_000_000);
+    let words = Arg::new(alloc, "request")
+        .value_name("REQUEST")
+        .help("The words of one request; by default each line of standard input is a request")
+        .num_args(1..)
+        .action(ArgAction::Append);
+    Command::new(alloc, "ask")
+        .about("Asks a server, and writes its replies")
+        .after_help(ASKING)
+        .arg(port)?
+        .arg(number(alloc, "retry", "COUNT", range, "100", retry))?
+        .arg(flag(
+            alloc,
+            "raw",
+            "Write the replies as frames, so that those to a fetch are a dump",
+        ))?
+        .arg(words)
+}
+
 pub fn explain_command<'a>(alloc: Global) -> Result<Command<'a>, AllocError> {
     let number = Arg::new(alloc, "number")
         .value_name("NUMBER")
@@ -204,15 +234,30 @@ pub fn refresh_command<'a>(alloc: Global) -> Result<Command<'a>, AllocError> {
 }
 
 pub fn snapshot_command<'a>(alloc: Global) -> Result<Command<'a>, AllocError> {
-    let port = required(alloc, "port", "PORT", "The port of 127.0.0.1 where the server listens")
-        .value_parser(value_parser!(u16).range(1..=65535));
-    let every = optional(alloc, "every", "SECONDS", "Repeat, with a pause of so many seconds")
-        .value_parser(value_parser!(u64).range(1..=86400));
+    let port = required(
+        alloc,
+        "port",
+        "PORT",
+        "The port of 127.0.0.1 where the server listens",
+    )
+    .value_parser(value_parser!(u16).range(1..=65535));
+    let every = optional(
+        alloc,
+        "every",
+        "SECONDS",
+        "Repeat, with a pause of so many seconds",
+    )
+    .value_parser(value_parser!(u64).range(1..=86400));
     Command::new(alloc, "snapshot")
         .about("Writes the bundles of a server as files, all as they stood at one moment")
         .after_help(SNAPSHOTS)
         .arg(port)?
-        .arg(required(alloc, "out", "FOLDER", "The folder of the snapshots, which has to be there"))?
+        .arg(required(
+            alloc,
+            "out",
+            "FOLDER",
+            "The folder of the snapshots, which has to be there",
+        ))?
         .arg(every)
 }
 

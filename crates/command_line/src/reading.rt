@@ -7,12 +7,12 @@ use crate::dump_options::{
 };
 use crate::explanations::explanation;
 use crate::options::{
-    decode_command, demo_command, encode_command, explain_command, migrate_command,
+    ask_command, decode_command, demo_command, encode_command, explain_command, migrate_command,
     refresh_command, run_command, serve_command, snapshot_command, trace_command,
 };
 use crate::settings::Settings;
 use crate::texts::FRAMES;
-use crate::wanted::{Refreshing, Snapshotting, Wanted};
+use crate::wanted::{Inquiry, Refreshing, Snapshotting, Wanted};
 use clap::error::ErrorKind;
 use clap::{ArgMatches, Command, Error};
 use spiffe_doc::{NameError, TrustDomain};
@@ -45,6 +45,9 @@ const TRIES: u64 = 1000;
 /// The seconds of a race if the command line doesn't say.
 const SECONDS: u64 = 5;
 
+/// How often a client asks again if the command line doesn't say.
+const RETRY: u64 = 100;
+
 /// In how many seconds, at the least, a relationship is due again if the command line doesn't say.
 const AT_LEAST: u64 = 60;
 
@@ -64,7 +67,8 @@ fn command<'a>(alloc: Global) -> Result<Command<'a>, AllocError> {
         .after_help(FRAMES)
         .subcommand_required(true);
     let run = with(Ok(none), run_command(alloc));
-    let encode = with(run, Ok(encode_command(alloc)));
+    let ask = with(run, ask_command(alloc));
+    let encode = with(ask, Ok(encode_command(alloc)));
     let decode = with(encode, Ok(decode_command(alloc)));
     let explain = with(decode, explain_command(alloc));
     let refresh = with(explain, refresh_command(alloc));
@@ -101,6 +105,7 @@ fn wanted_of<'a>(alloc: Global, matches: &ArgMatches<'a>) -> Result<Wanted<'a>, 
     ensures { IfOk result AreSettings }
 {
     match matches.subcommand() {
+        Some(("ask", ask)) => Ok(Wanted::Ask(inquiry_of(alloc, ask)?)),
         Some(("encode", _)) => Ok(Wanted::Encode),
         Some(("explain", explain)) => explaining_of(alloc, explain),
         Some(("decode", _)) => Ok(Wanted::Decode),
@@ -151,11 +156,30 @@ fn serving_of<'a>(alloc: Global, serve: &ArgMatches<'a>) -> Result<Wanted<'a>, E
 }
 
 fn files_of<'a>(alloc: Global, check: &ArgMatches<'a>) -> Result<Vec<&'a str>, AllocError> {
-    let mut files = Vec::new(alloc);
-    for file in check.get_strs("files").unwrap_or_default() {
-        files.push(*file)?;
+    words_of(alloc, check, "files")
+}
+
+/// The words that an option of the command has.
+fn words_of<'a>(
+    alloc: Global,
+    command: &ArgMatches<'a>,
+    option: &str,
+) -> Result<Vec<&'a str>, AllocError> {
+    let mut words = Vec::new(alloc);
+    for word in command.get_strs(option).unwrap_or_default() {
+        words.push(*word)?;
     }
-    Ok(files)
+    Ok(words)
+}
+
+fn inquiry_of<'a>(alloc: Global, ask: &ArgMatches<'a>) -> Result<Inquiry<'a>, AllocError> {
+    let retries = ask.get_one::<u64>("retry").unwrap_or(RETRY);
+    Ok(Inquiry {
+        port: ask.get_one::<u16>("port").unwrap_or(0),
+        retries: retries.min(1_000_000) as u32,
+        raw: ask.get_flag("raw"),
+        words: words_of(alloc, ask, "request")?,
+    })
 }
 
 fn mapping_of<'a>(alloc: Global, map: &ArgMatches<'a>) -> Result<Wanted<'a>, Error>

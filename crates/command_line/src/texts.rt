@@ -64,6 +64,21 @@ A frame that is neither, or that has no line, is `fault 51 FRAME`, counted from 
 space, a name or a text with a line feed, or a document that begins with `@`. The lines of the frames before it have
 been written.";
 
+pub const ASKING: &str = "\
+The requests are those of `encode`, and the replies those of `decode`: see bundled encode --help, bundled decode --help.
+
+  bundled ask --port 8443 get a.example
+  bundled ask --port 8443 set a.example @a.json
+  bundled ask --port 8443 --raw fetch > dump
+  bundled ask --port 8443 < requests
+
+Version 2 of the session is set first. Each reply is written before the next request is sent. A request that is answered
+`memory`, `moved` or `held` has changed nothing, and is asked again, up to COUNT times.
+
+The status is 0 if each request was done, 3 if some reply is a refusal, and 1 after a fault: `fault 57` if no server
+listens, 50, 52, 53, 54 or 58 if the exchange with it failed: whether its request took effect is not known. A word with
+a line feed is `fault 70 1`, and nothing is asked: give such a document as @FILE.";
+
 pub const REPORTS: &str = "\
   a.json: bundle of 2 authorities (1 X.509, 1 JWT), sequence 1, refresh hint 300
   a.json: keys[1] is ignored: its kty is \"OKP\", not EC or RSA

@@ -20,6 +20,8 @@ pub enum Wanted<'a> {
     Encode,
     /// Lines, out of frames of requests and replies.
     Decode,
+    /// Requests of a server, and its replies.
+    Ask(Inquiry<'a>),
     /// What the number of a refusal or a fault means: a text of some lines.
     Explain(&'static str),
     /// What is kept of the documents of these files, or of the input if no file is named.
@@ -66,6 +68,19 @@ pub struct Snapshotting<'a> {
     pub folder: &'a str,
     /// In how many seconds another one is made; without it, there is one.
     pub every: Option<u64>,
+}
+
+/// What is asked of a server.
+#[derive(Drop)]
+pub struct Inquiry<'a> {
+    /// Where the server listens on this machine.
+    pub port: u16,
+    /// How often a request is asked again that others were in the way of.
+    pub retries: u32,
+    /// Whether frames are written, and not lines.
+    pub raw: bool,
+    /// The words of one request. Without any, requests are lines of the input.
+    pub words: Vec<&'a str>,
 }
 
 /// What a refresh is to do.

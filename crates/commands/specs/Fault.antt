@@ -8,17 +8,21 @@ use Rattle.shard_store.specs.declared.close.CloseError.TheVariants as closing
 use Rattle.refresh.specs.Number.{relation_number}
 use Rattle.frame_front.specs.declared.dump.DumpError.TheVariants as dumps
 use Rattle.commands.specs.declared.fault.RefreshFault.{RefreshFault}
-use Rattle.commands.specs.declared.fault.RefreshFault.TheVariants.{BadRelationship, Client, NoConnection, NoClock}
+use Rattle.commands.specs.declared.fault.RefreshFault.TheVariants.{BadRelationship, NoClock}
+use Rattle.commands.specs.declared.fault.ServerFault.{ServerFault}
+use Rattle.commands.specs.declared.fault.ServerFault.TheVariants.{Client, NoConnection}
 use Rattle.map_core.specs.Reply.{error_number}
 use Rattle.commands.specs.declared.fault.SnapshotFault.{SnapshotFault}
 use Rattle.commands.specs.declared.fault.SnapshotFault.TheVariants.{Refused, LongName, BadFolder}
 use Rattle.commands.specs.declared.fault.Fault.{Fault}
-use Rattle.commands.specs.declared.fault.Fault.TheVariants.{Front, Dump, BadLine, BadFrame, UnreadText, NoDomain, BadMap, BadMember, InputTooLong, Refresh, Snapshot, Listen, Close}
+use Rattle.commands.specs.declared.fault.Fault.TheVariants.{Front, Dump, BadLine, BadFrame, UnreadText, NoDomain, BadMap, BadMember, InputTooLong, Server, Refresh, Snapshot, Listen, Close}
+
+abbrev pub server_number : ServerFault → ℕ
+server_number (Client error) = client_number error
+server_number NoConnection = 57
 
 abbrev pub refresh_number : RefreshFault → ℕ
 refresh_number (BadRelationship error line) = relation_number error
-refresh_number (Client error) = client_number error
-refresh_number NoConnection = 57
 refresh_number NoClock = 72
 
 abbrev pub refresh_place : RefreshFault → Option ℕ
@@ -44,6 +48,7 @@ fault_number (NoDomain name) = 30
 fault_number BadMap = 64
 fault_number (BadMember member) = 65
 fault_number InputTooLong = 71
+fault_number (Server fault) = server_number fault
 fault_number (Refresh fault) = refresh_number fault
 fault_number (Snapshot fault) = snapshot_number fault
 fault_number Listen = 57

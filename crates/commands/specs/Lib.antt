@@ -4,5 +4,6 @@ pub mod Input
 pub mod Run
 pub mod Migrate
 pub mod Trace
+pub mod Ask
 pub mod Encode
 pub mod Explain

@@ -1,6 +1,6 @@
 //! Faults of commands.
 ghost use Rattle.std.specs.Prelude.{◌≡◌, ◌<◌, ◌-◌, ◌^◌, ◌++◌};
-ghost use Rattle.commands.specs.Fault.{fault_number, fault_place, fault_line, refresh_number, refresh_place, snapshot_number, snapshot_place};
+ghost use Rattle.commands.specs.Fault.{fault_number, fault_place, fault_line, refresh_number, refresh_place, server_number, snapshot_number, snapshot_place};
 ghost use Rattle.commands.specs.Streams.{Tells, TellsUnlessFailed, end_of};
 
 use crate::output::tell;
@@ -28,7 +28,7 @@ pub enum Fault {
     BadLine(u64),
     /// This frame of the input, from 0, is not a request or a reply that has a line.
     BadFrame(u64),
-    /// The text that this line of the input names, or this file of the command line, from 1, cannot be read.
+    /// The text that this line of the input names, from 1, or this file of the command line, from 1, cannot be read.
     UnreadText(u64),
     /// No domain of the dump has this name of the command line, from 1.
     NoDomain(u64),
@@ -38,6 +38,8 @@ pub enum Fault {
     BadMember(u64),
     /// The input has over 16,777,216 bytes.
     InputTooLong,
+    /// A server cannot be asked.
+    Server(ServerFault),
     /// Relationships cannot be refreshed.
     Refresh(RefreshFault),
     /// No snapshot is written, or it is not shown.
@@ -48,15 +50,31 @@ pub enum Fault {
     Close(CloseError),
 }
 
+/// Why a server cannot be asked.
+#[derive(Clone, Copy, Debug, PartialEq, Eq)]
+pub enum ServerFault {
+    /// The stream to the server failed, or what came over it is not a reply.
+    Client(ClientError),
+    /// No server listens at the port.
+    NoConnection,
+}
+
+impl ServerFault {
+    fn number(&self) -> u8
+        ensures { result ≡ server_number self.now }
+    {
+        match self {
+            ServerFault::Client(error) => error.number(),
+            ServerFault::NoConnection => 57,
+        }
+    }
+}
+
 /// Why relationships cannot be refreshed.
 #[derive(Clone, Copy, Debug, PartialEq, Eq)]
 pub enum RefreshFault {
     /// The words of this line, from 1, are not a relationship.
     BadRelationship(RelationError, u64),
-    /// The stream to the server failed, or what came over it is not a reply.
-    Client(ClientError),
-    /// No server listens at the port.
-    NoConnection,
     /// The clock cannot be read.
     NoClock,
 }
@@ -67,8 +85,6 @@ impl RefreshFault {
     {
         match self {
             RefreshFault::BadRelationship(error, _) => error.number(),
-            RefreshFault::Client(error) => error.number(),
-            RefreshFault::NoConnection => 57,
             RefreshFault::NoClock => 72,
         }
     }
@@ -129,6 +145,7 @@ impl Fault {
             Fault::BadMap => 64,
             Fault::BadMember(_) => 65,
             Fault::InputTooLong => 71,
+            Fault::Server(fault) => fault.number(),
             Fault::Refresh(fault) => fault.number(),
             Fault::Snapshot(fault) => fault.number(),
             Fault::Listen => 57,

@@ -1,11 +1,12 @@
 //! The commands of the program that need only streams, and how each command tells its faults.
 //!
 //! `run_over` serves a session, `encode_over` and `decode_over` turn lines into frames and frames into lines, `trace_over`
-//! runs the machine over a list of events, `migrate_over` turns a dump into requests, and `explain_over` writes a text. Each
-//! reads from a reader, writes to a writer, tells its fault to another, and answers the exit status. What they are made of
+//! runs the machine over a list of events, `ask_over` asks a server, `migrate_over` turns a dump into requests, and `explain_over`
+//! writes a text. Each reads from a reader, writes to a writer, tells its fault to another, and answers the exit status. What they are made of
 //! serves the other commands too.
 #![tactic(auto)]
 
+mod ask;
 mod encode;
 mod explain;
 mod fault;
@@ -16,9 +17,10 @@ mod output;
 mod run;
 mod trace;
 
+pub use ask::{ask_over, ask_words_over};
 pub use encode::{decode_over, encode_over};
 pub use explain::explain_over;
-pub use fault::{Fault, RefreshFault, SnapshotFault};
+pub use fault::{Fault, RefreshFault, ServerFault, SnapshotFault};
 pub use file_texts::FileTexts;
 pub use input::read_input;
 pub use migrate::migrate_over;

@@ -2,7 +2,7 @@
 ghost use Rattle.std.specs.Prelude.{◌≡◌, ◌<◌, ◌-◌, ◌^◌, false};
 ghost use Rattle.refresher.specs.Target.{Looks, SenderState, Sends};
 
-use commands::{Fault, RefreshFault};
+use commands::{Fault, ServerFault};
 use frame_client::{Client, write_request};
 use frame_front::{Counted, FrontError};
 use map_core::{Ask, AskError, Op, Reply};
@@ -165,7 +165,7 @@ impl<R: Read, W: Write> Ask for Server<R, W> {
 
 impl<R: Read, W: Write> Target for Server<R, W> {
     fn fault(&self) -> Option<Fault> {
-        Some(Fault::Refresh(RefreshFault::Client(self.client.ended()?)))
+        Some(Fault::Server(ServerFault::Client(self.client.ended()?)))
     }
 
     fn has_emptied(&self) -> bool {

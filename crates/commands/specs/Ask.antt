@@ -1,0 +1,74 @@
+-- What the command `ask` does to its streams, and to those of the server.
+use Rattle.std.specs.Prelude.{◌≡◌, ◌⊎◌, ℕ, Bool, if◌then◌else◌, List, ◌∷◌, drop, Option, Some, Result, Ok, Err}
+use Rattle.std.specs.List.{flat_map}
+use Rattle.frame_lines.specs.Encoding.{Gives}
+use Rattle.frame_lines.specs.RequestForm.{IsOneLine}
+use Rattle.frame_front.specs.declared.error.FrontError.TheVariants.{Memory}
+use Rattle.line_client.specs.Asking.{AsksStream, ends}
+use Rattle.line_client.specs.declared.asking.Asking.{Asking}
+use Rattle.line_client.specs.declared.fault.AskFault.{AskFault}
+use Rattle.line_client.specs.declared.fault.AskFault.TheVariants as asking
+use Rattle.line_client.specs.declared.link.Link.{Link}
+use Rattle.commands.specs.declared.fault.Fault.{Fault}
+use Rattle.commands.specs.declared.fault.Fault.TheVariants.{Front, BadLine, UnreadText, Server}
+use Rattle.commands.specs.declared.fault.ServerFault.TheVariants.{Client}
+use Rattle.commands.specs.Fault.{fault_line}
+use Rattle.commands.specs.Streams.{Streams, End, Blames, Tells}
+
+-- the fault of a command whose asking ended so
+abbrev pub asking_fault : AskFault → Fault
+asking_fault (asking.BadLine line) = BadLine line
+asking_fault (asking.Unreadable line) = UnreadText line
+asking_fault (asking.Server error) = Server (Client error)
+asking_fault (asking.Front error) = Front error
+
+-- 0 if each request was done, and 3 if some reply is a refusal
+abbrev pub ask_status : Bool → ℕ
+ask_status refused = if refused then 3 else 0
+
+abbrev pub EndsAsked : Result Bool AskFault → ℕ → Streams → Streams → Type 0
+EndsAsked (Ok refused) status old new = (status ≡ ask_status refused) × (new.error ≡ old.error)
+EndsAsked (Err fault) status old new =
+    (status ≡ 1) × Tells old.error new.error (fault_line (asking_fault fault)) × Blames (asking_fault fault) old new
+
+-- what a server's output has left, and its input holds
+pub record ServerEnds : Type 0 where
+  pub from : Option (List ℕ)
+  pub to : Option (List ℕ)
+
+abbrev pub server : {R W : Type 0} → (R → Option (List ℕ)) → (W → Option (List ℕ)) → Link R W → ServerEnds
+server left_of held_of link = record { from = left_of link.from.end; to = held_of link.to.end }
+
+-- Lines are asked, with the texts that are given for their names, and the replies are shown.
+pub record Asks (gives : Gives) (how : Asking) (status : ℕ) (old new : Streams) (server_old server_new : ServerEnds) : Type 0 where
+  pub ended : Result Bool AskFault
+  pub ends_so : EndsAsked ended status old new
+  pub asks : AsksStream gives how ended
+      (ends old.input.bytes server_old.from server_old.to old.output.bytes) (ends new.input.bytes server_new.from server_new.to new.output.bytes)
+
+-- ---- a request as words
+
+-- the words with single spaces between: each with a space before it, but for the first space
+abbrev pub spaced : List (List ℕ) → List ℕ
+spaced words = flat_map (λ word. 32 ∷ word) words
+
+abbrev pub joined : List (List ℕ) → List ℕ
+joined words = drop 1 (spaced words)
+
+-- a line of no input
+abbrev pub held_line : List ℕ → End
+held_line line = record { bytes = Some line; faults = 0 }
+
+-- why words are not asked: a line feed is in one, or memory ran out
+abbrev pub IsUnasked : List (List ℕ) → Fault → Type 0
+IsUnasked words (BadLine number) = (number ≡ 1) × (IsOneLine (joined words) → ⊥)
+IsUnasked words (Front Memory) = Unit {0}
+IsUnasked words fault = ⊥
+
+-- The words, as one line, are asked. Or nothing is asked.
+abbrev pub AsksWords : Gives → Asking → List (List ℕ) → ℕ → End → End → End → End → ServerEnds → ServerEnds → Type 0
+AsksWords gives how words status output_old output_new error_old error_new server_old server_new =
+    (IsOneLine (joined words) × (left : End) × Asks gives how status
+    (record { input = held_line (joined words); output = output_old; error = error_old })
+    (record { input = left; output = output_new; error = error_new }) server_old server_new)
+    ⊎ ((fault : Fault) × IsUnasked words fault × (status ≡ 1) × (output_new ≡ output_old) × (server_new ≡ server_old) × Tells error_old error_new (fault_line fault))
