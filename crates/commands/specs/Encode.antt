@@ -1,5 +1,5 @@
 -- What the commands `encode` and `decode` do to their input and their output.
-use Rattle.std.specs.Prelude.{ℕ, List, Result, Ok, Err}
+use Rattle.std.specs.Prelude.{ℕ, Result, Ok, Err}
 use Rattle.frame_lines.specs.Encoding.{Gives}
 use Rattle.frame_lines.specs.EncodedStream.{EncodesStream}
 use Rattle.frame_lines.specs.DecodedStream.{DecodesStream}

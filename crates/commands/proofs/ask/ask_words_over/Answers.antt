@@ -1,4 +1,4 @@
-use Rattle.std.proofs.Common.{◌≡◌, ◌==◌, List, ℕ, map, drop, refl, ap, sym, ◌∙◌, inr}
+use Rattle.std.proofs.Common.{◌≡◌, ◌==◌, ℕ, map, drop, refl, ap, sym, ◌∙◌, inr}
 use Rattle.std.specs.List.{list_any}
 use Rattle.frame_front.specs.declared.error.FrontError.TheVariants.{Memory}
 use Rattle.commands.specs.Ask.{joined}

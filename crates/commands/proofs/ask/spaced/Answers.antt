@@ -1,4 +1,4 @@
-use Rattle.std.proofs.Common.{◌≡◌, ◌<◌, ◌++◌, ◌∷◌, List, [], ℕ, length, get_or, Bor, ap, sym, ◌∙◌, arith, append_assoc}
+use Rattle.std.proofs.Common.{◌<◌, ◌++◌, ◌∷◌, List, [], ℕ, length, get_or, Bor, ap, sym, ◌∙◌, arith, append_assoc}
 use Rattle.commands.proofs.Words.{spaced_more}
 use Rattle.commands.proofs.ask.spaced.Goals as goal
 
