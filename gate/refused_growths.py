@@ -24,7 +24,7 @@ ALL = ["spiffe_doc", "map_core", "step_core"]
 # whether an answer is a certain one, which 22 is not.
 SOME = {"frame_front": ["a_refused_growth"], "frame_client": ["a_refused_growth"],
         "shard_store": ["a_refused_growth", "removed_sequences", "a_front_asks"],
-        "frame_lines": ["a_refused_growth"], "trace_lines": ["a_refused_growth"],
+        "frame_lines": ["a_refused_growth"], "line_client": ["a_refused_growth"], "trace_lines": ["a_refused_growth"],
         "dump_views": ["a_refused_growth"], "bundle_map": ["a_refused_growth"], "snapshots": ["a_refused_growth"],
         "doc_report": ["a_refused_growth"], "dump_commands": ["a_refused_growth"],
         "refresh": ["a_refused_growth", "parts_of"]}

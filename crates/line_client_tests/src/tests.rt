@@ -66,6 +66,9 @@ const BUNDLE_A: &[u8] = b"\x00\x00\x00\x0ei\x01a{\"keys\":[]}";
 
 const BUNDLE_B: &[u8] = b"\x00\x00\x00\x0ei\x01b{\"keys\":[]}";
 
+/// Room for all that is asked or shown, so that no write takes memory.
+const ROOM: usize = 256;
+
 /// What asking leaves.
 #[derive(Drop)]
 struct Left {
@@ -96,9 +99,9 @@ fn ask(
     let mut lines = Counted::new(lines);
     let mut link = Link {
         from: Counted::new(told.as_slice()),
-        to: Counted::new(Vec::new(alloc)),
+        to: Counted::new(Vec::with_capacity(alloc, ROOM)?),
     };
-    let mut out = Counted::new(Vec::new(alloc));
+    let mut out = Counted::new(Vec::with_capacity(alloc, ROOM)?);
     let how = Asking { form, retries };
     let ended = ask_stream(alloc, how, &OneText, &mut lines, &mut link, &mut out);
     let unread = link.from.end.len();
@@ -334,6 +337,32 @@ fn frames_are_shown_as_they_came(rt: HostRuntime) -> Result<(), Fail> {
     let dump = joined(alloc, &[ALL_OF_TWO, BUNDLE_A, BUNDLE_B, NO_DOMAIN])?;
     is_equal_at(&rt, &left.shown.as_slice(), &dump.as_slice(), &"a dump");
     is_equal_at(&rt, &left.unread, &STORED.len(), &"no byte beyond is read");
+    Ok(())
+}
+
+#[test]
+fn a_refused_growth_is_told(rt: HostRuntime) -> Result<(), Fail> {
+    let alloc = rt.alloc();
+    let lines = b"set a @doc\nget a\n";
+    let left = ask(alloc, Form::Lines, 0, lines, &[GREETED, STORED, FOUND])?;
+    let shown = left.shown.as_slice();
+    match left.ended {
+        Ok(refused) => {
+            is_equal_at(&rt, &refused, &false, &"no refusal");
+            is_equal_at(
+                &rt,
+                &shown,
+                &b"stored\nfound {\"keys\":[]}\n".as_slice(),
+                &"both",
+            );
+        }
+        Err(fault) => {
+            let memory = AskFault::Front(FrontError::Memory);
+            is_equal_at(&rt, &fault, &memory, &"a refused growth");
+            let is_whole = shown.is_empty() || shown == b"stored\n".as_slice();
+            is_equal_at(&rt, &is_whole, &true, &"whole replies");
+        }
+    }
     Ok(())
 }
 
