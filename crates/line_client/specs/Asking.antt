@@ -42,7 +42,7 @@ is_refused x = list_any is_refusal x.replies
 abbrev pub IsPassed : Reply → Type 0
 IsPassed reply = is_passing reply ≡ true
 
--- So many were passed over, so these may be shown: the first says how many bundles follow it, and is itself one after which it
+-- After so many others these are shown: the first says how many bundles follow it, and is itself one after which it
 -- would be asked again only if the retries are used up.
 abbrev pub AreTold : Asking → ℕ → List Reply → Type 0
 AreTold how passed [] = ⊥
