@@ -1,4 +1,5 @@
 //! The commands over memory: what comes in, what goes out, the fault line and the status.
+mod changes;
 mod checks;
 mod dumps;
 mod ends;
