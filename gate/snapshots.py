@@ -22,7 +22,7 @@ sys.dont_write_bytecode = True
 from program_runs import frame  # noqa: E402
 from refreshes import Server as FakeServer  # noqa: E402
 from refreshes import DUE, answers_with, canonical  # noqa: E402
-from refusals import program  # noqa: E402
+from refusals import MOST_GROWTHS, build_shim, program, run_once  # noqa: E402
 from serves import SECONDS, Server, dump_of_all  # noqa: E402
 
 EMPTY = b'{"keys":[]}'
@@ -301,6 +301,27 @@ def server_that_comes_later():
         again.started.communicate(timeout=SECONDS)
 
 
+def memory_that_is_refused():
+    """Each growth is refused in turn: that is told, or it ends as if none had been refused; and what is shown is whole."""
+    items = {"a": numbered(7), "rotation": canonical("rotation"), 30 * "n": EMPTY}
+    server = FakeServer(answers_with(dump_of(items)))
+    whole = shown(1, len(items))
+    growth, is_refused = 0, True
+    with tempfile.TemporaryDirectory(prefix="refused-growths-") as place:
+        shim = build_shim(place)
+        while is_refused and growth < MOST_GROWTHS:
+            growth += 1
+            with Room() as room:
+                ended, is_refused = run_once(words_of(server.port, room.folder), b"", growth, growth, shim)
+                told = ended.status, ended.out.decode(), ended.err.decode()
+                if "current" in folder_names(room.folder):
+                    assert told in (whole, (1, "", "fault 22\n"), (1, whole[1], "fault 22\n")), (growth, told)
+                    assert room.current() == files_of(items), growth
+                else:
+                    assert told == (1, "", "fault 22\n"), (growth, told)
+    assert 10 < growth < MOST_GROWTHS and told == whole, growth
+
+
 def one_moment_beside_a_writer():
     """Whoever follows the link and then reads sees one moment, whatever is set and shown meanwhile: `b` is set before `a`."""
     server = Server("--workers", "2", "--connections", "unlimited")
@@ -355,7 +376,7 @@ def one_moment_beside_a_writer():
 
 
 CHECKS = [real_bundles, changes_over_a_server, names_that_bite, names_that_are_too_long, folders_that_are_not_used, leftovers_of_a_crash,
-          damaged_snapshots, answers_that_are_none, turns_that_fail, server_that_comes_later, one_moment_beside_a_writer]
+          damaged_snapshots, answers_that_are_none, turns_that_fail, server_that_comes_later, memory_that_is_refused, one_moment_beside_a_writer]
 
 
 def main():

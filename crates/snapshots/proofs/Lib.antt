@@ -1,4 +1,5 @@
 pub mod DeedLemmas
 pub mod CompareLemmas
 pub mod NameLaws
+pub mod SeenLaws
 pub mod FetchLemmas

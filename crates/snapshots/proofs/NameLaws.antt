@@ -1,8 +1,11 @@
 -- The laws of the names of files.
 use Rattle.std.proofs.Common.{◌≡◌, ◌≢◌, ℕ, ◌==◌, ◌<◌, ◌≤◌, List, [], ◌∷◌, ◌++◌, length, get_or, reverse, not, true, false, refl, sym, ap, ◌∙◌, arith, codes, Bool}
 use Rattle.std.proofs.lemmas.List.{append_cancel_right, reverse-append, length-append}
-use Rattle.std.proofs.lemmas.List.Elements.{All-append, All-from_recursion}
+use Rattle.std.proofs.lemmas.List.Elements.{All-append, All-from_recursion, recursion_from_All}
 use Rattle.std.specs.List.{All, AllPass, AllByRecursion}
+use Rattle.std.specs.Prelude.{flat_map}
+use Rattle.frame_front.specs.Dump.{Domains, AreValid}
+use Rattle.snapshots.specs.Files.{File, domain_files, files_of}
 use Rattle.spiffe_doc.specs.Name.{IsName, is_name_byte}
 use Rattle.map_core.specs.Name.{Name}
 use Rattle.snapshots.specs.Names.{json_name, pem_name, map_name, IsFileName, IsShort}
@@ -75,19 +78,28 @@ file_name name ending is fits some few no_slash no_nul = record {
   not_its_parent = longer name ending (codes "..") some;
 }
 
-pub files_stay_inside : StayInside
-files_stay_inside = record {
-  json = λ name is fits. file_name name (codes ".json") is fits (omega arith) (omega arith) json_no_slash json_no_nul;
-  pem = λ name is fits. file_name name (codes ".pem") is fits (omega arith) (omega arith) pem_no_slash pem_no_nul;
-  map = record {
-    some = omega arith;
-    short = omega arith;
-    no_slash = map_no_slash;
-    no_nul = map_no_nul;
-    not_the_folder = λ same. longer [] map_name (codes ".") (omega arith) same;
-    not_its_parent = λ same. longer [] map_name (codes "..") (omega arith) same;
-  };
+abbrev IsNamed : File → Type 0
+IsNamed file = IsFileName file.0
+
+map_is_named : IsFileName map_name
+map_is_named = record {
+  some = omega arith;
+  short = omega arith;
+  no_slash = map_no_slash;
+  no_nul = map_no_nul;
+  not_the_folder = longer [] map_name (codes ".") (omega arith);
+  not_its_parent = longer [] map_name (codes "..") (omega arith);
 }
+
+domains_are_named : (items : Domains) → AreValid items → AllByRecursion (λ item. IsShort item.0) items → AllByRecursion IsNamed (flat_map domain_files items)
+domains_are_named [] valid short = tt
+domains_are_named (item ∷ items) valid short = (
+  file_name item.0 (codes ".json") valid.0.0 short.0 (omega arith) (omega arith) json_no_slash json_no_nul,
+  (file_name item.0 (codes ".pem") valid.0.0 short.0 (omega arith) (omega arith) pem_no_slash pem_no_nul, domains_are_named items valid.1 short.1),
+)
+
+pub files_stay_inside : StayInside
+files_stay_inside items valid short = (map_is_named, domains_are_named items valid (recursion_from_All (λ item. IsShort item.0) items short))
 
 pub files_are_apart : AreApart
 files_are_apart = record {

@@ -1,16 +1,16 @@
--- Laws of the names of files.
-use Rattle.std.specs.Prelude.{◌≡◌, ◌≢◌, ℕ, List}
-use Rattle.spiffe_doc.specs.Name.{IsName}
+-- Laws of the files of a snapshot.
+use Rattle.std.specs.Prelude.{◌≡◌, ◌≢◌}
+use Rattle.std.specs.List.{AllByRecursion}
 use Rattle.map_core.specs.Name.{Name}
-use Rattle.snapshots.specs.Names.{json_name, pem_name, map_name, IsFileName, IsShort}
+use Rattle.frame_front.specs.Dump.{Domains, AreValid}
+use Rattle.snapshots.specs.Names.{json_name, pem_name, map_name, IsFileName, HaveShortNames}
+use Rattle.snapshots.specs.Files.{files_of}
 
--- No file is outside of its folder: each name is that of a file in it, whatever the trust domain is called.
-pub record StayInside : Type 0 where
-  pub json : (name : Name) → IsName name → IsShort name → IsFileName (json_name name)
-  pub pem : (name : Name) → IsName name → IsShort name → IsFileName (pem_name name)
-  pub map : IsFileName map_name
+-- No file is outside of its folder, whatever the trust domains are called.
+abbrev pub StayInside : Type 0
+StayInside = (items : Domains) → AreValid items → HaveShortNames items → AllByRecursion (λ file. IsFileName file.0) (files_of items)
 
--- No two files of a snapshot have one name.
+-- Files of different domains and of different kinds have different names.
 pub record AreApart : Type 0 where
   pub json : (a b : Name) → json_name a ≡ json_name b → a ≡ b
   pub pem : (a b : Name) → pem_name a ≡ pem_name b → a ≡ b

@@ -15,7 +15,7 @@ pub trait Folder {
     // Whether the current snapshot has this file, with these bytes, may be answered so.
     ghost shows: { Self → File → Bool → Type 0 };
 
-    /// Whether the current snapshot has a file of this name and these bytes. If there is none, it has not.
+    /// Whether the current snapshot has a file of this name and these bytes. Without a current one it has not.
     fn holds(&self, name: &str, bytes: &[u8]) -> Result<bool, FolderError>
         ensures { IfOk result (λ yes. shows self.now (name.now, bytes.now) yes) };
 

@@ -52,7 +52,7 @@ impl<'a, F: Files> HostFolder<'a, F> {
         })
     }
 
-    /// The number of the current snapshot, or 0 if there is none.
+    /// The number of the current snapshot, or 0 without one.
     pub fn number(&self) -> u64 {
         self.number
     }

@@ -24,7 +24,7 @@ pub fn update<F: Folder>(
     domains: &[(TrustDomain, Bundle)],
 ) -> Result<bool, SnapshotError>
     ensures ok { IfOk result (λ is_new. Updates F.done F.shows folder.old folder.new domains.now is_new) }
-    ensures why { IfErr result (λ why. WhyNot why domains.now) }
+    ensures why { IfErr result (λ why. WhyNot why domains.now folder.old folder.new) }
     ensures err { OnErr result (IsCutShort (F.done folder.old) (F.done folder.new) (deeds_of domains.now)) }
 {
     if let Some(place) = first_long(domains) {
