@@ -181,7 +181,7 @@ def folders_that_are_not_used():
     with Room() as room:
         for path in (f"{room.all.name}/nowhere", f"{room.all.name}/beside", "/proc", "", "/dev/null"):
             assert take(server.port, path) == bad, path
-        for text in ("elsewhere", "snapshot-", "snapshot-x", "snapshot-01", "../out/snapshot-1", "snapshot-18446744073709551615"):
+        for text in ("elsewhere", "snapshot-", "snapshot-0", "snapshot-x", "snapshot-01", "../out/snapshot-1", "snapshot-18446744073709551615"):
             os.symlink(text, f"{room.folder}/current")
             assert take(server.port, room.folder) == bad, text
             assert (folder_names(room.folder), os.readlink(f"{room.folder}/current")) == (["current"], text)

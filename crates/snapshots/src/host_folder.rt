@@ -201,8 +201,8 @@ fn current_number<F: Files>(alloc: Global, files: &F, path: &str) -> io::Result<
     let link = path_of(alloc, path, CURRENT)?;
     match files.read_link(alloc, link.as_str()) {
         Ok(target) => match folder_number(alloc, target.as_str())? {
-            Some(number) => Ok(number),
-            None => Err(Error::from(ErrorKind::InvalidInput)),
+            Some(number) if number > 0 => Ok(number),
+            _ => Err(Error::from(ErrorKind::InvalidInput)),
         },
         Err(error) if error.kind() == ErrorKind::NotFound => Ok(0),
         Err(error) => Err(error),
