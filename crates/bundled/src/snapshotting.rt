@@ -61,15 +61,28 @@ fn repeat<H: Files + Clock + Net, W: Write, E: Write>(
         let Some(pause) = wanted.every else {
             return taken;
         };
-        if let Err(fault) = taken {
-            if !is_of_the_moment(&fault) {
-                return Err(fault);
-            }
-            fault.tell_unless_failed(err, before);
-        }
+        pass_over(taken, err, before)?;
         thread::sleep(host, Duration::from_secs(pause));
     }
     Ok(())
+}
+
+/// Tells a fault of the moment, after which the next turn comes. Any other is given back.
+fn pass_over<E: Write>(
+    taken: Result<(), Fault>,
+    err: &mut Counted<E>,
+    before: u64,
+) -> Result<(), Fault>
+    requires { before < 2 ^ 64 - 1 }
+    ensures { (line : List ℕ) × TellsUnlessFailed before (end_of E.contents err.old) (end_of E.contents err.new) line }
+{
+    match taken {
+        Err(fault) if is_of_the_moment(&fault) => {
+            fault.tell_unless_failed(err, before);
+            Ok(())
+        }
+        taken => taken,
+    }
 }
 
 /// Makes one snapshot, and tells if it is new.
