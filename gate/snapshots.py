@@ -355,7 +355,8 @@ def one_moment_beside_a_writer():
         number = 1
         while number < 30:
             status, out, err = take(server.port, room.folder)
-            if (status, err) == (1, "fault 41\n"):
+            if (status, err) == (1, "fault 41\n") or (status, out, err) == (0, "", ""):
+                # The writer was in the way of each round, or has set nothing since the last snapshot.
                 continue
             number += 1
             assert (status, out, err) == shown(number, 2), (out, err)
