@@ -49,7 +49,7 @@ fn is_drawn(
     text: &[u8],
 ) -> Result<(), Fail> {
     let events = read_events(alloc, lines)?;
-    let trace = run_events(alloc, shards, 2, events.as_slice())?;
+    let trace = run_events(alloc, shards.max(1), 2, events.as_slice())?;
     let out = drawn(alloc, events.len(), &trace)?;
     let page = page(alloc, picture, text)?;
     is_equal_at(rt, &out.as_slice(), &page.as_slice(), &shards);
