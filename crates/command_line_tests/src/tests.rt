@@ -1,5 +1,5 @@
 //! Command lines: which command they want, with which settings.
-use command_line::{Wanted, wanted_by};
+use command_line::{Inquiry, Wanted, wanted_by};
 use spiffe_doc::TrustDomain;
 use std::alloc::{AllocError, Global};
 use std::fmt::Debug;
@@ -20,6 +20,17 @@ fn told(alloc: Global, names: &[TrustDomain]) -> Result<String, AllocError> {
     Ok(told)
 }
 
+/// What is asked of a server, and the words of the request with `|` between.
+fn asked(alloc: Global, inquiry: &Inquiry<'_>) -> Result<String, AllocError> {
+    let (port, retries, raw) = (inquiry.port, inquiry.retries, inquiry.raw);
+    let mut told = format!(in alloc; "ask {port} {retries} {raw}")?;
+    for word in inquiry.words.as_slice() {
+        told.push_str("|")?;
+        told.push_str(word)?;
+    }
+    Ok(told)
+}
+
 /// What the command line of these words wants, in words: or the text that is shown in its place.
 fn wanted(alloc: Global, words: &[&str]) -> Result<String, AllocError> {
     let mut line = Vec::new(alloc);
@@ -36,6 +47,7 @@ fn wanted(alloc: Global, words: &[&str]) -> Result<String, AllocError> {
                 picture,
             },
         ) => format!(in alloc; "trace {shards} {rounds} {picture}"),
+        Ok(Wanted::Ask(inquiry)) => asked(alloc, &inquiry),
         Ok(Wanted::Encode) => format!(in alloc; "encode"),
         Ok(Wanted::Decode) => format!(in alloc; "decode"),
         Ok(Wanted::Explain(text)) => format!(in alloc; "explain {text}"),
@@ -251,6 +263,39 @@ fn reads_which_snapshots_are_wanted(rt: HostRuntime) -> Result<(), AllocError> {
         (
             &["bundled", "snapshot", "--port=1", "--out=a", "--every=0"],
             "error: invalid value '0' for '--every <SECONDS>': 0 is not in 1..=86400\n\nFor more information, try '--help'.\n",
+        ),
+    ];
+    for (words, text) in rows {
+        let wanted = wanted(alloc, words)?;
+        holds_at(&rt, wanted.as_str() == text, &wanted);
+    }
+    Ok(())
+}
+
+#[test]
+fn reads_what_is_asked(rt: HostRuntime) -> Result<(), AllocError> {
+    let alloc = rt.alloc();
+    let rows: [(&[&str], &str); 6] = [
+        (&["bundled", "ask", "--port", "1"], "ask 1 100 false"),
+        (
+            &["bundled", "ask", "--port=65535", "--retry=0", "get", "a"],
+            "ask 65535 0 false|get|a",
+        ),
+        (
+            &["bundled", "ask", "--port=1", "--raw", "fetch"],
+            "ask 1 100 true|fetch",
+        ),
+        (
+            &["bundled", "ask", "--port=1", "set", "a", "{\"keys\": []}"],
+            "ask 1 100 false|set|a|{\"keys\": []}",
+        ),
+        (
+            &["bundled", "ask", "--port=0", "fetch"],
+            "error: invalid value '0' for '--port <PORT>': 0 is not in 1..=65535\n\nFor more information, try '--help'.\n",
+        ),
+        (
+            &["bundled", "ask", "--port=1", "--retry=1000001"],
+            "error: invalid value '1000001' for '--retry <COUNT>': 1000001 is not in 0..=1000000\n\nFor more information, try '--help'.\n",
         ),
     ];
     for (words, text) in rows {
