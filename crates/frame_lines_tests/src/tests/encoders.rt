@@ -23,12 +23,12 @@ fn encoded(
 }
 
 /// Appends the frames of the lines that are whole.
-fn encode_kept(
-    alloc: Global,
-    encoder: &mut Encoder,
-    out: &mut Vec<u8>,
-) -> Result<(), EncodeError> {
-    while encoder.encode_next(alloc, &OneText, out)? {}
+fn encode_kept(alloc: Global, encoder: &mut Encoder, out: &mut Vec<u8>) -> Result<(), EncodeError> {
+    for _ in 0..u64::MAX {
+        if !encoder.encode_next(alloc, &OneText, out)? {
+            break;
+        }
+    }
     Ok(())
 }
 
