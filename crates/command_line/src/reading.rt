@@ -105,38 +105,69 @@ fn wanted_of<'a>(alloc: Global, matches: &ArgMatches<'a>) -> Result<Wanted<'a>, 
     ensures { IfOk result AreSettings }
 {
     match matches.subcommand() {
-        Some(("ask", ask)) => Ok(Wanted::Ask(inquiry_of(alloc, ask)?)),
-        Some(("encode", _)) => Ok(Wanted::Encode),
-        Some(("explain", explain)) => explaining_of(alloc, explain),
-        Some(("decode", _)) => Ok(Wanted::Decode),
-        Some(("check", check)) => Ok(Wanted::Check(files_of(alloc, check)?)),
-        Some(("map", map)) => mapping_of(alloc, map),
-        Some(("import", _)) => Ok(Wanted::Import),
-        Some(("pem", pem)) => certificates_of(alloc, pem),
-        Some(("diff", diff)) => Ok(Wanted::Diff(
-            diff.get_str("old").unwrap_or_default(),
-            diff.get_str("new").unwrap_or_default(),
-        )),
-        Some(("digest", _)) => Ok(Wanted::Digest),
-        Some(("migrate", _)) => Ok(Wanted::Migrate),
-        Some(("refresh", refresh)) => Ok(Wanted::Refresh(refreshing_of(refresh))),
-        Some(("snapshot", snapshot)) => Ok(Wanted::Snapshot(snapshotting_of(snapshot))),
-        Some(("serve", serve)) => serving_of(alloc, serve),
-        Some(("trace", trace)) => Ok(Wanted::Trace {
-            shards: shards_of(trace),
-            rounds: rounds_of(trace),
-            picture: trace.get_flag("picture"),
-        }),
-        Some(("demo", demo)) => Ok(Wanted::Race {
-            seconds: seconds_of(demo),
-        }),
-        Some((_, run)) => Ok(Wanted::Run {
-            shards: shards_of(run),
-            turns: turns_of(run),
-        }),
+        Some((name, of)) => wanted_of_server(alloc, name, of),
         None => Ok(Wanted::Run {
             shards: SHARDS,
             turns: TURNS,
+        }),
+    }
+}
+
+/// What is wanted of a server or of threads; or one of the other commands.
+fn wanted_of_server<'a>(alloc: Global, name: &str, of: &ArgMatches<'a>) -> Result<Wanted<'a>, Error>
+    ensures { IfOk result AreSettings }
+{
+    match name {
+        "ask" => Ok(Wanted::Ask(inquiry_of(alloc, of)?)),
+        "serve" => serving_of(alloc, of),
+        "refresh" => Ok(Wanted::Refresh(refreshing_of(of))),
+        "snapshot" => Ok(Wanted::Snapshot(snapshotting_of(of))),
+        "demo" => Ok(Wanted::Race {
+            seconds: seconds_of(of),
+        }),
+        _ => wanted_of_dumps(alloc, name, of),
+    }
+}
+
+/// What is wanted of documents, dumps and bundle maps; or one of the other commands.
+fn wanted_of_dumps<'a>(alloc: Global, name: &str, of: &ArgMatches<'a>) -> Result<Wanted<'a>, Error>
+    ensures { IfOk result AreSettings }
+{
+    match name {
+        "check" => Ok(Wanted::Check(files_of(alloc, of)?)),
+        "map" => mapping_of(alloc, of),
+        "import" => Ok(Wanted::Import),
+        "pem" => certificates_of(alloc, of),
+        "diff" => Ok(Wanted::Diff(
+            of.get_str("old").unwrap_or_default(),
+            of.get_str("new").unwrap_or_default(),
+        )),
+        "digest" => Ok(Wanted::Digest),
+        _ => wanted_of_streams(alloc, name, of),
+    }
+}
+
+/// What is wanted of streams.
+fn wanted_of_streams<'a>(
+    alloc: Global,
+    name: &str,
+    of: &ArgMatches<'a>,
+) -> Result<Wanted<'a>, Error>
+    ensures { IfOk result AreSettings }
+{
+    match name {
+        "encode" => Ok(Wanted::Encode),
+        "decode" => Ok(Wanted::Decode),
+        "explain" => explaining_of(alloc, of),
+        "migrate" => Ok(Wanted::Migrate),
+        "trace" => Ok(Wanted::Trace {
+            shards: shards_of(of),
+            rounds: rounds_of(of),
+            picture: of.get_flag("picture"),
+        }),
+        _ => Ok(Wanted::Run {
+            shards: shards_of(of),
+            turns: turns_of(of),
         }),
     }
 }

@@ -2,6 +2,7 @@
 use super::holds_at;
 use dump_commands::diff_over;
 use frame_front::Counted;
+use std::alloc::Global;
 use std::io;
 use std::io::{ErrorKind, Read};
 use std::test::Fail;
@@ -43,17 +44,34 @@ const ROWS: [Row; 10] = [
     (ONE, b"\x00\x00\x00\x01F", "", "fault 63 0\n", 1),
 ];
 
+/// What comes of the two: the lines, the fault line and the status.
+#[derive(Drop)]
+struct Told {
+    lines: Vec<u8>,
+    faults: Vec<u8>,
+    status: u8,
+}
+
+fn told<R: Read + Drop, S: Read + Drop>(alloc: Global, old: R, new: S) -> Told {
+    let (mut old, mut new) = (Counted::new(old), Counted::new(new));
+    let mut out = Counted::new(Vec::new(alloc));
+    let mut err = Counted::new(Vec::new(alloc));
+    let status = diff_over(alloc, &mut old, &mut new, &mut out, &mut err);
+    Told {
+        lines: out.end,
+        faults: err.end,
+        status,
+    }
+}
+
 #[test]
 fn two_dumps_are_told_apart(rt: HostRuntime) -> Result<(), Fail> {
     let alloc = rt.alloc();
     for (old, new, lines, fault, status) in ROWS {
-        let (mut old, mut new) = (Counted::new(old), Counted::new(new));
-        let mut out = Counted::new(Vec::new(alloc));
-        let mut err = Counted::new(Vec::new(alloc));
-        let found = diff_over(alloc, &mut old, &mut new, &mut out, &mut err);
-        holds_at(&rt, found == status, &(lines, found));
-        holds_at(&rt, out.end.as_slice() == lines.as_bytes(), &lines);
-        holds_at(&rt, err.end.as_slice() == fault.as_bytes(), &fault);
+        let found = told(alloc, old, new);
+        holds_at(&rt, found.status == status, &(lines, found.status));
+        holds_at(&rt, found.lines.as_slice() == lines.as_bytes(), &lines);
+        holds_at(&rt, found.faults.as_slice() == fault.as_bytes(), &fault);
     }
     Ok(())
 }
@@ -71,15 +89,14 @@ impl Read for Broken {
 #[test]
 fn an_input_that_cannot_be_read_is_told(rt: HostRuntime) -> Result<(), Fail> {
     let alloc = rt.alloc();
-    let mut out = Counted::new(Vec::new(alloc));
-    let mut err = Counted::new(Vec::new(alloc));
-    let (mut one, mut broken) = (Counted::new(ONE), Counted::new(Broken));
-    let first = diff_over(alloc, &mut broken, &mut one, &mut out, &mut err);
-    let (mut one, mut broken) = (Counted::new(ONE), Counted::new(Broken));
-    let second = diff_over(alloc, &mut one, &mut broken, &mut out, &mut err);
-    holds_at(&rt, (first, second) == (1, 1), &"the status of a fault");
-    holds_at(&rt, out.end.is_empty(), &"nothing is written");
-    let told = b"fault 53\nfault 53\n".as_slice();
-    holds_at(&rt, err.end.as_slice() == told, &"both are told");
+    for found in [told(alloc, Broken, ONE), told(alloc, ONE, Broken)] {
+        holds_at(&rt, found.status == 1, &"the status of a fault");
+        holds_at(&rt, found.lines.is_empty(), &"nothing is written");
+        holds_at(
+            &rt,
+            found.faults.as_slice() == b"fault 53\n".as_slice(),
+            &"it is told",
+        );
+    }
     Ok(())
 }
