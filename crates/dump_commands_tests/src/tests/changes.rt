@@ -52,7 +52,7 @@ struct Told {
     status: u8,
 }
 
-fn told<R: Read + Drop, S: Read + Drop>(alloc: Global, old: R, new: S) -> Told {
+fn differences<R: Read + Drop, S: Read + Drop>(alloc: Global, old: R, new: S) -> Told {
     let (mut old, mut new) = (Counted::new(old), Counted::new(new));
     let mut out = Counted::new(Vec::new(alloc));
     let mut err = Counted::new(Vec::new(alloc));
@@ -68,7 +68,7 @@ fn told<R: Read + Drop, S: Read + Drop>(alloc: Global, old: R, new: S) -> Told {
 fn two_dumps_are_told_apart(rt: HostRuntime) -> Result<(), Fail> {
     let alloc = rt.alloc();
     for (old, new, lines, fault, status) in ROWS {
-        let found = told(alloc, old, new);
+        let found = differences(alloc, old, new);
         holds_at(&rt, found.status == status, &(lines, found.status));
         holds_at(&rt, found.lines.as_slice() == lines.as_bytes(), &lines);
         holds_at(&rt, found.faults.as_slice() == fault.as_bytes(), &fault);
@@ -89,7 +89,10 @@ impl Read for Broken {
 #[test]
 fn an_input_that_cannot_be_read_is_told(rt: HostRuntime) -> Result<(), Fail> {
     let alloc = rt.alloc();
-    for found in [told(alloc, Broken, ONE), told(alloc, ONE, Broken)] {
+    for found in [
+        differences(alloc, Broken, ONE),
+        differences(alloc, ONE, Broken),
+    ] {
         holds_at(&rt, found.status == 1, &"the status of a fault");
         holds_at(&rt, found.lines.is_empty(), &"nothing is written");
         holds_at(
