@@ -1,5 +1,5 @@
 //! Clients: what they write, and what they make of what they read.
-use super::exchanges::{Asked, EXCHANGES, Exchange, op, words};
+use super::exchanges::{Asked, Exchange, exchanges, op, words};
 use super::{ALL_OF_ONE, Calls, FETCH_ALL, Pieces, SET, holds, holds_at, is_equal};
 use frame_client::{Client, ClientError, RequestError, write_request};
 use frame_front::{Counted, FaultyReader, FaultyWriter, serve};
@@ -20,7 +20,7 @@ fn and_one(alloc: Global, bytes: &[u8]) -> Result<Vec<u8>, AllocError> {
 #[test]
 fn asks_and_is_answered(rt: HostRuntime) -> Result<(), Fail> {
     let alloc = rt.alloc();
-    for exchange in EXCHANGES {
+    for exchange in exchanges() {
         for size in [4096, 1] {
             let asked = op(alloc, exchange.ask)?;
             let input = and_one(alloc, exchange.reply)?;
@@ -71,10 +71,10 @@ fn ends_so(
 
 #[test]
 fn a_reply_that_is_cut_off(rt: HostRuntime) -> Result<(), Fail> {
-    for exchange in EXCHANGES {
+    for exchange in exchanges() {
         for size in 0..exchange.reply.len() {
             let (front, _) = exchange.reply.split_at(size);
-            ends_so(&rt, rt.alloc(), &exchange, front, ClientError::Truncated)?;
+            ends_so(&rt, rt.alloc(), exchange, front, ClientError::Truncated)?;
         }
     }
     Ok(())
@@ -83,7 +83,7 @@ fn a_reply_that_is_cut_off(rt: HostRuntime) -> Result<(), Fail> {
 #[test]
 fn a_reader_that_fails(rt: HostRuntime) -> Result<(), Fail> {
     let alloc = rt.alloc();
-    for exchange in EXCHANGES {
+    for exchange in exchanges() {
         for after in 0..exchange.reply.len() {
             let asked = op(alloc, exchange.ask)?;
             let reader = FaultyReader::new(Vec::from_slice(alloc, exchange.reply)?, after);
@@ -106,7 +106,7 @@ fn a_reader_that_fails(rt: HostRuntime) -> Result<(), Fail> {
 #[test]
 fn a_writer_that_fails(rt: HostRuntime) -> Result<(), Fail> {
     let alloc = rt.alloc();
-    for exchange in EXCHANGES {
+    for exchange in exchanges() {
         for room in 0..exchange.request.len() {
             let asked = op(alloc, exchange.ask)?;
             let writer = Counted::new(FaultyWriter::new(alloc, room));
@@ -167,7 +167,7 @@ fn what_is_no_reply(rt: HostRuntime) -> Result<(), Fail> {
         (21, b"\x00\x00\x00\x02\x20\x00"),
     ];
     for (place, input) in bad {
-        let Some(exchange) = EXCHANGES.get(place) else {
+        let Some(exchange) = exchanges().get(place) else {
             continue;
         };
         ends_so(&rt, rt.alloc(), exchange, input, ClientError::BadReply)?;
@@ -204,13 +204,13 @@ fn what_is_no_listing(rt: HostRuntime) -> Result<(), Fail> {
 
 #[test]
 fn bad_lengths_of_replies(rt: HostRuntime) -> Result<(), Fail> {
-    for exchange in EXCHANGES {
+    for exchange in exchanges() {
         for length in [
             b"\x00\x00\x00\x00",
             b"\x00\x10\x01\xa9",
             b"\xff\xff\xff\xff",
         ] {
-            ends_so(&rt, rt.alloc(), &exchange, length, ClientError::BadLength)?;
+            ends_so(&rt, rt.alloc(), exchange, length, ClientError::BadLength)?;
         }
     }
     Ok(())
@@ -296,7 +296,7 @@ fn asks_what_a_session_answers(rt: HostRuntime) -> Result<(), Fail> {
 #[test]
 fn a_request_is_flushed(rt: HostRuntime) -> Result<(), Fail> {
     let alloc = rt.alloc();
-    for exchange in EXCHANGES {
+    for exchange in exchanges() {
         for input in [exchange.reply, b""] {
             let asked = op(alloc, exchange.ask)?;
             let writer = Calls {
@@ -386,7 +386,7 @@ fn what_is_not_asked(rt: HostRuntime) -> Result<(), Fail> {
 /// The requests of all exchanges.
 fn all_requests(alloc: Global) -> Result<Vec<u8>, AllocError> {
     let mut requests = Vec::new(alloc);
-    for exchange in EXCHANGES {
+    for exchange in exchanges() {
         requests.extend_from_slice(exchange.request)?;
     }
     Ok(requests)
@@ -411,7 +411,7 @@ fn requests_one_after_the_other(rt: HostRuntime) -> Result<(), Fail> {
     let alloc = rt.alloc();
     let wanted = all_requests(alloc)?;
     let mut writer = Counted::new(Vec::new(alloc));
-    for exchange in EXCHANGES {
+    for exchange in exchanges() {
         put_request(&rt, alloc, &mut writer, &exchange)?;
     }
     holds(&rt, writer.end.as_slice() == wanted.as_slice());

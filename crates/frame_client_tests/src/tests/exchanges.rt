@@ -105,7 +105,12 @@ pub(super) struct Exchange<'a> {
     pub answer: &'a str,
 }
 
-pub(super) const EXCHANGES: [Exchange<'static>; 30] = [
+/// All exchanges. (Each use of the list itself would have the prover read it anew.)
+pub(super) fn exchanges() -> &'static [Exchange<'static>] {
+    &EXCHANGES
+}
+
+const EXCHANGES: [Exchange<'static>; 30] = [
     Exchange {
         ask: Asked::Set,
         request: SET,
