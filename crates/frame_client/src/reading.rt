@@ -33,10 +33,7 @@ fn fill<R: Read>(reader: &mut Counted<R>, buffer: &mut [u8]) -> Result<(), Clien
 }
 
 /// Reads one frame, and no byte beyond it, into the front of the buffer, and says how many bytes its payload has.
-pub fn read_frame<R: Read>(
-    reader: &mut Counted<R>,
-    buffer: &mut [u8],
-) -> Result<usize, ClientError>
+pub fn read_frame<R: Read>(reader: &mut Counted<R>, buffer: &mut [u8]) -> Result<usize, ClientError>
     requires room { length buffer.old ≡ 1049000 }
     requires count { reader.old.faults < 2 ^ 64 - 1 }
     ensures len { length buffer.new ≡ length buffer.old }
