@@ -56,11 +56,11 @@ becomes_frame : (gives : Gives) (line request : List ℕ) → Becomes gives (lin
 becomes_frame gives line request (inl none) some = absurd (some none.1)
 becomes_frame gives line request (inr is) some = is
 
-is_asked : (gives : Gives) (how : Asking) (line request : List ℕ) (passed replies : List Reply) → Becomes gives (line, request) → IsTaken how request passed replies → IsAsked gives how (record { line = line; request = request; passed = passed; replies = replies })
-is_asked gives how line request passed replies (inl none) (inl taken) = inl (none.0, none.1, taken.1, taken.2)
-is_asked gives how line request passed replies (inl none) (inr taken) = absurd (taken.0 none.1)
-is_asked gives how line request passed replies (inr is) (inl taken) = absurd (frame_some _ (sym is.1.6 ∙ taken.0))
-is_asked gives how line request passed replies (inr is) (inr taken) = inr (is.0, is.1, taken.1, taken.2, taken.3)
+is_asked : (gives : Gives) (how : Asking) (line request : List ℕ) (transient replies : List Reply) → Becomes gives (line, request) → IsTaken how request transient replies → IsAsked gives how (record { line = line; request = request; transient = transient; replies = replies })
+is_asked gives how line request transient replies (inl none) (inl taken) = inl (none.0, none.1, taken.1, taken.2)
+is_asked gives how line request transient replies (inl none) (inr taken) = absurd (taken.0 none.1)
+is_asked gives how line request transient replies (inr is) (inl taken) = absurd (frame_some _ (sym is.1.6 ∙ taken.0))
+is_asked gives how line request transient replies (inr is) (inr taken) = inr (is.0, is.1, taken.1, taken.2, taken.3)
 
 -- ---- the stream
 
@@ -70,7 +70,7 @@ begins gives how at = record { items = []; each = tt; reads = Consumes-nil at.li
 module _ (gives : Gives) (how : Asking) (old : Ends) (lines from to out : Option (List ℕ)) (state : EncoderState) (refused : Bool) (turns : ℕ) (so : StreamSoFar gives how old (ends lines from to out) state refused turns) where
   -- ---- an exchange that breaks off
 
-  ends_broken : (fault : AskFault) (request : List ℕ) (lines_new from_new to_new out_new : Option (List ℕ)) (breaks : BreaksOne how.form fault request from from_new to to_new out out_new) → BecomesNext gives state.kept request
+  ends_broken : (fault : AskFault) (request : List ℕ) (lines_new from_new to_new out_new : Option (List ℕ)) (breaks : BreaksOne how fault request from from_new to to_new out out_new) → BecomesNext gives state.kept request
       → EndsAsking gives how (Err fault) so.items state.kept breaks.out_asked breaks.out_told breaks.out_shown (ends lines_new from_new to_new out_new)
   ends_broken (Server why) request lines_new from_new to_new out_new breaks next = (request, next, breaks.broken)
   ends_broken (Front front.WriteFault) request lines_new from_new to_new out_new breaks next = (request, next, breaks.broken)
@@ -82,7 +82,7 @@ module _ (gives : Gives) (how : Asking) (old : Ends) (lines from to out : Option
   ends_broken (BadLine n) request lines_new from_new to_new out_new breaks next = absurd breaks.broken.why
   ends_broken (Unreadable n) request lines_new from_new to_new out_new breaks next = absurd breaks.broken.why
 
-  uses_broken : (fault : AskFault) (request : List ℕ) (from_new to_new out_new : Option (List ℕ)) (breaks : BreaksOne how.form fault request from from_new to to_new out out_new) → UsesTurns (Err fault) (length so.items + length (lines_of so.items ++ state.kept))
+  uses_broken : (fault : AskFault) (request : List ℕ) (from_new to_new out_new : Option (List ℕ)) (breaks : BreaksOne how fault request from from_new to to_new out out_new) → UsesTurns (Err fault) (length so.items + length (lines_of so.items ++ state.kept))
   uses_broken (Server why) request from_new to_new out_new breaks = tt
   uses_broken (Front front.WriteFault) request from_new to_new out_new breaks = tt
   uses_broken (Front front.ReadFault) request from_new to_new out_new breaks = tt
@@ -93,7 +93,7 @@ module _ (gives : Gives) (how : Asking) (old : Ends) (lines from to out : Option
   uses_broken (BadLine n) request from_new to_new out_new breaks = tt
   uses_broken (Unreadable n) request from_new to_new out_new breaks = tt
 
-  pub is_broken : (fault : AskFault) (request : List ℕ) (from_new to_new out_new : Option (List ℕ)) → BreaksOne how.form fault request from from_new to to_new out out_new → BecomesNext gives state.kept request → AsksLines gives how (Err fault) old (ends lines from_new to_new out_new)
+  pub is_broken : (fault : AskFault) (request : List ℕ) (from_new to_new out_new : Option (List ℕ)) → BreaksOne how fault request from from_new to to_new out out_new → BecomesNext gives state.kept request → AsksLines gives how (Err fault) old (ends lines from_new to_new out_new)
   is_broken fault request from_new to_new out_new breaks next = record {
     items = so.items;
     rest = state.kept;
@@ -184,7 +184,7 @@ module _ (gives : Gives) (how : Asking) (old : Ends) (lines from to out : Option
     pub last_asked : (one : Bool) → AsksLast gives how state (Ok one) from from_new to to_new out out_new → AsksLines gives how (Ok (refused || one)) old (ends lines_new from_new to_new out_new)
     last_asked one last =
         let asks = last.2 in
-        let x : Exchange = record { line = state.kept; request = last.0; passed = asks.passed; replies = asks.replies } in
+        let x : Exchange = record { line = state.kept; request = last.0; transient = asks.transient; replies = asks.replies } in
         record {
           items = so.items;
           rest = state.kept;
@@ -199,7 +199,7 @@ module _ (gives : Gives) (how : Asking) (old : Ends) (lines from to out : Option
           ends_so = (
             at_end,
             x,
-            (one_line, is_asked gives how state.kept last.0 asks.passed asks.replies last.1 asks.taken),
+            (one_line, is_asked gives how state.kept last.0 asks.transient asks.replies last.1 asks.taken),
             refl,
             refl,
             refl,
@@ -209,7 +209,7 @@ module _ (gives : Gives) (how : Asking) (old : Ends) (lines from to out : Option
           used = tt;
         }
 
-    last_broken : (fault : AskFault) (request : List ℕ) → Becomes gives (state.kept, request) → BreaksOne how.form fault request from from_new to to_new out out_new → AsksLines gives how (Err fault) old (ends lines_new from_new to_new out_new)
+    last_broken : (fault : AskFault) (request : List ℕ) → Becomes gives (state.kept, request) → BreaksOne how fault request from from_new to to_new out out_new → AsksLines gives how (Err fault) old (ends lines_new from_new to_new out_new)
     last_broken fault request becomes breaks = record {
       items = so.items;
       rest = state.kept;
@@ -257,12 +257,12 @@ module _ (gives : Gives) (how : Asking) (old : Ends) (lines from to out : Option
   module _ (next : EncoderState) (request : List ℕ) (encodes : EncodesNext gives (Ok true) state next request) where
     pub goes_on : (from_new to_new out_new : Option (List ℕ)) (one : Bool) → AsksOne how request one from from_new to to_new out out_new → StreamSoFar gives how old (ends lines from_new to_new out_new) next (refused || one) (turns + 1)
     goes_on from_new to_new out_new one asks =
-        let x : Exchange = record { line = encodes.0; request = request; passed = asks.passed; replies = asks.replies } in
+        let x : Exchange = record { line = encodes.0; request = request; transient = asks.transient; replies = asks.replies } in
         let kept : lines_of so.items ++ state.kept ≡ lines_of (so.items ++ x ∷ []) ++ next.kept = ap (λ k. lines_of so.items ++ k) encodes.1 ∙ sym (lines_then so.items x next.kept) in
         let long : length (lines_of so.items ++ state.kept) ≡ length (lines_of (so.items ++ x ∷ []) ++ next.kept) = ap length kept in
         record {
           items = so.items ++ x ∷ [];
-          each = each_then (IsExchange gives how) so.items x so.each (encodes.2.0, is_asked gives how encodes.0 request asks.passed asks.replies encodes.2.1 asks.taken);
+          each = each_then (IsExchange gives how) so.items x so.each (encodes.2.0, is_asked gives how encodes.0 request asks.transient asks.replies encodes.2.1 asks.taken);
           reads = subst (Consumes old.lines lines) kept so.reads;
           asks = subst (Appends old.to to_new) (sym (flat_then asked_of so.items x)) (Appends-trans old.to to to_new (asked so.items) (asked_of x) so.asks asks.asks);
           tells = subst (Consumes old.from from_new) (sym (flat_then told_of so.items x)) (Consumes-trans old.from from from_new (told so.items) (told_of x) so.tells asks.tells);
@@ -272,6 +272,6 @@ module _ (gives : Gives) (how : Asking) (old : Ends) (lines from to out : Option
           each_turn = omega (arith, so.each_turn, long, length-append so.items (x ∷ []));
         }
 
-    pub breaks_off : (fault : AskFault) (from_new to_new out_new : Option (List ℕ)) → BreaksOne how.form fault request from from_new to to_new out out_new → AsksLines gives how (Err fault) old (ends lines from_new to_new out_new)
+    pub breaks_off : (fault : AskFault) (from_new to_new out_new : Option (List ℕ)) → BreaksOne how fault request from from_new to to_new out out_new → AsksLines gives how (Err fault) old (ends lines from_new to_new out_new)
     breaks_off fault from_new to_new out_new breaks =
         is_broken fault request from_new to_new out_new breaks (inl (encodes.0, next.kept, encodes.1, encodes.2.0, (becomes_frame gives encodes.0 request encodes.2.1 breaks.some).1))

@@ -2,23 +2,21 @@
 use Rattle.std.proofs.Common.{◌≡◌, ◌≢◌, ℕ, List, [], ◌∷◌, ◌++◌, length, Bool, true, false, Option, refl, sym, ap, subst, ◌∙◌, arith, append_assoc, append-nil, inl, inr}
 use Rattle.std.specs.Prelude.{◌||◌}
 use Rattle.std.specs.List.{AllByRecursion, flat_map, list_any}
-use Rattle.std.specs.Io.KnownBytes.{Appends, Consumes}
+use Rattle.std.specs.Io.KnownBytes.{Appends, Consumes, Keeps}
 use Rattle.std.proofs.KnownBytes.{Appends-nil, Appends-trans, Consumes-nil, Consumes-trans}
 use Rattle.frame_front.specs.Frame.{IsPayload, frame}
-use Rattle.frame_front.specs.Outbox.{WritesFront}
-use Rattle.frame_front.proofs.SessionLemmas.{WritesFront-then}
 use Rattle.frame_front.specs.declared.error.FrontError.TheVariants as front
 use Rattle.frame_client.specs.declared.client_error.ClientError.{ClientError}
 use Rattle.frame_client.specs.declared.client_error.ClientError.TheVariants as client
 use Rattle.frame_lines.specs.ReplyForm.{Reply, Stored, Unchanged, Removed, Appended, Found, All, Bundle, Speaks, Refused, Moved, Held, Worn, Memory, Shut, payload_of}
-use Rattle.line_client.specs.Asking.{BreaksOff}
-use Rattle.line_client.specs.Replies.{IsTold, is_bundle, is_refusal, reply_frames, shown}
-use Rattle.line_client.specs.Private.Steps.{AsksUntilTold, BreaksAsking, FailsOnce, Shows, NotShown, BreaksOthers, AsksOne, BreaksOne}
+use Rattle.line_client.specs.Asking.{BreaksOff, HidesLast}
+use Rattle.line_client.specs.Replies.{IsTold, bundles_after, is_bundle, is_refusal, reply_frames, shown}
+use Rattle.line_client.specs.Private.Steps.{AsksUntilTold, BreaksAsking, FailsOnce, IsWhole, Shows, NotShown, BreaksAmong, BreaksOthers, AsksOne, BreaksOne}
 use Rattle.line_client.specs.declared.asking.Asking.{Asking}
 use Rattle.line_client.specs.declared.asking.Form.{Form}
 use Rattle.line_client.specs.declared.fault.AskFault.{AskFault}
 use Rattle.line_client.specs.declared.fault.AskFault.TheVariants.{BadLine, Unreadable, Server, Front}
-use Rattle.line_client.proofs.Replies.{frames_append}
+use Rattle.line_client.proofs.Replies.{frames_append, then_kept}
 
 pub empty : (bytes : List ℕ) → length bytes ≡ 0 → bytes ≡ []
 empty [] is = refl
@@ -27,7 +25,7 @@ empty (byte ∷ bytes) is = absurd (omega (arith, is))
 -- a comment
 pub asks_nothing : (how : Asking) (request : List ℕ) (from to out : Option (List ℕ)) → request ≡ [] → AsksOne how request false from from to to out out
 asks_nothing how request from to out none = record {
-  passed = [];
+  transient = [];
   replies = [];
   taken = inl (none, refl, refl);
   asks = subst (Appends to to) (sym none) (Appends-nil to);
@@ -36,36 +34,67 @@ asks_nothing how request from to out none = record {
   refused_is = refl;
 }
 
-fails : (form : Form) (error : ClientError) (torn : List ℕ) (left : Option (List ℕ)) → FailsOnce error torn left → BreaksOff form (Server error) torn left
-fails form client.Memory torn left none = none
-fails form client.BadLength torn left none = none
-fails form client.BadReply torn left none = absurd none
-fails form client.Truncated torn left none = none
-fails form client.ReadFault torn left none = none
-fails form client.WriteFault torn left none = none
+fails : (form : Form) (error : ClientError) (unsent torn : List ℕ) (left : Option (List ℕ)) → IsWhole error unsent → FailsOnce error torn left → BreaksOff form (Server error) [] torn unsent [] left
+fails form client.Memory unsent torn left whole none = (tt, whole, refl, none)
+fails form client.BadLength unsent torn left whole none = (tt, whole, refl, none)
+fails form client.BadReply unsent torn left whole none = absurd none
+fails form client.Truncated unsent torn left whole none = (tt, whole, refl, none)
+fails form client.ReadFault unsent torn left whole none = (tt, whole, refl, none)
+fails form client.WriteFault unsent torn left whole none = (refl, none)
 
 -- the server did not answer
-pub not_told : (form : Form) (error : ClientError) (request : List ℕ) (from_old from_new to_old to_new out : Option (List ℕ)) → request ≢ [] → BreaksAsking request error from_old from_new to_old to_new → BreaksOne form (Server error) request from_old from_new to_old to_new out out
-not_told form error request from_old from_new to_old to_new out some breaks = record {
-  out_asked = breaks.asks.front;
-  out_told = reply_frames breaks.passed ++ breaks.torn;
+pub not_told : (how : Asking) (error : ClientError) (request : List ℕ) (from_old from_new to_old to_new out : Option (List ℕ)) → request ≢ [] → BreaksAsking how.retries request error from_old from_new to_old to_new → BreaksOne how (Server error) request from_old from_new to_old to_new out out
+not_told how error request from_old from_new to_old to_new out some breaks = record {
+  out_asked = flat_map (λ reply. request) breaks.transient ++ breaks.sent;
+  out_told = reply_frames breaks.transient ++ breaks.torn;
   out_shown = [];
   some = some;
-  asks = breaks.asks.appends;
+  asks = breaks.asks;
   tells = breaks.tells;
   shows = Appends-nil out;
   broken = record {
-    passed = breaks.passed;
+    transient = breaks.transient;
     replies = [];
     torn = breaks.torn;
-    unasked = breaks.asks.missing;
+    sent = breaks.sent;
+    unsent = breaks.unsent;
     hidden = [];
-    asks = breaks.asks.split;
-    tells = ap (λ p. reply_frames p ++ breaks.torn) (sym (append-nil breaks.passed));
+    each = breaks.each;
+    few = breaks.few;
+    begun = tt;
+    split = breaks.split;
+    asks = refl;
+    tells = ap (λ p. reply_frames p ++ breaks.torn) (sym (append-nil breaks.transient));
     shows = refl;
-    why = fails form error breaks.torn from_new breaks.why;
+    why = fails how.form error breaks.unsent breaks.torn from_new breaks.whole breaks.why;
   };
 }
+
+-- ---- what is shown
+
+-- of replies that are shown whole, nothing is hidden of the last
+hides_nothing : (form : Form) (first : Reply) (others : List Reply) → HidesLast form (first ∷ others) []
+hides_nothing form first [] = ([], first, shown form first, refl, sym (append-nil (shown form first)))
+hides_nothing form first (second ∷ others) =
+    let more = hides_nothing form second others in
+    (first ∷ more.0, more.1, more.2, ap (λ (replies : List Reply). first ∷ replies) more.3, more.4)
+
+-- a bundle is not shown behind the first reply, which says how many there are
+among : (form : Form) (fault : AskFault) (first : Reply) (count : ℕ) (others : List Reply) (torn hidden : List ℕ) (left : Option (List ℕ)) → count ≡ bundles_after first → BreaksAmong form fault count others torn hidden left → BreaksOff form fault (first ∷ others) torn [] hidden left
+among form (Server client.BadReply) first count others torn hidden left is w = (omega (arith, w.0, is), refl, w.1, w.2, w.3, w.4)
+among form (Server client.Memory) first count others torn hidden left is w = absurd w.2
+among form (Server client.BadLength) first count others torn hidden left is w = (omega (arith, w.0, is), refl, w.1, w.2)
+among form (Server client.Truncated) first count others torn hidden left is w = (omega (arith, w.0, is), refl, w.1, w.2)
+among form (Server client.ReadFault) first count others torn hidden left is w = (omega (arith, w.0, is), refl, w.1, w.2)
+among form (Server client.WriteFault) first count others torn hidden left is w = absurd w.2
+among form (Front front.WriteFault) first count others torn hidden left is w = ((first ∷ w.0.0, w.0.1, w.0.2, ap (λ (replies : List Reply). first ∷ replies) w.0.3, w.0.4), refl, w.1)
+among form (Front front.ReadFault) first count others torn hidden left is w = absurd w
+among form (Front front.Memory) first count others torn hidden left is w = absurd w
+among form (Front front.BadLength) first count others torn hidden left is w = absurd w
+among form (Front front.Truncated) first count others torn hidden left is w = absurd w
+among form (Front front.TurnsUsed) first count others torn hidden left is w = absurd w
+among form (BadLine n) first count others torn hidden left is w = absurd w
+among form (Unreadable n) first count others torn hidden left is w = absurd w
 
 -- a reply that is no bundle is no refusal of a bundle
 no_refusal : (reply : Reply) → is_bundle reply ≡ true → is_refusal reply ≡ false
@@ -94,54 +123,64 @@ or_false false = refl
 
 module _ (how : Asking) (request payload : List ℕ) (from_old from_mid to_old to_new : Option (List ℕ)) (until : AsksUntilTold how.retries request payload from_old from_mid to_old to_new) (some : request ≢ []) where
   -- what is told with these replies
-  told_with : (first : Reply) → payload ≡ payload_of first → (others : List Reply) (rest : List ℕ) → (reply_frames until.passed ++ frame payload) ++ (reply_frames others ++ rest) ≡ reply_frames (until.passed ++ first ∷ others) ++ rest
+  told_with : (first : Reply) → payload ≡ payload_of first → (others : List Reply) (rest : List ℕ) → (reply_frames until.transient ++ frame payload) ++ (reply_frames others ++ rest) ≡ reply_frames (until.transient ++ first ∷ others) ++ rest
   told_with first is others rest =
-      ap (λ p. (reply_frames until.passed ++ frame p) ++ (reply_frames others ++ rest)) is
-      ∙ append_assoc (reply_frames until.passed) (frame (payload_of first)) (reply_frames others ++ rest)
-      ∙ ap (λ f. reply_frames until.passed ++ f) (sym (append_assoc (frame (payload_of first)) (reply_frames others) rest))
-      ∙ sym (append_assoc (reply_frames until.passed) (reply_frames (first ∷ others)) rest)
-      ∙ ap (λ f. f ++ rest) (sym (frames_append until.passed (first ∷ others)))
+      ap (λ p. (reply_frames until.transient ++ frame p) ++ (reply_frames others ++ rest)) is
+      ∙ append_assoc (reply_frames until.transient) (frame (payload_of first)) (reply_frames others ++ rest)
+      ∙ ap (λ f. reply_frames until.transient ++ f) (sym (append_assoc (frame (payload_of first)) (reply_frames others) rest))
+      ∙ sym (append_assoc (reply_frames until.transient) (reply_frames (first ∷ others)) rest)
+      ∙ ap (λ f. f ++ rest) (sym (frames_append until.transient (first ∷ others)))
 
   -- the first reply cannot be shown
-  pub first_not_shown : (out_old out_new : Option (List ℕ)) (fault : AskFault) → IsPayload payload → NotShown how.form false payload fault out_old out_new → BreaksOne how.form fault request from_old from_mid to_old to_new out_old out_new
+  pub first_not_shown : (out_old out_new : Option (List ℕ)) (fault : AskFault) → IsPayload payload → NotShown how.form false payload fault out_old out_new → BreaksOne how fault request from_old from_mid to_old to_new out_old out_new
   first_not_shown out_old out_new (Server client.BadReply) good none = record {
-    out_asked = flat_map (λ reply. request) until.passed ++ request;
-    out_told = reply_frames until.passed ++ frame payload;
+    out_asked = flat_map (λ reply. request) until.transient ++ request;
+    out_told = reply_frames until.transient ++ frame payload;
     out_shown = [];
     some = some;
     asks = until.asks;
     tells = until.tells;
     shows = subst (λ o. Appends out_old o []) (sym none.0) (Appends-nil out_old);
     broken = record {
-      passed = until.passed;
+      transient = until.transient;
       replies = [];
       torn = frame payload;
-      unasked = [];
+      sent = request;
+      unsent = [];
       hidden = [];
-      asks = sym (append-nil (flat_map (λ reply. request) until.passed ++ request));
-      tells = ap (λ p. reply_frames p ++ frame payload) (sym (append-nil until.passed));
+      each = until.each;
+      few = until.few;
+      begun = tt;
+      split = sym (append-nil request);
+      asks = refl;
+      tells = ap (λ p. reply_frames p ++ frame payload) (sym (append-nil until.transient));
       shows = refl;
-      why = (false, payload, good, refl, none.1);
+      why = (tt, refl, refl, payload, refl, (good, none.1));
     };
   }
   first_not_shown out_old out_new (Front front.WriteFault) good none = record {
-    out_asked = flat_map (λ reply. request) until.passed ++ request;
-    out_told = reply_frames until.passed ++ frame payload;
+    out_asked = flat_map (λ reply. request) until.transient ++ request;
+    out_told = reply_frames until.transient ++ frame payload;
     out_shown = none.3.front;
     some = some;
     asks = until.asks;
     tells = until.tells;
     shows = none.3.appends;
     broken = record {
-      passed = until.passed;
+      transient = until.transient;
       replies = none.0 ∷ [];
       torn = [];
-      unasked = [];
+      sent = request;
+      unsent = [];
       hidden = none.3.missing;
-      asks = sym (append-nil (flat_map (λ reply. request) until.passed ++ request));
-      tells = sym (append-nil (reply_frames until.passed ++ frame payload)) ∙ told_with none.0 none.1 [] [];
+      each = until.each;
+      few = until.few;
+      begun = (none.2, until.last none.0 none.2.0 none.1, omega arith, tt);
+      split = sym (append-nil request);
+      asks = refl;
+      tells = sym (append-nil (reply_frames until.transient ++ frame payload)) ∙ told_with none.0 none.1 [] [];
       shows = append-nil (shown how.form none.0) ∙ none.3.split;
-      why = tt;
+      why = (([], none.0, none.3.front, refl, none.3.split), refl, refl);
     };
   }
   first_not_shown out_old out_new (Server client.Memory) good none = absurd none
@@ -159,35 +198,38 @@ module _ (how : Asking) (request payload : List ℕ) (from_old from_mid to_old t
 
   module _ (refused : Bool) (bundles : ℕ) (out_old out_mid : Option (List ℕ)) (first : Shows how.form false payload refused bundles out_old out_mid) where
     -- a bundle is not shown
-    pub others_broken : (fault : AskFault) (from_new out_new : Option (List ℕ)) → BreaksOthers how.form fault from_mid from_new out_mid out_new → BreaksOne how.form fault request from_old from_new to_old to_new out_old out_new
-    others_broken fault from_new out_new breaks =
-        let showed = WritesFront-then out_old out_mid out_new (shown how.form first.reply) (flat_map (shown how.form) breaks.others) first.shows breaks.shows in
-        record {
-          out_asked = flat_map (λ reply. request) until.passed ++ request;
-          out_told = (reply_frames until.passed ++ frame payload) ++ (reply_frames breaks.others ++ breaks.torn);
-          out_shown = showed.front;
-          some = some;
-          asks = until.asks;
-          tells = Consumes-trans from_old from_mid from_new (reply_frames until.passed ++ frame payload) (reply_frames breaks.others ++ breaks.torn) until.tells breaks.tells;
-          shows = showed.appends;
-          broken = record {
-            passed = until.passed;
-            replies = first.reply ∷ breaks.others;
-            torn = breaks.torn;
-            unasked = [];
-            hidden = showed.missing;
-            asks = sym (append-nil (flat_map (λ reply. request) until.passed ++ request));
-            tells = told_with first.reply first.is breaks.others breaks.torn;
-            shows = showed.split;
-            why = breaks.why;
-          };
-        }
+    pub others_broken : (fault : AskFault) (from_new out_new : Option (List ℕ)) → BreaksOthers how.form fault bundles from_mid from_new out_mid out_new → BreaksOne how fault request from_old from_new to_old to_new out_old out_new
+    others_broken fault from_new out_new breaks = record {
+      out_asked = flat_map (λ reply. request) until.transient ++ request;
+      out_told = (reply_frames until.transient ++ frame payload) ++ (reply_frames breaks.others ++ breaks.torn);
+      out_shown = shown how.form first.reply ++ breaks.showed;
+      some = some;
+      asks = until.asks;
+      tells = Consumes-trans from_old from_mid from_new (reply_frames until.transient ++ frame payload) (reply_frames breaks.others ++ breaks.torn) until.tells breaks.tells;
+      shows = Appends-trans out_old out_mid out_new (shown how.form first.reply) breaks.showed first.shows breaks.shows;
+      broken = record {
+        transient = until.transient;
+        replies = first.reply ∷ breaks.others;
+        torn = breaks.torn;
+        sent = request;
+        unsent = [];
+        hidden = breaks.hidden;
+        each = until.each;
+        few = until.few;
+        begun = (first.told, until.last first.reply first.told.0 first.is, omega (arith, breaks.few, first.bundles_is), breaks.each);
+        split = sym (append-nil request);
+        asks = refl;
+        tells = told_with first.reply first.is breaks.others breaks.torn;
+        shows = ap (λ s. shown how.form first.reply ++ s) breaks.split ∙ sym (append_assoc (shown how.form first.reply) breaks.showed breaks.hidden);
+        why = among how.form fault first.reply bundles breaks.others breaks.torn breaks.hidden from_new first.bundles_is breaks.why;
+      };
+    }
 
     module _ (from_new out_new : Option (List ℕ)) (others : List Reply) (long : length others ≡ bundles) (each : AllByRecursion (IsTold how.form true) others) (came : Consumes from_mid from_new (reply_frames others)) (showed : Appends out_mid out_new (flat_map (shown how.form) others)) where
-      tells_all : Consumes from_old from_new (reply_frames (until.passed ++ first.reply ∷ others))
+      tells_all : Consumes from_old from_new (reply_frames (until.transient ++ first.reply ∷ others))
       tells_all =
-          subst (Consumes from_old from_new) (ap (λ o. (reply_frames until.passed ++ frame payload) ++ o) (sym (append-nil (reply_frames others))) ∙ told_with first.reply first.is others [] ∙ append-nil (reply_frames (until.passed ++ first.reply ∷ others)))
-          (Consumes-trans from_old from_mid from_new (reply_frames until.passed ++ frame payload) (reply_frames others) until.tells came)
+          subst (Consumes from_old from_new) (ap (λ o. (reply_frames until.transient ++ frame payload) ++ o) (sym (append-nil (reply_frames others))) ∙ told_with first.reply first.is others [] ∙ append-nil (reply_frames (until.transient ++ first.reply ∷ others)))
+          (Consumes-trans from_old from_mid from_new (reply_frames until.transient ++ frame payload) (reply_frames others) until.tells came)
 
       shows_all : Appends out_old out_new (flat_map (shown how.form) (first.reply ∷ others))
       shows_all = Appends-trans out_old out_mid out_new (shown how.form first.reply) (flat_map (shown how.form) others) first.shows showed
@@ -195,7 +237,7 @@ module _ (how : Asking) (request payload : List ℕ) (from_old from_mid to_old t
       -- all is shown
       pub asks_all : AsksOne how request refused from_old from_new to_old to_new out_old out_new
       asks_all = record {
-        passed = until.passed;
+        transient = until.transient;
         replies = first.reply ∷ others;
         taken = inr (some, until.each, until.few, (first.told, until.last first.reply first.told.0 first.is, long ∙ first.bundles_is, each));
         asks = until.asks;
@@ -205,27 +247,31 @@ module _ (how : Asking) (request payload : List ℕ) (from_old from_mid to_old t
       }
 
       -- all is written, but the writer keeps something back
-      pub not_flushed : (out_last : Option (List ℕ)) → WritesFront out_new out_last [] → BreaksOne how.form (Front front.WriteFault) request from_old from_new to_old to_new out_old out_last
+      pub not_flushed : (out_last : Option (List ℕ)) → Keeps out_new out_last → BreaksOne how (Front front.WriteFault) request from_old from_new to_old to_new out_old out_last
       not_flushed out_last kept =
           let all = flat_map (shown how.form) (first.reply ∷ others) in
-          let wrote = WritesFront-then out_old out_new out_last all [] shows_all kept in
           record {
-            out_asked = flat_map (λ reply. request) until.passed ++ request;
-            out_told = reply_frames (until.passed ++ first.reply ∷ others);
-            out_shown = wrote.front;
+            out_asked = flat_map (λ reply. request) until.transient ++ request;
+            out_told = reply_frames (until.transient ++ first.reply ∷ others);
+            out_shown = all;
             some = some;
             asks = until.asks;
             tells = tells_all;
-            shows = wrote.appends;
+            shows = then_kept out_old out_new out_last all shows_all kept;
             broken = record {
-              passed = until.passed;
+              transient = until.transient;
               replies = first.reply ∷ others;
               torn = [];
-              unasked = [];
-              hidden = wrote.missing;
-              asks = sym (append-nil (flat_map (λ reply. request) until.passed ++ request));
-              tells = sym (append-nil (reply_frames (until.passed ++ first.reply ∷ others)));
-              shows = sym (append-nil all) ∙ wrote.split;
-              why = tt;
+              sent = request;
+              unsent = [];
+              hidden = [];
+              each = until.each;
+              few = until.few;
+              begun = (first.told, until.last first.reply first.told.0 first.is, omega (arith, long, first.bundles_is), each);
+              split = sym (append-nil request);
+              asks = refl;
+              tells = sym (append-nil (reply_frames (until.transient ++ first.reply ∷ others)));
+              shows = sym (append-nil all);
+              why = (hides_nothing how.form first.reply others, refl, refl);
             };
           }

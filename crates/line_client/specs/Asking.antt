@@ -1,5 +1,5 @@
 -- What asking a server line by line does to its five ends: the lines, the server's input and output, and what is shown.
-use Rattle.std.specs.Prelude.{◌≡◌, ◌≢◌, ◌⊎◌, ℕ, ◌+◌, ◌-◌, ◌^◌, ◌≤◌, Bool, true, false, ◌||◌, List, [], ◌∷◌, ◌++◌, length, Option, Result, Ok, Err}
+use Rattle.std.specs.Prelude.{◌≡◌, ◌≢◌, ◌⊎◌, ℕ, ◌+◌, ◌-◌, ◌^◌, ◌<◌, ◌≤◌, Bool, true, false, ◌||◌, List, [], ◌∷◌, ◌++◌, length, Option, Result, Ok, Err}
 use Rattle.std.specs.List.{AllByRecursion, flat_map, list_any}
 use Rattle.std.specs.Io.KnownBytes.{Appends, Consumes, IsAtEnd}
 use Rattle.frame_front.specs.Counted.{next_count}
@@ -10,7 +10,7 @@ use Rattle.frame_client.specs.declared.client_error.ClientError.TheVariants as c
 use Rattle.frame_lines.specs.Encoding.{Gives, IsFrameOf, IsBadLine, NamesText, BeginsWith, BeginsLong, is_comment}
 use Rattle.frame_lines.specs.ReplyForm.{Reply, payload_of}
 use Rattle.frame_lines.specs.RequestForm.{IsOneLine}
-use Rattle.line_client.specs.Replies.{is_passing, is_refusal, bundles_after, reply_frames, shown, IsTold}
+use Rattle.line_client.specs.Replies.{is_transient, is_refusal, bundles_after, reply_frames, shown, IsTold}
 use Rattle.line_client.specs.declared.asking.Asking.{Asking}
 use Rattle.line_client.specs.declared.asking.Form.{Form}
 use Rattle.line_client.specs.declared.fault.AskFault.{AskFault}
@@ -18,19 +18,19 @@ use Rattle.line_client.specs.declared.fault.AskFault.TheVariants.{BadLine, Unrea
 
 -- ---- an exchange
 
--- a line, the frame that it becomes, the replies after which it was asked again, and those that are shown
+-- a line, the frame that it becomes, the transient replies after which it was asked again, and those that are shown
 pub record Exchange : Type 0 where
   pub line : List ℕ
   pub request : List ℕ
-  pub passed : List Reply
+  pub transient : List Reply
   pub replies : List Reply
 
 -- the frame, as often as it was asked
 abbrev pub asked_of : Exchange → List ℕ
-asked_of x = flat_map (λ reply. x.request) x.passed ++ x.request
+asked_of x = flat_map (λ reply. x.request) x.transient ++ x.request
 
 abbrev pub told_of : Exchange → List ℕ
-told_of x = reply_frames (x.passed ++ x.replies)
+told_of x = reply_frames (x.transient ++ x.replies)
 
 abbrev pub shown_of : Form → Exchange → List ℕ
 shown_of form x = flat_map (shown form) x.replies
@@ -39,23 +39,23 @@ abbrev pub is_refused : Exchange → Bool
 is_refused x = list_any is_refusal x.replies
 
 -- after such a reply it is asked again
-abbrev pub IsPassed : Reply → Type 0
-IsPassed reply = is_passing reply ≡ true
+abbrev pub IsTransient : Reply → Type 0
+IsTransient reply = is_transient reply ≡ true
 
--- After so many others these are shown: the first says how many bundles follow it, and is itself one after which it
--- would be asked again only if the retries are used up.
+-- After so many transient replies these are shown: the first says how many bundles follow it, and is transient itself only if
+-- the retries are used up.
 abbrev pub AreTold : Asking → ℕ → List Reply → Type 0
-AreTold how passed [] = ⊥
-AreTold how passed (first ∷ others) =
-    IsTold how.form false first × (is_passing first ≡ true → passed ≡ how.retries)
+AreTold how transient [] = ⊥
+AreTold how transient (first ∷ others) =
+    IsTold how.form false first × (is_transient first ≡ true → transient ≡ how.retries)
     × (length others ≡ bundles_after first) × AllByRecursion (IsTold how.form true) others
 
 -- a comment asks nothing, and else the frame of the line is asked
 abbrev pub IsAsked : Gives → Asking → Exchange → Type 0
 IsAsked gives how x =
-    ((is_comment x.line ≡ true) × (x.request ≡ []) × (x.passed ≡ []) × (x.replies ≡ []))
+    ((is_comment x.line ≡ true) × (x.request ≡ []) × (x.transient ≡ []) × (x.replies ≡ []))
     ⊎ ((is_comment x.line ≡ false) × IsFrameOf gives x.line x.request
-    × AllByRecursion IsPassed x.passed × (length x.passed ≤ how.retries) × AreTold how (length x.passed) x.replies)
+    × AllByRecursion IsTransient x.transient × (length x.transient ≤ how.retries) × AreTold how (length x.transient) x.replies)
 
 abbrev pub IsExchange : Gives → Asking → Exchange → Type 0
 IsExchange gives how x = IsOneLine x.line × IsAsked gives how x
@@ -82,28 +82,60 @@ count_after count (x ∷ items) = count_after (next_count count) items
 
 -- ---- an exchange that breaks off
 
--- What was read behind the whole replies, and what the server's output has left, if an exchange breaks off so. A reply that may
--- not come there is a bad one.
-abbrev pub BreaksOff : Form → AskFault → List ℕ → Option (List ℕ) → Type 0
-BreaksOff form (Server client.BadReply) torn left =
-    (later : Bool) × (payload : List ℕ) × IsPayload payload × (torn ≡ frame payload) × ((reply : Reply) → payload ≡ payload_of reply → IsTold form later reply → ⊥)
-BreaksOff form (Server client.WriteFault) torn left = torn ≡ []
-BreaksOff form (Server why) torn left = NoFrame why torn left
-BreaksOff form (Front front.WriteFault) torn left = Unit {0}
-BreaksOff form fault torn left = ⊥
+-- the first few of such replies, from no reply to all of them
+abbrev pub AreBegun : Asking → ℕ → List Reply → Type 0
+AreBegun how transient [] = Unit {0}
+AreBegun how transient (first ∷ others) =
+    IsTold how.form false first × (is_transient first ≡ true → transient ≡ how.retries)
+    × (length others ≤ bundles_after first) × AllByRecursion (IsTold how.form true) others
 
--- What an exchange did that broke off: a front of its requests was asked; whole replies were read, and then what is torn; and a
--- front of what the replies show was shown.
-pub record IsBroken (form : Form) (fault : AskFault) (request out_asked out_told out_shown : List ℕ) (left : Option (List ℕ)) : Type 0 where
-  pub passed : List Reply
+-- one more reply is due after these: the first, or a bundle
+abbrev pub IsDue : List Reply → Type 0
+IsDue [] = Unit {0}
+IsDue (first ∷ others) = length others < bundles_after first
+
+-- whether the next reply is one of the bundles
+abbrev pub is_later : List Reply → Bool
+is_later [] = false
+is_later (first ∷ others) = true
+
+-- the payload is not that of a reply that may come there
+abbrev pub IsNoReply : Form → Bool → List ℕ → Type 0
+IsNoReply form later payload = IsPayload payload × ((reply : Reply) → payload ≡ payload_of reply → IsTold form later reply → ⊥)
+
+-- Only of the last reply something may be hidden.
+abbrev pub HidesLast : Form → List Reply → List ℕ → Type 0
+HidesLast form replies hidden =
+    (earlier : List Reply) × (last : Reply) × (begun : List ℕ) × (replies ≡ earlier ++ last ∷ []) × (shown form last ≡ begun ++ hidden)
+
+-- Why an exchange breaks off after these replies, what was read behind them, what of the request was not sent, what of the replies
+-- is not shown, and what the server's output has left. A fault of the server is told in place of the reply that is due. A request
+-- may be sent whole although its fault is told: the writer may fail as it is flushed.
+abbrev pub BreaksOff : Form → AskFault → List Reply → List ℕ → List ℕ → List ℕ → Option (List ℕ) → Type 0
+BreaksOff form (Server client.WriteFault) replies torn unsent hidden left = (replies ≡ []) × (torn ≡ [])
+BreaksOff form (Server client.BadReply) replies torn unsent hidden left =
+    IsDue replies × (unsent ≡ []) × (hidden ≡ []) × (payload : List ℕ) × (torn ≡ frame payload) × IsNoReply form (is_later replies) payload
+BreaksOff form (Server why) replies torn unsent hidden left = IsDue replies × (unsent ≡ []) × (hidden ≡ []) × NoFrame why torn left
+BreaksOff form (Front front.WriteFault) replies torn unsent hidden left = HidesLast form replies hidden × (unsent ≡ []) × (torn ≡ [])
+BreaksOff form fault replies torn unsent hidden left = ⊥
+
+-- What an exchange did that broke off: the request was asked again after each transient reply, and the last time a front of it was
+-- sent; whole replies were read, and then what is torn; and a front of what the replies show was shown.
+pub record IsBroken (how : Asking) (fault : AskFault) (request out_asked out_told out_shown : List ℕ) (left : Option (List ℕ)) : Type 0 where
+  pub transient : List Reply
   pub replies : List Reply
   pub torn : List ℕ
-  pub unasked : List ℕ
+  pub sent : List ℕ
+  pub unsent : List ℕ
   pub hidden : List ℕ
-  pub asks : flat_map (λ reply. request) passed ++ request ≡ out_asked ++ unasked
-  pub tells : out_told ≡ reply_frames (passed ++ replies) ++ torn
-  pub shows : flat_map (shown form) replies ≡ out_shown ++ hidden
-  pub why : BreaksOff form fault torn left
+  pub each : AllByRecursion IsTransient transient
+  pub few : length transient ≤ how.retries
+  pub begun : AreBegun how (length transient) replies
+  pub split : request ≡ sent ++ unsent
+  pub asks : out_asked ≡ flat_map (λ reply. request) transient ++ sent
+  pub tells : out_told ≡ reply_frames (transient ++ replies) ++ torn
+  pub shows : flat_map (shown how.form) replies ≡ out_shown ++ hidden
+  pub why : BreaksOff how.form fault replies torn unsent hidden left
 
 -- ---- a stream of lines
 
@@ -134,9 +166,9 @@ EndsAsking gives how (Err (Unreadable number)) items rest more_asked more_told m
     (number ≡ next_count (count_after 0 items)) × (more_asked ≡ []) × (more_told ≡ []) × (more_shown ≡ [])
     × (BeginsWith NamesText rest ⊎ (IsAtEnd new.lines × NamesText rest))
 EndsAsking gives how (Err (Server why)) items rest more_asked more_told more_shown new =
-    (request : List ℕ) × BecomesNext gives rest request × IsBroken how.form (Server why) request more_asked more_told more_shown new.from
+    (request : List ℕ) × BecomesNext gives rest request × IsBroken how (Server why) request more_asked more_told more_shown new.from
 EndsAsking gives how (Err (Front front.WriteFault)) items rest more_asked more_told more_shown new =
-    (request : List ℕ) × BecomesNext gives rest request × IsBroken how.form (Front front.WriteFault) request more_asked more_told more_shown new.from
+    (request : List ℕ) × BecomesNext gives rest request × IsBroken how (Front front.WriteFault) request more_asked more_told more_shown new.from
 EndsAsking gives how (Err (Front front.BadLength)) items rest more_asked more_told more_shown new = ⊥
 EndsAsking gives how (Err (Front front.Truncated)) items rest more_asked more_told more_shown new = ⊥
 EndsAsking gives how (Err fault) items rest more_asked more_told more_shown new = (more_asked ≡ []) × (more_told ≡ []) × (more_shown ≡ [])
@@ -175,18 +207,19 @@ abbrev pub IsGreeting : Ends → Ends → List ℕ → List ℕ → Type 0
 IsGreeting old new out_asked out_told =
     Appends old.to new.to out_asked × Consumes old.from new.from out_told × (new.lines ≡ old.lines) × (new.out ≡ old.out)
 
--- why the server was not greeted, and what was read of its reply
-abbrev pub NotGreeted : AskFault → List ℕ → Option (List ℕ) → Type 0
-NotGreeted (Server client.BadReply) torn left = (payload : List ℕ) × IsPayload payload × (torn ≡ frame payload) × (torn ≢ greeted)
-NotGreeted (Server client.WriteFault) torn left = torn ≡ []
-NotGreeted (Server why) torn left = NoFrame why torn left
-NotGreeted (Front front.Memory) torn left = torn ≡ []
-NotGreeted fault torn left = ⊥
+-- Why the server was not greeted, what of the greeting was not sent, and what was read of its reply. Out of memory, nothing is sent.
+abbrev pub NotGreeted : AskFault → List ℕ → List ℕ → Option (List ℕ) → Type 0
+NotGreeted (Server client.WriteFault) unsent torn left = torn ≡ []
+NotGreeted (Server client.BadReply) unsent torn left =
+    (unsent ≡ []) × (payload : List ℕ) × IsPayload payload × (torn ≡ frame payload) × (torn ≢ greeted)
+NotGreeted (Server why) unsent torn left = (unsent ≡ []) × NoFrame why torn left
+NotGreeted (Front front.Memory) unsent torn left = (unsent ≡ greeting) × (torn ≡ [])
+NotGreeted fault unsent torn left = ⊥
 
--- a front of the greeting was asked
+-- a front of the greeting was sent
 abbrev pub IsUngreeted : AskFault → Ends → Ends → Type 0
 IsUngreeted fault old new =
-    (out_asked : List ℕ) × (unasked : List ℕ) × (torn : List ℕ) × (greeting ≡ out_asked ++ unasked) × IsGreeting old new out_asked torn × NotGreeted fault torn new.from
+    (sent : List ℕ) × (unsent : List ℕ) × (torn : List ℕ) × (greeting ≡ sent ++ unsent) × IsGreeting old new sent torn × NotGreeted fault unsent torn new.from
 
 -- ---- the whole
 

@@ -7,11 +7,11 @@ use Rattle.line_client.specs.declared.asking.Form.{Form}
 use Rattle.line_client.specs.declared.asking.Form.TheVariants.{Lines, Frames}
 
 -- the request changed nothing and may do better if it is asked again: memory ran out, or other passes were in its way
-abbrev pub is_passing : Reply → Bool
-is_passing Memory = true
-is_passing (Moved shard first second) = true
-is_passing (Held shard revision) = true
-is_passing reply = false
+abbrev pub is_transient : Reply → Bool
+is_transient Memory = true
+is_transient (Moved shard first second) = true
+is_transient (Held shard revision) = true
+is_transient reply = false
 
 -- the request was not done
 abbrev pub is_refusal : Reply → Bool

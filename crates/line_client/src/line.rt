@@ -1,8 +1,9 @@
 //! Asking one line.
 ghost use Rattle.std.specs.Prelude.{◌≡◌, ◌<◌, ◌-◌, ◌^◌, length, OnOk, IfOk, IfErr, Err};
 ghost use Rattle.frame_front.specs.declared.error.FrontError.TheVariants.{WriteFault, ReadFault};
+ghost use Rattle.frame_client.specs.declared.client_error.ClientError.TheVariants as server;
 ghost use Rattle.line_client.specs.Private.Steps.{AsksOne, BreaksOne};
-ghost use Rattle.line_client.specs.declared.fault.AskFault.TheVariants.{Front};
+ghost use Rattle.line_client.specs.declared.fault.AskFault.TheVariants.{Front, Server};
 
 use crate::asking::Asking;
 use crate::exchange::ask_until_told;
@@ -30,10 +31,12 @@ pub(crate) fn ask_line<R: Read, W: Write, O: Write>(
     ensures quiet_from { OnOk result (link.new.from.faults ≡ link.old.from.faults) }
     ensures quiet_to { OnOk result (link.new.to.faults ≡ link.old.to.faults) }
     ensures quiet_out { OnOk result (out.new.faults ≡ out.old.faults) }
-    ensures err { IfErr result (λ fault. BreaksOne how.form fault request.now (R.remaining link.old.from.end) (R.remaining link.new.from.end)
+    ensures err { IfErr result (λ fault. BreaksOne how fault request.now (R.remaining link.old.from.end) (R.remaining link.new.from.end)
         (W.contents link.old.to.end) (W.contents link.new.to.end) (O.contents out.old.end) (O.contents out.new.end)) }
     ensures write_fault { result ≡ Err (Front WriteFault) → out.old.faults < out.new.faults }
     ensures read_fault { result ≡ Err (Front ReadFault) → ⊥ }
+    ensures server_read_fault { result ≡ Err (Server server.ReadFault) → link.old.from.faults < link.new.from.faults }
+    ensures server_write_fault { result ≡ Err (Server server.WriteFault) → link.old.to.faults < link.new.to.faults }
 {
     if request.is_empty() {
         return Ok(false);

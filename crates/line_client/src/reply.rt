@@ -1,13 +1,13 @@
 //! What replies are to a client.
 ghost use Rattle.std.specs.Prelude.{◌≡◌, true, false};
 ghost use Rattle.frame_lines.specs.ReplyForm.{Reply, HasPayload, payload_of, reply as said};
-ghost use Rattle.line_client.specs.Replies.{bundles_after as bundles_of, is_bundle as bundle, is_passing as passing, is_refusal as refusal};
+ghost use Rattle.line_client.specs.Replies.{bundles_after as bundles_of, is_bundle as bundle, is_transient as again, is_refusal as refusal};
 
 use frame_lines::{ReplyForm, reply_of_payload};
 
 /// After such a reply the request is asked again.
-fn is_passing(reply: &ReplyForm<'_>) -> bool
-    ensures { result ≡ passing (said reply.now) }
+fn is_transient(reply: &ReplyForm<'_>) -> bool
+    ensures { result ≡ again (said reply.now) }
 {
     matches!(
         reply,
@@ -47,12 +47,12 @@ pub(crate) fn is_bundle(reply: &ReplyForm<'_>) -> bool
 }
 
 /// Whether the payload is that of a reply after which the request is asked again.
-pub(crate) fn is_passing_payload(payload: &[u8]) -> bool
-    ensures yes { result ≡ true → (reply : Reply) × HasPayload reply × (payload.now ≡ payload_of reply) × (passing reply ≡ true) }
-    ensures no { result ≡ false → (reply : Reply) → HasPayload reply → payload.now ≡ payload_of reply → passing reply ≡ false }
+pub(crate) fn is_transient_payload(payload: &[u8]) -> bool
+    ensures yes { result ≡ true → (reply : Reply) × HasPayload reply × (payload.now ≡ payload_of reply) × (again reply ≡ true) }
+    ensures no { result ≡ false → (reply : Reply) → HasPayload reply → payload.now ≡ payload_of reply → again reply ≡ false }
 {
     match reply_of_payload(payload) {
-        Some(reply) => is_passing(&reply),
+        Some(reply) => is_transient(&reply),
         None => false,
     }
 }

@@ -5,10 +5,11 @@ ghost use Rattle.std.specs.Io.KnownBytes.{Appends, Consumes};
 ghost use Rattle.frame_front.specs.Frame.{IsPayload, frame as frame_of};
 ghost use Rattle.frame_front.specs.Outbox.{WritesFront};
 ghost use Rattle.frame_front.specs.declared.error.FrontError.TheVariants.{WriteFault};
+ghost use Rattle.frame_client.specs.declared.client_error.ClientError.TheVariants.{ReadFault};
 ghost use Rattle.frame_lines.specs.ReplyForm.{Reply, payload_of, reply as said};
 ghost use Rattle.line_client.specs.Replies.{CanBeShown, IsTold, reply_frames, shown};
 ghost use Rattle.line_client.specs.Private.Steps.{Shows, NotShown, NotWritten, BreaksOthers};
-ghost use Rattle.line_client.specs.declared.fault.AskFault.TheVariants.{Front};
+ghost use Rattle.line_client.specs.declared.fault.AskFault.TheVariants.{Front, Server};
 
 use crate::asking::Form;
 use crate::fault::AskFault;
@@ -133,8 +134,9 @@ pub(crate) fn show_others<R: Read, O: Write>(
         × Appends (O.contents out.old.end) (O.contents out.new.end) (flat_map (shown form) others)) }
     ensures quiet_from { OnOk result (from.new.faults ≡ from.old.faults) }
     ensures quiet_out { OnOk result (out.new.faults ≡ out.old.faults) }
-    ensures err { IfErr result (λ fault. BreaksOthers form fault (R.remaining from.old.end) (R.remaining from.new.end) (O.contents out.old.end) (O.contents out.new.end)) }
+    ensures err { IfErr result (λ fault. BreaksOthers form fault count (R.remaining from.old.end) (R.remaining from.new.end) (O.contents out.old.end) (O.contents out.new.end)) }
     ensures counted { result ≡ Err (Front WriteFault) → out.old.faults < out.new.faults }
+    ensures read_fault { result ≡ Err (Server ReadFault) → from.old.faults < from.new.faults }
 {
     for _place in 0..count {
         let size = read_frame(from, room)?;

@@ -2,10 +2,12 @@
 ghost use Rattle.std.specs.Prelude.{◌≡◌, ◌<◌, ◌≤◌, ◌-◌, ◌^◌, ◌++◌, [], ℕ, List, Bool, true, false, length, Err, OnOk, IfOk, IfErr};
 ghost use Rattle.std.specs.Io.KnownBytes.{Consumes, IsAtEnd};
 ghost use Rattle.frame_front.specs.declared.error.FrontError.TheVariants.{ReadFault, WriteFault};
+ghost use Rattle.frame_client.specs.declared.client_error.ClientError.{ClientError};
+ghost use Rattle.frame_client.specs.declared.client_error.ClientError.TheVariants as server;
 ghost use Rattle.frame_lines.specs.RequestForm.{IsOneLine};
 ghost use Rattle.line_client.specs.Asking.{AsksStream, AsksLines, ends};
 ghost use Rattle.line_client.specs.Private.Steps.{AsksLast, ReadsMore};
-ghost use Rattle.line_client.specs.declared.fault.AskFault.TheVariants.{Front};
+ghost use Rattle.line_client.specs.declared.fault.AskFault.TheVariants.{Front, Server};
 
 use crate::asking::Asking;
 use crate::exchange::greet;
@@ -44,6 +46,8 @@ pub fn ask_stream<T: TextSource, L: Read, R: Read, W: Write, O: Write>(
         (ends (L.remaining lines.new.end) (R.remaining link.new.from.end) (W.contents link.new.to.end) (O.contents out.new.end)) }
     ensures read_fault { result ≡ Err (Front ReadFault) → lines.old.faults < lines.new.faults }
     ensures write_fault { result ≡ Err (Front WriteFault) → out.old.faults < out.new.faults }
+    ensures server_read_fault { result ≡ Err (Server server.ReadFault) → link.old.from.faults < link.new.from.faults }
+    ensures server_write_fault { result ≡ Err (Server server.WriteFault) → link.old.to.faults < link.new.to.faults }
 {
     let Ok(mut room) = room(alloc) else {
         return Err(AskFault::Front(FrontError::Memory));
@@ -84,6 +88,8 @@ fn ask_lines<T: TextSource, L: Read, R: Read, W: Write, O: Write>(
         (ends (L.remaining lines.new.end) (R.remaining link.new.from.end) (W.contents link.new.to.end) (O.contents out.new.end)) }
     ensures read_fault { result ≡ Err (Front ReadFault) → lines.old.faults < lines.new.faults }
     ensures write_fault { result ≡ Err (Front WriteFault) → out.old.faults < out.new.faults }
+    ensures server_read_fault { result ≡ Err (Server server.ReadFault) → link.old.from.faults < link.new.from.faults }
+    ensures server_write_fault { result ≡ Err (Server server.WriteFault) → link.old.to.faults < link.new.to.faults }
 {
     let mut request = Vec::new(alloc);
     let mut refused = false;
@@ -114,6 +120,7 @@ fn read_more<L: Read>(lines: &mut Counted<L>, encoder: &mut Encoder) -> Result<b
     ensures quiet { OnOk result (lines.new.faults ≡ lines.old.faults) }
     ensures read_fault { result ≡ Err (Front ReadFault) → lines.old.faults < lines.new.faults }
     ensures write_fault { result ≡ Err (Front WriteFault) → ⊥ }
+    ensures other_fault { (why : ClientError) → result ≡ Err (Server why) → ⊥ }
 {
     let mut piece = [0; PIECE_BYTES];
     let count = match lines.read(&mut piece) {
@@ -148,6 +155,8 @@ fn ask_last<T: TextSource, R: Read, W: Write, O: Write>(
         (W.contents link.old.to.end) (W.contents link.new.to.end) (O.contents out.old.end) (O.contents out.new.end) }
     ensures write_fault { result ≡ Err (Front WriteFault) → out.old.faults < out.new.faults }
     ensures read_fault { result ≡ Err (Front ReadFault) → ⊥ }
+    ensures server_read_fault { result ≡ Err (Server server.ReadFault) → link.old.from.faults < link.new.from.faults }
+    ensures server_write_fault { result ≡ Err (Server server.WriteFault) → link.old.to.faults < link.new.to.faults }
 {
     let mut request = Vec::new(alloc);
     match encoder.finish(alloc, texts, &mut request) {

@@ -13,8 +13,8 @@ use Rattle.frame_lines.specs.Encoding.{Gives, EncoderState, Becomes, IsBadLine, 
 use Rattle.frame_lines.specs.ReplyForm.{Reply, HasPayload, payload_of}
 use Rattle.frame_lines.specs.declared.encoder.EncodeError.{EncodeError}
 use Rattle.frame_lines.specs.declared.encoder.EncodeError.TheVariants as lines
-use Rattle.line_client.specs.Replies.{is_passing, is_refusal, bundles_after, reply_frames, shown, CanBeShown, IsTold}
-use Rattle.line_client.specs.Asking.{Exchange, IsExchange, IsPassed, AreTold, BreaksOff, IsBroken, NotGreeted, Ends, greeting, lines_of, asked, told, all_shown, is_refused, count_after}
+use Rattle.line_client.specs.Replies.{is_transient, is_refusal, bundles_after, reply_frames, shown, CanBeShown, IsTold}
+use Rattle.line_client.specs.Asking.{Exchange, IsExchange, IsTransient, AreTold, IsNoReply, HidesLast, IsBroken, NotGreeted, Ends, greeting, lines_of, asked, told, all_shown, is_refused, count_after}
 use Rattle.line_client.specs.declared.asking.Asking.{Asking}
 use Rattle.line_client.specs.declared.asking.Form.{Form}
 use Rattle.line_client.specs.declared.fault.AskFault.{AskFault}
@@ -32,36 +32,61 @@ abbrev pub FailsOnce : ClientError → List ℕ → Option (List ℕ) → Type 0
 FailsOnce client.WriteFault torn left = torn ≡ []
 FailsOnce error torn left = NoFrame error torn left
 
+-- it was sent whole, unless the writer failed
+abbrev pub IsWhole : ClientError → List ℕ → Type 0
+IsWhole client.WriteFault unsent = Unit {0}
+IsWhole error unsent = unsent ≡ []
+
+-- one try of a request failed
+pub record FailsAsking (request : List ℕ) (error : ClientError) (from_old from_new to_old to_new : Option (List ℕ)) : Type 0 where
+  pub sent : List ℕ
+  pub unsent : List ℕ
+  pub torn : List ℕ
+  pub split : request ≡ sent ++ unsent
+  pub whole : IsWhole error unsent
+  pub asks : Appends to_old to_new sent
+  pub tells : Consumes from_old from_new torn
+  pub why : FailsOnce error torn from_new
+
 -- why the server is not greeted
 pub record NotGreetedBy (fault : AskFault) (from_old from_new to_old to_new : Option (List ℕ)) : Type 0 where
+  pub sent : List ℕ
+  pub unsent : List ℕ
   pub torn : List ℕ
+  pub split : greeting ≡ sent ++ unsent
+  pub asks : Appends to_old to_new sent
   pub tells : Consumes from_old from_new torn
-  pub asks : WritesFront to_old to_new greeting
-  pub why : NotGreeted fault torn from_new
+  pub why : NotGreeted fault unsent torn from_new
 
 -- a request that was asked, and again after so many replies
 pub record AsksUntilTold (retries : ℕ) (request payload : List ℕ) (from_old from_new to_old to_new : Option (List ℕ)) : Type 0 where
-  pub passed : List Reply
-  pub each : AllByRecursion IsPassed passed
-  pub few : length passed ≤ retries
-  pub last : (reply : Reply) → HasPayload reply → payload ≡ payload_of reply → is_passing reply ≡ true → length passed ≡ retries
-  pub asks : Appends to_old to_new (flat_map (λ reply. request) passed ++ request)
-  pub tells : Consumes from_old from_new (reply_frames passed ++ frame payload)
+  pub transient : List Reply
+  pub each : AllByRecursion IsTransient transient
+  pub few : length transient ≤ retries
+  pub last : (reply : Reply) → HasPayload reply → payload ≡ payload_of reply → is_transient reply ≡ true → length transient ≡ retries
+  pub asks : Appends to_old to_new (flat_map (λ reply. request) transient ++ request)
+  pub tells : Consumes from_old from_new (reply_frames transient ++ frame payload)
 
 -- between two tries
 pub record TriesSoFar (retries left : ℕ) (request : List ℕ) (from_old from_new to_old to_new : Option (List ℕ)) : Type 0 where
-  pub passed : List Reply
-  pub each : AllByRecursion IsPassed passed
-  pub count : length passed + left ≡ retries
-  pub asks : Appends to_old to_new (flat_map (λ reply. request) passed)
-  pub tells : Consumes from_old from_new (reply_frames passed)
+  pub transient : List Reply
+  pub each : AllByRecursion IsTransient transient
+  pub count : length transient + left ≡ retries
+  pub asks : Appends to_old to_new (flat_map (λ reply. request) transient)
+  pub tells : Consumes from_old from_new (reply_frames transient)
 
 -- a request of which one try failed
-pub record BreaksAsking (request : List ℕ) (error : ClientError) (from_old from_new to_old to_new : Option (List ℕ)) : Type 0 where
-  pub passed : List Reply
+pub record BreaksAsking (retries : ℕ) (request : List ℕ) (error : ClientError) (from_old from_new to_old to_new : Option (List ℕ)) : Type 0 where
+  pub transient : List Reply
+  pub sent : List ℕ
+  pub unsent : List ℕ
   pub torn : List ℕ
-  pub asks : WritesFront to_old to_new (flat_map (λ reply. request) passed ++ request)
-  pub tells : Consumes from_old from_new (reply_frames passed ++ torn)
+  pub each : AllByRecursion IsTransient transient
+  pub few : length transient ≤ retries
+  pub split : request ≡ sent ++ unsent
+  pub whole : IsWhole error unsent
+  pub asks : Appends to_old to_new (flat_map (λ reply. request) transient ++ sent)
+  pub tells : Consumes from_old from_new (reply_frames transient ++ torn)
   pub why : FailsOnce error torn from_new
 
 -- ---- what is shown
@@ -94,31 +119,44 @@ pub record OthersSoFar (form : Form) (count : ℕ) (from_old from_new out_old ou
   pub tells : Consumes from_old from_new (reply_frames others)
   pub shows : Appends out_old out_new (flat_map (shown form) others)
 
-pub record BreaksOthers (form : Form) (fault : AskFault) (from_old from_new out_old out_new : Option (List ℕ)) : Type 0 where
+-- why not all of so many bundles are shown
+abbrev pub BreaksAmong : Form → AskFault → ℕ → List Reply → List ℕ → List ℕ → Option (List ℕ) → Type 0
+BreaksAmong form (Server client.BadReply) count others torn hidden left =
+    (length others < count) × (hidden ≡ []) × (payload : List ℕ) × (torn ≡ frame payload) × IsNoReply form true payload
+BreaksAmong form (Server why) count others torn hidden left = (length others < count) × (hidden ≡ []) × NoFrame why torn left
+BreaksAmong form (Front front.WriteFault) count others torn hidden left = HidesLast form others hidden × (torn ≡ [])
+BreaksAmong form fault count others torn hidden left = ⊥
+
+pub record BreaksOthers (form : Form) (fault : AskFault) (count : ℕ) (from_old from_new out_old out_new : Option (List ℕ)) : Type 0 where
   pub others : List Reply
   pub torn : List ℕ
+  pub showed : List ℕ
+  pub hidden : List ℕ
+  pub few : length others ≤ count
+  pub each : AllByRecursion (IsTold form true) others
+  pub split : flat_map (shown form) others ≡ showed ++ hidden
   pub tells : Consumes from_old from_new (reply_frames others ++ torn)
-  pub shows : WritesFront out_old out_new (flat_map (shown form) others)
-  pub why : BreaksOff form fault torn from_new
+  pub shows : Appends out_old out_new showed
+  pub why : BreaksAmong form fault count others torn hidden from_new
 
 -- ---- one line
 
 -- it asked nothing, or it was asked
 abbrev pub IsTaken : Asking → List ℕ → List Reply → List Reply → Type 0
-IsTaken how request passed replies =
-    ((request ≡ []) × (passed ≡ []) × (replies ≡ []))
-    ⊎ ((request ≢ []) × AllByRecursion IsPassed passed × (length passed ≤ how.retries) × AreTold how (length passed) replies)
+IsTaken how request transient replies =
+    ((request ≡ []) × (transient ≡ []) × (replies ≡ []))
+    ⊎ ((request ≢ []) × AllByRecursion IsTransient transient × (length transient ≤ how.retries) × AreTold how (length transient) replies)
 
 pub record AsksOne (how : Asking) (request : List ℕ) (refused : Bool) (from_old from_new to_old to_new out_old out_new : Option (List ℕ)) : Type 0 where
-  pub passed : List Reply
+  pub transient : List Reply
   pub replies : List Reply
-  pub taken : IsTaken how request passed replies
-  pub asks : Appends to_old to_new (flat_map (λ reply. request) passed ++ request)
-  pub tells : Consumes from_old from_new (reply_frames (passed ++ replies))
+  pub taken : IsTaken how request transient replies
+  pub asks : Appends to_old to_new (flat_map (λ reply. request) transient ++ request)
+  pub tells : Consumes from_old from_new (reply_frames (transient ++ replies))
   pub shows : Appends out_old out_new (flat_map (shown how.form) replies)
   pub refused_is : refused ≡ list_any is_refusal replies
 
-pub record BreaksOne (form : Form) (fault : AskFault) (request : List ℕ) (from_old from_new to_old to_new out_old out_new : Option (List ℕ)) : Type 0 where
+pub record BreaksOne (how : Asking) (fault : AskFault) (request : List ℕ) (from_old from_new to_old to_new out_old out_new : Option (List ℕ)) : Type 0 where
   pub out_asked : List ℕ
   pub out_told : List ℕ
   pub out_shown : List ℕ
@@ -126,7 +164,7 @@ pub record BreaksOne (form : Form) (fault : AskFault) (request : List ℕ) (from
   pub asks : Appends to_old to_new out_asked
   pub tells : Consumes from_old from_new out_told
   pub shows : Appends out_old out_new out_shown
-  pub broken : IsBroken form fault request out_asked out_told out_shown from_new
+  pub broken : IsBroken how fault request out_asked out_told out_shown from_new
 
 -- ---- the stream
 
@@ -144,7 +182,7 @@ AsksLast gives how state (Err (Unreadable number)) from_old from_new to_old to_n
     (number ≡ next_count state.lines) × NamesText state.kept × IsSilent from_old from_new to_old to_new out_old out_new
 AsksLast gives how state (Err (Front front.Memory)) from_old from_new to_old to_new out_old out_new = IsSilent from_old from_new to_old to_new out_old out_new
 AsksLast gives how state (Err fault) from_old from_new to_old to_new out_old out_new =
-    (request : List ℕ) × Becomes gives (state.kept, request) × BreaksOne how.form fault request from_old from_new to_old to_new out_old out_new
+    (request : List ℕ) × Becomes gives (state.kept, request) × BreaksOne how fault request from_old from_new to_old to_new out_old out_new
 
 -- a piece of the lines is read and kept, or the lines are at their end
 abbrev pub ReadsMore : Result Bool AskFault → EncoderState → EncoderState → Option (List ℕ) → Option (List ℕ) → Type 0

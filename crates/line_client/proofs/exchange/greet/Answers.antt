@@ -11,8 +11,7 @@ pub returns-in_err-size-clause-err : goal.returns-in_err-size-clause-err
 returns-in_err-size-clause-err g c =
     let error = c.in_err-size.field-0.0 in
     let is : c.from_residual.result ≡ Err (Server error) = search rules in
-    let cut = c.in_err-size.ensures.err in
-    rw is (not_greeted error bytes cut.0 (g.R.Read.remaining c.args.link.now.from.end) (g.R.Read.remaining c.ask_once.new.link.from.end) (g.W.Write.contents c.args.link.now.to.end) (g.W.Write.contents c.ask_once.new.link.to.end) refl c.in_err-size.ensures.front cut.1 cut.2)
+    rw is (not_greeted error bytes (g.R.Read.remaining c.args.link.now.from.end) (g.R.Read.remaining c.ask_once.new.link.from.end) (g.W.Write.contents c.args.link.now.to.end) (g.W.Write.contents c.ask_once.new.link.to.end) refl c.in_err-size.ensures.err)
 
 pub returns-then-is_greeted-clause-asks : goal.returns-then-is_greeted-clause-asks
 returns-then-is_greeted-clause-asks g c = subst (Appends (g.W.Write.contents c.args.link.now.to.end) (g.W.Write.contents c.ask_once.new.link.to.end)) greeting_bytes c.in_ok-size.ensures.asks
@@ -20,5 +19,6 @@ returns-then-is_greeted-clause-asks g c = subst (Appends (g.W.Write.contents c.a
 pub returns-else-is_greeted-clause-err : goal.returns-else-is_greeted-clause-err
 returns-else-is_greeted-clause-err g c =
     let payload = take c.in_ok-size.size c.ask_once.new.room in
-    other_greeting bytes payload (g.R.Read.remaining c.args.link.now.from.end) (g.R.Read.remaining c.ask_once.new.link.from.end) (g.W.Write.contents c.args.link.now.to.end) (g.W.Write.contents c.ask_once.new.link.to.end) refl c.in_ok-size.ensures.front c.in_ok-size.ensures.tells c.in_ok-size.ensures.payload.1
+    let asks = subst (Appends (g.W.Write.contents c.args.link.now.to.end) (g.W.Write.contents c.ask_once.new.link.to.end)) greeting_bytes c.in_ok-size.ensures.asks in
+    other_greeting payload (g.R.Read.remaining c.args.link.now.from.end) (g.R.Read.remaining c.ask_once.new.link.from.end) (g.W.Write.contents c.args.link.now.to.end) (g.W.Write.contents c.ask_once.new.link.to.end) asks c.in_ok-size.ensures.tells c.in_ok-size.ensures.payload.1
     (c.is_greeted.ensures.no c.if-is_greeted.false)

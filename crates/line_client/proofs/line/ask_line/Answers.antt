@@ -1,6 +1,6 @@
 use Rattle.std.proofs.Common.{rules, ◌≡◌, ◌≢◌, [], length, Err, take}
 use Rattle.line_client.specs.declared.fault.AskFault.TheVariants.{Server}
-use Rattle.line_client.proofs.Replies.{keeps_front, then_kept}
+use Rattle.line_client.proofs.Replies.{then_kept}
 use Rattle.line_client.proofs.OneLine.{empty, asks_nothing, not_told, first_not_shown, others_broken, asks_all, not_flushed}
 use Rattle.line_client.proofs.line.ask_line.Goals as goal
 
@@ -14,7 +14,7 @@ returns-in_err-size-clause-err g c =
     let error = c.in_err-size.field-0.0 in
     let is : c.from_residual.result ≡ Err (Server error) = search rules in
     let some : c.args.request.now ≢ [] = search rules in
-    rw is (not_told c.args.how.form error c.args.request.now _ _ _ _ _ some c.in_err-size.ensures.err)
+    rw is (not_told c.args.how error c.args.request.now _ _ _ _ _ some c.in_err-size.ensures.err)
 
 pub returns-in_err-first-clause-err : goal.returns-in_err-first-clause-err
 returns-in_err-first-clause-err g c =
@@ -46,4 +46,4 @@ returns-in-Err-clause-err g c =
     let mid = g.O.Write.contents c.show_others.new.out.end in
     let last = g.O.Write.contents c.flush.new.self.end in
     not_flushed c.args.how c.args.request.now (take c.in_ok-size.size c.ask_until_told.new.room) _ _ _ _ c.in_ok-size.ensures.ok some c.in_ok-first.first.refused c.in_ok-first.first.bundles _ _ c.in_ok-first.ensures.ok
-    _ mid others.0 others.1 others.2 others.3 others.4 last (keeps_front mid last c.in-Err.ensures.bytes)
+    _ mid others.0 others.1 others.2 others.3 others.4 last c.in-Err.ensures.bytes

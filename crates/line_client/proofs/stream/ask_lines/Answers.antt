@@ -18,7 +18,7 @@ returns-in_err-one-in-Ok-true-clause-asks g c =
     let fault = c.in_err-one-in-Ok-true.field-0.0 in
     let is : c.from_residual.result ≡ Err fault = search rules in
     let request : c.as_slice.result.now ≡ next.0 = c.as_slice.ensures.value ∙ next.1 ∙ ap (λ (o : List ℕ). o ++ next.0) c.loop-turn.invariant.1 in
-    let broken = subst (λ r. BreaksOne c.args.how.form fault r (g.R.Read.remaining c.loop-turn.link.from.end) (g.R.Read.remaining c.ask_line.new.link.from.end) (g.W.Write.contents c.loop-turn.link.to.end) (g.W.Write.contents c.ask_line.new.link.to.end)
+    let broken = subst (λ r. BreaksOne c.args.how fault r (g.R.Read.remaining c.loop-turn.link.from.end) (g.R.Read.remaining c.ask_line.new.link.from.end) (g.W.Write.contents c.loop-turn.link.to.end) (g.W.Write.contents c.ask_line.new.link.to.end)
     (g.O.Write.contents c.loop-turn.out.end) (g.O.Write.contents c.ask_line.new.out.end)) request c.in_err-one-in-Ok-true.ensures.err in
     rw is (breaks_off gives c.args.how _ (g.L.Read.remaining c.loop-turn.lines.end) _ _ _ c.loop-turn.encoder c.loop-turn.refused c.loop-turn._turn c.loop-turn.invariant.0 c.encode_next.new.self next.0 next.2 fault _ _ _ broken)
 

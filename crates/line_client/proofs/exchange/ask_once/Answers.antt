@@ -1,0 +1,16 @@
+use Rattle.std.proofs.Common.{rules, ◌≡◌, Err}
+use Rattle.frame_client.specs.declared.client_error.ClientError.TheVariants.{WriteFault}
+use Rattle.line_client.proofs.Requests.{not_sent, not_read}
+use Rattle.line_client.proofs.exchange.ask_once.Goals as goal
+
+pub returns-in_err-send-clause-err : goal.returns-in_err-send-clause-err
+returns-in_err-send-clause-err g c =
+    let is : c.from_residual.result ≡ Err WriteFault = search rules in
+    rw is (not_sent c.args.request.now (g.R.Read.remaining c.args.link.now.from.end) (g.W.Write.contents c.args.link.now.to.end) (g.W.Write.contents c.send.new.to.end) c.in_err-send.ensures.front)
+
+pub returns-in_err-size-clause-err : goal.returns-in_err-size-clause-err
+returns-in_err-size-clause-err g c =
+    let error = c.in_err-size.field-0.0 in
+    let is : c.from_residual-in_err-size.result ≡ Err error = search rules in
+    let cut = c.in_err-size.ensures.err in
+    rw is (not_read error c.args.request.now cut.0 (g.R.Read.remaining c.args.link.now.from.end) (g.R.Read.remaining c.read_frame.new.reader.end) (g.W.Write.contents c.args.link.now.to.end) (g.W.Write.contents c.send.new.to.end) c.in_ok-send.ensures.ok cut.1 cut.2)
