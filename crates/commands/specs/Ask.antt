@@ -1,9 +1,10 @@
 -- What the command `ask` does to its streams, and to those of the server.
-use Rattle.std.specs.Prelude.{◌≡◌, ◌⊎◌, ℕ, Bool, if◌then◌else◌, List, ◌∷◌, drop, Option, Some, Result, Ok, Err}
+use Rattle.std.specs.Prelude.{◌≡◌, ◌⊎◌, ℕ, ◌<◌, Bool, if◌then◌else◌, List, ◌∷◌, drop, Option, Some, Result, Ok, Err}
 use Rattle.std.specs.List.{flat_map}
 use Rattle.frame_lines.specs.Encoding.{Gives}
 use Rattle.frame_lines.specs.RequestForm.{IsOneLine}
 use Rattle.frame_front.specs.declared.error.FrontError.TheVariants.{Memory}
+use Rattle.frame_client.specs.declared.client_error.ClientError.TheVariants.{ReadFault, WriteFault}
 use Rattle.line_client.specs.Asking.{AsksStream, ends}
 use Rattle.line_client.specs.declared.asking.Asking.{Asking}
 use Rattle.line_client.specs.declared.fault.AskFault.{AskFault}
@@ -13,7 +14,7 @@ use Rattle.commands.specs.declared.fault.Fault.{Fault}
 use Rattle.commands.specs.declared.fault.Fault.TheVariants.{Front, BadLine, UnreadText, Server}
 use Rattle.commands.specs.declared.fault.ServerFault.TheVariants.{Client}
 use Rattle.commands.specs.Fault.{fault_line}
-use Rattle.commands.specs.Streams.{Streams, End, Blames, Tells}
+use Rattle.commands.specs.Streams.{Streams, End, Blames, Tells, end_of}
 
 -- the fault of a command whose asking ended so
 abbrev pub asking_fault : AskFault → Fault
@@ -26,25 +27,33 @@ asking_fault (asking.Front error) = Front error
 abbrev pub ask_status : Bool → ℕ
 ask_status refused = if refused then 3 else 0
 
-abbrev pub EndsAsked : Result Bool AskFault → ℕ → Streams → Streams → Type 0
-EndsAsked (Ok refused) status old new = (status ≡ ask_status refused) × (new.error ≡ old.error)
-EndsAsked (Err fault) status old new =
-    (status ≡ 1) × Tells old.error new.error (fault_line (asking_fault fault)) × Blames (asking_fault fault) old new
-
--- what a server's output has left, and its input holds
+-- a server's output, of which replies are read, and its input, to which requests are written
 pub record ServerEnds : Type 0 where
-  pub from : Option (List ℕ)
-  pub to : Option (List ℕ)
+  pub from : End
+  pub to : End
 
 abbrev pub server : {R W : Type 0} → (R → Option (List ℕ)) → (W → Option (List ℕ)) → Link R W → ServerEnds
-server left_of held_of link = record { from = left_of link.from.end; to = held_of link.to.end }
+server left_of held_of link = record { from = end_of left_of link.from; to = end_of held_of link.to }
+
+-- of a server, 53 is told only if a read of its output failed in the meantime, and 54 only if a write to its input did
+abbrev pub BlamesServer : Fault → ServerEnds → ServerEnds → Type 0
+BlamesServer (Server (Client ReadFault)) old new = old.from.faults < new.from.faults
+BlamesServer (Server (Client WriteFault)) old new = old.to.faults < new.to.faults
+BlamesServer fault old new = Unit {0}
+
+abbrev pub EndsAsked : Result Bool AskFault → ℕ → Streams → Streams → ServerEnds → ServerEnds → Type 0
+EndsAsked (Ok refused) status old new server_old server_new = (status ≡ ask_status refused) × (new.error ≡ old.error)
+EndsAsked (Err fault) status old new server_old server_new =
+    (status ≡ 1) × Tells old.error new.error (fault_line (asking_fault fault))
+    × Blames (asking_fault fault) old new × BlamesServer (asking_fault fault) server_old server_new
 
 -- Lines are asked, with the texts that are given for their names, and the replies are shown.
 pub record Asks (gives : Gives) (how : Asking) (status : ℕ) (old new : Streams) (server_old server_new : ServerEnds) : Type 0 where
   pub ended : Result Bool AskFault
-  pub ends_so : EndsAsked ended status old new
+  pub ends_so : EndsAsked ended status old new server_old server_new
   pub asks : AsksStream gives how ended
-      (ends old.input.bytes server_old.from server_old.to old.output.bytes) (ends new.input.bytes server_new.from server_new.to new.output.bytes)
+      (ends old.input.bytes server_old.from.bytes server_old.to.bytes old.output.bytes)
+      (ends new.input.bytes server_new.from.bytes server_new.to.bytes new.output.bytes)
 
 -- ---- a request as words
 
