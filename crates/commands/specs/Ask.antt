@@ -41,8 +41,15 @@ BlamesServer (Server (Client ReadFault)) old new = old.from.faults < new.from.fa
 BlamesServer (Server (Client WriteFault)) old new = old.to.faults < new.to.faults
 BlamesServer fault old new = Unit {0}
 
+-- no read, write or flush failed in the meantime
+abbrev pub AreQuiet : Streams → Streams → ServerEnds → ServerEnds → Type 0
+AreQuiet old new server_old server_new =
+    (new.input.faults ≡ old.input.faults) × (new.output.faults ≡ old.output.faults)
+    × (server_new.from.faults ≡ server_old.from.faults) × (server_new.to.faults ≡ server_old.to.faults)
+
 abbrev pub EndsAsked : Result Bool AskFault → ℕ → Streams → Streams → ServerEnds → ServerEnds → Type 0
-EndsAsked (Ok refused) status old new server_old server_new = (status ≡ ask_status refused) × (new.error ≡ old.error)
+EndsAsked (Ok refused) status old new server_old server_new =
+    (status ≡ ask_status refused) × (new.error ≡ old.error) × AreQuiet old new server_old server_new
 EndsAsked (Err fault) status old new server_old server_new =
     (status ≡ 1) × Tells old.error new.error (fault_line (asking_fault fault))
     × Blames (asking_fault fault) old new × BlamesServer (asking_fault fault) server_old server_new

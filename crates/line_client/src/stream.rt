@@ -44,6 +44,10 @@ pub fn ask_stream<T: TextSource, L: Read, R: Read, W: Write, O: Write>(
     ensures asks { AsksStream (T.gives texts.now) how result
         (ends (L.remaining lines.old.end) (R.remaining link.old.from.end) (W.contents link.old.to.end) (O.contents out.old.end))
         (ends (L.remaining lines.new.end) (R.remaining link.new.from.end) (W.contents link.new.to.end) (O.contents out.new.end)) }
+    ensures quiet_lines { OnOk result (lines.new.faults ≡ lines.old.faults) }
+    ensures quiet_from { OnOk result (link.new.from.faults ≡ link.old.from.faults) }
+    ensures quiet_to { OnOk result (link.new.to.faults ≡ link.old.to.faults) }
+    ensures quiet_out { OnOk result (out.new.faults ≡ out.old.faults) }
     ensures read_fault { result ≡ Err (Front ReadFault) → lines.old.faults < lines.new.faults }
     ensures write_fault { result ≡ Err (Front WriteFault) → out.old.faults < out.new.faults }
     ensures server_read_fault { result ≡ Err (Server server.ReadFault) → link.old.from.faults < link.new.from.faults }
@@ -86,6 +90,10 @@ fn ask_lines<T: TextSource, L: Read, R: Read, W: Write, O: Write>(
     ensures asks { AsksLines (T.gives texts.now) how result
         (ends (L.remaining lines.old.end) (R.remaining link.old.from.end) (W.contents link.old.to.end) (O.contents out.old.end))
         (ends (L.remaining lines.new.end) (R.remaining link.new.from.end) (W.contents link.new.to.end) (O.contents out.new.end)) }
+    ensures quiet_lines { OnOk result (lines.new.faults ≡ lines.old.faults) }
+    ensures quiet_from { OnOk result (link.new.from.faults ≡ link.old.from.faults) }
+    ensures quiet_to { OnOk result (link.new.to.faults ≡ link.old.to.faults) }
+    ensures quiet_out { OnOk result (out.new.faults ≡ out.old.faults) }
     ensures read_fault { result ≡ Err (Front ReadFault) → lines.old.faults < lines.new.faults }
     ensures write_fault { result ≡ Err (Front WriteFault) → out.old.faults < out.new.faults }
     ensures server_read_fault { result ≡ Err (Server server.ReadFault) → link.old.from.faults < link.new.from.faults }
@@ -153,6 +161,9 @@ fn ask_last<T: TextSource, R: Read, W: Write, O: Write>(
     requires out_count { out.old.faults < 2 ^ 64 - 1 }
     ensures asks { AsksLast (T.gives texts.now) how encoder result (R.remaining link.old.from.end) (R.remaining link.new.from.end)
         (W.contents link.old.to.end) (W.contents link.new.to.end) (O.contents out.old.end) (O.contents out.new.end) }
+    ensures quiet_from { OnOk result (link.new.from.faults ≡ link.old.from.faults) }
+    ensures quiet_to { OnOk result (link.new.to.faults ≡ link.old.to.faults) }
+    ensures quiet_out { OnOk result (out.new.faults ≡ out.old.faults) }
     ensures write_fault { result ≡ Err (Front WriteFault) → out.old.faults < out.new.faults }
     ensures read_fault { result ≡ Err (Front ReadFault) → ⊥ }
     ensures server_read_fault { result ≡ Err (Server server.ReadFault) → link.old.from.faults < link.new.from.faults }
