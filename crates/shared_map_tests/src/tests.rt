@@ -33,9 +33,10 @@ fn holds(rt: &impl Abort, is_so: bool) {
     assert!(rt; is_so);
 }
 
-/// A name that the number stands for, short or over 24 bytes.
+/// A name that the number stands for, short or over 24 bytes. The names are in another order than the numbers: those below the
+/// prime 10,007 have different places.
 fn name(alloc: Global, number: u64) -> Result<TrustDomain, Fail> {
-    let mixed = number.wrapping_mul(0x9e37_79b9_7f4a_7c15) >> 40;
+    let mixed = number.saturating_mul(6_180) % 10_007;
     let text = if number % 5 == 0 {
         format!(in alloc; "{mixed}.a-name-of-over-24-bytes.example")?
     } else {
@@ -48,23 +49,52 @@ fn name(alloc: Global, number: u64) -> Result<TrustDomain, Fail> {
     }
 }
 
+/// Puts a value under the name of a number.
+fn insert(alloc: Global, map: &mut SharedMap<Number>, number: u64, value: u64) -> Result<(), Fail> {
+    let name = name(alloc, number)?;
+    Ok(map.insert(name, Number(value))?)
+}
+
+/// Removes the name of a number.
+fn remove(alloc: Global, map: &mut SharedMap<Number>, number: u64) -> Result<(), Fail> {
+    let name = name(alloc, number)?;
+    Ok(map.remove(&name)?)
+}
+
+/// What stands under the name of a number.
+fn found(alloc: Global, map: &SharedMap<Number>, number: u64) -> Result<Option<u64>, Fail> {
+    let name = name(alloc, number)?;
+    Ok(map.get(&name).map(|value| value.0))
+}
+
+fn fill(alloc: Global, map: &mut SharedMap<Number>, count: u64) -> Result<(), Fail> {
+    for number in 0..count {
+        insert(alloc, map, number, number)?;
+    }
+    Ok(())
+}
+
 /// A map with these numbers, each under its name.
 fn filled(alloc: Global, count: u64) -> Result<SharedMap<Number>, Fail> {
     let mut map = SharedMap::new(alloc);
-    for number in 0..count {
-        map.insert(name(alloc, number)?, Number(number))?;
-    }
+    fill(alloc, &mut map, count)?;
     Ok(map)
+}
+
+fn fill_plain(alloc: Global, map: &mut BTreeMap<TrustDomain, u64>, count: u64) -> Result<(), Fail> {
+    for number in 0..count {
+        let name = name(alloc, number)?;
+        if map.insert(name, number).is_err() {
+            return Err(Fail::from(AllocError));
+        }
+    }
+    Ok(())
 }
 
 /// A plain map with these numbers, each under its name.
 fn plain(alloc: Global, count: u64) -> Result<BTreeMap<TrustDomain, u64>, Fail> {
     let mut map = BTreeMap::new(alloc);
-    for number in 0..count {
-        if map.insert(name(alloc, number)?, number).is_err() {
-            return Err(Fail::from(AllocError));
-        }
-    }
+    fill_plain(alloc, &mut map, count)?;
     Ok(map)
 }
 

@@ -1,24 +1,59 @@
 //! Copies, and changes of either.
 use crate::tests::*;
 
+/// Of 1000 numbers the even ones are gone and the others are 0, and 500 more are there.
+fn change(alloc: Global, map: &mut SharedMap<Number>) -> Result<(), Fail> {
+    for number in 0..1000 {
+        if number % 2 == 0 {
+            remove(alloc, map, number)?;
+        } else {
+            insert(alloc, map, number, 0)?;
+        }
+    }
+    for number in 1000..1500 {
+        insert(alloc, map, number, number)?;
+    }
+    Ok(())
+}
+
 #[test]
 fn a_copy_stays_as_it_was(rt: HostRuntime) -> Result<(), Fail> {
     let alloc = rt.alloc();
     let mut map = filled(alloc, 1000)?;
     let copy = map.copy()?;
+    change(alloc, &mut map)?;
     let wanted = plain(alloc, 1000)?;
-    for number in 0..1000 {
-        if number % 2 == 0 {
-            map.remove(&name(alloc, number)?)?;
-        } else {
-            map.insert(name(alloc, number)?, Number(0))?;
-        }
-    }
-    for number in 1000..1500 {
-        map.insert(name(alloc, number)?, Number(number))?;
-    }
     are_same(&rt, &copy, &wanted);
     is_equal(&rt, &map.len(), &1000);
+    Ok(())
+}
+
+/// A map that numbers from 0 on are put into, and one copy before each.
+fn copies(
+    alloc: Global,
+    map: &mut SharedMap<Number>,
+    versions: &mut Vec<SharedMap<Number>>,
+) -> Result<(), Fail> {
+    for number in 0..300 {
+        versions.push(map.copy()?)?;
+        insert(alloc, map, number, number)?;
+    }
+    Ok(())
+}
+
+/// The map has the numbers below the count, and of 300 no others.
+fn has_those_below(
+    rt: &impl Abort,
+    alloc: Global,
+    map: &SharedMap<Number>,
+    count: usize,
+) -> Result<(), Fail> {
+    is_equal(rt, &map.len(), &count);
+    for number in 0..300 {
+        let found = found(alloc, map, number)?;
+        let wanted = (number < count as u64).then_some(number);
+        is_equal(rt, &found, &wanted);
+    }
     Ok(())
 }
 
@@ -27,20 +62,9 @@ fn each_version_stays(rt: HostRuntime) -> Result<(), Fail> {
     let alloc = rt.alloc();
     let mut map = SharedMap::new(alloc);
     let mut versions = Vec::new(alloc);
-    for number in 0..300 {
-        versions.push(map.copy()?)?;
-        map.insert(name(alloc, number)?, Number(number))?;
-    }
+    copies(alloc, &mut map, &mut versions)?;
     for (count, version) in versions.iter().enumerate() {
-        is_equal(&rt, &version.len(), &count);
-        for number in 0..300 {
-            let found = version.get(&name(alloc, number)?);
-            if number < count as u64 {
-                is_equal(&rt, &found, &Some(&Number(number)));
-            } else {
-                holds(&rt, found.is_none());
-            }
-        }
+        has_those_below(&rt, alloc, version, count)?;
     }
     Ok(())
 }

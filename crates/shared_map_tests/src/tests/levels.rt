@@ -6,7 +6,7 @@ const COUNT: u64 = 9000;
 
 /// The number at a place in one of the orders of all numbers.
 fn number_at(place: u64, step: u64) -> u64 {
-    place.wrapping_mul(step) % COUNT
+    place.saturating_mul(step) % COUNT
 }
 
 /// A name whose order is the number's.
@@ -48,32 +48,60 @@ fn is_looked_at(size: u64) -> bool {
     size < 40 || size % 300 == 0
 }
 
+/// All numbers come, in the order of this step.
+fn grow(
+    rt: &impl Abort,
+    alloc: Global,
+    map: &mut SharedMap<Number>,
+    wanted: &mut Vec<u64>,
+    step: u64,
+) -> Result<(), Fail> {
+    for place in 0..COUNT {
+        let number = number_at(place, step);
+        map.insert(numbered(alloc, number)?, Number(number))?;
+        wanted.push(number)?;
+        if is_looked_at(place) {
+            wanted.sort_unstable();
+            has_these(rt, alloc, map, wanted)?;
+        }
+    }
+    wanted.sort_unstable();
+    Ok(())
+}
+
+/// All numbers go again.
+fn shrink(
+    rt: &impl Abort,
+    alloc: Global,
+    map: &mut SharedMap<Number>,
+    wanted: &mut Vec<u64>,
+) -> Result<(), Fail> {
+    for place in 0..COUNT {
+        let number = number_at(place, 4999);
+        map.remove(&numbered(alloc, number)?)?;
+        wanted.retain(|other| *other != number);
+        if is_looked_at(COUNT - 1 - place) {
+            has_these(rt, alloc, map, wanted)?;
+        }
+    }
+    Ok(())
+}
+
+/// A map grows in the order of this step, and shrinks again.
+fn grow_and_shrink(rt: &impl Abort, alloc: Global, step: u64) -> Result<(), Fail> {
+    let mut map = SharedMap::new(alloc);
+    let mut wanted = Vec::new(alloc);
+    grow(rt, alloc, &mut map, &mut wanted, step)?;
+    shrink(rt, alloc, &mut map, &mut wanted)?;
+    is_equal(rt, &map.len(), &0);
+    Ok(())
+}
+
 #[test]
 fn a_map_with_any_number_of_levels_is_a_list_in_order(rt: HostRuntime) -> Result<(), Fail> {
-    let alloc = rt.alloc();
     // in order, the other way round, and mixed
     for step in [1, COUNT - 1, 3677] {
-        let mut map = SharedMap::new(alloc);
-        let mut wanted = Vec::new(alloc);
-        for place in 0..COUNT {
-            let number = number_at(place, step);
-            map.insert(numbered(alloc, number)?, Number(number))?;
-            wanted.push(number)?;
-            if is_looked_at(place) {
-                wanted.sort_unstable();
-                has_these(&rt, alloc, &map, &wanted)?;
-            }
-        }
-        wanted.sort_unstable();
-        for place in 0..COUNT {
-            let number = number_at(place, 4999);
-            map.remove(&numbered(alloc, number)?)?;
-            wanted.retain(|other| *other != number);
-            if is_looked_at(COUNT - 1 - place) {
-                has_these(&rt, alloc, &map, &wanted)?;
-            }
-        }
-        is_equal(&rt, &map.len(), &0);
+        grow_and_shrink(&rt, rt.alloc(), step)?;
     }
     Ok(())
 }

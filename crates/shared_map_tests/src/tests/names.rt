@@ -6,7 +6,7 @@ fn the_empty_map_has_nothing(rt: HostRuntime) -> Result<(), Fail> {
     let alloc = rt.alloc();
     let map: SharedMap<Number> = SharedMap::new(alloc);
     is_equal(&rt, &map.len(), &0);
-    holds(&rt, map.get(&name(alloc, 1)?).is_none());
+    is_equal(&rt, &found(alloc, &map, 1)?, &None);
     holds(&rt, map.iter().next().is_none());
     Ok(())
 }
@@ -20,7 +20,7 @@ fn many_names_stand_in_order(rt: HostRuntime) -> Result<(), Fail> {
     for (name, number) in wanted.iter() {
         is_equal(&rt, &map.get(name), &Some(&Number(*number)));
     }
-    holds(&rt, map.get(&name(alloc, 3001)?).is_none());
+    is_equal(&rt, &found(alloc, &map, 3001)?, &None);
     Ok(())
 }
 
@@ -28,10 +28,38 @@ fn many_names_stand_in_order(rt: HostRuntime) -> Result<(), Fail> {
 fn a_later_value_takes_the_place(rt: HostRuntime) -> Result<(), Fail> {
     let alloc = rt.alloc();
     let mut map = filled(alloc, 200)?;
-    map.insert(name(alloc, 7)?, Number(70))?;
+    insert(alloc, &mut map, 7, 70)?;
     is_equal(&rt, &map.len(), &200);
-    is_equal(&rt, &map.get(&name(alloc, 7)?), &Some(&Number(70)));
-    is_equal(&rt, &map.get(&name(alloc, 8)?), &Some(&Number(8)));
+    is_equal(&rt, &found(alloc, &map, 7)?, &Some(70));
+    is_equal(&rt, &found(alloc, &map, 8)?, &Some(8));
+    Ok(())
+}
+
+/// Both lose a name, the one twice.
+fn remove_both(
+    alloc: Global,
+    map: &mut SharedMap<Number>,
+    wanted: &mut BTreeMap<TrustDomain, u64>,
+    number: u64,
+) -> Result<(), Fail> {
+    let name = name(alloc, number)?;
+    map.remove(&name)?;
+    map.remove(&name)?;
+    wanted.remove(&name);
+    Ok(())
+}
+
+/// Both lose the names of all numbers that three doesn't divide.
+fn remove_most(
+    alloc: Global,
+    map: &mut SharedMap<Number>,
+    wanted: &mut BTreeMap<TrustDomain, u64>,
+) -> Result<(), Fail> {
+    for number in 0..1000 {
+        if number % 3 != 0 {
+            remove_both(alloc, map, wanted, number)?;
+        }
+    }
     Ok(())
 }
 
@@ -40,21 +68,21 @@ fn removed_names_are_gone_and_others_stay(rt: HostRuntime) -> Result<(), Fail> {
     let alloc = rt.alloc();
     let mut map = filled(alloc, 1000)?;
     let mut wanted = plain(alloc, 1000)?;
-    for number in 0..1000 {
-        if number % 3 != 0 {
-            let name = name(alloc, number)?;
-            map.remove(&name)?;
-            map.remove(&name)?;
-            wanted.remove(&name);
-        }
-    }
+    remove_most(alloc, &mut map, &mut wanted)?;
     are_same(&rt, &map, &wanted);
+    Ok(())
+}
+
+#[test]
+fn an_emptied_map_can_be_filled_again(rt: HostRuntime) -> Result<(), Fail> {
+    let alloc = rt.alloc();
+    let mut map = filled(alloc, 1000)?;
     for number in 0..1000 {
-        map.remove(&name(alloc, number)?)?;
+        remove(alloc, &mut map, number)?;
     }
     is_equal(&rt, &map.len(), &0);
     holds(&rt, map.iter().next().is_none());
-    map.insert(name(alloc, 1)?, Number(1))?;
+    insert(alloc, &mut map, 1, 1)?;
     is_equal(&rt, &map.len(), &1);
     Ok(())
 }
