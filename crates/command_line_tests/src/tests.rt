@@ -98,13 +98,25 @@ fn wanted(alloc: Global, words: &[&str]) -> Result<String, AllocError> {
     }
 }
 
+/// The words of a command line, and what they want in words.
+type Line = (&'static [&'static str], &'static str);
+
+/// Each line wants what its text says. The lists are lent by functions: so the prover reads them once, and not in each step of a
+/// test.
+fn are_wanted(rt: &impl Abort, alloc: Global, lines: &[Line]) -> Result<(), AllocError> {
+    for (words, text) in lines {
+        let found = wanted(alloc, words)?;
+        holds_at(rt, found.as_str() == *text, &found);
+    }
+    Ok(())
+}
+
 const NO_COUNT: &str =
     "error: --connections takes a number in 1..=1000, or `unlimited`\n\nUsage: serve [OPTIONS] --port <PORT>\n\nFor more information, try '--help'.\n";
 
-#[test]
-fn reads_the_commands_over_lines_and_dumps(rt: HostRuntime) -> Result<(), AllocError> {
-    let alloc = rt.alloc();
-    let rows: [(&[&str], &str); 14] = [
+/// Commands over lines and dumps.
+fn over_lines_and_dumps() -> &'static [Line] {
+    &[
         (&["bundled", "encode"], "encode"),
         (&["bundled", "decode"], "decode"),
         (
@@ -125,19 +137,17 @@ fn reads_the_commands_over_lines_and_dumps(rt: HostRuntime) -> Result<(), AllocE
             &["bundled", "explain", "6"],
             "error: no refusal and no fault has this number\n\nUsage: explain <NUMBER>\n\nFor more information, try '--help'.\n",
         ),
-    ];
-    for (words, text) in rows {
-        let found = wanted(alloc, words)?;
-        holds_at(&rt, found.as_str() == text, &found);
-    }
-    Ok(())
+    ]
 }
 
-// The numbers that a line gives or leaves to their defaults, of which no reply tells.
 #[test]
-fn reads_the_command_line(rt: HostRuntime) -> Result<(), AllocError> {
-    let alloc = rt.alloc();
-    let rows: [(&[&str], &str); 21] = [
+fn reads_the_commands_over_lines_and_dumps(rt: HostRuntime) -> Result<(), AllocError> {
+    are_wanted(&rt, rt.alloc(), over_lines_and_dumps())
+}
+
+/// The numbers that a line gives or leaves to their defaults, of which no reply tells.
+fn numbers() -> &'static [Line] {
+    &[
         (&["bundled", "run"], "run 4 1000000"),
         (&["bundled", "run", "--turns", "7"], "run 4 7"),
         (
@@ -230,18 +240,17 @@ fn reads_the_command_line(rt: HostRuntime) -> Result<(), AllocError> {
             &["bundled", "run", "--turns", "0"],
             "error: invalid value '0' for '--turns <READS>': 0 is not in 1..=1000000000\n\nFor more information, try '--help'.\n",
         ),
-    ];
-    for (words, text) in rows {
-        let wanted = wanted(alloc, words)?;
-        holds_at(&rt, wanted.as_str() == text, &wanted);
-    }
-    Ok(())
+    ]
 }
 
 #[test]
-fn reads_which_snapshots_are_wanted(rt: HostRuntime) -> Result<(), AllocError> {
-    let alloc = rt.alloc();
-    let rows: [(&[&str], &str); 4] = [
+fn reads_the_command_line(rt: HostRuntime) -> Result<(), AllocError> {
+    are_wanted(&rt, rt.alloc(), numbers())
+}
+
+/// Which snapshots are wanted.
+fn snapshots() -> &'static [Line] {
+    &[
         (
             &["bundled", "snapshot", "--port", "1", "--out", "a/b"],
             "snapshot 1 a/b None",
@@ -264,18 +273,17 @@ fn reads_which_snapshots_are_wanted(rt: HostRuntime) -> Result<(), AllocError> {
             &["bundled", "snapshot", "--port=1", "--out=a", "--every=0"],
             "error: invalid value '0' for '--every <SECONDS>': 0 is not in 1..=86400\n\nFor more information, try '--help'.\n",
         ),
-    ];
-    for (words, text) in rows {
-        let wanted = wanted(alloc, words)?;
-        holds_at(&rt, wanted.as_str() == text, &wanted);
-    }
-    Ok(())
+    ]
 }
 
 #[test]
-fn reads_what_is_asked(rt: HostRuntime) -> Result<(), AllocError> {
-    let alloc = rt.alloc();
-    let rows: [(&[&str], &str); 6] = [
+fn reads_which_snapshots_are_wanted(rt: HostRuntime) -> Result<(), AllocError> {
+    are_wanted(&rt, rt.alloc(), snapshots())
+}
+
+/// What is asked of a server.
+fn inquiries() -> &'static [Line] {
+    &[
         (&["bundled", "ask", "--port", "1"], "ask 1 100 false"),
         (
             &["bundled", "ask", "--port=65535", "--retry=0", "get", "a"],
@@ -297,10 +305,10 @@ fn reads_what_is_asked(rt: HostRuntime) -> Result<(), AllocError> {
             &["bundled", "ask", "--port=1", "--retry=1000001"],
             "error: invalid value '1000001' for '--retry <COUNT>': 1000001 is not in 0..=1000000\n\nFor more information, try '--help'.\n",
         ),
-    ];
-    for (words, text) in rows {
-        let wanted = wanted(alloc, words)?;
-        holds_at(&rt, wanted.as_str() == text, &wanted);
-    }
-    Ok(())
+    ]
+}
+
+#[test]
+fn reads_what_is_asked(rt: HostRuntime) -> Result<(), AllocError> {
+    are_wanted(&rt, rt.alloc(), inquiries())
 }
