@@ -28,8 +28,10 @@ module _ {F : Type 0} (done_in : F → Option (List Deed)) (shows : F → File �
   Updates old new items true = HaveShortNames items × AreThere (shows old) (files_of items) false × (done_in new ≡ then_done (done_in old) (deeds_of items))
   Updates old new items false = HaveShortNames items × AreThere (shows old) (files_of items) true × (new ≡ old)
 
--- Why no snapshot is shown; a name that is too long is told before anything is done.
-abbrev pub WhyNot : {F : Type 0} → SnapshotError → Domains → F → F → Type 0
-WhyNot (LongName place) items old new = IsFirstLong items place × (new ≡ old)
-WhyNot Folder items old new = Unit {0}
-WhyNot Memory items old new = Unit {0}
+module _ {F : Type 0} (fails : F → Type 0) where
+  -- Why no snapshot is shown. A name that is too long is told before anything is done, and the folder is told as unusable only if
+  -- a call on it was answered so.
+  abbrev pub WhyNot : SnapshotError → Domains → F → F → Type 0
+  WhyNot (LongName place) items old new = IsFirstLong items place × (new ≡ old)
+  WhyNot Folder items old new = (at : F) × fails at
+  WhyNot Memory items old new = Unit {0}

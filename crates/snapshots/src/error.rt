@@ -35,10 +35,10 @@ impl From<AllocError> for SnapshotError {
 }
 
 impl From<FolderError> for SnapshotError {
-    ghost use Rattle.std.specs.Prelude.{◌≢◌};
-    ghost use Rattle.snapshots.specs.Private.Errors.{IsOfFolder};
+    ghost use Rattle.std.specs.Prelude.{◌≡◌};
+    ghost use Rattle.snapshots.specs.Private.Errors.{error_of};
 
-    ghost from_gives = { λ _ e. IsOfFolder e };
+    ghost from_gives = { λ error e. e ≡ error_of error };
 
     fn from(error: FolderError) -> SnapshotError {
         match error {

@@ -148,6 +148,8 @@ impl<F: Files> Folder for HostFolder<'_, F> {
 
     ghost shows = { λ folder file yes. Unit {0} };
 
+    ghost fails = { λ folder. Unit {0} };
+
     fn holds(&self, name: &str, bytes: &[u8]) -> Result<bool, FolderError> {
         if self.number == 0 {
             return Ok(false);

@@ -24,7 +24,7 @@ pub fn update<F: Folder>(
     domains: &[(TrustDomain, Bundle)],
 ) -> Result<bool, SnapshotError>
     ensures ok { IfOk result (λ is_new. Updates F.done F.shows folder.old folder.new domains.now is_new) }
-    ensures why { IfErr result (λ why. WhyNot why domains.now folder.old folder.new) }
+    ensures why { IfErr result (λ why. WhyNot F.fails why domains.now folder.old folder.new) }
     ensures err { OnErr result (IsCutShort (F.done folder.old) (F.done folder.new) (deeds_of domains.now)) }
 {
     if let Some(place) = first_long(domains) {
@@ -84,7 +84,7 @@ fn is_current<F: Folder>(
 ) -> Result<bool, SnapshotError>
     requires { (map_name, map.now) ≡ map_file domains.now }
     ensures ok { IfOk result (λ same. AreThere (F.shows folder.now) (files_of domains.now) same) }
-    ensures err { IfErr result IsOfFolder }
+    ensures err { IfErr result (IsOfFolder F.fails) }
 {
     if !folder.holds(MAP, map)? {
         return Ok(false);
@@ -105,7 +105,7 @@ fn has_domain<F: Folder>(
     bundle: &Bundle,
 ) -> Result<bool, SnapshotError>
     ensures ok { IfOk result (λ same. AreThere (F.shows folder.now) (domain_files (domain.now, bundle.now)) same) }
-    ensures err { IfErr result IsOfFolder }
+    ensures err { IfErr result (IsOfFolder F.fails) }
 {
     let files = files_of_domain(alloc, domain, bundle)?;
     if !folder.holds(files.json.as_str(), bundle.text())? {
@@ -124,7 +124,7 @@ fn write_snapshot<F: Folder>(
     requires { (map_name, map.now) ≡ map_file domains.now }
     ensures ok { OnOk result (F.done folder.new ≡ then_done (F.done folder.old) (deeds_of domains.now)) }
     ensures err { OnErr result (IsCutShort (F.done folder.old) (F.done folder.new) (deeds_of domains.now)) }
-    ensures why { IfErr result IsOfFolder }
+    ensures why { IfErr result (IsOfFolder F.fails) }
 {
     folder.begin()?;
     folder.put(MAP, map)?;
@@ -141,7 +141,7 @@ fn put_domains<F: Folder>(
 ) -> Result<(), SnapshotError>
     ensures ok { OnOk result (F.done folder.new ≡ then_done (F.done folder.old) (map Put (flat_map domain_files domains.now))) }
     ensures err { OnErr result (IsCutShort (F.done folder.old) (F.done folder.new) (map Put (flat_map domain_files domains.now))) }
-    ensures why { IfErr result IsOfFolder }
+    ensures why { IfErr result (IsOfFolder F.fails) }
 {
     for item in domains {
         put_domain(alloc, folder, &item.0, &item.1)?;
@@ -158,7 +158,7 @@ fn put_domain<F: Folder>(
 ) -> Result<(), SnapshotError>
     ensures ok { OnOk result (F.done folder.new ≡ then_done (F.done folder.old) (map Put (domain_files (domain.now, bundle.now)))) }
     ensures err { OnErr result (IsCutShort (F.done folder.old) (F.done folder.new) (map Put (domain_files (domain.now, bundle.now)))) }
-    ensures why { IfErr result IsOfFolder }
+    ensures why { IfErr result (IsOfFolder F.fails) }
 {
     let files = files_of_domain(alloc, domain, bundle)?;
     folder.put(files.json.as_str(), bundle.text())?;

@@ -1,4 +1,7 @@
 //! Snapshots in a folder that tells what is done in it, and at servers that answer otherwise.
+ghost use Rattle.std.specs.Prelude.{◌≡◌, IfErr};
+ghost use Rattle.snapshots.specs.declared.error.FolderError.TheVariants.{Unusable};
+
 use frame_client::{Client, ClientError};
 use frame_front::Counted;
 use map_core::AskError;
@@ -36,7 +39,9 @@ impl Told {
         }
     }
 
-    fn tell(&mut self, line: &str) -> Result<(), FolderError> {
+    fn tell(&mut self, line: &str) -> Result<(), FolderError>
+        ensures { IfErr result (λ error. error ≡ Unusable → self.old.left ≡ 0) }
+    {
         if self.left == 0 {
             return Err(FolderError::Unusable);
         }
@@ -59,6 +64,8 @@ impl Folder for Told {
     ghost done = { λ _. None };
 
     ghost shows = { λ folder file yes. Unit {0} };
+
+    ghost fails = { λ folder. folder.left ≡ 0 };
 
     fn holds(&self, name: &str, bytes: &[u8]) -> Result<bool, FolderError> {
         match line_of(self.alloc, name, bytes) {
