@@ -77,12 +77,22 @@ fn write_restlessly<H: Clock>(
     (pass, sets)
 }
 
-/// Reads the domains one after another, over and over.
+/// How a reader reads the domains.
+#[derive(Clone, Copy)]
+enum Way {
+    /// One after another.
+    Each,
+    /// All by a fetch-all.
+    All,
+}
+
+/// Reads the domains over and over.
 fn read_restlessly<H: Clock>(
     host: &H,
     alloc: Global,
     store: &Store,
     mut pass: Pass,
+    way: Way,
     time: Time,
 ) -> (Pass, Tally)
     requires { IsOf pass store.now }
@@ -94,25 +104,11 @@ fn read_restlessly<H: Clock>(
         if time.is_over(host) {
             break;
         }
-        if let Some(reading) = read_each(alloc, store, &mut pass) {
-            tally = tally.and(reading);
-        }
-    }
-    (pass, tally)
-}
-
-/// Fetches all, over and over.
-fn fetch_restlessly<H: Clock>(host: &H, store: &Store, mut pass: Pass, time: Time) -> (Pass, Tally)
-    requires { IsOf pass store.now }
-    ensures own { IsOf result.0 store.now }
-    ensures honest { IsHonest result.1 }
-{
-    let mut tally = Tally::NONE;
-    for _ in 0..u64::MAX {
-        if time.is_over(host) {
-            break;
-        }
-        if let Some(reading) = read_all(store, &mut pass) {
+        let reading = match way {
+            Way::Each => read_each(alloc, store, &mut pass),
+            Way::All => read_all(store, &mut pass),
+        };
+        if let Some(reading) = reading {
             tally = tally.and(reading);
         }
     }
@@ -159,11 +155,11 @@ fn read_both<H: Clock + Threads + Sync>(
         move ||
             requires { IsOf one store.now }
             ensures { IsHonest result.1 }
-        { read_restlessly(host, alloc, store, one, time) },
+        { read_restlessly(host, alloc, store, one, Way::Each, time) },
         move ||
             requires { IsOf two store.now }
             ensures { IsHonest result.1 }
-        { fetch_restlessly(host, store, two, time) },
+        { read_restlessly(host, alloc, store, two, Way::All, time) },
     );
     (each, all)
 }
