@@ -8,3 +8,4 @@ mod ServedLists
 mod Simulated
 mod Fillings
 mod LoggedLaws
+mod ReadLaws

@@ -1,4 +1,5 @@
 pub mod Gate
+pub mod ReadOnly
 pub mod Sessions
 pub mod Workers
 pub mod Closing
