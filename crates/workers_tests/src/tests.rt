@@ -3,6 +3,8 @@ ghost use Rattle.std.specs.Prelude.{◌≡◌, vec_len, IfOk};
 ghost use Rattle.std.specs.List.{All};
 ghost use Rattle.shard_store.specs.Pass.{IsOf};
 
+mod read_only;
+
 use frame_front::FrontError;
 use map_core::{Ask, AskError, Expect, Op, Reply};
 use shard_store::{Pass, Store};
