@@ -11,3 +11,5 @@ pub mod DumpPlaces
 pub mod DumpTexts
 pub mod PlaceLemmas
 pub mod MigrationLemmas
+pub mod LiveLemmas
+pub mod LiveTables

@@ -8,6 +8,8 @@ pub mod Reply
 pub mod Outbox
 pub mod Session
 pub mod Transcript
+pub mod Live
+pub mod LiveCalls
 pub mod PlainSession
 pub mod Dump
 pub mod Private

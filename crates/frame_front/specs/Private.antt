@@ -3,3 +3,4 @@ pub mod Storage
 pub mod Refusals
 pub mod Round
 pub mod Gathered
+pub mod Late

@@ -82,6 +82,22 @@ impl Decoder {
         self.kept.advance(LENGTH_BYTES + size);
     }
 
+    /// How many bytes are kept.
+    pub(crate) fn len(&self) -> usize
+        ensures { result ≡ length self.now }
+    {
+        self.kept.len()
+    }
+
+    /// Gives its memory back if no byte is kept and it has room for more than so many.
+    pub(crate) fn shrink(&mut self, most: usize)
+        ensures { self.new ≡ self.old }
+    {
+        if self.kept.is_empty() && self.kept.capacity() > most {
+            self.kept = BytesMut::new(self.alloc);
+        }
+    }
+
     /// Whether the stream may end here: no byte is kept.
     pub fn finish(&self) -> Result<(), FrontError>
         ensures whole { OnOk result (self.now ≡ []) }

@@ -1,8 +1,8 @@
 //! What follows from the definitions.
-ghost use Rattle.std.specs.Prelude.{◌≡◌, ◌↔◌, ℕ, List, [], ◌∷◌, ◌++◌, ◌<◌, map, slice_index, Ok, Err, Some, true};
+ghost use Rattle.std.specs.Prelude.{◌≡◌, ◌↔◌, ℕ, ◌≤◌, Result, List, [], ◌∷◌, ◌++◌, ◌<◌, map, slice_index, Ok, Err, Some, true};
 ghost use Rattle.map_core.specs.Ask.{ContentsAnswer};
 ghost use Rattle.map_core.specs.PlainMap.{PlainMap, bundles, ask};
-ghost use Rattle.frame_front.specs.Frame.{HasFrames, stream_of};
+ghost use Rattle.frame_front.specs.Frame.{HasFrames, IsUnfinished, stream_of};
 ghost use Rattle.frame_front.specs.declared.request.Version.{Version};
 ghost use Rattle.std.specs.FinMap as finite;
 ghost use Rattle.map_core.specs.declared.reply.Reply.TheVariants.{Stored};
@@ -17,7 +17,10 @@ ghost use Rattle.std.specs.Int.{w32, to_be_bytes};
 ghost use Rattle.frame_front.specs.Reply.{reply_frames, place_bytes, version_frame, memory_frame, is_error_reply};
 ghost use Rattle.frame_front.specs.PlainSession.{TellsError, answers_to, state_after};
 ghost use Rattle.frame_front.specs.Dump.{Domains, IsDump, IsBadDump, AreValid, requests_for, map_of, dump_of};
-ghost use Rattle.frame_front.specs.Session.{Answers};
+ghost use Rattle.frame_front.specs.Session.{Answers, EndsAt, Session};
+ghost use Rattle.frame_front.specs.declared.error.FrontError.{FrontError};
+ghost use Rattle.frame_front.specs.Live.{LiveView, live_start, room_of, waiting};
+ghost use Rattle.frame_front.specs.LiveCalls.{LiveCall, LivePlainTable, LiveTable, DoesAll, fed, sent, frames_of};
 
 use map_core::Ask;
 
@@ -76,4 +79,24 @@ pub fn migrated_dumps_are_stored()
 /// So a dump, or a hash of it that has no collisions, tells what a federation publishes.
 pub fn equal_dumps_are_of_equal_bundles()
     ensures { (m n : PlainMap) → AreValid (bundles m) → AreValid (bundles n) → (dump_of m ≡ dump_of n) ↔ (bundles m ≡ bundles n) }
+{}
+
+/// A session without ends carries the table of `serve`, however its input was cut into pieces and however often it was
+/// answered and written: what was sent and what waits are the texts of the first frames fed, one for each. Once all is sent, it
+/// is a session of what was fed and what was sent, with the end that the bytes kept tell. Over a map that shows a plain
+/// map the texts are the plain map's answers, if none of them tells an error.
+pub fn live_sessions_are_sessions<A: Ask>()
+    ensures table { (calls : List LiveCall) (start : A) (now : LiveView × A) → DoesAll A.answers calls (live_start, start) now
+        → LiveTable A.answers (fed calls) (sent calls) (frames_of calls) start now }
+    ensures whole { (calls : List LiveCall) (start : A) (now : LiveView × A) (result : Result ℕ FrontError)
+        → DoesAll A.answers calls (live_start, start) now → waiting now.0 ≡ [] → EndsAt result (frames_of calls) now.0.kept
+        → Session A.answers result (One, start) (now.0.version, now.1) (fed calls) (sent calls) }
+    ensures plain { (calls : List LiveCall) (start : A) (now : LiveView × A) (m : PlainMap) → A.shows start ≡ Some m
+        → DoesAll A.answers calls (live_start, start) now
+        → (n : PlainMap) × (A.shows now.1 ≡ Some n) × LivePlainTable A.answers (fed calls) (sent calls) (frames_of calls) now.0 m n }
+{}
+
+/// A session without ends that waits for input has room for 4,096 bytes of it.
+pub fn live_sessions_have_room()
+    ensures { (live : LiveView) → IsUnfinished live.kept → 4096 ≤ room_of live }
 {}

@@ -3,6 +3,7 @@ ghost use Rattle.std.specs.Prelude.{◌≡◌, ◌+◌, ◌<◌, ◌≤◌, ◌�
 ghost use Rattle.arrayvec.specs.ArrayVec.{array_vec_len};
 ghost use Rattle.spiffe_doc.specs.Text.{text_of};
 ghost use Rattle.frame_front.specs.Frame.{frame};
+ghost use Rattle.frame_front.specs.Private.Storage.{body_text};
 ghost use Rattle.frame_front.specs.Reply.{answer_frames, reply_frames, item_frame, refusal_frame, version_frame, place_bytes as bytes_of_place, sequence_bytes as bytes_of_sequence, expect_bytes as bytes_of_expect, is_error_reply, is_error_code as error_code, GoesOut};
 
 use crate::refusal::Refusal;
@@ -13,7 +14,7 @@ use spiffe_doc::{Bundle, TrustDomain};
 use std::marker::Model;
 
 /// A length, a code, and at most 20 bytes of numbers.
-const HEAD_BYTES: usize = 25;
+pub(crate) const HEAD_BYTES: usize = 25;
 
 /// A code, a length and the longest name.
 pub const ITEM_HEAD_BYTES: usize = 257;
@@ -26,7 +27,7 @@ const CODE_PLACE: usize = 4;
 
 /// What follows the first bytes of a reply.
 #[derive(Drop)]
-enum Body {
+pub(crate) enum Body {
     Empty,
     /// The canonical text of a bundle, as the bundle keeps it.
     Canonical(Bundle),
@@ -65,6 +66,15 @@ impl ReplyBytes {
             Body::Canonical(bundle) => (head, bundle.text(), &[]),
             Body::All(snapshot) => (head, &[], snapshot.pairs()),
         }
+    }
+
+    /// Gives the first bytes, and what follows them.
+    pub(crate) fn into_parts(self) -> (ArrayVec<u8, HEAD_BYTES>, Body)
+        ensures whole { result.0.items ++ body_text result.1 ≡ self }
+        ensures long { 5 ≤ length result.0.items }
+    {
+        let ReplyBytes { head, body } = self;
+        (head, body)
     }
 
     /// Whether it is the number of an error of whoever was asked.

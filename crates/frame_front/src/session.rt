@@ -24,7 +24,7 @@ const PIECE_BYTES: usize = 4096;
 
 /// Answers one payload.
 #[inline(always)]
-fn answer<A: Ask>(
+pub(crate) fn answer<A: Ask>(
     alloc: Global,
     documents: &mut DocumentReader,
     version: &mut Version,

@@ -1,0 +1,20 @@
+//! What a session without ends did, and what it wants then.
+use crate::FrontError;
+
+/// What a session wants before it answers on.
+#[derive(Clone, Copy, Debug, PartialEq, Eq)]
+pub enum Wants {
+    /// More input: no whole frame is left.
+    Read,
+    /// That replies are sent: as many wait as may wait.
+    Write,
+}
+
+/// What one call of `LiveSession::answer` did.
+#[derive(Clone, Copy, Debug, PartialEq, Eq)]
+pub struct Answered {
+    /// How many frames it answered.
+    pub frames: u64,
+    /// What the session wants then, or why it ends.
+    pub next: Result<Wants, FrontError>,
+}
