@@ -3,6 +3,7 @@ mod bundles;
 mod decoders;
 mod dumps;
 mod ends;
+mod live;
 mod numbers;
 mod refusals;
 mod replies;
