@@ -114,9 +114,9 @@ fn a_live_session_answers_as_serve(rt: HostRuntime) -> Result<(), AllocError> {
 fn a_live_session_sends_a_long_reply_in_parts(rt: HostRuntime) -> Result<(), AllocError> {
     let alloc = rt.alloc();
     let mut input = Vec::new(alloc);
-    for place in 0..3000 {
+    for place in 0_u32..3000 {
         let digits = [
-            b'0' + (place / 1000) as u8,
+            b'0' + (place / 1000 % 10) as u8,
             b'0' + (place / 100 % 10) as u8,
             b'0' + (place / 10 % 10) as u8,
             b'0' + (place % 10) as u8,
