@@ -2,8 +2,11 @@
 use super::{bundle, entry_text, found, is_equal, play, play_new, set};
 use map_core::Contents;
 use spiffe_doc::{Bundle, TrustDomain, read_document};
-use std::alloc::{AllocError, Global};
+use std::alloc::Global;
 use std::test::Fail;
+
+/// The greatest sequence.
+const GREATEST: &str = "18446744073709551615";
 
 #[test]
 fn appends(rt: HostRuntime) -> Result<(), Fail> {
@@ -36,11 +39,21 @@ const WITH_X509: &str =
 #[test]
 fn an_x509_authority_is_appended_whole(rt: HostRuntime) -> Result<(), Fail> {
     let alloc = rt.alloc();
-    let mut map = holding(alloc, bundle(alloc, "9")?)?;
-    play(alloc, &mut map, &[("append a x509", "appended 10")])?;
-    let longer = found(alloc, &mut map, "a")?;
-    is_equal(&rt, &std::str::from_utf8(longer.text())?, &WITH_X509);
+    let longer = with_x509(alloc, bundle(alloc, "9")?)?;
+    let is_whole = longer.text() == WITH_X509.as_bytes();
+    is_equal(&rt, &is_whole, &true);
     Ok(())
+}
+
+/// The bundle with the X.509 authority.
+fn with_x509(alloc: Global, bundle: Bundle) -> Result<Bundle, Fail> {
+    let mut map = holding(alloc, bundle)?;
+    append_x509(alloc, &mut map)
+}
+
+fn append_x509(alloc: Global, map: &mut Contents) -> Result<Bundle, Fail> {
+    play(alloc, map, &[("append a x509", "appended 10")])?;
+    found(alloc, map, "a")
 }
 
 /// A document of so many authorities, whose moduli are this text, and of this sequence, if it is to have one.
@@ -60,26 +73,28 @@ fn many(alloc: Global, count: usize, n: &str, sequence: &str) -> Result<Bundle, 
     Ok(read_document(alloc, text.as_bytes())?)
 }
 
-fn letters(alloc: Global, count: usize) -> Result<String, AllocError> {
-    let mut text = String::new(alloc);
-    for _ in 0..count {
-        text.push('A')?;
-    }
-    Ok(text)
-}
-
 /// A map that holds the bundle under `a`.
 fn holding(alloc: Global, bundle: Bundle) -> Result<Contents, Fail> {
     let mut map = Contents::new(alloc);
-    let domain = TrustDomain::parse(alloc, "a")?;
-    set(&mut map, domain, bundle)?;
+    set_a(alloc, &mut map, bundle)?;
     Ok(map)
+}
+
+fn set_a(alloc: Global, map: &mut Contents, bundle: Bundle) -> Result<(), Fail> {
+    let domain = TrustDomain::parse(alloc, "a")?;
+    set(map, domain, bundle)?;
+    Ok(())
+}
+
+/// Plays the rows on a map that holds the bundle under `a`.
+fn play_on(alloc: Global, bundle: Bundle, rows: &[(&str, &str)]) -> Result<(), Fail> {
+    let mut map = holding(alloc, bundle)?;
+    play(alloc, &mut map, rows)
 }
 
 #[test]
 fn takes_so_many_authorities(rt: HostRuntime) -> Result<(), Fail> {
     let alloc = rt.alloc();
-    let mut map = holding(alloc, many(alloc, 1023, "AQAB", "")?)?;
     let rows = [
         ("append a last:AQAB", "appended -"),
         ("append a more:AQAB", "refused 33"),
@@ -87,56 +102,75 @@ fn takes_so_many_authorities(rt: HostRuntime) -> Result<(), Fail> {
         ("append a last:AQAC", "refused 32"),
         ("get a", "found -/1024"),
     ];
-    play(alloc, &mut map, &rows)
+    play_on(alloc, many(alloc, 1023, "AQAB", "")?, &rows)
 }
 
 /// With 1,024 authorities and the greatest sequence, the number of authorities is what is refused.
 #[test]
 fn too_many_comes_before_a_full_sequence(rt: HostRuntime) -> Result<(), Fail> {
     let alloc = rt.alloc();
-    let mut full = holding(alloc, many(alloc, 1024, "AQAB", "18446744073709551615")?)?;
     let rows = [
         ("append a more:AQAB", "refused 33"),
         ("append a k0000:AQAC", "refused 32"),
         ("append a k0000:AQAB", "unchanged"),
     ];
-    play(alloc, &mut full, &rows)?;
-    let mut one_less = holding(alloc, many(alloc, 1023, "AQAB", "18446744073709551615")?)?;
-    play(
-        alloc,
-        &mut one_less,
-        &[
-            ("append a more:AQAB", "refused 35"),
-            ("get a", "found 18446744073709551615/1023"),
-        ],
-    )
+    play_on(alloc, many(alloc, 1024, "AQAB", GREATEST)?, &rows)
+}
+
+/// With one authority less it is the sequence.
+#[test]
+fn a_full_sequence_takes_no_authority(rt: HostRuntime) -> Result<(), Fail> {
+    let alloc = rt.alloc();
+    let rows = [
+        ("append a more:AQAB", "refused 35"),
+        ("get a", "found 18446744073709551615/1023"),
+    ];
+    play_on(alloc, many(alloc, 1023, "AQAB", GREATEST)?, &rows)
 }
 
 /// A modulus of 1,024 bytes is 1,366 letters and its entry 1,428 bytes, so 733 of them are a text of 1,047,467
 /// bytes and 734 would be too long.
 #[test]
 fn takes_so_long_a_text(rt: HostRuntime) -> Result<(), Fail> {
-    let alloc = rt.alloc();
-    let n = letters(alloc, 1366)?;
-    let full = many(alloc, 733, n.as_str(), "")?;
+    let full = of_long_keys(rt.alloc(), "")?;
     is_equal(&rt, &full.text_len(), &1047467);
-    let mut map = holding(alloc, full)?;
+    append_both(rt.alloc(), full, "refused 34", "appended -")
+}
+
+/// A bundle of 733 authorities whose moduli have 1,366 letters.
+fn of_long_keys(alloc: Global, sequence: &str) -> Result<Bundle, Fail> {
+    let n = "A".repeat(alloc, 1366)?;
+    many(alloc, 733, n.as_str(), sequence)
+}
+
+/// One more such authority is answered so, and then a short one.
+fn append_both(alloc: Global, bundle: Bundle, long: &str, short: &str) -> Result<(), Fail> {
+    let mut map = holding(alloc, bundle)?;
+    append_both_to(alloc, &mut map, long, short)
+}
+
+fn append_both_to(alloc: Global, map: &mut Contents, long: &str, short: &str) -> Result<(), Fail> {
+    let n = "A".repeat(alloc, 1366)?;
     let line = format!(in alloc; "append a k9999:{n}")?;
-    let rows = [
-        (line.as_str(), "refused 34"),
-        ("append a k9999:AQAB", "appended -"),
-    ];
-    play(alloc, &mut map, &rows)
+    let rows = [(line.as_str(), long), ("append a k9999:AQAB", short)];
+    play(alloc, map, &rows)
 }
 
 /// If the sequence is the greatest and the text would be too long as well, the sequence is what is refused.
 #[test]
 fn a_full_sequence_comes_before_too_long(rt: HostRuntime) -> Result<(), Fail> {
-    let alloc = rt.alloc();
-    let n = letters(alloc, 1366)?;
-    let line = format!(in alloc; "append a k9999:{n}")?;
-    let mut full = holding(alloc, many(alloc, 733, n.as_str(), "18446744073709551615")?)?;
-    play(alloc, &mut full, &[(line.as_str(), "refused 35")])?;
-    let mut one_less = holding(alloc, many(alloc, 733, n.as_str(), "18446744073709551614")?)?;
-    play(alloc, &mut one_less, &[(line.as_str(), "refused 34")])
+    let full = of_long_keys(rt.alloc(), GREATEST)?;
+    append_both(rt.alloc(), full, "refused 35", "refused 35")
+}
+
+/// One below the greatest sequence it is the text.
+#[test]
+fn too_long_comes_before_the_last_sequence(rt: HostRuntime) -> Result<(), Fail> {
+    let one_less = of_long_keys(rt.alloc(), "18446744073709551614")?;
+    append_both(
+        rt.alloc(),
+        one_less,
+        "refused 34",
+        "appended 18446744073709551615",
+    )
 }
