@@ -39,6 +39,10 @@ def imports(text):
     return names, modules
 
 
+def indent_of(line):
+    return len(line) - len(line.lstrip())
+
+
 class Module:
     """A file of definitions: each with its lines, the comment above it among them."""
 
@@ -48,6 +52,8 @@ class Module:
             text = it.read()
         self.names, self.modules = imports(text)
         self.about, self.definitions, self.members = "", {}, {}
+        # Of a definition that stands below a line `module _ (names) where`: that line, which the page shows before it.
+        self.headings = {}
         self.read(text.split("\n"))
 
     def read(self, lines):
@@ -55,14 +61,19 @@ class Module:
         top = next((at for at, line in enumerate(lines) if not line.startswith("--")), len(lines))
         self.about = " ".join(it.strip("- ") for it in lines[:top])
         current, comment, record = None, [], -1
+        heading, is_open = [], False
         for line in lines[top:]:
             bare = line.strip()
-            if not bare or bare.startswith(("use ", "pub use ", "module ")):
+            if is_open or bare.startswith("module "):
+                depth = indent_of(line)
+                heading = [*heading, line] if is_open else [*(it for it in heading if indent_of(it) < depth), line]
+                is_open, comment = not bare.endswith("where"), []
+            elif not bare or bare.startswith(("use ", "pub use ")):
                 comment = []
             elif bare.startswith("--"):
                 comment.append(line)
             else:
-                indent = len(line) - len(line.lstrip())
+                indent = indent_of(line)
                 is_inside = record >= 0 and indent > record
                 found = None if is_inside else START.match(line)
                 is_definition = re.match(r"unfoldable |abbrev |(pub )?(record|data) \S+ .*: ", bare)
@@ -73,6 +84,7 @@ class Module:
                     current = found[3]
                     record = indent if found[2] else -1
                     self.definitions[current] = []
+                    self.headings[current] = heading if indent > 0 else []
                 elif is_inside and (member := re.match(r" *(?:pub )?([^\s:]+) :", line)):
                     self.members.setdefault(member[1], current)
                 if current is not None:
@@ -250,9 +262,13 @@ def page(modules):
         out += ["", f"## {crate}"] if chosen else []
         for module in chosen:
             out += ["", f"### {crate}: {module.name}", "", module.about, ""]
+            last = []
             for name, lines in module.definitions.items():
                 if (module.path, name) in reach.seen:
+                    heading = module.headings[name]
+                    out += [f"    {it}" for it in heading] if heading != last else []
                     out += [f"    {it}" for it in lines] + [""]
+                    last = heading
             out.pop()
     return "\n".join(out) + "\n"
 
