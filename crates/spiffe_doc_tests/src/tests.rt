@@ -1,5 +1,8 @@
 //! Worked examples and real bundles, whose expected answers are written out. Running out of memory ends a test by an error and
 //! never changes an answer, so each may be run with any allocation refused.
+//!
+//! An authority is dropped by a call of `drop`, before anything may fail: where a scope drops it, the prover follows all its
+//! parts on each way out.
 mod bundles;
 mod documents;
 mod entries;
@@ -35,13 +38,24 @@ fn holds_at<C: Debug>(rt: &impl Abort, is_so: bool, case: &C) {
     assert!(rt; is_so, "{case:?}");
 }
 
-/// So many times the letter.
-fn letters(alloc: Global, letter: char, count: usize) -> Result<String, AllocError> {
-    let mut text = String::new(alloc);
-    for _ in 0..count {
-        text.push(letter)?;
+/// Each document is refused for its reason.
+fn refuses_each(rt: &impl Abort, alloc: Global, rows: &[(&str, DocError)]) -> Result<(), DocError> {
+    for (document, wanted) in rows {
+        is_equal_at(rt, &refusal(alloc, document)?, &Some(*wanted), document);
     }
-    Ok(text)
+    Ok(())
+}
+
+/// Each entry by itself is refused for its reason, if there is one.
+fn judges_each(
+    rt: &impl Abort,
+    alloc: Global,
+    rows: &[(&str, Option<DocError>)],
+) -> Result<(), DocError> {
+    for (entry, wanted) in rows {
+        is_equal_at(rt, &entry_refusal(alloc, entry)?, wanted, entry);
+    }
+    Ok(())
 }
 
 /// Why a document is refused, if it is.
@@ -60,10 +74,9 @@ fn refusal_of(alloc: Global, document: &[u8]) -> Result<Option<DocError>, DocErr
 
 /// Why an entry by itself is refused, if it is.
 fn entry_refusal(alloc: Global, entry: &str) -> Result<Option<DocError>, DocError> {
-    match read_entry(alloc, entry.as_bytes()) {
-        Ok(_) => Ok(None),
-        Err(DocError::Memory) => Err(DocError::Memory),
-        Err(refusal) => Ok(Some(refusal)),
+    match read_entry(alloc, entry.as_bytes()).err() {
+        Some(DocError::Memory) => Err(DocError::Memory),
+        refusal => Ok(refusal),
     }
 }
 
@@ -81,7 +94,10 @@ fn authority(alloc: Global, entry: &str) -> Result<Authority, DocError> {
 
 /// Whether the authority is that of the entry.
 fn is_entry(alloc: Global, kept: &Authority, entry: &str) -> Result<bool, DocError> {
-    Ok(*kept == authority(alloc, entry)?)
+    let read = authority(alloc, entry)?;
+    let is_same = *kept == read;
+    drop(read);
+    Ok(is_same)
 }
 
 /// The document of these entries.
@@ -104,7 +120,7 @@ fn x509_point(
 
 /// A JWT entry over P-256, whose other coordinate is zero.
 fn jwt_point(alloc: Global, kid: &str, x: &str) -> Result<String, AllocError> {
-    let y = letters(alloc, 'A', 43)?;
+    let y = "A".repeat(alloc, 43)?;
     format!(in alloc;
         "{{\"use\":\"jwt-svid\",\"kty\":\"EC\",\"crv\":\"P-256\",\"kid\":\"{kid}\",\"x\":\"{x}\",\"y\":\"{y}\"}}"
     )

@@ -1,6 +1,6 @@
 use super::{
     authority, bundle, holds, holds_at, is_entry, is_equal, is_equal_at, jwt_point, jwt_rsa, keys,
-    letters, refusal, x509_point,
+    refusal, x509_point,
 };
 use spiffe_doc::{AppendError, Authority, Bundle, DocError};
 use std::alloc::{AllocError, Global};
@@ -9,7 +9,7 @@ use std::test::Fail;
 
 /// A JWT entry over P-256, whose point begins with the letter and is zero from there on.
 fn point(alloc: Global, kid: &str, first: char) -> Result<String, AllocError> {
-    let rest = letters(alloc, 'A', 42)?;
+    let rest = "A".repeat(alloc, 42)?;
     jwt_point(alloc, kid, &format!(in alloc; "{first}{rest}")?)
 }
 
@@ -84,10 +84,9 @@ fn refusal_to_append(
     bundle: &Bundle,
     authority: &Authority,
 ) -> Result<Option<AppendError>, AllocError> {
-    match bundle.appended(alloc, authority) {
-        Ok(_) => Ok(None),
-        Err(AppendError::Memory) => Err(AllocError),
-        Err(refusal) => Ok(Some(refusal)),
+    match bundle.appended(alloc, authority).err() {
+        Some(AppendError::Memory) => Err(AllocError),
+        refusal => Ok(refusal),
     }
 }
 
@@ -97,7 +96,10 @@ fn append_refusal(
     bundle: &Bundle,
     entry: &str,
 ) -> Result<Option<AppendError>, Fail> {
-    Ok(refusal_to_append(alloc, bundle, &authority(alloc, entry)?)?)
+    let last = authority(alloc, entry)?;
+    let refusal = refusal_to_append(alloc, bundle, &last);
+    drop(last);
+    Ok(refusal?)
 }
 
 /// The bundle of 1,024 authorities, with the key ids `k0` to `k1023`, and of what follows `keys`.
@@ -201,7 +203,10 @@ fn refused_appends_to_an_empty_bundle(rt: HostRuntime) -> Result<(), Fail> {
 
 /// The bundle with the authority of an entry appended.
 fn bundle_and(alloc: Global, before: &Bundle, entry: &str) -> Result<Bundle, Fail> {
-    Ok(before.appended(alloc, &authority(alloc, entry)?)?)
+    let last = authority(alloc, entry)?;
+    let after = before.appended(alloc, &last);
+    drop(last);
+    Ok(after?)
 }
 
 /// The bundle of a document with the authority of an entry appended.
@@ -229,35 +234,43 @@ fn is_copied(rt: &impl Abort, alloc: Global, read: &Bundle, other: &str) -> Resu
     Ok(())
 }
 
-#[test]
-fn appends(rt: HostRuntime) -> Result<(), Fail> {
-    let alloc = rt.alloc();
-    let rows = [
-        (
-            "{\"keys\":[]}",
-            "{\"keys\":[{\"e\":\"AQAB\",\"kid\":\"k\",\"kty\":\"RSA\",\"n\":\"AQAB\",\"use\":\"jwt-svid\"}]}",
-        ),
-        (
-            "{\"keys\":[],\"spiffe_sequence\":9,\"spiffe_refresh_hint\":60}",
-            "{\"keys\":[{\"e\":\"AQAB\",\"kid\":\"k\",\"kty\":\"RSA\",\"n\":\"AQAB\",\"use\":\"jwt-svid\"}],\"spiffe_refresh_hint\":60,\"spiffe_sequence\":10}",
-        ),
-        (
-            "{\"keys\":[{\"e\":\"AQAB\",\"kid\":\"j\",\"kty\":\"RSA\",\"n\":\"AQAB\",\"use\":\"jwt-svid\"}]}",
-            "{\"keys\":[{\"e\":\"AQAB\",\"kid\":\"j\",\"kty\":\"RSA\",\"n\":\"AQAB\",\"use\":\"jwt-svid\"},{\"e\":\"AQAB\",\"kid\":\"k\",\"kty\":\"RSA\",\"n\":\"AQAB\",\"use\":\"jwt-svid\"}]}",
-        ),
-    ];
+/// Each document with one more authority has its text.
+fn are_appended(rt: &impl Abort, alloc: Global, rows: &[(&str, &str)]) -> Result<(), Fail> {
     for (before, wanted) in rows {
-        let after = appended(alloc, before, &jwt_rsa(alloc, "k", "AQAB")?)?;
-        has_text(&rt, alloc, &after, wanted)?;
-        is_copied(&rt, alloc, &after, before)?;
+        let entry = jwt_rsa(alloc, "k", "AQAB")?;
+        let after = appended(alloc, before, &entry)?;
+        has_text(rt, alloc, &after, wanted)?;
+        is_copied(rt, alloc, &after, before)?;
     }
     Ok(())
 }
 
 #[test]
+fn appends(rt: HostRuntime) -> Result<(), Fail> {
+    are_appended(
+        &rt,
+        rt.alloc(),
+        &[
+            (
+                "{\"keys\":[]}",
+                "{\"keys\":[{\"e\":\"AQAB\",\"kid\":\"k\",\"kty\":\"RSA\",\"n\":\"AQAB\",\"use\":\"jwt-svid\"}]}",
+            ),
+            (
+                "{\"keys\":[],\"spiffe_sequence\":9,\"spiffe_refresh_hint\":60}",
+                "{\"keys\":[{\"e\":\"AQAB\",\"kid\":\"k\",\"kty\":\"RSA\",\"n\":\"AQAB\",\"use\":\"jwt-svid\"}],\"spiffe_refresh_hint\":60,\"spiffe_sequence\":10}",
+            ),
+            (
+                "{\"keys\":[{\"e\":\"AQAB\",\"kid\":\"j\",\"kty\":\"RSA\",\"n\":\"AQAB\",\"use\":\"jwt-svid\"}]}",
+                "{\"keys\":[{\"e\":\"AQAB\",\"kid\":\"j\",\"kty\":\"RSA\",\"n\":\"AQAB\",\"use\":\"jwt-svid\"},{\"e\":\"AQAB\",\"kid\":\"k\",\"kty\":\"RSA\",\"n\":\"AQAB\",\"use\":\"jwt-svid\"}]}",
+            ),
+        ],
+    )
+}
+
+#[test]
 fn the_longest_canonical_text(rt: HostRuntime) -> Result<(), Fail> {
     let alloc = rt.alloc();
-    let der = letters(alloc, 'A', 1048500)?;
+    let der = "A".repeat(alloc, 1048500)?;
     let document = format!(in alloc;
         "{{\"keys\":[{{\"use\":\"x509-svid\",\"kty\":\"RSA\",\"n\":\"AQAB\",\"e\":\"AQAB\",\"x5c\":[\"{der}\"]}}]}}"
     )?;
@@ -271,7 +284,7 @@ fn the_longest_canonical_text(rt: HostRuntime) -> Result<(), Fail> {
 #[test]
 fn the_longest_canonical_text_of_the_greatest_sequence(rt: HostRuntime) -> Result<(), Fail> {
     let alloc = rt.alloc();
-    let der = letters(alloc, 'A', 1048460)?;
+    let der = "A".repeat(alloc, 1048460)?;
     let document = format!(in alloc;
         "{{\"keys\":[{{\"use\":\"x509-svid\",\"kty\":\"RSA\",\"n\":\"AQAB\",\"e\":\"AQAB\",\"x5c\":[\"{der}\"]}}],\"spiffe_sequence\":18446744073709551615}}"
     )?;
@@ -284,7 +297,10 @@ fn the_longest_canonical_text_of_the_greatest_sequence(rt: HostRuntime) -> Resul
 
 /// Whether the authority and a copy of it are equal.
 fn is_its_copy(kept: &Authority) -> Result<bool, AllocError> {
-    Ok(kept.copy()? == *kept)
+    let copy = kept.copy()?;
+    let is_same = copy == *kept;
+    drop(copy);
+    Ok(is_same)
 }
 
 /// The first authority of the bundle is that of the entry.
@@ -305,7 +321,7 @@ fn is_appended(rt: &impl Abort, alloc: Global, entry: &str, wanted: &str) -> Res
 #[test]
 fn appends_of_an_x509_point(rt: HostRuntime) -> Result<(), Fail> {
     let alloc = rt.alloc();
-    let a43 = letters(alloc, 'A', 43)?;
+    let a43 = "A".repeat(alloc, 43)?;
     let wanted = format!(in alloc;
         "{{\"keys\":[{{\"crv\":\"P-256\",\"kty\":\"EC\",\"use\":\"x509-svid\",\"x\":\"{a43}\",\"x5c\":[\"MAA=\"],\"y\":\"{a43}\"}}]}}"
     )?;
@@ -326,7 +342,7 @@ fn appends_of_an_x509_modulus(rt: HostRuntime) -> Result<(), Fail> {
 #[test]
 fn appends_of_a_jwt_point(rt: HostRuntime) -> Result<(), Fail> {
     let alloc = rt.alloc();
-    let a43 = letters(alloc, 'A', 43)?;
+    let a43 = "A".repeat(alloc, 43)?;
     let wanted = format!(in alloc;
         "{{\"keys\":[{{\"crv\":\"P-256\",\"kid\":\"k\",\"kty\":\"EC\",\"use\":\"jwt-svid\",\"x\":\"{a43}\",\"y\":\"{a43}\"}}]}}"
     )?;

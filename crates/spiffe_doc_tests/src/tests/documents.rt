@@ -1,5 +1,5 @@
 use super::{
-    bundle, holds_at, is_equal, is_equal_at, jwt_point, keys, letters, refusal, refusal_of,
+    bundle, holds_at, is_equal, is_equal_at, jwt_point, keys, refusal, refusal_of, refuses_each,
     x509_point,
 };
 use spiffe_doc::{Bundle, DocError, KeyMember, read_document, write_document};
@@ -8,97 +8,94 @@ use std::process::Abort;
 use std::test::Fail;
 
 #[test]
-fn refused_documents(rt: HostRuntime) -> Result<(), Fail> {
-    let alloc = rt.alloc();
-    let rows = [
-        ("", DocError::NotJson),
-        ("[]", DocError::NotObject),
-        ("5", DocError::NotObject),
-        ("{\"spiffe_sequence\":1}", DocError::NoKeys),
-        ("{\"keys\":null}", DocError::NoKeys),
-        ("{\"spiffe_sequence\":-1,\"keys\":{}}", DocError::NoKeys),
-    ];
-    for (document, wanted) in rows {
-        is_equal_at(&rt, &refusal(alloc, document)?, &Some(wanted), &document);
-    }
-    Ok(())
+fn refused_documents(rt: HostRuntime) -> Result<(), DocError> {
+    refuses_each(
+        &rt,
+        rt.alloc(),
+        &[
+            ("", DocError::NotJson),
+            ("[]", DocError::NotObject),
+            ("5", DocError::NotObject),
+            ("{\"spiffe_sequence\":1}", DocError::NoKeys),
+            ("{\"keys\":null}", DocError::NoKeys),
+            ("{\"spiffe_sequence\":-1,\"keys\":{}}", DocError::NoKeys),
+        ],
+    )
 }
 
 #[test]
-fn refused_numbers(rt: HostRuntime) -> Result<(), Fail> {
-    let alloc = rt.alloc();
-    let rows = [
-        (
-            "{\"keys\":[],\"spiffe_sequence\":18446744073709551616}",
-            DocError::BadSequence,
-        ),
-        (
-            "{\"keys\":[],\"spiffe_sequence\":-1}",
-            DocError::BadSequence,
-        ),
-        (
-            "{\"keys\":[],\"spiffe_sequence\":1.5}",
-            DocError::BadSequence,
-        ),
-        (
-            "{\"keys\":[],\"spiffe_sequence\":1e0}",
-            DocError::BadSequence,
-        ),
-        (
-            "{\"keys\":[],\"spiffe_sequence\":\"1\"}",
-            DocError::BadSequence,
-        ),
-        (
-            "{\"keys\":[5],\"spiffe_refresh_hint\":\"x\"}",
-            DocError::BadHint,
-        ),
-        (
-            "{\"keys\":[5],\"spiffe_refresh_hint\":-1,\"spiffe_sequence\":-1}",
-            DocError::BadSequence,
-        ),
-    ];
-    for (document, wanted) in rows {
-        is_equal_at(&rt, &refusal(alloc, document)?, &Some(wanted), &document);
-    }
-    Ok(())
+fn refused_numbers(rt: HostRuntime) -> Result<(), DocError> {
+    refuses_each(
+        &rt,
+        rt.alloc(),
+        &[
+            (
+                "{\"keys\":[],\"spiffe_sequence\":18446744073709551616}",
+                DocError::BadSequence,
+            ),
+            (
+                "{\"keys\":[],\"spiffe_sequence\":-1}",
+                DocError::BadSequence,
+            ),
+            (
+                "{\"keys\":[],\"spiffe_sequence\":1.5}",
+                DocError::BadSequence,
+            ),
+            (
+                "{\"keys\":[],\"spiffe_sequence\":1e0}",
+                DocError::BadSequence,
+            ),
+            (
+                "{\"keys\":[],\"spiffe_sequence\":\"1\"}",
+                DocError::BadSequence,
+            ),
+            (
+                "{\"keys\":[5],\"spiffe_refresh_hint\":\"x\"}",
+                DocError::BadHint,
+            ),
+            (
+                "{\"keys\":[5],\"spiffe_refresh_hint\":-1,\"spiffe_sequence\":-1}",
+                DocError::BadSequence,
+            ),
+        ],
+    )
 }
 
 #[test]
-fn refused_entries(rt: HostRuntime) -> Result<(), Fail> {
-    let alloc = rt.alloc();
-    let rows = [
-        ("{\"keys\":[5]}", DocError::BadEntry(0)),
-        (
-            "{\"keys\":[{\"kty\":\"OKP\",\"use\":\"jwt-svid\"},5]}",
-            DocError::BadEntry(1),
-        ),
-        (
-            "{\"keys\":[{\"kty\":\"OKP\",\"use\":\"jwt-svid\"},{},{\"kty\":\"EC\",\"use\":\"jwt-svid\"},5]}",
-            DocError::BadKey {
-                place: 2,
-                member: KeyMember::Crv,
-            },
-        ),
-        (
-            "{\"keys\":[{},{\"kty\":\"RSA\",\"use\":\"jwt-svid\",\"n\":\"AQAB\"}]}",
-            DocError::BadKey {
-                place: 1,
-                member: KeyMember::E,
-            },
-        ),
-        (
-            "{\"keys\":[{},{\"kty\":\"RSA\",\"use\":\"x509-svid\",\"n\":\"AQAB\",\"e\":\"AQAB\"}]}",
-            DocError::BadX5c(1),
-        ),
-        (
-            "{\"keys\":[{},{\"kty\":\"RSA\",\"use\":\"jwt-svid\",\"n\":\"AQAB\",\"e\":\"AQAB\"}]}",
-            DocError::BadKid(1),
-        ),
-    ];
-    for (document, wanted) in rows {
-        is_equal_at(&rt, &refusal(alloc, document)?, &Some(wanted), &document);
-    }
-    Ok(())
+fn refused_entries(rt: HostRuntime) -> Result<(), DocError> {
+    refuses_each(
+        &rt,
+        rt.alloc(),
+        &[
+            ("{\"keys\":[5]}", DocError::BadEntry(0)),
+            (
+                "{\"keys\":[{\"kty\":\"OKP\",\"use\":\"jwt-svid\"},5]}",
+                DocError::BadEntry(1),
+            ),
+            (
+                "{\"keys\":[{\"kty\":\"OKP\",\"use\":\"jwt-svid\"},{},{\"kty\":\"EC\",\"use\":\"jwt-svid\"},5]}",
+                DocError::BadKey {
+                    place: 2,
+                    member: KeyMember::Crv,
+                },
+            ),
+            (
+                "{\"keys\":[{},{\"kty\":\"RSA\",\"use\":\"jwt-svid\",\"n\":\"AQAB\"}]}",
+                DocError::BadKey {
+                    place: 1,
+                    member: KeyMember::E,
+                },
+            ),
+            (
+                "{\"keys\":[{},{\"kty\":\"RSA\",\"use\":\"x509-svid\",\"n\":\"AQAB\",\"e\":\"AQAB\"}]}",
+                DocError::BadX5c(1),
+            ),
+            (
+                "{\"keys\":[{},{\"kty\":\"RSA\",\"use\":\"jwt-svid\",\"n\":\"AQAB\",\"e\":\"AQAB\"}]}",
+                DocError::BadKid(1),
+            ),
+        ],
+    )
 }
 
 #[test]
@@ -133,10 +130,18 @@ fn is_written(
     reads_back(rt, alloc, &read, wanted)
 }
 
+/// Each document has its canonical text, of its length.
+fn are_written(rt: &impl Abort, alloc: Global, rows: &[(&str, &str, usize)]) -> Result<(), Fail> {
+    for (document, wanted, len) in rows {
+        is_written(rt, alloc, document, wanted, *len)?;
+    }
+    Ok(())
+}
+
 #[test]
 fn canonical_text_of_an_x509_point(rt: HostRuntime) -> Result<(), Fail> {
     let alloc = rt.alloc();
-    let a43 = letters(alloc, 'A', 43)?;
+    let a43 = "A".repeat(alloc, 43)?;
     let wanted = format!(in alloc;
         "{{\"keys\":[{{\"crv\":\"P-256\",\"kty\":\"EC\",\"use\":\"x509-svid\",\"x\":\"{a43}\",\"x5c\":[\"MAA=\"],\"y\":\"{a43}\"}}]}}"
     )?;
@@ -147,7 +152,7 @@ fn canonical_text_of_an_x509_point(rt: HostRuntime) -> Result<(), Fail> {
 #[test]
 fn canonical_text_of_a_jwt_point(rt: HostRuntime) -> Result<(), Fail> {
     let alloc = rt.alloc();
-    let a43 = letters(alloc, 'A', 43)?;
+    let a43 = "A".repeat(alloc, 43)?;
     let wanted = format!(in alloc;
         "{{\"keys\":[{{\"crv\":\"P-256\",\"kid\":\"k\u{e9}\",\"kty\":\"EC\",\"use\":\"jwt-svid\",\"x\":\"{a43}\",\"y\":\"{a43}\"}}]}}"
     )?;
@@ -157,55 +162,55 @@ fn canonical_text_of_a_jwt_point(rt: HostRuntime) -> Result<(), Fail> {
 
 #[test]
 fn canonical_texts(rt: HostRuntime) -> Result<(), Fail> {
-    let rows = [
-        ("{\"keys\":[]}", "{\"keys\":[]}", 11),
-        (" {\"z\":{}, \"keys\" : [ ]\n}", "{\"keys\":[]}", 11),
-        (
-            "{\"keys\":[],\"spiffe_sequence\":null}",
-            "{\"keys\":[]}",
-            11,
-        ),
-        (
-            "{\"keys\":[],\"spiffe_sequence\":18446744073709551615}",
-            "{\"keys\":[],\"spiffe_sequence\":18446744073709551615}",
-            50,
-        ),
-        (
-            "{\"keys\":[{\"use\":\"x509-svid\",\"kty\":\"RSA\",\"n\":\"AQAB\",\"e\":\"AQAB\",\"x5c\":[\"MAA=\"]}],\"spiffe_sequence\":1,\"spiffe_refresh_hint\":60}",
-            "{\"keys\":[{\"e\":\"AQAB\",\"kty\":\"RSA\",\"n\":\"AQAB\",\"use\":\"x509-svid\",\"x5c\":[\"MAA=\"]}],\"spiffe_refresh_hint\":60,\"spiffe_sequence\":1}",
-            124,
-        ),
-        (
-            "{\"keys\":[{\"use\":\"jwt-svid\",\"kty\":\"RSA\",\"n\":\"AQAB\",\"e\":\"AQAB\",\"kid\":\"k\",\"alg\":\"RS256\"}]}",
-            "{\"keys\":[{\"e\":\"AQAB\",\"kid\":\"k\",\"kty\":\"RSA\",\"n\":\"AQAB\",\"use\":\"jwt-svid\"}]}",
-            73,
-        ),
-    ];
-    for (document, wanted, len) in rows {
-        is_written(&rt, rt.alloc(), document, wanted, len)?;
-    }
-    Ok(())
+    are_written(
+        &rt,
+        rt.alloc(),
+        &[
+            ("{\"keys\":[]}", "{\"keys\":[]}", 11),
+            (" {\"z\":{}, \"keys\" : [ ]\n}", "{\"keys\":[]}", 11),
+            (
+                "{\"keys\":[],\"spiffe_sequence\":null}",
+                "{\"keys\":[]}",
+                11,
+            ),
+            (
+                "{\"keys\":[],\"spiffe_sequence\":18446744073709551615}",
+                "{\"keys\":[],\"spiffe_sequence\":18446744073709551615}",
+                50,
+            ),
+            (
+                "{\"keys\":[{\"use\":\"x509-svid\",\"kty\":\"RSA\",\"n\":\"AQAB\",\"e\":\"AQAB\",\"x5c\":[\"MAA=\"]}],\"spiffe_sequence\":1,\"spiffe_refresh_hint\":60}",
+                "{\"keys\":[{\"e\":\"AQAB\",\"kty\":\"RSA\",\"n\":\"AQAB\",\"use\":\"x509-svid\",\"x5c\":[\"MAA=\"]}],\"spiffe_refresh_hint\":60,\"spiffe_sequence\":1}",
+                124,
+            ),
+            (
+                "{\"keys\":[{\"use\":\"jwt-svid\",\"kty\":\"RSA\",\"n\":\"AQAB\",\"e\":\"AQAB\",\"kid\":\"k\",\"alg\":\"RS256\"}]}",
+                "{\"keys\":[{\"e\":\"AQAB\",\"kid\":\"k\",\"kty\":\"RSA\",\"n\":\"AQAB\",\"use\":\"jwt-svid\"}]}",
+                73,
+            ),
+        ],
+    )
 }
 
 /// A text may be written with escapes, which its canonical text does not have.
 #[test]
 fn canonical_texts_of_escapes(rt: HostRuntime) -> Result<(), Fail> {
-    let rows = [
-        (
-            "{\"keys\":[{\"use\":\"jwt-\\u0073vid\",\"kty\":\"RSA\",\"n\":\"AQA\\u0042\",\"e\":\"AQAB\",\"k\\u0069d\":\"a\\/b\"}]}",
-            "{\"keys\":[{\"e\":\"AQAB\",\"kid\":\"a/b\",\"kty\":\"RSA\",\"n\":\"AQAB\",\"use\":\"jwt-svid\"}]}",
-            75,
-        ),
-        (
-            "{\"keys\":[{\"use\":\"x509-svid\",\"kty\":\"RS\\u0041\",\"n\":\"\\u0041QAB\",\"e\":\"AQAB\",\"x5c\":[\"MD\\/\\/\"]}]}",
-            "{\"keys\":[{\"e\":\"AQAB\",\"kty\":\"RSA\",\"n\":\"AQAB\",\"use\":\"x509-svid\",\"x5c\":[\"MD//\"]}]}",
-            79,
-        ),
-    ];
-    for (document, wanted, len) in rows {
-        is_written(&rt, rt.alloc(), document, wanted, len)?;
-    }
-    Ok(())
+    are_written(
+        &rt,
+        rt.alloc(),
+        &[
+            (
+                "{\"keys\":[{\"use\":\"jwt-\\u0073vid\",\"kty\":\"RSA\",\"n\":\"AQA\\u0042\",\"e\":\"AQAB\",\"k\\u0069d\":\"a\\/b\"}]}",
+                "{\"keys\":[{\"e\":\"AQAB\",\"kid\":\"a/b\",\"kty\":\"RSA\",\"n\":\"AQAB\",\"use\":\"jwt-svid\"}]}",
+                75,
+            ),
+            (
+                "{\"keys\":[{\"use\":\"x509-svid\",\"kty\":\"RS\\u0041\",\"n\":\"\\u0041QAB\",\"e\":\"AQAB\",\"x5c\":[\"MD\\/\\/\"]}]}",
+                "{\"keys\":[{\"e\":\"AQAB\",\"kty\":\"RSA\",\"n\":\"AQAB\",\"use\":\"x509-svid\",\"x5c\":[\"MD//\"]}]}",
+                79,
+            ),
+        ],
+    )
 }
 
 #[test]
@@ -243,7 +248,7 @@ fn sequences_and_hints(rt: HostRuntime) -> Result<(), Fail> {
 
 /// A document of one point.
 fn one_point(alloc: Global) -> Result<String, AllocError> {
-    let a43 = letters(alloc, 'A', 43)?;
+    let a43 = "A".repeat(alloc, 43)?;
     keys(
         alloc,
         &x509_point(alloc, "P-256", &a43, &a43, "[\"MAA=\"]")?,
@@ -266,14 +271,14 @@ fn truncated_documents(rt: HostRuntime) -> Result<(), Fail> {
 fn nested(alloc: Global, depth: usize) -> Result<String, AllocError> {
     format!(in alloc;
         "{{\"keys\":[],\"z\":{}{}}}",
-        letters(alloc, '[', depth)?,
-        letters(alloc, ']', depth)?
+        "[".repeat(alloc, depth)?,
+        "]".repeat(alloc, depth)?
     )
 }
 
 /// An empty document and so many spaces after it: how long it is, and why it is refused.
 fn spaced_refusal(alloc: Global, count: usize) -> Result<(usize, Option<DocError>), DocError> {
-    let spaces = letters(alloc, ' ', count)?;
+    let spaces = " ".repeat(alloc, count)?;
     let document = format!(in alloc; "{{\"keys\":[]}}{spaces}")?;
     Ok((document.len(), refusal(alloc, &document)?))
 }

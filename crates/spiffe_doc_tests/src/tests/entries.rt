@@ -1,6 +1,6 @@
 use super::{
-    authority, bundle, entry_refusal, holds, holds_at, is_entry, is_equal, is_equal_at, jwt_rsa,
-    keys, letters, refusal, x509_point,
+    authority, bundle, entry_refusal, holds, holds_at, is_entry, is_equal, is_equal_at,
+    judges_each, jwt_rsa, keys, refusal, x509_point,
 };
 use spiffe_doc::{
     Authority, Certificate, Curve, DocError, EcKey, KeyId, KeyMember, PublicKey, RsaKey, read_entry,
@@ -18,7 +18,7 @@ type Coordinate<'a> = (usize, &'a str);
 
 fn coordinate_text(alloc: Global, coordinate: Coordinate) -> Result<String, AllocError> {
     let (count, rest) = coordinate;
-    let zeros = letters(alloc, 'A', count)?;
+    let zeros = "A".repeat(alloc, count)?;
     format!(in alloc; "{zeros}{rest}")
 }
 
@@ -35,79 +35,129 @@ fn refusals(alloc: Global, entry: &str) -> Result<(Option<DocError>, Option<DocE
     Ok((alone, refusal(alloc, &keys(alloc, entry)?)?))
 }
 
+/// The entry of these coordinates is refused for its member, if for any, by itself and in a document.
+fn is_judged(
+    rt: &impl Abort,
+    alloc: Global,
+    curve: &str,
+    x: Coordinate,
+    y: Coordinate,
+    wanted: Option<DocError>,
+) -> Result<(), Fail> {
+    let entry = point(alloc, curve, x, y)?;
+    is_equal_at(rt, &refusals(alloc, &entry)?, &(wanted, wanted), &entry);
+    Ok(())
+}
+
+/// A curve and the coordinates of a point.
+type Point<'a> = (&'a str, Coordinate<'a>, Coordinate<'a>);
+
+/// Each of these points is taken.
+fn are_taken(rt: &impl Abort, alloc: Global, rows: &[Point]) -> Result<(), Fail> {
+    for (curve, x, y) in rows {
+        is_judged(rt, alloc, curve, *x, *y, None)?;
+    }
+    Ok(())
+}
+
+/// Each of these points is refused for its member.
+fn are_refused(
+    rt: &impl Abort,
+    alloc: Global,
+    member: KeyMember,
+    rows: &[Point],
+) -> Result<(), Fail> {
+    for (curve, x, y) in rows {
+        is_judged(rt, alloc, curve, *x, *y, bad_key(member))?;
+    }
+    Ok(())
+}
+
+const A43: Coordinate = (43, "");
+
 #[test]
 fn points(rt: HostRuntime) -> Result<(), Fail> {
-    let alloc = rt.alloc();
-    let a43 = (43, "");
-    let stray = (42, "B");
+    are_taken(
+        &rt,
+        rt.alloc(),
+        &[
+            ("P-256", A43, A43),
+            ("P-384", (64, ""), (64, "")),
+            ("P-521", (88, ""), (88, "")),
+            ("P-999", (42, ""), (42, "")),
+        ],
+    )
+}
+
+#[test]
+fn points_over_p256(rt: HostRuntime) -> Result<(), Fail> {
     let rows = [
-        ("P-256", a43, a43, None),
-        ("P-384", (64, ""), (64, ""), None),
-        ("P-521", (88, ""), (88, ""), None),
-        ("P-256", (42, ""), a43, bad_key(KeyMember::X(Curve::P256))),
-        ("P-256", stray, a43, bad_key(KeyMember::X(Curve::P256))),
-        ("P-256", (43, "="), a43, bad_key(KeyMember::X(Curve::P256))),
-        ("P-256", a43, stray, bad_key(KeyMember::Y(Curve::P256))),
-        (
-            "P-256",
-            (64, ""),
-            (64, ""),
-            bad_key(KeyMember::X(Curve::P256)),
-        ),
-        (
-            "P-384",
-            (65, ""),
-            (65, ""),
-            bad_key(KeyMember::X(Curve::P384)),
-        ),
-        ("P-384", (64, ""), a43, bad_key(KeyMember::Y(Curve::P384))),
-        (
-            "P-521",
-            (88, ""),
-            (87, ""),
-            bad_key(KeyMember::Y(Curve::P521)),
-        ),
-        ("P-999", (42, ""), (42, ""), None),
+        ("P-256", (42, ""), A43),
+        ("P-256", (42, "B"), A43),
+        ("P-256", (43, "="), A43),
+        ("P-256", (64, ""), (64, "")),
     ];
-    for (curve, x, y, wanted) in rows {
-        let entry = point(alloc, curve, x, y)?;
-        is_equal_at(&rt, &refusals(alloc, &entry)?, &(wanted, wanted), &entry);
+    are_refused(&rt, rt.alloc(), KeyMember::X(Curve::P256), &rows)?;
+    let rows = [("P-256", A43, (42, "B"))];
+    are_refused(&rt, rt.alloc(), KeyMember::Y(Curve::P256), &rows)
+}
+
+#[test]
+fn points_over_longer_curves(rt: HostRuntime) -> Result<(), Fail> {
+    let rows = [("P-384", (65, ""), (65, ""))];
+    are_refused(&rt, rt.alloc(), KeyMember::X(Curve::P384), &rows)?;
+    let rows = [("P-384", (64, ""), A43)];
+    are_refused(&rt, rt.alloc(), KeyMember::Y(Curve::P384), &rows)?;
+    let rows = [("P-521", (88, ""), (87, ""))];
+    are_refused(&rt, rt.alloc(), KeyMember::Y(Curve::P521), &rows)
+}
+
+/// Why an entry with this certificate is refused.
+fn certificate_refusal(alloc: Global, x5c: &str) -> Result<Option<DocError>, DocError> {
+    let a43 = "A".repeat(alloc, 43)?;
+    let entry = x509_point(alloc, "P-256", &a43, &a43, x5c)?;
+    entry_refusal(alloc, &entry)
+}
+
+/// Each of these certificates is refused.
+fn are_no_certificates(rt: &impl Abort, alloc: Global, rows: &[&str]) -> Result<(), Fail> {
+    for x5c in rows {
+        let wanted = Some(DocError::BadX5c(0));
+        is_equal_at(rt, &certificate_refusal(alloc, x5c)?, &wanted, x5c);
     }
     Ok(())
 }
 
 #[test]
 fn certificates(rt: HostRuntime) -> Result<(), Fail> {
-    let alloc = rt.alloc();
-    let a43 = letters(alloc, 'A', 43)?;
-    let rows = [
-        ("[\"MAA=\"]", None),
-        ("[\"MAA=\",\"MAA=\"]", Some(DocError::BadX5c(0))),
-        ("[\"MAA\"]", Some(DocError::BadX5c(0))),
-        ("[\"MAB=\"]", Some(DocError::BadX5c(0))),
-        ("[\"MA_=\"]", Some(DocError::BadX5c(0))),
-        ("[\"\"]", Some(DocError::BadX5c(0))),
-        ("[]", Some(DocError::BadX5c(0))),
-        ("[5]", Some(DocError::BadX5c(0))),
-        ("\"MAA=\"", Some(DocError::BadX5c(0))),
-        ("null", Some(DocError::BadX5c(0))),
-    ];
-    for (x5c, wanted) in rows {
-        let entry = x509_point(alloc, "P-256", &a43, &a43, x5c)?;
-        is_equal_at(&rt, &entry_refusal(alloc, &entry)?, &wanted, &x5c);
-    }
-    Ok(())
+    let taken = certificate_refusal(rt.alloc(), "[\"MAA=\"]")?;
+    is_equal(&rt, &taken, &None);
+    are_no_certificates(
+        &rt,
+        rt.alloc(),
+        &[
+            "[\"MAA=\",\"MAA=\"]",
+            "[\"MAA\"]",
+            "[\"MAB=\"]",
+            "[\"MA_=\"]",
+            "[\"\"]",
+            "[]",
+            "[5]",
+            "\"MAA=\"",
+            "null",
+        ],
+    )
 }
 
 /// Why an entry with a key id of so many bytes is refused.
 fn kid_refusal(alloc: Global, count: usize) -> Result<Option<DocError>, DocError> {
-    let kid = letters(alloc, 'k', count)?;
+    let kid = "k".repeat(alloc, count)?;
     entry_refusal(alloc, &jwt_rsa(alloc, &kid, "AQAB")?)
 }
 
 /// Why an entry with a modulus of so many letters is refused.
 fn modulus_refusal(alloc: Global, count: usize) -> Result<Option<DocError>, DocError> {
-    let n = letters(alloc, 'A', count)?;
+    let n = "A".repeat(alloc, count)?;
     entry_refusal(alloc, &jwt_rsa(alloc, "k", &n)?)
 }
 
@@ -123,68 +173,69 @@ fn long_members(rt: HostRuntime) -> Result<(), Fail> {
 }
 
 #[test]
-fn faults_of_keys_in_order(rt: HostRuntime) -> Result<(), Fail> {
-    let alloc = rt.alloc();
-    let rows = [
-        (
-            "{\"kty\":\"EC\",\"use\":\"jwt-svid\"}",
-            bad_key(KeyMember::Crv),
-        ),
-        (
-            "{\"kty\":\"EC\",\"use\":\"jwt-svid\",\"crv\":5}",
-            bad_key(KeyMember::Crv),
-        ),
-        (
-            "{\"kty\":\"EC\",\"use\":\"jwt-svid\",\"crv\":\"P-256\",\"x\":\"!\"}",
-            bad_key(KeyMember::X(Curve::P256)),
-        ),
-        (
-            "{\"kty\":\"RSA\",\"use\":\"jwt-svid\",\"e\":\"AQAB\"}",
-            bad_key(KeyMember::N),
-        ),
-        (
-            "{\"kty\":\"RSA\",\"use\":\"jwt-svid\",\"n\":\"\",\"e\":\"AQAB\"}",
-            bad_key(KeyMember::N),
-        ),
-        (
-            "{\"kty\":\"RSA\",\"use\":\"jwt-svid\",\"n\":\"AQAB\",\"e\":5}",
-            bad_key(KeyMember::E),
-        ),
-    ];
-    for (entry, wanted) in rows {
-        is_equal_at(&rt, &entry_refusal(alloc, entry)?, &wanted, &entry);
-    }
-    Ok(())
+fn faults_of_keys_in_order(rt: HostRuntime) -> Result<(), DocError> {
+    judges_each(
+        &rt,
+        rt.alloc(),
+        &[
+            (
+                "{\"kty\":\"EC\",\"use\":\"jwt-svid\"}",
+                bad_key(KeyMember::Crv),
+            ),
+            (
+                "{\"kty\":\"EC\",\"use\":\"jwt-svid\",\"crv\":5}",
+                bad_key(KeyMember::Crv),
+            ),
+            (
+                "{\"kty\":\"EC\",\"use\":\"jwt-svid\",\"crv\":\"P-256\",\"x\":\"!\"}",
+                bad_key(KeyMember::X(Curve::P256)),
+            ),
+            (
+                "{\"kty\":\"RSA\",\"use\":\"jwt-svid\",\"e\":\"AQAB\"}",
+                bad_key(KeyMember::N),
+            ),
+            (
+                "{\"kty\":\"RSA\",\"use\":\"jwt-svid\",\"n\":\"\",\"e\":\"AQAB\"}",
+                bad_key(KeyMember::N),
+            ),
+            (
+                "{\"kty\":\"RSA\",\"use\":\"jwt-svid\",\"n\":\"AQAB\",\"e\":5}",
+                bad_key(KeyMember::E),
+            ),
+        ],
+    )
 }
 
 #[test]
-fn faults_in_order(rt: HostRuntime) -> Result<(), Fail> {
-    let alloc = rt.alloc();
-    let rows = [
-        ("5", Some(DocError::BadEntry(0))),
-        (
-            "{\"kty\":\"RSA\",\"use\":\"jwt-svid\",\"n\":\"AQAB\",\"e\":\"AQAB\"}",
-            Some(DocError::BadKid(0)),
-        ),
-        (
-            "{\"kty\":\"RSA\",\"use\":\"jwt-svid\",\"n\":\"AQAB\",\"e\":\"AQAB\",\"kid\":\"\"}",
-            Some(DocError::BadKid(0)),
-        ),
-        (
-            "{\"kty\":\"RSA\",\"use\":\"x509-svid\",\"n\":\"AQAB\",\"e\":\"AQAB\"}",
-            Some(DocError::BadX5c(0)),
-        ),
-        ("[", Some(DocError::NotJson)),
-    ];
-    for (entry, wanted) in rows {
-        is_equal_at(&rt, &entry_refusal(alloc, entry)?, &wanted, &entry);
-    }
-    Ok(())
+fn faults_in_order(rt: HostRuntime) -> Result<(), DocError> {
+    judges_each(
+        &rt,
+        rt.alloc(),
+        &[
+            ("5", Some(DocError::BadEntry(0))),
+            (
+                "{\"kty\":\"RSA\",\"use\":\"jwt-svid\",\"n\":\"AQAB\",\"e\":\"AQAB\"}",
+                Some(DocError::BadKid(0)),
+            ),
+            (
+                "{\"kty\":\"RSA\",\"use\":\"jwt-svid\",\"n\":\"AQAB\",\"e\":\"AQAB\",\"kid\":\"\"}",
+                Some(DocError::BadKid(0)),
+            ),
+            (
+                "{\"kty\":\"RSA\",\"use\":\"x509-svid\",\"n\":\"AQAB\",\"e\":\"AQAB\"}",
+                Some(DocError::BadX5c(0)),
+            ),
+            ("[", Some(DocError::NotJson)),
+        ],
+    )
 }
 
 /// Whether the entry by itself is ignored.
 fn is_no_authority(alloc: Global, entry: &str) -> Result<bool, DocError> {
-    Ok(read_entry(alloc, entry.as_bytes())?.is_none())
+    let read = read_entry(alloc, entry.as_bytes())?;
+    let is_none = read.is_none();
+    drop(read);
+    Ok(is_none)
 }
 
 /// How many authorities the document of the entry has.
@@ -193,25 +244,32 @@ fn count_of(alloc: Global, entry: &str) -> Result<usize, DocError> {
     Ok(bundle(alloc, &document)?.authorities().len())
 }
 
-#[test]
-fn entries_that_are_passed_over(rt: HostRuntime) -> Result<(), Fail> {
-    let alloc = rt.alloc();
-    let rows = [
-        "{}",
-        "{\"kty\":\"OKP\",\"use\":\"jwt-svid\"}",
-        "{\"kty\":\"ec\",\"use\":\"jwt-svid\"}",
-        "{\"kty\":5,\"use\":\"jwt-svid\"}",
-        "{\"kty\":\"RSA\"}",
-        "{\"kty\":\"RSA\",\"use\":\"sig\"}",
-        "{\"kty\":\"RSA\",\"use\":\"X509-svid\"}",
-        "{\"kty\":\"EC\",\"use\":\"jwt-svid\",\"crv\":\"P-999\"}",
-        "{\"use\":\"sig\",\"kty\":\"EC\",\"crv\":\"P-256\",\"x5c\":[\"MAA=\",\"MAA=\"]}",
-    ];
+/// Each of these entries is ignored, by itself and in a document.
+fn are_passed_over(rt: &impl Abort, alloc: Global, rows: &[&str]) -> Result<(), Fail> {
     for entry in rows {
-        holds_at(&rt, is_no_authority(alloc, entry)?, &entry);
-        is_equal_at(&rt, &count_of(alloc, entry)?, &0usize, &entry);
+        holds_at(rt, is_no_authority(alloc, entry)?, entry);
+        is_equal_at(rt, &count_of(alloc, entry)?, &0usize, entry);
     }
     Ok(())
+}
+
+#[test]
+fn entries_that_are_passed_over(rt: HostRuntime) -> Result<(), Fail> {
+    are_passed_over(
+        &rt,
+        rt.alloc(),
+        &[
+            "{}",
+            "{\"kty\":\"OKP\",\"use\":\"jwt-svid\"}",
+            "{\"kty\":\"ec\",\"use\":\"jwt-svid\"}",
+            "{\"kty\":5,\"use\":\"jwt-svid\"}",
+            "{\"kty\":\"RSA\"}",
+            "{\"kty\":\"RSA\",\"use\":\"sig\"}",
+            "{\"kty\":\"RSA\",\"use\":\"X509-svid\"}",
+            "{\"kty\":\"EC\",\"use\":\"jwt-svid\",\"crv\":\"P-999\"}",
+            "{\"use\":\"sig\",\"kty\":\"EC\",\"crv\":\"P-256\",\"x5c\":[\"MAA=\",\"MAA=\"]}",
+        ],
+    )
 }
 
 /// The certificate and the key over a curve of an authority.
@@ -269,13 +327,17 @@ fn is_zero_point(
 #[test]
 fn members_of_a_point_are_kept(rt: HostRuntime) -> Result<(), Fail> {
     let point = zero_point(rt.alloc(), "P-256", 43)?;
-    is_zero_point(&rt, &point, Curve::P256, &[0u8; 32])
+    let is_so = is_zero_point(&rt, &point, Curve::P256, &[0u8; 32]);
+    drop(point);
+    is_so
 }
 
 #[test]
 fn members_of_a_longer_point_are_kept(rt: HostRuntime) -> Result<(), Fail> {
     let longer = zero_point(rt.alloc(), "P-521", 88)?;
-    is_zero_point(&rt, &longer, Curve::P521, &[0u8; 66])
+    let is_so = is_zero_point(&rt, &longer, Curve::P521, &[0u8; 66]);
+    drop(longer);
+    is_so
 }
 
 /// The authority has the key id `k` and a key whose modulus and exponent are 65537.
@@ -290,13 +352,16 @@ fn is_small_modulus(rt: &impl Abort, authority: &Authority) -> Result<(), Fail> 
 fn members_of_a_modulus_are_kept(rt: HostRuntime) -> Result<(), Fail> {
     let entry = jwt_rsa(rt.alloc(), "k", "AQAB")?;
     let rsa = authority(rt.alloc(), &entry)?;
-    is_small_modulus(&rt, &rsa)
+    let is_so = is_small_modulus(&rt, &rsa);
+    drop(rsa);
+    is_so
 }
 
 /// A copy of the first authority is the first, and not the second.
 fn is_copied(rt: &impl Abort, first: &Authority, second: &Authority) -> Result<(), AllocError> {
     let copy: Authority = first.copy()?;
     let equal = (copy == *first, copy == *second);
+    drop(copy);
     is_equal(rt, &equal, &(true, false));
     Ok(())
 }
@@ -308,20 +373,24 @@ fn is_copied_as_no_point(
     authority: &Authority,
 ) -> Result<(), Fail> {
     let point = zero_point(alloc, "P-256", 43)?;
-    Ok(is_copied(rt, authority, &point)?)
+    let is_so = is_copied(rt, authority, &point);
+    drop(point);
+    Ok(is_so?)
 }
 
 #[test]
 fn authorities_are_copied(rt: HostRuntime) -> Result<(), Fail> {
     let entry = jwt_rsa(rt.alloc(), "k", "AQAB")?;
     let rsa = authority(rt.alloc(), &entry)?;
-    is_copied_as_no_point(&rt, rt.alloc(), &rsa)
+    let is_so = is_copied_as_no_point(&rt, rt.alloc(), &rsa);
+    drop(rsa);
+    is_so
 }
 
 /// An X.509 authority over P-256, whose first byte alone is not zero.
 fn low_point(alloc: Global) -> Result<Authority, DocError> {
-    let x = format!(in alloc; "E{}", letters(alloc, 'A', 42)?)?;
-    let y = letters(alloc, 'A', 43)?;
+    let x = format!(in alloc; "E{}", "A".repeat(alloc, 42)?)?;
+    let y = "A".repeat(alloc, 43)?;
     authority(alloc, &x509_point(alloc, "P-256", &x, &y, "[\"MAA=\"]")?)
 }
 
@@ -352,7 +421,9 @@ fn is_low_point(rt: &impl Abort, key: &PublicKey) -> Result<(), Fail> {
 fn point_is_copied(rt: &impl Abort, key: &PublicKey) -> Result<(), Fail> {
     let copy: PublicKey = key.copy()?;
     holds(rt, copy == *key);
-    is_low_point(rt, &copy)
+    let is_so = is_low_point(rt, &copy);
+    drop(copy);
+    is_so
 }
 
 fn key_is_copied(rt: &impl Abort, point: &Authority) -> Result<(), Fail> {
@@ -362,7 +433,9 @@ fn key_is_copied(rt: &impl Abort, point: &Authority) -> Result<(), Fail> {
 #[test]
 fn points_are_copied(rt: HostRuntime) -> Result<(), Fail> {
     let point = low_point(rt.alloc())?;
-    key_is_copied(&rt, &point)
+    let is_so = key_is_copied(&rt, &point);
+    drop(point);
+    is_so
 }
 
 /// Zeros that a modulus begins with are kept.
@@ -378,7 +451,9 @@ fn is_low_modulus(rt: &impl Abort, key: &PublicKey) -> Result<(), Fail> {
 fn modulus_is_copied(rt: &impl Abort, key: &PublicKey, point: &PublicKey) -> Result<(), Fail> {
     let copy: PublicKey = key.copy()?;
     holds(rt, !(copy == *point));
-    is_low_modulus(rt, &copy)
+    let is_so = is_low_modulus(rt, &copy);
+    drop(copy);
+    is_so
 }
 
 fn keys_are_copied(rt: &impl Abort, rsa: &Authority, point: &Authority) -> Result<(), Fail> {
@@ -387,27 +462,33 @@ fn keys_are_copied(rt: &impl Abort, rsa: &Authority, point: &Authority) -> Resul
 
 fn is_copied_beside_a_point(rt: &impl Abort, alloc: Global, rsa: &Authority) -> Result<(), Fail> {
     let point = low_point(alloc)?;
-    keys_are_copied(rt, rsa, &point)
+    let is_so = keys_are_copied(rt, rsa, &point);
+    drop(point);
+    is_so
 }
 
 #[test]
 fn moduli_are_copied(rt: HostRuntime) -> Result<(), Fail> {
     let entry = jwt_rsa(rt.alloc(), "k", "AAAB")?;
     let rsa = authority(rt.alloc(), &entry)?;
-    is_copied_beside_a_point(&rt, rt.alloc(), &rsa)
+    let is_so = is_copied_beside_a_point(&rt, rt.alloc(), &rsa);
+    drop(rsa);
+    is_so
 }
 
 /// An entry of 62 bytes, and so many spaces after it.
 fn spaced(alloc: Global, count: usize) -> Result<String, AllocError> {
     let entry = jwt_rsa(alloc, "k", "AQAB")?;
-    let spaces = letters(alloc, ' ', count)?;
+    let spaces = " ".repeat(alloc, count)?;
     format!(in alloc; "{entry}{spaces}")
 }
 
 /// Whether both entries are of one authority.
 fn is_one_authority(alloc: Global, first: &str, second: &str) -> Result<bool, DocError> {
     let first = authority(alloc, first)?;
-    is_entry(alloc, &first, second)
+    let is_one = is_entry(alloc, &first, second);
+    drop(first);
+    is_one
 }
 
 #[test]

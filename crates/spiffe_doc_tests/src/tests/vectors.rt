@@ -101,21 +101,28 @@ fn is_real(
     reads_back(rt, alloc, &read, text)
 }
 
-#[test]
-fn real_bundles(rt: HostRuntime) -> Result<(), Fail> {
-    let rows = [
-        (WITHDRAWN, WITHDRAWN_TEXT, (Some(12u64), None, 0)),
-        (DEFAULT, DEFAULT_TEXT, (Some(1u64), Some(2419200u64), 2)),
-        (MIXED, MIXED_TEXT, (Some(3u64), None, 2)),
-        (ROTATION, ROTATION_TEXT, (Some(7u64), Some(300u64), 4)),
-        (
-            LARGE_CURVE,
-            LARGE_CURVE_TEXT,
-            (Some(18446744073709551615u64), None, 2),
-        ),
-    ];
+fn are_real(rt: &impl Abort, alloc: Global, rows: &[(&str, &str, Numbers)]) -> Result<(), Fail> {
     for (document, text, numbers) in rows {
-        is_real(&rt, rt.alloc(), document, text, numbers)?;
+        is_real(rt, alloc, document, text, *numbers)?;
     }
     Ok(())
+}
+
+#[test]
+fn real_bundles(rt: HostRuntime) -> Result<(), Fail> {
+    are_real(
+        &rt,
+        rt.alloc(),
+        &[
+            (WITHDRAWN, WITHDRAWN_TEXT, (Some(12u64), None, 0)),
+            (DEFAULT, DEFAULT_TEXT, (Some(1u64), Some(2419200u64), 2)),
+            (MIXED, MIXED_TEXT, (Some(3u64), None, 2)),
+            (ROTATION, ROTATION_TEXT, (Some(7u64), Some(300u64), 4)),
+            (
+                LARGE_CURVE,
+                LARGE_CURVE_TEXT,
+                (Some(18446744073709551615u64), None, 2),
+            ),
+        ],
+    )
 }
