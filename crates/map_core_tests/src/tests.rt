@@ -1,4 +1,7 @@
 //! Worked examples of the plain map. A row is what is asked and, beside it, what is answered.
+//!
+//! Maps and operations are dropped by a call of `drop`, before anything may fail: where a scope drops one, the prover follows
+//! all its parts on each way out.
 mod appends;
 mod snapshots;
 
@@ -178,18 +181,25 @@ fn answer(map: &mut Contents, op: &Op) -> Result<Reply, Fail> {
 
 /// What stands under the name.
 fn found(alloc: Global, map: &mut Contents, name: &str) -> Result<Bundle, Fail> {
-    match get(map, TrustDomain::parse(alloc, name)?)? {
+    let domain = TrustDomain::parse(alloc, name)?;
+    match get(map, domain)? {
         Reply::Found(bundle) => Ok(bundle),
         _ => Err(Fail::from("the bundle is not found")),
     }
 }
 
 fn get(map: &mut Contents, domain: TrustDomain) -> Result<Reply, Fail> {
-    answer(map, &Op::Get(domain))
+    let op = Op::Get(domain);
+    let reply = answer(map, &op);
+    drop(op);
+    reply
 }
 
 fn set(map: &mut Contents, domain: TrustDomain, bundle: Bundle) -> Result<Reply, Fail> {
-    answer(map, &Op::Set(domain, bundle))
+    let op = Op::Set(domain, bundle);
+    let reply = answer(map, &op);
+    drop(op);
+    reply
 }
 
 /// The bundles of a copy of the map, and how many the map counts.
@@ -207,14 +217,27 @@ fn after_text(alloc: Global, map: &Contents, after: &Option<Contents>) -> Result
     }
 }
 
-/// What is told of an operation beforehand: the reply, whether it changes the map, twice, and the map after it.
-fn told(alloc: Global, map: &Contents, op: &Op) -> Result<String, Fail> {
-    let (reply, after) = map.asked(op)?;
-    let reply = reply_text(alloc, &reply)?;
-    let left = after_text(alloc, map, &after)?;
+/// The reply, whether the operation changes the map, twice, and the map after it.
+fn told_of(
+    alloc: Global,
+    map: &Contents,
+    op: &Op,
+    reply: &Reply,
+    after: &Option<Contents>,
+) -> Result<String, Fail> {
+    let reply = reply_text(alloc, reply)?;
+    let left = after_text(alloc, map, after)?;
     let changes = map.would_change(op)?;
     let gives = after.is_some();
     Ok(format!(in alloc; "{reply}, {changes} {gives}: {left}")?)
+}
+
+/// What is told of an operation beforehand.
+fn told(alloc: Global, map: &Contents, op: &Op) -> Result<String, Fail> {
+    let (reply, after) = map.asked(op)?;
+    let text = told_of(alloc, map, op, &reply, &after);
+    drop(after);
+    text
 }
 
 /// The same of an operation that is asked.
@@ -254,7 +277,9 @@ fn play_operation(
 fn play_row(alloc: Global, map: &mut Contents, row: (&str, &str)) -> Result<(), Fail> {
     let (line, _) = row;
     let op = operation(alloc, line)?;
-    play_operation(alloc, map, row, &op)
+    let is_so = play_operation(alloc, map, row, &op);
+    drop(op);
+    is_so
 }
 
 fn play(alloc: Global, map: &mut Contents, rows: &[(&str, &str)]) -> Result<(), Fail> {
@@ -267,7 +292,9 @@ fn play(alloc: Global, map: &mut Contents, rows: &[(&str, &str)]) -> Result<(), 
 /// Plays the rows on an empty map.
 fn play_new(alloc: Global, rows: &[(&str, &str)]) -> Result<(), Fail> {
     let mut map = Contents::new(alloc);
-    play(alloc, &mut map, rows)
+    let is_so = play(alloc, &mut map, rows);
+    drop(map);
+    is_so
 }
 
 #[test]
@@ -341,8 +368,11 @@ fn shows_bundles_in_order(rt: HostRuntime) -> Result<(), Fail> {
         ("fetch", "all 3 0 -/0 a 1/0 a.b 2/0"),
     ];
     let mut map = Contents::new(rt.alloc());
-    play(rt.alloc(), &mut map, &rows)?;
-    is_equal(&rt, &map.len(), &3);
+    let is_so = play(rt.alloc(), &mut map, &rows);
+    let count = map.len();
+    drop(map);
+    is_so?;
+    is_equal(&rt, &count, &3);
     Ok(())
 }
 
@@ -368,78 +398,98 @@ fn a_snapshot_is_of_its_pairs(rt: HostRuntime) -> Result<(), Fail> {
     Ok(())
 }
 
-#[test]
-fn numbers_and_texts_of_refusals(rt: HostRuntime) -> Result<(), Fail> {
-    let alloc = rt.alloc();
-    let refusals = [
-        (MapRefusal::NoDomain, 30, "no bundle stands under the name"),
-        (
-            MapRefusal::Stale(5),
-            31,
-            "the sequence is lower than 5, which the name had",
-        ),
-        (
-            MapRefusal::KidTaken,
-            32,
-            "the key ID stands there with another key",
-        ),
-        (
-            MapRefusal::TooMany,
-            33,
-            "the bundle has as many authorities as it may have",
-        ),
-        (MapRefusal::TooLong, 34, "the document would be too long"),
-        (
-            MapRefusal::SequenceFull,
-            35,
-            "the sequence is the greatest that there is",
-        ),
-        (
-            MapRefusal::NotExpected(Expect::Sequence(7)),
-            36,
-            "what stands there is not what was expected: it is a bundle of sequence 7",
-        ),
-    ];
-    for (refusal, number, text) in refusals {
-        is_equal(&rt, &refusal.number(), &number);
-        is_equal(&rt, &format!(in alloc; "{refusal}")?.as_str(), &text);
+/// Each refusal has its number and its text.
+fn refuse_so(
+    rt: &impl Abort,
+    alloc: Global,
+    rows: &[(MapRefusal, u8, &str)],
+) -> Result<(), AllocError> {
+    for (refusal, number, wanted) in rows {
+        let text = format!(in alloc; "{refusal}")?;
+        is_equal(rt, &refusal.number(), number);
+        is_equal(rt, &text.as_str(), wanted);
     }
     Ok(())
 }
 
 #[test]
-fn numbers_and_texts_of_errors(rt: HostRuntime) -> Result<(), Fail> {
-    let alloc = rt.alloc();
+fn numbers_and_texts_of_refusals(rt: HostRuntime) -> Result<(), AllocError> {
+    refuse_so(
+        &rt,
+        rt.alloc(),
+        &[
+            (MapRefusal::NoDomain, 30, "no bundle stands under the name"),
+            (
+                MapRefusal::Stale(5),
+                31,
+                "the sequence is lower than 5, which the name had",
+            ),
+            (
+                MapRefusal::KidTaken,
+                32,
+                "the key ID stands there with another key",
+            ),
+            (
+                MapRefusal::TooMany,
+                33,
+                "the bundle has as many authorities as it may have",
+            ),
+            (MapRefusal::TooLong, 34, "the document would be too long"),
+            (
+                MapRefusal::SequenceFull,
+                35,
+                "the sequence is the greatest that there is",
+            ),
+            (
+                MapRefusal::NotExpected(Expect::Sequence(7)),
+                36,
+                "what stands there is not what was expected: it is a bundle of sequence 7",
+            ),
+        ],
+    )
+}
+
+/// Each error has its number and its text.
+fn err_so(rt: &impl Abort, alloc: Global, rows: &[(AskError, u8, &str)]) -> Result<(), AllocError> {
+    for (error, number, wanted) in rows {
+        let text = format!(in alloc; "{error}")?;
+        is_equal(rt, &error.number(), number);
+        is_equal(rt, &text.as_str(), wanted);
+    }
+    Ok(())
+}
+
+#[test]
+fn numbers_and_texts_of_errors(rt: HostRuntime) -> Result<(), AllocError> {
     let moved = AskError::Moved {
         shard: 3,
         first: 0,
         second: 2,
     };
-    let errors = [
-        (AskError::Memory, 22, "out of memory"),
-        (
-            AskError::Worn { shard: 3 },
-            40,
-            "shard 3 has used up its revisions",
-        ),
-        (
-            moved,
-            41,
-            "shard 3 moved from revision 0 to 2 before all shards were read",
-        ),
-        (
-            AskError::Held {
-                shard: 3,
-                revision: 2,
-            },
-            42,
-            "shard 3 is held at revision 2",
-        ),
-        (AskError::GateShut, 56, "the gate is shut"),
-    ];
-    for (error, number, text) in errors {
-        is_equal(&rt, &error.number(), &number);
-        is_equal(&rt, &format!(in alloc; "{error}")?.as_str(), &text);
-    }
-    Ok(())
+    err_so(
+        &rt,
+        rt.alloc(),
+        &[
+            (AskError::Memory, 22, "out of memory"),
+            (
+                AskError::Worn { shard: 3 },
+                40,
+                "shard 3 has used up its revisions",
+            ),
+            (
+                moved,
+                41,
+                "shard 3 moved from revision 0 to 2 before all shards were read",
+            ),
+            (
+                AskError::Held {
+                    shard: 3,
+                    revision: 2,
+                },
+                42,
+                "shard 3 is held at revision 2",
+            ),
+            (AskError::GateShut, 56, "the gate is shut"),
+        ],
+    )
 }

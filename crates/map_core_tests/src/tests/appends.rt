@@ -48,7 +48,9 @@ fn an_x509_authority_is_appended_whole(rt: HostRuntime) -> Result<(), Fail> {
 /// The bundle with the X.509 authority.
 fn with_x509(alloc: Global, bundle: Bundle) -> Result<Bundle, Fail> {
     let mut map = holding(alloc, bundle)?;
-    append_x509(alloc, &mut map)
+    let longer = append_x509(alloc, &mut map);
+    drop(map);
+    longer
 }
 
 fn append_x509(alloc: Global, map: &mut Contents) -> Result<Bundle, Fail> {
@@ -76,8 +78,13 @@ fn many(alloc: Global, count: usize, n: &str, sequence: &str) -> Result<Bundle, 
 /// A map that holds the bundle under `a`.
 fn holding(alloc: Global, bundle: Bundle) -> Result<Contents, Fail> {
     let mut map = Contents::new(alloc);
-    set_a(alloc, &mut map, bundle)?;
-    Ok(map)
+    match set_a(alloc, &mut map, bundle) {
+        Ok(()) => Ok(map),
+        Err(error) => {
+            drop(map);
+            Err(error)
+        }
+    }
 }
 
 fn set_a(alloc: Global, map: &mut Contents, bundle: Bundle) -> Result<(), Fail> {
@@ -89,7 +96,9 @@ fn set_a(alloc: Global, map: &mut Contents, bundle: Bundle) -> Result<(), Fail> 
 /// Plays the rows on a map that holds the bundle under `a`.
 fn play_on(alloc: Global, bundle: Bundle, rows: &[(&str, &str)]) -> Result<(), Fail> {
     let mut map = holding(alloc, bundle)?;
-    play(alloc, &mut map, rows)
+    let is_so = play(alloc, &mut map, rows);
+    drop(map);
+    is_so
 }
 
 #[test]
@@ -146,7 +155,9 @@ fn of_long_keys(alloc: Global, sequence: &str) -> Result<Bundle, Fail> {
 /// One more such authority is answered so, and then a short one.
 fn append_both(alloc: Global, bundle: Bundle, long: &str, short: &str) -> Result<(), Fail> {
     let mut map = holding(alloc, bundle)?;
-    append_both_to(alloc, &mut map, long, short)
+    let is_so = append_both_to(alloc, &mut map, long, short);
+    drop(map);
+    is_so
 }
 
 fn append_both_to(alloc: Global, map: &mut Contents, long: &str, short: &str) -> Result<(), Fail> {

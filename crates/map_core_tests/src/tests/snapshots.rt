@@ -15,19 +15,21 @@ fn set_number(alloc: Global, map: &mut Contents, number: u64) -> Result<(), Fail
 }
 
 fn all_of(map: &mut Contents) -> Result<Snapshot, Fail> {
-    match answer(map, &Op::FetchAll)? {
+    let op = Op::FetchAll;
+    let reply = answer(map, &op);
+    drop(op);
+    match reply? {
         Reply::All(all) => Ok(all),
         _ => Err(Fail::from("a fetch-all is answered otherwise")),
     }
 }
 
-/// The names of a thousand numbers, set out of order.
-fn a_thousand(alloc: Global) -> Result<Contents, Fail> {
-    let mut map = Contents::new(alloc);
+/// Sets the names of a thousand numbers, out of order.
+fn set_a_thousand(alloc: Global, map: &mut Contents) -> Result<(), Fail> {
     for i in 0..1000u64 {
-        set_number(alloc, &mut map, i * 7 % 1000)?;
+        set_number(alloc, map, i * 7 % 1000)?;
     }
-    Ok(map)
+    Ok(())
 }
 
 /// The pair is of this number.
@@ -54,31 +56,43 @@ fn is_in_order(rt: &impl Abort, alloc: Global, all: &Snapshot) -> Result<(), All
     Ok(())
 }
 
+/// The map shows a thousand names in order, once they are set.
+fn shows_a_thousand(rt: &impl Abort, alloc: Global, map: &mut Contents) -> Result<(), Fail> {
+    set_a_thousand(alloc, map)?;
+    is_equal(rt, &map.len(), &1000);
+    let all = all_of(map)?;
+    is_equal(rt, &all.len(), &1000);
+    is_in_order(rt, alloc, &all)?;
+    Ok(())
+}
+
 #[test]
 fn shows_a_thousand_names_in_order(rt: HostRuntime) -> Result<(), Fail> {
-    let mut map = a_thousand(rt.alloc())?;
-    is_equal(&rt, &map.len(), &1000);
-    let all = all_of(&mut map)?;
-    is_equal(&rt, &all.len(), &1000);
-    is_in_order(&rt, rt.alloc(), &all)?;
-    Ok(())
+    let mut map = Contents::new(rt.alloc());
+    let is_so = shows_a_thousand(&rt, rt.alloc(), &mut map);
+    drop(map);
+    is_so
 }
 
 /// A map of these rows, each of them answered as stored or removed.
 fn filled(alloc: Global, lines: &[(&str, &str)]) -> Result<Contents, Fail> {
     let mut map = Contents::new(alloc);
-    play(alloc, &mut map, lines)?;
-    Ok(map)
+    match play(alloc, &mut map, lines) {
+        Ok(()) => Ok(map),
+        Err(error) => {
+            drop(map);
+            Err(error)
+        }
+    }
 }
 
 /// A copy of the map changes by itself.
 fn changes_a_copy(alloc: Global, map: &Contents) -> Result<(), Fail> {
     let mut copy = map.copy()?;
-    play(
-        alloc,
-        &mut copy,
-        &[("remove a", "removed"), ("fetch", "all 2 b 2/0 c 3/0")],
-    )
+    let rows = [("remove a", "removed"), ("fetch", "all 2 b 2/0 c 3/0")];
+    let is_so = play(alloc, &mut copy, &rows);
+    drop(copy);
+    is_so
 }
 
 fn union_of(alloc: Global, first: &Contents, second: &Contents) -> Result<Union, AllocError> {
@@ -88,29 +102,41 @@ fn union_of(alloc: Global, first: &Contents, second: &Contents) -> Result<Union,
 /// The two maps joined show the first bundle of `a`, the second of `b`, and the mark of `c`.
 fn joins(alloc: Global, first: &Contents, second: &Contents) -> Result<(), Fail> {
     let mut joined = union_of(alloc, first, second)?.into_contents()?;
-    play(
-        alloc,
-        &mut joined,
-        &[("fetch", "all 2 a 1/0 b 9/0"), ("set c 3", "refused 31 4")],
-    )
+    let rows = [("fetch", "all 2 a 1/0 b 9/0"), ("set c 3", "refused 31 4")];
+    let is_so = play(alloc, &mut joined, &rows);
+    drop(joined);
+    is_so
 }
 
-#[test]
-fn copies_and_joins(rt: HostRuntime) -> Result<(), Fail> {
-    let alloc = rt.alloc();
-    let rows = [
-        ("set a 1", "stored"),
-        ("set b 2", "stored"),
-        ("set c 3", "stored"),
-    ];
-    let first = filled(alloc, &rows)?;
-    changes_a_copy(alloc, &first)?;
+/// The same of the map of these rows.
+fn joins_rows(alloc: Global, first: &Contents, rows: &[(&str, &str)]) -> Result<(), Fail> {
+    let second = filled(alloc, rows)?;
+    let is_so = joins(alloc, first, &second);
+    drop(second);
+    is_so
+}
+
+fn copies_then_joins(alloc: Global, first: &Contents) -> Result<(), Fail> {
+    changes_a_copy(alloc, first)?;
     let rows = [
         ("set b 9", "stored"),
         ("set c 4", "stored"),
         ("remove c", "removed"),
     ];
-    joins(alloc, &first, &filled(alloc, &rows)?)
+    joins_rows(alloc, first, &rows)
+}
+
+#[test]
+fn copies_and_joins(rt: HostRuntime) -> Result<(), Fail> {
+    let rows = [
+        ("set a 1", "stored"),
+        ("set b 2", "stored"),
+        ("set c 3", "stored"),
+    ];
+    let first = filled(rt.alloc(), &rows)?;
+    let is_so = copies_then_joins(rt.alloc(), &first);
+    drop(first);
+    is_so
 }
 
 #[test]
@@ -150,6 +176,14 @@ fn union_text(alloc: Global, first: &Contents, second: &Contents) -> Result<Stri
     snapshot_text(alloc, &all)
 }
 
+/// The same of a map and that of these rows.
+fn union_text_of(alloc: Global, first: &Contents, rows: &[(&str, &str)]) -> Result<String, Fail> {
+    let second = filled(alloc, rows)?;
+    let text = union_text(alloc, first, &second);
+    drop(second);
+    Ok(text?)
+}
+
 #[test]
 fn a_union_is_taken_apart_into_its_bundles(rt: HostRuntime) -> Result<(), Fail> {
     let alloc = rt.alloc();
@@ -165,7 +199,8 @@ fn a_union_is_taken_apart_into_its_bundles(rt: HostRuntime) -> Result<(), Fail> 
         ("set x 4", "stored"),
         ("remove x", "removed"),
     ];
-    let text = union_text(alloc, &first, &filled(alloc, &rows)?)?;
-    is_equal(&rt, &text.as_str(), &"all 3 b 9/0 c -/2 d 1/0");
+    let text = union_text_of(alloc, &first, &rows);
+    drop(first);
+    is_equal(&rt, &text?.as_str(), &"all 3 b 9/0 c -/2 d 1/0");
     Ok(())
 }
