@@ -1,4 +1,7 @@
 //! Worked examples of sessions: a row is what comes in and, beside it, what goes out.
+//!
+//! A map is dropped by a call of `drop`, before anything may fail: where a scope drops it, the prover follows all its parts on
+//! each way out.
 mod bundles;
 mod decoders;
 mod dumps;
@@ -109,6 +112,20 @@ where
     Ok((ended, writer.end))
 }
 
+/// The same over an empty map.
+fn answers_new<R: Read>(
+    alloc: Global,
+    reader: R,
+) -> Result<(Result<u64, FrontError>, Vec<u8>), AllocError>
+where
+    R: Drop,
+{
+    let mut contents = Contents::new(alloc);
+    let answers = answers_of(alloc, &mut contents, reader);
+    drop(contents);
+    answers
+}
+
 /// Adds a frame: a length of 4 bytes, and the parts of a payload.
 fn put_frame(out: &mut Vec<u8>, parts: &[&[u8]]) -> Result<(), AllocError> {
     let mut size: u32 = 0;
@@ -145,7 +162,7 @@ fn serves_so(
         first: size,
         size,
     };
-    let (ended, written) = answers_of(alloc, &mut Contents::new(alloc), reader)?;
+    let (ended, written) = answers_new(alloc, reader)?;
     holds_at(rt, ended == *wanted, &name);
     holds_at(rt, written.as_slice() == output, &name);
     Ok(())

@@ -17,6 +17,7 @@ fn a_reader_that_fails(rt: HostRuntime) -> Result<(), AllocError> {
         let mut writer = Counted::new(Vec::new(rt.alloc()));
         let mut map = Contents::new(rt.alloc());
         let ended = serve(rt.alloc(), &mut reader, &mut writer, &mut map, 100);
+        drop(map);
         holds_at(&rt, ended == Err(FrontError::ReadFault), &after);
         let written = match after {
             0..=17 => 0,
@@ -42,6 +43,7 @@ fn a_writer_that_fails(rt: HostRuntime) -> Result<(), AllocError> {
         let mut writer = Counted::new(FaultyWriter::new(rt.alloc(), room));
         let mut map = Contents::new(rt.alloc());
         let ended = serve(rt.alloc(), &mut reader, &mut writer, &mut map, 100);
+        drop(map);
         let (want, faults) = if room < 21 {
             (Err(FrontError::WriteFault), 1)
         } else {
@@ -77,6 +79,7 @@ fn a_refused_growth_is_answered(rt: HostRuntime) -> Result<(), AllocError> {
     let mut writer = Counted::new(Vec::with_capacity(alloc, 64)?);
     let mut map = Contents::new(alloc);
     let ended = serve(alloc, &mut reader, &mut writer, &mut map, 100);
+    drop(map);
     let written = writer.end.as_slice();
     let both = is_joined(written, STORED, ALL_OF_ONE);
     let allowed = match ended {
@@ -108,6 +111,7 @@ fn each_round_is_one_write(rt: HostRuntime) -> Result<(), AllocError> {
     });
     let mut map = Contents::new(alloc);
     let ended = serve(alloc, &mut reader, &mut writer, &mut map, 100);
+    drop(map);
     holds_at(&rt, ended == Ok(3), &ended);
     holds_at(&rt, writer.end.writes == 2, &writer.end.writes);
     holds_at(&rt, writer.end.flushes == 2, &writer.end.flushes);

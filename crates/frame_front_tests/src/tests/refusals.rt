@@ -1,6 +1,5 @@
 //! What is refused, and where the fault stands.
-use super::{answers_of, holds, holds_at, put_frame};
-use map_core::Contents;
+use super::{answers_new, holds, holds_at, put_frame};
 use std::alloc::{AllocError, Global};
 use std::process::Abort;
 
@@ -12,8 +11,7 @@ fn answers_each(rt: &impl Abort, alloc: Global, rows: &[(&[u8], &[u8])]) -> Resu
         put_frame(&mut input, &[payload])?;
         output.extend_from_slice(reply)?;
     }
-    let mut contents = Contents::new(alloc);
-    let (ended, written) = answers_of(alloc, &mut contents, input.as_slice())?;
+    let (ended, written) = answers_new(alloc, input.as_slice())?;
     holds_at(rt, ended.is_ok(), &ended);
     holds_at(rt, written == output, &written.as_slice());
     Ok(())

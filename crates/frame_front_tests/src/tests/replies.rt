@@ -2,6 +2,8 @@
 use super::{GET, holds_at, is_equal};
 use frame_front::{Counted, serve};
 use map_core::{Ask, AskError, Op, Reply};
+use std::alloc::Global;
+use std::process::Abort;
 
 /// Gives each operation this answer.
 #[derive(Drop)]
@@ -21,6 +23,18 @@ impl Ask for Refuses {
     }
 }
 
+/// Each error is coded so.
+fn are_coded(rt: &impl Abort, alloc: Global, rows: &[(AskError, &[u8])]) {
+    for (error, text) in rows {
+        let mut reader = Counted::new(GET);
+        let mut writer = Counted::new(Vec::new(alloc));
+        let mut refuses = Refuses(*error);
+        let ended = serve(alloc, &mut reader, &mut writer, &mut refuses, 10);
+        is_equal(rt, &ended, &Ok(1));
+        holds_at(rt, writer.end.as_slice() == *text, error);
+    }
+}
+
 #[test]
 fn codes_errors(rt: HostRuntime) {
     let moved: &[u8] =
@@ -29,35 +43,28 @@ fn codes_errors(rt: HostRuntime) {
     let shut: &[u8] = b"\x00\x00\x00\x01\x38";
     let worn: &[u8] = b"\x00\x00\x00\x05\x28\x00\x00\x00\xff";
     let memory: &[u8] = b"\x00\x00\x00\x01\x16";
-    let rows = [
-        (
-            AskError::Moved {
-                shard: 0,
-                first: 0,
-                second: 1,
-            },
-            moved,
-        ),
-        (
-            AskError::Held {
-                shard: 1,
-                revision: 3,
-            },
-            held,
-        ),
-        (AskError::GateShut, shut),
-        (AskError::Worn { shard: 255 }, worn),
-        (AskError::Memory, memory),
-    ];
-    for (error, text) in rows {
-        let mut reader = Counted::new(GET);
-        let mut writer = Counted::new(Vec::new(rt.alloc()));
-        let mut refuses = Refuses(error);
-        is_equal(
-            &rt,
-            &serve(rt.alloc(), &mut reader, &mut writer, &mut refuses, 10),
-            &Ok(1),
-        );
-        holds_at(&rt, writer.end.as_slice() == text, &error);
-    }
+    are_coded(
+        &rt,
+        rt.alloc(),
+        &[
+            (
+                AskError::Moved {
+                    shard: 0,
+                    first: 0,
+                    second: 1,
+                },
+                moved,
+            ),
+            (
+                AskError::Held {
+                    shard: 1,
+                    revision: 3,
+                },
+                held,
+            ),
+            (AskError::GateShut, shut),
+            (AskError::Worn { shard: 255 }, worn),
+            (AskError::Memory, memory),
+        ],
+    );
 }

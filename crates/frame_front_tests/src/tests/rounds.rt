@@ -89,6 +89,7 @@ fn replies_are_flushed_before_the_next_read(rt: HostRuntime) -> Result<(), Alloc
         let mut writer = Counted::new(Counting { replies: &replies });
         let mut map = Contents::new(alloc);
         let ended = serve(alloc, &mut reader, &mut writer, &mut map, 100);
+        drop(map);
         holds_at(&rt, ended == Ok(3), &size);
         holds_at(&rt, replies.flushed.get() == 52, &size);
     }

@@ -1,11 +1,12 @@
 //! What each request is answered.
 use super::{
-    ALL_OF_NONE, ALL_OF_ONE, FETCH_ALL, GET, Pieces, SET, Session, answers_of, holds, holds_at,
-    serve_each, serves_so,
+    ALL_OF_NONE, ALL_OF_ONE, FETCH_ALL, GET, Pieces, SET, Session, answers_new, answers_of, holds,
+    holds_at, serve_each, serves_so,
 };
 use frame_front::FrontError;
 use map_core::Contents;
-use std::alloc::AllocError;
+use std::alloc::{AllocError, Global};
+use std::process::Abort;
 
 /// The first run: a document is set and got back.
 const FIRST_RUN: &[u8] = b"\x00\x00\x00\x0eS\x01a{\"keys\":[]}\x00\x00\x00\x03G\x01a";
@@ -215,13 +216,12 @@ fn ends_at_bad_lengths(rt: HostRuntime) -> Result<(), AllocError> {
 #[test]
 fn cuts_do_not_matter(rt: HostRuntime) -> Result<(), AllocError> {
     for first in 1..FIRST_RUN.len() {
-        let mut contents = Contents::new(rt.alloc());
         let reader = Pieces {
             bytes: FIRST_RUN,
             first,
             size: 4096,
         };
-        let (ended, written) = answers_of(rt.alloc(), &mut contents, reader)?;
+        let (ended, written) = answers_new(rt.alloc(), reader)?;
         holds_at(&rt, ended == Ok(2), &first);
         holds_at(&rt, written.as_slice() == FIRST_REPLIES, &first);
     }
@@ -253,24 +253,40 @@ fn ends_inside_frames(rt: HostRuntime) -> Result<(), AllocError> {
     Ok(())
 }
 
+/// Each session over the map has its output.
+fn serve_over(
+    rt: &impl Abort,
+    alloc: Global,
+    contents: &mut Contents,
+    sessions: &[(&[u8], &[u8])],
+) -> Result<(), AllocError> {
+    for (input, output) in sessions {
+        let (ended, written) = answers_of(alloc, contents, *input)?;
+        holds(rt, ended.is_ok());
+        holds(rt, written.as_slice() == *output);
+    }
+    Ok(())
+}
+
 // The map outlives a session, and the version doesn't.
 #[test]
 fn keeps_the_map_and_not_the_version(rt: HostRuntime) -> Result<(), AllocError> {
     let mut contents = Contents::new(rt.alloc());
-    let sessions: [(&[u8], &[u8]); 3] = [
-        (SET, b"\x00\x00\x00\x01s"),
-        (b"\x00\x00\x00\x02V\x02", b"\x00\x00\x00\x02v\x02"),
-        (
-            b"\x00\x00\x00\x0fC\x01a\x00{\"keys\":[]}\x00\x00\x00\x03G\x01a",
-            b"\x00\x00\x00\x01\x33\x00\x00\x00\x0cf{\"keys\":[]}",
-        ),
-    ];
-    for (input, output) in sessions {
-        let (ended, written) = answers_of(rt.alloc(), &mut contents, input)?;
-        holds(&rt, ended.is_ok());
-        holds(&rt, written.as_slice() == output);
-    }
-    Ok(())
+    let is_so = serve_over(
+        &rt,
+        rt.alloc(),
+        &mut contents,
+        &[
+            (SET, b"\x00\x00\x00\x01s"),
+            (b"\x00\x00\x00\x02V\x02", b"\x00\x00\x00\x02v\x02"),
+            (
+                b"\x00\x00\x00\x0fC\x01a\x00{\"keys\":[]}\x00\x00\x00\x03G\x01a",
+                b"\x00\x00\x00\x01\x33\x00\x00\x00\x0cf{\"keys\":[]}",
+            ),
+        ],
+    );
+    drop(contents);
+    is_so
 }
 
 // The reads are used up before the input is at its end.
@@ -286,6 +302,7 @@ fn each_read_is_a_turn(rt: HostRuntime) -> Result<(), AllocError> {
         });
         let mut writer = frame_front::Counted::new(Vec::new(rt.alloc()));
         let ended = frame_front::serve(rt.alloc(), &mut reader, &mut writer, &mut contents, turns);
+        drop(contents);
         holds_at(&rt, ended == want, &turns);
         holds(&rt, writer.end.as_slice() == FIRST_REPLIES);
     }
@@ -299,6 +316,7 @@ fn uses_up_its_turns(rt: HostRuntime) -> Result<(), AllocError> {
         let mut reader = frame_front::Counted::new(GET);
         let mut writer = frame_front::Counted::new(Vec::new(rt.alloc()));
         let ended = frame_front::serve(rt.alloc(), &mut reader, &mut writer, &mut contents, turns);
+        drop(contents);
         holds_at(&rt, ended == want, &turns);
         holds(
             &rt,

@@ -1,6 +1,5 @@
 //! Long payloads and many of them.
-use super::{Pieces, answers_of, holds, holds_at};
-use map_core::Contents;
+use super::{Pieces, answers_new, holds, holds_at};
 use std::alloc::{AllocError, Global};
 use std::process::Abort;
 
@@ -15,13 +14,12 @@ fn spaced_set(alloc: Global, head: &[u8], spaces: usize) -> Result<Vec<u8>, Allo
 
 fn answered(rt: &impl Abort, alloc: Global, input: &[u8], output: &[u8]) -> Result<(), AllocError> {
     for size in [1, 4096] {
-        let mut contents = Contents::new(alloc);
         let reader = Pieces {
             bytes: input,
             first: size,
             size,
         };
-        let (ended, written) = answers_of(alloc, &mut contents, reader)?;
+        let (ended, written) = answers_new(alloc, reader)?;
         holds_at(rt, ended.is_ok(), &size);
         holds_at(rt, written.as_slice() == output, &size);
     }
@@ -63,8 +61,7 @@ fn answers_a_long_stream(rt: HostRuntime) -> Result<(), AllocError> {
     }
     input.extend_from_slice(b"\x00\x00\x00\x01F")?;
     output.extend_from_slice(super::ALL_OF_ONE)?;
-    let mut contents = Contents::new(alloc);
-    let (ended, written) = answers_of(alloc, &mut contents, input.as_slice())?;
+    let (ended, written) = answers_new(alloc, input.as_slice())?;
     holds(&rt, ended == Ok(100_000));
     holds(&rt, written == output);
     Ok(())
