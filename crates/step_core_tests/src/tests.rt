@@ -1,5 +1,8 @@
 //! Worked examples. Events and records are written as lines of text, and the expected lines are written out. Want of
 //! memory ends a test by an error and never changes an answer, so each may be run with any allocation refused.
+//!
+//! Operations and tasks are dropped by a call of `drop`, before anything may fail: where a scope drops one, the prover follows all
+//! its parts on each way out.
 mod runs;
 mod shards;
 mod tasks;
@@ -269,9 +272,14 @@ fn play_events(alloc: Global, run: &Run, events: &[Event]) -> Result<(), Fail> {
         return Err(Fail::from("a run has a shard and a round"));
     }
     let trace = run_events(alloc, run.shards, run.rounds, events)?;
-    same_trace(alloc, &trace, run.shows)
+    let is_so = same_trace(alloc, &trace, run.shows);
+    drop(trace);
+    is_so
 }
 
 fn play(alloc: Global, run: &Run) -> Result<(), Fail> {
-    play_events(alloc, run, &events(alloc, run.events)?)
+    let events = events(alloc, run.events)?;
+    let is_so = play_events(alloc, run, &events);
+    drop(events);
+    is_so
 }

@@ -1,4 +1,6 @@
 //! Single shards and tasks, step by step.
+ghost use Rattle.std.specs.Prelude.{◌<◌};
+
 use super::{answer_text, contents_text, is_equal, operation};
 use map_core::{AskError, Contents, Op, Reply};
 use spiffe_doc::TrustDomain;
@@ -107,13 +109,15 @@ fn play_shared(alloc: Global, shard: &mut Shard, rows: &[Row]) -> Result<(), Fai
 }
 
 fn play_alone(alloc: Global, rows: &[Row]) -> Result<(), Fail> {
-    play(alloc, &mut Shard::new(alloc)?, rows)
+    let mut shard = Shard::new(alloc)?;
+    play(alloc, &mut shard, rows)
 }
 
 /// Plays the rows on a new shard that nobody shares, and on one whose versions are shared.
 fn play_new(alloc: Global, rows: &[Row]) -> Result<(), Fail> {
     play_alone(alloc, rows)?;
-    play_shared(alloc, &mut Shard::new(alloc)?, rows)
+    let mut shard = Shard::new(alloc)?;
+    play_shared(alloc, &mut shard, rows)
 }
 
 #[test]
@@ -287,6 +291,7 @@ fn give_seen(alloc: Global, task: &mut Task, revision: u64) -> Result<(), Fail> 
 /// The text of the reply of a task that is done; out of memory is an error here.
 fn reply_of(alloc: Global, task: Task) -> Result<String, Fail> {
     if task.wants() != Want::Done {
+        drop(task);
         return Err(Fail::from("the task is not done"));
     }
     match task.reply() {
@@ -314,26 +319,58 @@ fn give_round(
     Ok(())
 }
 
+/// The text of the reply of a task, once all was given; why it was not, if something failed.
+fn reply_once(alloc: Global, task: Task, given: Result<(), Fail>) -> Result<String, Fail> {
+    match given {
+        Ok(()) => reply_of(alloc, task),
+        Err(error) => {
+            drop(task);
+            Err(error)
+        }
+    }
+}
+
+/// A task of a fetch-all.
+fn fetch_all(alloc: Global, shards: usize, rounds: usize) -> Result<Task, Fail>
+    requires shards { 0 < shards }
+    requires rounds { 0 < rounds }
+{
+    let op = Op::FetchAll;
+    let task = Task::begin(alloc, &op, shards, rounds);
+    drop(op);
+    Ok(task?)
+}
+
+fn give_rounds(rt: &impl Abort, alloc: Global, task: &mut Task) -> Result<(), Fail> {
+    for revisions in [(3, 4, 5), (3, 5, 5)] {
+        give_round(rt, alloc, task, revisions)?;
+    }
+    Ok(())
+}
+
 /// A fetch-all over two shards: the second round reads both again, though the first shard had not moved.
 #[test]
 fn a_fetch_all_wants_all_again(rt: HostRuntime) -> Result<(), Fail> {
-    let mut task = Task::begin(rt.alloc(), &Op::FetchAll, 2, 2)?;
-    for revisions in [(3, 4, 5), (3, 5, 5)] {
-        give_round(&rt, rt.alloc(), &mut task, revisions)?;
-    }
-    let text = reply_of(rt.alloc(), task)?;
+    let mut task = fetch_all(rt.alloc(), 2, 2)?;
+    let given = give_rounds(&rt, rt.alloc(), &mut task);
+    let text = reply_once(rt.alloc(), task, given)?;
     is_equal(&rt, &text.as_str(), &"all 0");
+    Ok(())
+}
+
+fn give_moves(alloc: Global, task: &mut Task) -> Result<(), Fail> {
+    for (first, second) in [(0, 1), (7, 9)] {
+        give_seen(alloc, task, first)?;
+        task.give(Answer::Revision(second));
+    }
     Ok(())
 }
 
 #[test]
 fn a_fetch_all_names_the_last_shard_that_moved(rt: HostRuntime) -> Result<(), Fail> {
-    let mut task = Task::begin(rt.alloc(), &Op::FetchAll, 1, 2)?;
-    for (first, second) in [(0, 1), (7, 9)] {
-        give_seen(rt.alloc(), &mut task, first)?;
-        task.give(Answer::Revision(second));
-    }
-    let text = reply_of(rt.alloc(), task)?;
+    let mut task = fetch_all(rt.alloc(), 1, 2)?;
+    let given = give_moves(rt.alloc(), &mut task);
+    let text = reply_once(rt.alloc(), task, given)?;
     is_equal(&rt, &text.as_str(), &"moved 0 7 9");
     Ok(())
 }
@@ -351,9 +388,12 @@ fn give_replies(rt: &impl Abort, alloc: Global, task: &mut Task) -> Result<(), F
 /// One on a name is a step of its shard; what it does not want changes nothing.
 #[test]
 fn an_operation_on_a_name_is_one_step(rt: HostRuntime) -> Result<(), Fail> {
-    let mut task = Task::begin(rt.alloc(), &operation(rt.alloc(), "get a")?, 2, 1)?;
-    give_replies(&rt, rt.alloc(), &mut task)?;
-    let text = reply_of(rt.alloc(), task)?;
+    let op = operation(rt.alloc(), "get a")?;
+    let task = Task::begin(rt.alloc(), &op, 2, 1);
+    drop(op);
+    let mut task = task?;
+    let given = give_replies(&rt, rt.alloc(), &mut task);
+    let text = reply_once(rt.alloc(), task, given)?;
     is_equal(&rt, &text.as_str(), &"unchanged");
     Ok(())
 }
