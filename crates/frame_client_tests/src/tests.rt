@@ -1,6 +1,10 @@
 //! Worked examples of clients.
+//!
+//! No operation and no map is alive where something may fail, and each is dropped by a call of `drop`: where a scope drops one, the
+//! prover follows all its parts on each way out.
 mod clients;
 mod exchanges;
+mod longest;
 mod numbers;
 
 use std::fmt::Debug;

@@ -1,7 +1,7 @@
 //! Exchanges of a client: what it is asked, what it writes, what it reads and what it answers.
 use super::{ALL_OF_NONE, ALL_OF_ONE, FETCH_ALL, GET, SET};
 use map_core::{AskError, Expect, MapRefusal, Op, Reply, Snapshot};
-use spiffe_doc::{Authority, Bundle, DocError, TrustDomain, read_document, read_entry};
+use spiffe_doc::{Authority, Bundle, DocError, NameError, TrustDomain, read_document, read_entry};
 use std::alloc::{AllocError, Global};
 use std::test::Fail;
 
@@ -42,17 +42,23 @@ fn authority(alloc: Global) -> Result<Authority, DocError> {
     }
 }
 
+fn domain(alloc: Global) -> Result<TrustDomain, NameError> {
+    TrustDomain::parse(alloc, "a")
+}
+
+fn empty(alloc: Global) -> Result<Bundle, DocError> {
+    read_document(alloc, EMPTY)
+}
+
 pub(super) fn op(alloc: Global, ask: Asked) -> Result<Op, Fail> {
-    let domain = TrustDomain::parse(alloc, "a")?;
-    let bundle = read_document(alloc, EMPTY)?;
-    Ok(match ask {
-        Asked::Set => Op::Set(domain, bundle),
-        Asked::SetIf(expect) => Op::SetIf(domain, expect, bundle),
-        Asked::Append => Op::Append(domain, authority(alloc)?),
-        Asked::Remove => Op::Remove(domain),
-        Asked::Get => Op::Get(domain),
-        Asked::FetchAll => Op::FetchAll,
-    })
+    match ask {
+        Asked::Set => Ok(Op::Set(domain(alloc)?, empty(alloc)?)),
+        Asked::SetIf(expect) => Ok(Op::SetIf(domain(alloc)?, expect, empty(alloc)?)),
+        Asked::Append => Ok(Op::Append(domain(alloc)?, authority(alloc)?)),
+        Asked::Remove => Ok(Op::Remove(domain(alloc)?)),
+        Asked::Get => Ok(Op::Get(domain(alloc)?)),
+        Asked::FetchAll => Ok(Op::FetchAll),
+    }
 }
 
 /// A domain and how long its text is, in words.
