@@ -29,17 +29,35 @@ fn play_while_held(
     Ok(held.let_go(store))
 }
 
-/// One shard: a get is remembered, and answers gets and fetch-alls until there is another change.
-fn read_one(alloc: Global, tries: u64) -> Result<(), Fail>
-    requires { 0 < tries }
+/// Plays a row of a pass, and then rows while another one holds shard 0.
+fn play_and_hold(
+    alloc: Global,
+    store: &Store,
+    holder: Pass,
+    other: &mut Pass,
+    row: (&str, &str),
+    rows: &[(&str, &str)],
+) -> Result<Pass, Fail>
+    requires own { IsOf holder store.now × IsOf other.old store.now }
+    requires shard { 0 < store.now.id.slots }
+    ensures other { IsOf other.new store.now }
+    ensures holder { IfOk result (λ pass. IsOf pass store.now) }
 {
-    let (store, mut p) = Store::new(alloc, 1, 2, tries)?;
-    let mut q = store.split(&mut p, 1000);
-    is_answered(alloc, &store, &mut q, "set a 5", "stored")?;
+    let (line, expected) = row;
+    is_answered(alloc, store, other, line, expected)?;
+    play_while_held(alloc, store, holder, 0, other, rows)
+}
+
+/// A get of one pass is remembered, and answers gets and fetch-alls until the other one makes a change.
+fn remember(alloc: Global, store: &Store, p: Pass, q: &mut Pass) -> Result<Pass, Fail>
+    requires own { IsOf p store.now × IsOf q.old store.now }
+    requires shard { 0 < store.now.id.slots }
+    ensures q { IsOf q.new store.now }
+    ensures p { IfOk result (λ pass. IsOf pass store.now) }
+{
     // What was written is not remembered.
     let unread = [("get a", "held 0 1"), ("fetch", "held 0 1")];
-    let p = play_while_held(alloc, &store, p, 0, &mut q, &unread)?;
-    is_answered(alloc, &store, &mut q, "get a", "found 5/0")?;
+    let p = play_and_hold(alloc, store, p, q, ("set a 5", "stored"), &unread)?;
     let read = [
         ("get a", "found 5/0"),
         ("get b", "refused 30"),
@@ -47,13 +65,21 @@ fn read_one(alloc: Global, tries: u64) -> Result<(), Fail>
         ("set a 5", "held 0 1"),
         ("remove b", "held 0 1"),
     ];
-    let mut p = play_while_held(alloc, &store, p, 0, &mut q, &read)?;
-    is_answered(alloc, &store, &mut p, "set a 6", "stored")?;
+    let mut p = play_and_hold(alloc, store, p, q, ("get a", "found 5/0"), &read)?;
+    is_answered(alloc, store, &mut p, "set a 6", "stored")?;
     let moved = [("get a", "held 0 2"), ("fetch", "held 0 2")];
-    let p = play_while_held(alloc, &store, p, 0, &mut q, &moved)?;
-    is_answered(alloc, &store, &mut q, "get a", "found 6/0")?;
+    let p = play_while_held(alloc, store, p, 0, q, &moved)?;
     let again = [("get a", "found 6/0"), ("fetch", "all 1 a 6/0")];
-    let p = play_while_held(alloc, &store, p, 0, &mut q, &again)?;
+    play_and_hold(alloc, store, p, q, ("get a", "found 6/0"), &again)
+}
+
+/// One shard: a get is remembered until there is another change.
+fn read_one(alloc: Global, tries: u64) -> Result<(), Fail>
+    requires { 0 < tries }
+{
+    let (store, mut p) = Store::new(alloc, 1, 2, tries)?;
+    let mut q = store.split(&mut p, 1000);
+    let p = remember(alloc, &store, p, &mut q)?;
     let pass = store.join(p, q);
     close_with(store, pass, 1)
 }
@@ -76,38 +102,69 @@ fn split_ten(store: &Store, pass: &mut Pass) -> Result<Pass, Fail>
     Ok(store.split(pass, 10))
 }
 
-/// Two shards: a fetch-all is remembered of each. The name `b` is at home in shard 0, and `a` in shard 1.
-fn read_all(alloc: Global) -> Result<(), Fail> {
-    let (store, mut p) = Store::new(alloc, 2, 2, 1)?;
-    let mut q = store.split(&mut p, 1000);
+/// What a pass that has read both shards is answered while shard 1 is held.
+const READ: &[(&str, &str)] = &[
+    ("get a", "found 5/0"),
+    ("get b", "found 6/0"),
+    ("fetch", "all 2 a 5/0 b 6/0"),
+    ("append a k", "held 1 1"),
+];
+
+/// What another one is answered.
+const UNREAD: &[(&str, &str)] = &[
+    ("get a", "held 1 1"),
+    ("get b", "found 6/0"),
+    ("fetch", "held 1 1"),
+];
+
+/// A fetch-all of one pass is remembered of each shard.
+fn remember_all(alloc: Global, store: &Store, p: Pass, q: &mut Pass) -> Result<Pass, Fail>
+    requires own { IsOf p store.now × IsOf q.old store.now }
+    requires shards { 1 < store.now.id.slots }
+    ensures q { IsOf q.new store.now }
+    ensures p { IfOk result (λ pass. IsOf pass store.now) }
+{
     let sets = [
         ("set a 5", "stored"),
         ("set b 6", "stored"),
         ("fetch", "all 2 a 5/0 b 6/0"),
     ];
-    play_one(alloc, &store, &mut q, &sets)?;
-    let read = [
-        ("get a", "found 5/0"),
-        ("get b", "found 6/0"),
-        ("fetch", "all 2 a 5/0 b 6/0"),
-        ("append a k", "held 1 1"),
-    ];
-    let p = play_while_held(alloc, &store, p, 1, &mut q, &read)?;
-    // A pass that is split off remembers nothing, and one that is joined away is forgotten.
-    let mut r = split_ten(&store, &mut q)?;
-    let unread = [
-        ("get a", "held 1 1"),
-        ("get b", "found 6/0"),
-        ("fetch", "held 1 1"),
-    ];
-    let p = play_while_held(alloc, &store, p, 1, &mut r, &unread)?;
+    play_one(alloc, store, q, &sets)?;
+    play_while_held(alloc, store, p, 1, q, READ)
+}
+
+/// A pass that is split off remembers nothing, and one that is joined away is forgotten.
+fn forget(alloc: Global, store: &Store, p: Pass, mut q: Pass) -> Result<(Pass, Pass), Fail>
+    requires own { IsOf p store.now × IsOf q store.now }
+    requires shards { 1 < store.now.id.slots }
+    ensures { IfOk result (λ both. IsOf both.0 store.now × IsOf both.1 store.now) }
+{
+    let mut r = split_ten(store, &mut q)?;
+    let p = play_while_held(alloc, store, p, 1, &mut r, UNREAD)?;
     let mut r = store.join(r, q);
-    let mut p = play_while_held(alloc, &store, p, 1, &mut r, &unread)?;
-    // A pass that has held a shard and let it go remembers what it had read.
-    is_answered(alloc, &store, &mut p, "get a", "found 5/0")?;
-    let mut p = play_while_held(alloc, &store, p, 0, &mut r, &[("get a", "found 5/0")])?;
-    let r = play_while_held(alloc, &store, r, 1, &mut p, &read)?;
-    let pass = store.join(p, r);
+    let p = play_while_held(alloc, store, p, 1, &mut r, UNREAD)?;
+    Ok((p, r))
+}
+
+/// A pass that has held a shard and let it go remembers what it had read.
+fn remember_after(alloc: Global, store: &Store, mut p: Pass, mut r: Pass) -> Result<Pass, Fail>
+    requires own { IsOf p store.now × IsOf r store.now }
+    requires shards { 1 < store.now.id.slots }
+    ensures { IfOk result (λ pass. IsOf pass store.now) }
+{
+    is_answered(alloc, store, &mut p, "get a", "found 5/0")?;
+    let mut p = play_while_held(alloc, store, p, 0, &mut r, &[("get a", "found 5/0")])?;
+    let r = play_while_held(alloc, store, r, 1, &mut p, READ)?;
+    Ok(store.join(p, r))
+}
+
+/// Two shards: a fetch-all is remembered of each. The name `b` is at home in shard 0, and `a` in shard 1.
+fn read_all(alloc: Global) -> Result<(), Fail> {
+    let (store, mut p) = Store::new(alloc, 2, 2, 1)?;
+    let mut q = store.split(&mut p, 1000);
+    let p = remember_all(alloc, &store, p, &mut q)?;
+    let (p, r) = forget(alloc, &store, p, q)?;
+    let pass = remember_after(alloc, &store, p, r)?;
     close_with(store, pass, 2)
 }
 

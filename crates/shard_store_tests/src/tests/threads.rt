@@ -3,6 +3,7 @@ ghost use Rattle.std.specs.Prelude.{◌≤◌};
 ghost use Rattle.shard_store.specs.Pass.{IsOf};
 
 use super::holds;
+use super::turns::close_with;
 use super::words::{call, compare};
 use map_core::{AskError, Op, Reply, Snapshot};
 use shard_store::{Pass, Store};
@@ -54,7 +55,9 @@ fn is_set(alloc: Global, store: &Store, pass: &mut Pass, name: &str, sequence: u
     let Some(op) = set_op(alloc, name, sequence) else {
         return false;
     };
-    matches!(insist(store, pass, &op), Ok(Reply::Stored))
+    let answer = insist(store, pass, &op);
+    drop(op);
+    matches!(answer, Ok(Reply::Stored))
 }
 
 /// Gets a domain. The answer is whether it was found with the sequence.
@@ -65,7 +68,9 @@ fn is_found(alloc: Global, store: &Store, pass: &mut Pass, name: &str, sequence:
     let Some(op) = get_op(alloc, name) else {
         return false;
     };
-    match insist(store, pass, &op) {
+    let answer = insist(store, pass, &op);
+    drop(op);
+    match answer {
         Ok(Reply::Found(bundle)) => bundle.sequence() == Some(sequence),
         _ => false,
     }
@@ -166,10 +171,17 @@ fn two_threads_read_back_what_they_set(rt: HostRuntime) -> Result<(), Fail> {
     let (one, two) = work_two(&rt, alloc, &store, one, two, hundred('a'), hundred('b'));
     holds(&rt, one.1 == 100 && two.1 == 100);
     let mut pass = store.join(one.0, two.0);
-    let answer = store.fetch_all(&mut pass);
-    compare(alloc, "fetch", &answer, "all 200")?;
-    holds(&rt, store.close(pass)?.len() == 200);
-    Ok(())
+    shows(alloc, &store, &mut pass, "all 200")?;
+    close_with(store, pass, 200)
+}
+
+/// A fetch-all is answered so.
+fn shows(alloc: Global, store: &Store, pass: &mut Pass, expected: &str) -> Result<(), Fail>
+    requires { IsOf pass.old store.now }
+    ensures { IsOf pass.new store.now }
+{
+    let answer = store.fetch_all(pass);
+    compare(alloc, "fetch", &answer, expected)
 }
 
 /// How many changes the shards have had.
@@ -221,8 +233,7 @@ fn four_threads_lose_no_change(rt: HostRuntime) -> Result<(), Fail> {
     let pass = store.join(store.join(a, b), store.join(c, d));
     let (pass, changes) = count_changes(&store, pass, 8);
     holds(&rt, changes == 200_000);
-    holds(&rt, store.close(pass)?.len() == 8);
-    Ok(())
+    close_with(store, pass, 8)
 }
 
 /// Sets `a` and then `b` to each sequence from 1 to 100. The answer is whether each was stored.
@@ -316,7 +327,5 @@ fn a_fetch_all_shows_one_moment_of_a_restless_writer(rt: HostRuntime) -> Result<
     holds(&rt, wrote.1 == 100 && seen.other == 0 && seen.moments > 0);
     holds(&rt, seen.moments.saturating_add(seen.refused) == 1000);
     let mut pass = store.join(wrote.0, watched.0);
-    let answer = store.fetch_all(&mut pass);
-    compare(alloc, "fetch", &answer, "all 2 a 100/0 b 100/0")?;
-    Ok(())
+    shows(alloc, &store, &mut pass, "all 2 a 100/0 b 100/0")
 }

@@ -68,11 +68,24 @@ pub(crate) fn close_with(store: Store, pass: Pass, count: usize) -> Result<(), F
     requires { IsOf pass store }
 {
     let contents = store.close(pass)?;
-    if contents.len() == count {
+    let found = contents.len();
+    drop(contents);
+    if found == count {
         return Ok(());
     }
     Err(Fail::from("the store had another number of domains at its end"))
 }
+
+/// Rows of two passes, after a hundred domains by each.
+const IN_TURN: &[(&str, &str, &str)] = &[
+    ("p", "set c -", "stored"),
+    ("q", "append c x509", "appended -"),
+    ("p", "fetch", "all 201"),
+    ("q", "fetch", "all 201"),
+    ("q", "get c", "found -/1"),
+    ("q", "remove c", "removed"),
+    ("p", "get c", "refused 30"),
+];
 
 #[test]
 fn two_passes_in_turn_with_one_try(rt: HostRuntime) -> Result<(), Fail> {
@@ -80,16 +93,7 @@ fn two_passes_in_turn_with_one_try(rt: HostRuntime) -> Result<(), Fail> {
     let (store, mut p) = Store::new(alloc, 4, 3, 1)?;
     let mut q = store.split(&mut p, 1000);
     set_in_turn(alloc, &store, &mut p, &mut q)?;
-    let rows = [
-        ("p", "set c -", "stored"),
-        ("q", "append c x509", "appended -"),
-        ("p", "fetch", "all 201"),
-        ("q", "fetch", "all 201"),
-        ("q", "get c", "found -/1"),
-        ("q", "remove c", "removed"),
-        ("p", "get c", "refused 30"),
-    ];
-    play(alloc, &store, &mut p, &mut q, &rows)?;
+    play(alloc, &store, &mut p, &mut q, IN_TURN)?;
     let numbers = (p.numbers(), q.numbers());
     let mut pass = store.join(p, q);
     holds(
@@ -101,57 +105,98 @@ fn two_passes_in_turn_with_one_try(rt: HostRuntime) -> Result<(), Fail> {
     close_with(store, pass, 200)
 }
 
+/// Rows of two passes, of a domain that is removed.
+const REMOVED: &[(&str, &str, &str)] = &[
+    ("p", "setif a absent 7", "stored"),
+    ("q", "setif a absent 7", "refused 36 a bundle of sequence 7"),
+    ("p", "setif a 7 8", "stored"),
+    ("q", "setif a 8 3", "refused 31 8"),
+    ("p", "remove a", "removed"),
+    ("q", "fetch", "all 0"),
+    ("q", "setif a absent 3", "refused 31 8"),
+    ("p", "setif a none 3", "refused 36 no bundle"),
+    ("q", "append a k", "refused 30"),
+    ("p", "remove a", "refused 30"),
+    ("q", "set a 8", "stored"),
+    ("p", "set a 8", "unchanged"),
+    ("q", "append a k", "appended 9"),
+    ("p", "append a k", "unchanged"),
+    ("p", "fetch", "all 1 a 9/1"),
+];
+
 #[test]
 fn removed_sequences_are_remembered(rt: HostRuntime) -> Result<(), Fail> {
     let alloc = rt.alloc();
     let (store, mut p) = Store::new(alloc, 2, 2, 1)?;
     let mut q = store.split(&mut p, 1);
-    let rows = [
-        ("p", "setif a absent 7", "stored"),
-        ("q", "setif a absent 7", "refused 36 a bundle of sequence 7"),
-        ("p", "setif a 7 8", "stored"),
-        ("q", "setif a 8 3", "refused 31 8"),
-        ("p", "remove a", "removed"),
-        ("q", "fetch", "all 0"),
-        ("q", "setif a absent 3", "refused 31 8"),
-        ("p", "setif a none 3", "refused 36 no bundle"),
-        ("q", "append a k", "refused 30"),
-        ("p", "remove a", "refused 30"),
-        ("q", "set a 8", "stored"),
-        ("p", "set a 8", "unchanged"),
-        ("q", "append a k", "appended 9"),
-        ("p", "append a k", "unchanged"),
-        ("p", "fetch", "all 1 a 9/1"),
-    ];
-    play(alloc, &store, &mut p, &mut q, &rows)?;
+    play(alloc, &store, &mut p, &mut q, REMOVED)?;
     let pass = store.join(q, p);
     close_with(store, pass, 1)
 }
+
+/// The same rows of one pass.
+const REMOVED_BY_ONE: &[(&str, &str)] = &[
+    ("setif a absent 7", "stored"),
+    ("setif a absent 7", "refused 36 a bundle of sequence 7"),
+    ("setif a 7 8", "stored"),
+    ("setif a 8 3", "refused 31 8"),
+    ("remove a", "removed"),
+    ("fetch", "all 0"),
+    ("setif a absent 3", "refused 31 8"),
+    ("setif a none 3", "refused 36 no bundle"),
+    ("append a k", "refused 30"),
+    ("remove a", "refused 30"),
+    ("set a 8", "stored"),
+    ("set a 8", "unchanged"),
+    ("append a k", "appended 9"),
+    ("append a k", "unchanged"),
+    ("fetch", "all 1 a 9/1"),
+];
 
 /// The same by one pass, as a front asks it.
 #[test]
 fn one_pass_remembers_removed_sequences(rt: HostRuntime) -> Result<(), Fail> {
     let alloc = rt.alloc();
-    let rows = [
-        ("setif a absent 7", "stored"),
-        ("setif a absent 7", "refused 36 a bundle of sequence 7"),
-        ("setif a 7 8", "stored"),
-        ("setif a 8 3", "refused 31 8"),
-        ("remove a", "removed"),
-        ("fetch", "all 0"),
-        ("setif a absent 3", "refused 31 8"),
-        ("setif a none 3", "refused 36 no bundle"),
-        ("append a k", "refused 30"),
-        ("remove a", "refused 30"),
-        ("set a 8", "stored"),
-        ("set a 8", "unchanged"),
-        ("append a k", "appended 9"),
-        ("append a k", "unchanged"),
-        ("fetch", "all 1 a 9/1"),
-    ];
     let (store, pass) = Store::new(alloc, 2, 2, 1)?;
     let mut seated = Seated::new(&store, pass);
-    ask_front(alloc, &mut seated, &rows)
+    ask_front(alloc, &mut seated, REMOVED_BY_ONE)
+}
+
+/// A shard and its revision.
+type Seen = (usize, u64);
+
+/// What the other pass is answered while shard 0 is held.
+const HELD: &[(&str, &str)] = &[
+    ("set a -", "held 0 0"),
+    ("get a", "held 0 0"),
+    ("fetch", "held 0 0"),
+];
+
+/// Holds shard 0 twice, the second time to the end, so that the other pass is refused. The answer is what is seen of the shard
+/// each time.
+fn hold_twice(
+    alloc: Global,
+    store: &Store,
+    holder: Pass,
+    other: &mut Pass,
+) -> Result<(Seen, Seen), Fail>
+    requires own { IsOf holder store.now × IsOf other.old store.now }
+    requires shard { 0 < store.now.id.slots }
+    ensures { IsOf other.new store.now }
+{
+    let Ok(held) = store.hold(holder, 0) else {
+        return Err(Fail::from("a free shard was refused"));
+    };
+    let before = (held.shard(), held.revision());
+    play_one(alloc, store, other, HELD)?;
+    let holder = held.let_go(store);
+    is_answered(alloc, store, other, "set a -", "stored")?;
+    let Ok(held) = store.hold(holder, 0) else {
+        return Err(Fail::from("a shard that was let go was refused"));
+    };
+    let after = (held.shard(), held.revision());
+    drop(held);
+    Ok((before, after))
 }
 
 /// Holds shard 0, so that the other pass is refused.
@@ -160,23 +205,7 @@ fn hold_one(alloc: Global, tries: u64) -> Result<(), Fail>
 {
     let (store, mut p) = Store::new(alloc, 1, 2, tries)?;
     let mut q = store.split(&mut p, 1000);
-    let Ok(held) = store.hold(p, 0) else {
-        return Err(Fail::from("a free shard was refused"));
-    };
-    let before = (held.shard(), held.revision());
-    let rows = [
-        ("set a -", "held 0 0"),
-        ("get a", "held 0 0"),
-        ("fetch", "held 0 0"),
-    ];
-    play_one(alloc, &store, &mut q, &rows)?;
-    let p = held.let_go(&store);
-    is_answered(alloc, &store, &mut q, "set a -", "stored")?;
-    let Ok(held) = store.hold(p, 0) else {
-        return Err(Fail::from("a shard that was let go was refused"));
-    };
-    let after = (held.shard(), held.revision());
-    drop(held);
+    let (before, after) = hold_twice(alloc, &store, p, &mut q)?;
     let Err((q, why)) = store.hold(q, 0) else {
         return Err(Fail::from("a shard was held twice"));
     };
@@ -186,7 +215,7 @@ fn hold_one(alloc: Global, tries: u64) -> Result<(), Fail>
         shard: 0,
         revision: 1,
     };
-    let end = matches!(store.close(q), Err(CloseError::HeldAtEnd(0)));
+    let end = store.close(q).err() == Some(CloseError::HeldAtEnd(0));
     if before == (0, 0) && after == (0, 1) && why == again && end {
         return Ok(());
     }
@@ -240,6 +269,18 @@ pub(crate) fn play_one(
     Ok(())
 }
 
+/// What the other pass is answered while shard 1 of two is held.
+const WHILE_HELD: &[(&str, &str)] = &[
+    ("set b 3", "stored"),
+    ("set a -", "held 1 0"),
+    ("append a k", "held 1 0"),
+    ("remove a", "held 1 0"),
+    ("get a", "held 1 0"),
+    ("get b", "found 3/0"),
+    ("fetch", "held 1 0"),
+    ("set b 4", "stored"),
+];
+
 /// Holds shard 1 of two to the end. The answer is what `close` tells then.
 fn close_while_held(alloc: Global, tries: u64) -> Result<CloseError, Fail>
     requires { 0 < tries }
@@ -249,21 +290,11 @@ fn close_while_held(alloc: Global, tries: u64) -> Result<CloseError, Fail>
     let Ok(held) = store.hold(p, 1) else {
         return Err(Fail::from("a free shard was refused"));
     };
-    let rows = [
-        ("set b 3", "stored"),
-        ("set a -", "held 1 0"),
-        ("append a k", "held 1 0"),
-        ("remove a", "held 1 0"),
-        ("get a", "held 1 0"),
-        ("get b", "found 3/0"),
-        ("fetch", "held 1 0"),
-        ("set b 4", "stored"),
-    ];
-    play_one(alloc, &store, &mut q, &rows)?;
+    play_one(alloc, &store, &mut q, WHILE_HELD)?;
     drop(held);
-    match store.close(q) {
-        Err(error) => Ok(error),
-        Ok(_) => Err(Fail::from("a store with a held shard was closed")),
+    match store.close(q).err() {
+        Some(error) => Ok(error),
+        None => Err(Fail::from("a store with a held shard was closed")),
     }
 }
 
@@ -313,18 +344,20 @@ fn ask_front<A: Ask>(alloc: Global, front: &mut A, rows: &[(&str, &str)]) -> Res
     Ok(())
 }
 
+/// What a front is answered.
+const SEATED: &[(&str, &str)] = &[
+    ("get a", "refused 30"),
+    ("set a 5", "stored"),
+    ("append a k", "appended 6"),
+    ("fetch", "all 1 a 6/1"),
+];
+
 /// Seats the pass for a front and drops it then.
 fn seat_for_front(alloc: Global, store: &Store, pass: Pass) -> Result<(), Fail>
     requires { IsOf pass store.now }
 {
-    let rows = [
-        ("get a", "refused 30"),
-        ("set a 5", "stored"),
-        ("append a k", "appended 6"),
-        ("fetch", "all 1 a 6/1"),
-    ];
     let mut seated = Seated::new(store, pass);
-    ask_front(alloc, &mut seated, &rows)
+    ask_front(alloc, &mut seated, SEATED)
 }
 
 /// Seats the pass for one operation, and gives it back.
@@ -367,38 +400,33 @@ fn ask_short(
     is_answered(alloc, store, pass, line, expected)
 }
 
+/// Asks lines of each kind.
+fn ask_each_short(alloc: Global, store: &Store, pass: &mut Pass) -> Result<(), Fail>
+    requires { IsOf pass.old store.now }
+    ensures { IsOf pass.new store.now }
+{
+    ask_short(alloc, store, pass, ("set a 5", "stored", "refused 30"))?;
+    ask_short(
+        alloc,
+        store,
+        pass,
+        ("append a k", "appended 6", "found 5/0"),
+    )?;
+    ask_short(alloc, store, pass, ("fetch", "all 1 a 6/1", "found 6/1"))?;
+    ask_short(alloc, store, pass, ("remove a", "removed", "found 6/1"))
+}
+
 /// To be run with each allocation refused in turn.
 #[test]
 fn a_refused_growth_changes_nothing(rt: HostRuntime) -> Result<(), Fail> {
     let alloc = rt.alloc();
     let (store, mut pass) = Store::new(alloc, 2, 1, 1)?;
-    ask_short(
-        alloc,
-        &store,
-        &mut pass,
-        ("set a 5", "stored", "refused 30"),
-    )?;
-    ask_short(
-        alloc,
-        &store,
-        &mut pass,
-        ("append a k", "appended 6", "found 5/0"),
-    )?;
-    ask_short(
-        alloc,
-        &store,
-        &mut pass,
-        ("fetch", "all 1 a 6/1", "found 6/1"),
-    )?;
-    ask_short(
-        alloc,
-        &store,
-        &mut pass,
-        ("remove a", "removed", "found 6/1"),
-    )?;
+    ask_each_short(alloc, &store, &mut pass)?;
     match store.close(pass) {
         Ok(contents) => {
-            holds(&rt, contents.len() == 0);
+            let left = contents.len();
+            drop(contents);
+            holds(&rt, left == 0);
             Ok(())
         }
         Err(CloseError::Memory) => Ok(()),
