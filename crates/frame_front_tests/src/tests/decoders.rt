@@ -1,25 +1,41 @@
 //! The decoder by itself.
 use super::holds;
 use frame_front::{Decoder, FrontError};
-use std::alloc::AllocError;
+use std::process::Abort;
 use std::test::Fail;
+
+/// The next frame has this payload.
+fn gives(rt: &impl Abort, decoder: &mut Decoder, want: &[u8]) -> Result<(), Fail> {
+    let payload = decoder.next_frame()?.ok_or("a frame is there")?;
+    holds(rt, payload.as_slice() == want);
+    Ok(())
+}
+
+/// There is no whole frame, and the input may end so.
+fn gives_none(
+    rt: &impl Abort,
+    decoder: &mut Decoder,
+    end: Result<(), FrontError>,
+) -> Result<(), Fail> {
+    holds(rt, decoder.next_frame()?.is_none());
+    holds(rt, decoder.finish() == end);
+    Ok(())
+}
+
+fn takes_out(rt: &impl Abort, decoder: &mut Decoder) -> Result<(), Fail> {
+    gives_none(rt, decoder, Ok(()))?;
+    decoder.feed(b"\x00\x00\x00\x02a")?;
+    gives_none(rt, decoder, Err(FrontError::Truncated))?;
+    decoder.feed(b"b\x00\x00\x00\x01c\x00\x00\x00")?;
+    gives(rt, decoder, b"ab")?;
+    gives(rt, decoder, b"c")?;
+    gives_none(rt, decoder, Err(FrontError::Truncated))
+}
 
 #[test]
 fn takes_frames_out(rt: HostRuntime) -> Result<(), Fail> {
     let mut decoder = Decoder::new(rt.alloc())?;
-    holds(&rt, decoder.next_frame()?.is_none());
-    holds(&rt, decoder.finish() == Ok(()));
-    decoder.feed(b"\x00\x00\x00\x02a")?;
-    holds(&rt, decoder.next_frame()?.is_none());
-    holds(&rt, decoder.finish() == Err(FrontError::Truncated));
-    decoder.feed(b"b\x00\x00\x00\x01c\x00\x00\x00")?;
-    for want in [b"ab".as_slice(), b"c".as_slice()] {
-        let payload = decoder.next_frame()?.ok_or("a frame is there")?;
-        holds(&rt, payload.as_slice() == want);
-    }
-    holds(&rt, decoder.next_frame()?.is_none());
-    holds(&rt, decoder.finish() == Err(FrontError::Truncated));
-    Ok(())
+    takes_out(&rt, &mut decoder)
 }
 
 // At a bad length the decoder stays as it is.
@@ -50,8 +66,7 @@ fn takes_a_million_frames_out_of_one_piece(rt: HostRuntime) -> Result<(), Fail> 
     let mut decoder = Decoder::new(alloc)?;
     decoder.feed(piece.as_slice())?;
     for _ in 0..1_000_000 {
-        let payload = decoder.next_frame()?.ok_or("a frame is there")?;
-        holds(&rt, payload.as_slice() == b"F".as_slice());
+        gives(&rt, &mut decoder, b"F")?;
     }
     holds(&rt, decoder.finish() == Ok(()));
     Ok(())

@@ -18,7 +18,8 @@ impl Ask for Refuses {
 
     ghost answers_plainly = { λ old op result new m shown answer. absurd (cc shown) };
 
-    fn ask(&mut self, _op: Op) -> Result<Reply, AskError> {
+    fn ask(&mut self, op: Op) -> Result<Reply, AskError> {
+        drop(op);
         Err(self.0)
     }
 }
