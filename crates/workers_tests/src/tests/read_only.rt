@@ -1,4 +1,5 @@
-//! A map that may be read and not changed.
+//! A map that may be read and not changed. A map is dropped by a call of `drop`, before anything may fail: where a scope drops it,
+//! the prover follows all its parts on each way out.
 use super::{holds, is_equal};
 use map_core::{Ask, AskError, Contents, Expect, Op, Reply};
 use spiffe_doc::{Authority, Bundle, TrustDomain, read_document, read_entry};
@@ -79,23 +80,48 @@ fn is_read<A: Ask>(rt: &impl Abort, alloc: Global, map: &mut A) -> Result<(), Fa
     Ok(())
 }
 
+fn set_a(alloc: Global, contents: &mut Contents) -> Result<(), Fail> {
+    contents.ask(set(alloc)?)?;
+    Ok(())
+}
+
+/// The map of sequence 7 under `a`.
+fn with_a(alloc: Global) -> Result<Contents, Fail> {
+    let mut contents = Contents::new(alloc);
+    match set_a(alloc, &mut contents) {
+        Ok(()) => Ok(contents),
+        Err(error) => {
+            drop(contents);
+            Err(error)
+        }
+    }
+}
+
+/// The map of sequence 7 under `a` is read, and as before once changes were refused.
+fn stays<A: Ask>(rt: &impl Abort, alloc: Global, map: &mut A) -> Result<(), Fail> {
+    is_read(rt, alloc, map)?;
+    refuses_changes(rt, alloc, map)?;
+    is_read(rt, alloc, map)
+}
+
 #[test]
 fn a_map_is_read_and_not_changed(rt: HostRuntime) -> Result<(), Fail> {
-    let alloc = rt.alloc();
-    let mut contents = Contents::new(alloc);
-    contents.ask(set(alloc)?)?;
-    let mut map = ReadOnly::new(contents);
-    is_read(&rt, alloc, &mut map)?;
-    refuses_changes(&rt, alloc, &mut map)?;
-    is_read(&rt, alloc, &mut map)?;
+    let mut map = ReadOnly::new(with_a(rt.alloc())?);
+    let is_so = stays(&rt, rt.alloc(), &mut map);
+    drop(map);
+    is_so
+}
+
+fn stays_empty<A: Ask>(rt: &impl Abort, alloc: Global, map: &mut A) -> Result<(), Fail> {
+    refuses_changes(rt, alloc, map)?;
+    is_equal(rt, &count(map)?, &0);
     Ok(())
 }
 
 #[test]
 fn an_empty_map_stays_empty(rt: HostRuntime) -> Result<(), Fail> {
-    let alloc = rt.alloc();
-    let mut map = ReadOnly::new(Contents::new(alloc));
-    refuses_changes(&rt, alloc, &mut map)?;
-    is_equal(&rt, &count(&mut map)?, &0);
-    Ok(())
+    let mut map = ReadOnly::new(Contents::new(rt.alloc()));
+    let is_so = stays_empty(&rt, rt.alloc(), &mut map);
+    drop(map);
+    is_so
 }
