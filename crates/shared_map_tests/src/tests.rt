@@ -1,5 +1,8 @@
 //! Maps beside a `BTreeMap` that takes the same changes. Running out of memory ends a test by an error and never changes an
 //! answer, so each may be run with any allocation refused.
+//!
+//! A map is dropped by a call of `drop`, before anything may fail: where a scope drops it, the prover follows all its parts on
+//! each way out.
 mod copies;
 mod levels;
 mod memory;
@@ -77,8 +80,13 @@ fn fill(alloc: Global, map: &mut SharedMap<Number>, count: u64) -> Result<(), Fa
 /// A map with these numbers, each under its name.
 fn filled(alloc: Global, count: u64) -> Result<SharedMap<Number>, Fail> {
     let mut map = SharedMap::new(alloc);
-    fill(alloc, &mut map, count)?;
-    Ok(map)
+    match fill(alloc, &mut map, count) {
+        Ok(()) => Ok(map),
+        Err(error) => {
+            drop(map);
+            Err(error)
+        }
+    }
 }
 
 fn fill_plain(alloc: Global, map: &mut BTreeMap<TrustDomain, u64>, count: u64) -> Result<(), Fail> {

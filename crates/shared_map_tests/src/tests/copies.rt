@@ -16,16 +16,34 @@ fn change(alloc: Global, map: &mut SharedMap<Number>) -> Result<(), Fail> {
     Ok(())
 }
 
+/// The copy has the numbers below 1000 after the map is changed.
+fn stays(
+    rt: &impl Abort,
+    alloc: Global,
+    map: &mut SharedMap<Number>,
+    copy: &SharedMap<Number>,
+) -> Result<(), Fail> {
+    change(alloc, map)?;
+    let wanted = plain(alloc, 1000)?;
+    are_same(rt, copy, &wanted);
+    is_equal(rt, &map.len(), &1000);
+    Ok(())
+}
+
+/// A copy of the map stays as it was.
+fn has_a_copy(rt: &impl Abort, alloc: Global, map: &mut SharedMap<Number>) -> Result<(), Fail> {
+    let copy = map.copy()?;
+    let is_so = stays(rt, alloc, map, &copy);
+    drop(copy);
+    is_so
+}
+
 #[test]
 fn a_copy_stays_as_it_was(rt: HostRuntime) -> Result<(), Fail> {
-    let alloc = rt.alloc();
-    let mut map = filled(alloc, 1000)?;
-    let copy = map.copy()?;
-    change(alloc, &mut map)?;
-    let wanted = plain(alloc, 1000)?;
-    are_same(&rt, &copy, &wanted);
-    is_equal(&rt, &map.len(), &1000);
-    Ok(())
+    let mut map = filled(rt.alloc(), 1000)?;
+    let is_so = has_a_copy(&rt, rt.alloc(), &mut map);
+    drop(map);
+    is_so
 }
 
 /// A map that numbers from 0 on are put into, and one copy before each.
@@ -57,14 +75,20 @@ fn has_those_below(
     Ok(())
 }
 
-#[test]
-fn each_version_stays(rt: HostRuntime) -> Result<(), Fail> {
-    let alloc = rt.alloc();
-    let mut map = SharedMap::new(alloc);
+/// Each version of the map has the numbers below its place.
+fn has_versions(rt: &impl Abort, alloc: Global, map: &mut SharedMap<Number>) -> Result<(), Fail> {
     let mut versions = Vec::new(alloc);
-    copies(alloc, &mut map, &mut versions)?;
+    copies(alloc, map, &mut versions)?;
     for (count, version) in versions.iter().enumerate() {
-        has_those_below(&rt, alloc, version, count)?;
+        has_those_below(rt, alloc, version, count)?;
     }
     Ok(())
+}
+
+#[test]
+fn each_version_stays(rt: HostRuntime) -> Result<(), Fail> {
+    let mut map = SharedMap::new(rt.alloc());
+    let is_so = has_versions(&rt, rt.alloc(), &mut map);
+    drop(map);
+    is_so
 }
