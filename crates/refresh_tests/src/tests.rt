@@ -1,4 +1,7 @@
 //! Worked examples of relationships, due times and refreshes.
+//!
+//! A map is lent to what may fail and is then dropped by a call of `drop`: where a scope drops it, the prover follows all its parts
+//! on each way out.
 ghost use Rattle.std.specs.Prelude.{◌≡◌, ◌<◌, length};
 
 mod beside_sessions;
@@ -76,7 +79,8 @@ impl Ask for Refuses {
 
     ghost answers_plainly = { λ old op result new m shown answer. absurd (cc shown) };
 
-    fn ask(&mut self, _op: Op) -> Result<Reply, AskError> {
+    fn ask(&mut self, op: Op) -> Result<Reply, AskError> {
+        drop(op);
         Err(self.0)
     }
 }
@@ -146,10 +150,8 @@ fn comes_to(
     Ok(())
 }
 
-/// Two relationships, and the second's endpoint gives nothing.
-#[test]
-fn two_relationships(rt: HostRuntime) -> Result<(), Fail> {
-    let alloc = rt.alloc();
+/// Refreshes two relationships over an empty map.
+fn refreshes_two(rt: &impl Abort, alloc: Global, map: &mut Contents) -> Result<(), Fail> {
     let mut source = Folder {
         alloc,
         documents: &[("a", "{\"keys\":[],\"spiffe_refresh_hint\":60}")],
@@ -160,53 +162,37 @@ fn two_relationships(rt: HostRuntime) -> Result<(), Fail> {
         documents: &[("a", "[]")],
         fetches: 0,
     };
-    let mut map = Contents::new(alloc);
     let mut schedule = Schedule::new(alloc, vec![in alloc; web(alloc, "a")?, web(alloc, "b")?]?)?;
-    is_equal(&rt, &schedule.len(), &2);
-    is_equal(&rt, &schedule.next(), &Some((0, 0)));
+    is_equal(rt, &schedule.len(), &2);
+    is_equal(rt, &schedule.next(), &Some((0, 0)));
+    comes_to(rt, &mut source, map, &mut schedule, 0, 1000, "stored 1060")?;
+    is_equal(rt, &schedule.next(), &Some((1, 0)));
+    comes_to(rt, &mut source, map, &mut schedule, 1, 1000, "none 1300")?;
+    is_equal(rt, &schedule.next(), &Some((0, 1060)));
     comes_to(
-        &rt,
+        rt,
         &mut source,
-        &mut map,
-        &mut schedule,
-        0,
-        1000,
-        "stored 1060",
-    )?;
-    is_equal(&rt, &schedule.next(), &Some((1, 0)));
-    comes_to(
-        &rt,
-        &mut source,
-        &mut map,
-        &mut schedule,
-        1,
-        1000,
-        "none 1300",
-    )?;
-    is_equal(&rt, &schedule.next(), &Some((0, 1060)));
-    comes_to(
-        &rt,
-        &mut source,
-        &mut map,
+        map,
         &mut schedule,
         0,
         1060,
         "unchanged 1120",
     )?;
-    comes_to(
-        &rt,
-        &mut array,
-        &mut map,
-        &mut schedule,
-        0,
-        1060,
-        "bad 12 1360",
-    )?;
-    is_equal(&rt, &(schedule.due(0), schedule.due(1)), &(1360, 1300));
-    is_equal(&rt, &schedule.relationship(1).domain().as_str(), &"b");
-    is_equal(&rt, &(source.fetches, array.fetches), &(3, 1));
-    is_equal(&rt, &map.len(), &1);
+    comes_to(rt, &mut array, map, &mut schedule, 0, 1060, "bad 12 1360")?;
+    is_equal(rt, &(schedule.due(0), schedule.due(1)), &(1360, 1300));
+    is_equal(rt, &schedule.relationship(1).domain().as_str(), &"b");
+    is_equal(rt, &(source.fetches, array.fetches), &(3, 1));
+    is_equal(rt, &map.len(), &1);
     Ok(())
+}
+
+/// Two relationships, and the second's endpoint gives nothing.
+#[test]
+fn two_relationships(rt: HostRuntime) -> Result<(), Fail> {
+    let mut map = Contents::new(rt.alloc());
+    let is_so = refreshes_two(&rt, rt.alloc(), &mut map);
+    drop(map);
+    is_so
 }
 
 /// An endpoint for each domain `d0` to `d999`: what it gives depends on the number of the domain and on how many
@@ -274,11 +260,8 @@ fn hash_with(hash: u64, value: u64) -> u64 {
     (hash ^ value).wrapping_mul(1_099_511_628_211)
 }
 
-/// 1,000 relationships and 10,000 refreshes, each when it is due. A program of another language made the table: the
-/// hash of all places, outcomes and due times so far, after each 1,000 refreshes.
-#[test]
-fn ten_thousand_refreshes(rt: HostRuntime) -> Result<(), Fail> {
-    let alloc = rt.alloc();
+/// Refreshes 1,000 relationships over an empty map, and compares the hashes.
+fn refreshes_ten_thousand(rt: &impl Abort, alloc: Global, map: &mut Contents) -> Result<(), Fail> {
     let table: [u64; 10] = [
         10_429_078_414_123_294_372,
         3_475_901_908_210_728_064,
@@ -298,7 +281,6 @@ fn ten_thousand_refreshes(rt: HostRuntime) -> Result<(), Fail> {
     }
     let mut schedule = Schedule::new(alloc, relationships)?;
     let mut source = Endpoints { alloc, fetches: 0 };
-    let mut map = Contents::new(alloc);
     let mut hash = 14_695_981_039_346_656_037;
     let mut now = 0;
     for expected in table {
@@ -307,16 +289,26 @@ fn ten_thousand_refreshes(rt: HostRuntime) -> Result<(), Fail> {
                 return Err(Fail::from("a relationship is next"));
             };
             now = due.max(now);
-            let outcome = refresh_at(alloc, &mut source, &mut map, &mut schedule, place, now)?;
-            is_equal(&rt, &schedule.due(place), &outcome.due);
+            let outcome = refresh_at(alloc, &mut source, map, &mut schedule, place, now)?;
+            is_equal(rt, &schedule.due(place), &outcome.due);
             hash = hash_with(hash, place as u64);
             hash = hash_with(hash, outcome_number(&outcome));
             hash = hash_with(hash, outcome.due);
         }
-        is_equal(&rt, &hash, &expected);
+        is_equal(rt, &hash, &expected);
     }
-    is_equal(&rt, &source.fetches, &10_000);
+    is_equal(rt, &source.fetches, &10_000);
     Ok(())
+}
+
+/// 1,000 relationships and 10,000 refreshes, each when it is due. A program of another language made the table: the
+/// hash of all places, outcomes and due times so far, after each 1,000 refreshes.
+#[test]
+fn ten_thousand_refreshes(rt: HostRuntime) -> Result<(), Fail> {
+    let mut map = Contents::new(rt.alloc());
+    let is_so = refreshes_ten_thousand(&rt, rt.alloc(), &mut map);
+    drop(map);
+    is_so
 }
 
 /// A map that refuses is told as it refuses; out of memory is an error.
@@ -374,12 +366,9 @@ fn sequence_of_a(alloc: Global, map: &mut Contents) -> Result<Option<u64>, Fail>
     }
 }
 
-/// An older document is refused, and the bundle that is held stays.
-#[test]
-fn older_documents(rt: HostRuntime) -> Result<(), Fail> {
-    let alloc = rt.alloc();
+/// Refreshes over an empty map by a document and then by an older one.
+fn refuses_older(rt: &impl Abort, alloc: Global, map: &mut Contents) -> Result<(), Fail> {
     let relationship = web(alloc, "a")?;
-    let mut map = Contents::new(alloc);
     let rows = [
         ("{\"keys\":[],\"spiffe_sequence\":7}", 0, "stored 300"),
         (
@@ -389,17 +378,24 @@ fn older_documents(rt: HostRuntime) -> Result<(), Fail> {
         ),
     ];
     for (document, now, wanted) in rows {
-        let found = outcome(alloc, &mut map, &relationship, document, now)?;
-        is_equal(&rt, &found.as_str(), &wanted);
-        is_equal(&rt, &sequence_of_a(alloc, &mut map)?, &Some(7));
+        let found = outcome(alloc, map, &relationship, document, now)?;
+        is_equal(rt, &found.as_str(), &wanted);
+        is_equal(rt, &sequence_of_a(alloc, map)?, &Some(7));
     }
     Ok(())
 }
 
-/// A refresh that memory was refused to has changed nothing besides the source, and is made again.
+/// An older document is refused, and the bundle that is held stays.
 #[test]
-fn a_refused_growth_changes_nothing(rt: HostRuntime) -> Result<(), Fail> {
-    let alloc = rt.alloc();
+fn older_documents(rt: HostRuntime) -> Result<(), Fail> {
+    let mut map = Contents::new(rt.alloc());
+    let is_so = refuses_older(&rt, rt.alloc(), &mut map);
+    drop(map);
+    is_so
+}
+
+/// Refreshes over an empty map, and again if memory runs out.
+fn refreshes_again(rt: &impl Abort, alloc: Global, map: &mut Contents) -> Result<(), Fail> {
     let name = "a-trust-domain-of-over-24-bytes";
     let mut source = Folder {
         alloc,
@@ -409,30 +405,38 @@ fn a_refused_growth_changes_nothing(rt: HostRuntime) -> Result<(), Fail> {
         )],
         fetches: 0,
     };
-    let mut map = Contents::new(alloc);
     let mut schedule = Schedule::new(alloc, vec![in alloc; web(alloc, name)?]?)?;
     let mut tries = 1;
-    match refresh_at(alloc, &mut source, &mut map, &mut schedule, 0, 1000) {
+    match refresh_at(alloc, &mut source, map, &mut schedule, 0, 1000) {
         Ok(outcome) if matches!(outcome.what, What::Taken(Reply::Stored)) => {}
         // The source is refused memory too, and has no other word for it.
         Ok(outcome) => {
-            holds(&rt, matches!(outcome.what, What::NoAnswer));
-            is_equal(&rt, &(schedule.next(), map.len()), &(Some((0, 1300)), 0));
+            holds(rt, matches!(outcome.what, What::NoAnswer));
+            is_equal(rt, &(schedule.next(), map.len()), &(Some((0, 1300)), 0));
             tries = 2;
         }
         Err(_) => {
-            is_equal(&rt, &(schedule.next(), map.len()), &(Some((0, 0)), 0));
+            is_equal(rt, &(schedule.next(), map.len()), &(Some((0, 0)), 0));
             tries = 2;
         }
     }
     if tries == 2 {
-        let again = refresh_at(alloc, &mut source, &mut map, &mut schedule, 0, 1000)?;
-        holds(&rt, matches!(again.what, What::Taken(Reply::Stored)));
+        let again = refresh_at(alloc, &mut source, map, &mut schedule, 0, 1000)?;
+        holds(rt, matches!(again.what, What::Taken(Reply::Stored)));
     }
     is_equal(
-        &rt,
+        rt,
         &(schedule.next(), map.len(), source.fetches),
         &(Some((0, 1300)), 1, tries),
     );
     Ok(())
+}
+
+/// A refresh that memory was refused to has changed nothing besides the source, and is made again.
+#[test]
+fn a_refused_growth_changes_nothing(rt: HostRuntime) -> Result<(), Fail> {
+    let mut map = Contents::new(rt.alloc());
+    let is_so = refreshes_again(&rt, rt.alloc(), &mut map);
+    drop(map);
+    is_so
 }
