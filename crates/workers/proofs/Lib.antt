@@ -2,7 +2,7 @@ pub mod WorkedLists
 mod ClosingLemmas
 mod KeptAlong
 mod NumberLemmas
-mod PassLaws
+pub mod PassLaws
 mod Retries
 mod ServedLists
 mod Simulated

@@ -23,6 +23,7 @@ pub use filling::{FillError, fill_store};
 pub use gate::{Gate, Open};
 pub use gated::Gated;
 pub use log::{Changed, How, Log, Quiet};
+pub use logged::Logged;
 pub use passes::passes_of;
 pub use read_only::ReadOnly;
 pub use retrying::Retrying;

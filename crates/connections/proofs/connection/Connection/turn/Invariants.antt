@@ -1,0 +1,10 @@
+use Rattle.std.proofs.Common.{◌≡◌, ◌-◌, ◌≤◌}
+use Rattle.connections.specs.Private.Goes.{GoesOn}
+use Rattle.connections.proofs.connection.Connection.turn.Given as goal
+
+abbrev pub invariant-loop-rounds : goal.invariant-loop-rounds
+invariant-loop-rounds g l =
+    GoesOn g.A.Ask.answers l.rounds l.fn.self l.self l.fn.ask l.ask × (l.self.has_ended ≡ l.fn.self.has_ended) × (l.rounds ≤ 8)
+
+abbrev pub decreases-loop-rounds : goal.decreases-loop-rounds
+decreases-loop-rounds g l = 8 - l.rounds

@@ -1,0 +1,86 @@
+-- What every answer keeps is kept along sessions.
+use Rattle.std.proofs.Common.{◌≡◌, List, [], ◌∷◌, sym, ap, subst, inl, inr}
+use Rattle.std.specs.Prelude.{ℕ, Bool, true, false, Option, Result, Ok, Err}
+use Rattle.map_core.specs.declared.op.Op.{Op}
+use Rattle.map_core.specs.declared.reply.Reply.{Reply}
+use Rattle.map_core.specs.declared.reply.AskError.{AskError}
+use Rattle.frame_front.specs.declared.error.FrontError.{FrontError}
+use Rattle.frame_front.specs.declared.request.Request.{Request}
+use Rattle.frame_front.specs.declared.request.Request.TheVariants.{Ask, SetVersion}
+use Rattle.frame_front.specs.declared.refusal.Refusal.{Refusal}
+use Rattle.frame_front.specs.Request.{request_of}
+use Rattle.frame_front.specs.Session.{SessionState, AnswersRequest, Answers, AnswersAll}
+use Rattle.workers.specs.declared.sessions.SessionFault.{SessionFault}
+use Rattle.frame_front.specs.Transcript.{Transcript}
+use Rattle.frame_front.specs.Live.{LiveView}
+use Rattle.frame_front.specs.LiveCalls.{LiveCall, Does, DoesAll, Feed, Answer, Send}
+use Rattle.workers.specs.Gate.{AnsweredBehind}
+use Rattle.workers.specs.ReadOnly.{is_read}
+use Rattle.live_workers.specs.AtPort.{PortAnswer}
+use Rattle.live_workers.specs.Sessions.{Places, Step, Opens, Turns, Closes, Fails, Takes, TakesAll, ServedAll, nobody}
+
+module _ {S : Type 0} (answers : S → Op → Result Reply AskError → S → Type 0) (Keeps : S → S → Type 0)
+    (same : (s : S) → Keeps s s) (further : (s t u : S) → Keeps s t → Keeps t u → Keeps s u)
+    (each : (s : S) (op : Op) (answer : Result Reply AskError) (t : S) → answers s op answer t → Keeps s t) where
+  kept_where_same : (old new : S) → new ≡ old → Keeps old new
+  kept_where_same old new e = subst (λ (s : S). Keeps old s) (sym e) (same old)
+
+  request_keeps : (r : Result Request Refusal) (old : SessionState S) (text : List ℕ) (new : SessionState S) → AnswersRequest answers r old text new → Keeps old.1 new.1
+  request_keeps (Err refusal) old text new a = kept_where_same old.1 new.1 (ap (λ (s : SessionState S). s.1) a.1)
+  request_keeps (Ok (SetVersion version)) old text new a = kept_where_same old.1 new.1 (ap (λ (s : SessionState S). s.1) a.1)
+  request_keeps (Ok (Ask op)) old text new a = each old.1 op a.0 new.1 a.1
+
+  answer_keeps : (old : SessionState S) (payload text : List ℕ) (new : SessionState S) → Answers answers old payload text new → Keeps old.1 new.1
+  answer_keeps old payload text new (inl a) = request_keeps (request_of old.0 payload) old text new a
+  answer_keeps old payload text new (inr a) = kept_where_same old.1 new.1 (ap (λ (s : SessionState S). s.1) a.1)
+
+  all_keep : (old : SessionState S) (payloads texts : List (List ℕ)) (new : SessionState S) → AnswersAll answers old payloads texts new → Keeps old.1 new.1
+  all_keep old [] [] new a = kept_where_same old.1 new.1 (ap (λ (s : SessionState S). s.1) a)
+  all_keep old (payload ∷ payloads) (text ∷ texts) new a =
+      further old.1 a.0.1 new.1 (answer_keeps old payload text a.0 a.1) (all_keep a.0 payloads texts new a.2)
+  all_keep old [] (text ∷ texts) new a = absurd a
+  all_keep old (payload ∷ payloads) [] new a = absurd a
+
+  -- what each answer keeps, a session over two ends keeps
+  pub served_keeps : (result : Result ℕ FrontError) (turns : ℕ) (a b c d : Option (List ℕ)) (old new : S) → Transcript answers result turns a b c d old new → Keeps old new
+  served_keeps result turns a b c d old new t = all_keep _ t.session.payloads t.session.texts _ t.session.serves.answered
+
+  does_keeps : (call : LiveCall) (old new : LiveView × S) → Does answers call old new → Keeps old.1 new.1
+  does_keeps (Feed piece) old new d = kept_where_same old.1 new.1 d.1
+  does_keeps (Send bytes) old new d = kept_where_same old.1 new.1 d.1
+  does_keeps (Answer result) old new d = all_keep _ d.payloads d.texts _ d.serves.answered
+
+  pub does_all_keep : (calls : List LiveCall) (old new : LiveView × S) → DoesAll answers calls old new → Keeps old.1 new.1
+  does_all_keep [] old new d = kept_where_same old.1 new.1 (ap (λ (s : LiveView × S). s.1) d)
+  does_all_keep (call ∷ calls) old new d = further old.1 d.0.1 new.1 (does_keeps call old d.0 d.1) (does_all_keep calls d.0 new d.2)
+
+-- ---- at ports
+
+module _ {S : Type 0} (answers : S → Op → Result Reply AskError → S → Type 0) (Keeps : S → S → Type 0)
+    (same : (s : S) → Keeps s s) (further : (s t u : S) → Keeps s t → Keeps t u → Keeps s u)
+    (each : (s : S) (op : Op) (answer : Result Reply AskError) (t : S) → answers s op answer t → Keeps s t) where
+  stays : (old new : S) → new ≡ old → Keeps old new
+  stays old new e = subst (λ (s : S). Keeps old s) (sym e) (same old)
+
+  behind_keeps : (is_open : Bool) (s : S) (op : Op) (answer : Result Reply AskError) (t : S) → AnsweredBehind answers is_open s op answer t → Keeps s t
+  behind_keeps true s op answer t a = each s op answer t a
+  behind_keeps false s op answer t a = stays s t a.1
+
+  port_keeps : (reads_only : Bool) (s : S) (op : Op) (answer : Result Reply AskError) (t : S) → PortAnswer answers reads_only s op answer t → Keeps s t
+  port_keeps true s op answer t a = behind_keeps (is_read op) s op answer t a
+  port_keeps false s op answer t a = each s op answer t a
+
+  step_keeps : (step : Step) (old new : Places × S) → Takes answers step old new → Keeps old.1 new.1
+  step_keeps (Opens place reads_only) old new a = stays old.1 new.1 a.3
+  step_keeps (Turns place calls) old new a =
+      does_all_keep (PortAnswer answers a.0.reads_only) Keeps same further (port_keeps a.0.reads_only) calls (a.0.live, old.1) (a.1.live, new.1) a.4
+  step_keeps (Closes place result) old new a = stays old.1 new.1 a.5
+  step_keeps Fails old new a = stays old.1 new.1 a.1
+
+  steps_keep : (steps : List Step) (old new : Places × S) → TakesAll answers steps old new → Keeps old.1 new.1
+  steps_keep [] old new a = stays old.1 new.1 a.1
+  steps_keep (step ∷ steps) old new a = further old.1 a.0.1 new.1 (step_keeps step old a.0 a.1) (steps_keep steps a.0 new a.2)
+
+  -- what each answer keeps, sessions keep
+  pub sessions_keep : (results : List (Result ℕ SessionFault)) (old new : S) → ServedAll answers results old new → Keeps old new
+  sessions_keep results old new a = steps_keep a.steps (nobody, old) (nobody, new) a.takes

@@ -1,0 +1,6 @@
+pub mod WorkedLists
+mod ArrivalLemmas
+mod KeptAlong
+mod ServingLemmas
+mod Simulated
+mod StepLemmas

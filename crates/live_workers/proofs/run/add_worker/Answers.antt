@@ -1,0 +1,7 @@
+use Rattle.std.proofs.Common.{map, ap, ◌∙◌}
+use Rattle.std.proofs.lemmas.List.{map-append}
+use Rattle.live_workers.specs.declared.run.Worker.{Worker}
+use Rattle.live_workers.proofs.run.add_worker.Goals as goal
+
+pub returns-clause-passes : goal.returns-clause-passes
+returns-clause-passes g c = ap (map (λ (w : Worker g.row.V.Denot). w.pass)) c.in_ok-push.ensures.items ∙ map-append (λ (w : Worker g.row.V.Denot). w.pass) c.args.workers.now.items _

@@ -1,0 +1,14 @@
+use Rattle.std.proofs.Common.{◌≡◌, ◌-◌, ◌<◌, ◌≤◌, ℕ, [], List}
+use Rattle.std.specs.Prelude.{None}
+use Rattle.slab.specs.Slab.{get}
+use Rattle.live_workers.specs.Private.Serving.{Serves}
+use Rattle.live_workers.proofs.serving.Served.end_all.Given as goal
+
+abbrev pub invariant-loop-place : goal.invariant-loop-place
+invariant-loop-place g l =
+    Serves g.A.Ask.answers (get l.fn.self.open) (get l.self.open) l.fn.self.results.items l.self.results.items l.fn.ask.ask l.ask.ask
+    × ((other : ℕ) → other < l.place → get l.self.open other ≡ None)
+    × ((other : ℕ) → l.places ≤ other → get l.self.open other ≡ None)
+
+abbrev pub decreases-loop-place : goal.decreases-loop-place
+decreases-loop-place g l = l.places - l.place

@@ -1,0 +1,13 @@
+use Rattle.std.proofs.Common.{◌≡◌, sym, ap, ◌∙◌, refl, subst, arith, [], ℕ}
+use Rattle.slab.specs.Slab.{get}
+use Rattle.live_workers.proofs.StepLemmas.{all_stay, serves_none, serves_then}
+use Rattle.live_workers.proofs.ServingLemmas.{close_serves, on_ok_then, turn_serves, leaves_one, leaves_none, leaves_then, leaves_serves, take_serves, fails_serves, stays_serves, put_back, beyond}
+use Rattle.live_workers.proofs.serving.Served.leave_silent.Goals as goal
+
+pub loop-place-init : goal.loop-place-init
+loop-place-init g c = leaves_none (get c.args.self.now.open) (get c.args.self.now.open) c.args.self.now.results.items c.args.self.now.results.items (all_stay (get c.args.self.now.open)) refl
+
+pub loop-place-preserved : goal.loop-place-preserved
+loop-place-preserved g c =
+    leaves_then (get c.args.self.now.open) (get c.loop-place.self.open) (get c.leave_if_silent.new.self.open) c.args.self.now.results.items c.loop-place.self.results.items c.leave_if_silent.new.self.results.items
+    c.loop-place.invariant c.in_ok-leave_if_silent.ensures

@@ -1,0 +1,5 @@
+pub mod Arrivals
+pub mod AtPort
+pub mod Sessions
+pub mod Workers
+pub mod Private

@@ -1,0 +1,37 @@
+//! What comes to a worker that serves many connections.
+
+use connections::Stream;
+
+/// What comes next to a worker.
+#[derive(Drop)]
+pub enum Arrival<E> {
+    /// A client has connected, maybe at a port for reads only.
+    Opens { end: E, reads_only: bool },
+    /// The stream at this place may have input, or take replies again.
+    Ready(usize),
+    /// Some time has passed, and nothing else has come.
+    Tick,
+    /// Nothing has come.
+    Nothing,
+    /// The listener has failed.
+    Fails,
+    /// No client comes any more, and those that are connected are to be left.
+    Stops,
+}
+
+/// The source of a worker's connections.
+pub trait Arrivals {
+    ghost use Rattle.std.specs.Prelude.{ℕ, ◌<◌, ◌⊎◌};
+    ghost use Rattle.live_workers.specs.Arrivals.{IsStop};
+
+    /// A stream whose reads and writes return at once, with `WouldBlock` where they would wait.
+    type End: Stream + Drop + Send;
+
+    // At most so much more comes.
+    ghost left: { Self → ℕ };
+
+    /// Waits for what comes next, but not if `is_busy`: then it may be nothing. A client that connects is known by the
+    /// number of the free place from then on. `open` tells how many clients are connected to the worker.
+    fn next(&mut self, free: usize, open: usize, is_busy: bool) -> Arrival<Self::End>
+        ensures { IsStop result ⊎ (left self.new < left self.old) };
+}

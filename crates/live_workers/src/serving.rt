@@ -1,0 +1,356 @@
+//! Serving many connections beside each other.
+ghost use Rattle.std.specs.Prelude.{◌≡◌, ◌++◌, [], None, Some, Err, IfOk, OnOk, IfSome, IfNone, OnSome};
+ghost use Rattle.slab.specs.Slab.{get};
+ghost use Rattle.frame_front.specs.Live.{live_start};
+ghost use Rattle.live_workers.specs.Sessions.{Place, AllStay, Closes, Fails, EndsSo, OthersStay, ServedAll, nobody, told_by};
+ghost use Rattle.live_workers.specs.Private.Serving.{HadTurn, Leaves, Serves};
+
+use crate::arrivals::{Arrival, Arrivals};
+use crate::at_port::AtPort;
+use connections::{After, Connection, ROOM_BYTES, Stream};
+use frame_front::FrontError;
+use map_core::Ask;
+use slab::Slab;
+use spiffe_doc::DocumentReader;
+use std::alloc::{AllocError, Global};
+use std::collections::VecDeque;
+use std::marker::Model;
+use workers::{Log, SessionFault};
+
+/// How many turns a connection has to send what waits, once the server is to stop.
+const LAST_TURNS: u64 = 8;
+
+/// A connection at its place.
+#[derive(Drop)]
+struct Placed<E: Stream + Drop> {
+    connection: Connection<E>,
+    reads_only: bool,
+    /// How many ticks have passed since its stream was ready last.
+    silent: u64,
+}
+
+/// The connections of a worker, and what they share.
+#[derive(Drop)]
+struct Served<E: Stream + Drop> {
+    open: Slab<Placed<E>>,
+    /// The places of connections that have had their share, and may have more to do.
+    again: VecDeque<usize>,
+    documents: DocumentReader,
+    results: Vec<Result<u64, SessionFault>>,
+}
+
+impl<E: Stream + Drop> Model for Placed<E> {
+    ghost use Rattle.live_workers.specs.Sessions.{Place};
+
+    ghost Value = { Place };
+
+    ghost view = { λ p. record { live = p.connection.live; answered = p.connection.answered; reads_only = p.reads_only } };
+}
+
+impl<E: Stream + Drop> Served<E> {
+    /// No client is connected yet.
+    fn new(alloc: Global) -> Served<E>
+        ensures open { result.open.slots ≡ [] }
+        ensures results { result.results.items ≡ [] }
+    {
+        Served {
+            open: Slab::new(alloc),
+            again: VecDeque::new(alloc),
+            documents: DocumentReader::new(alloc),
+            results: Vec::new(alloc),
+        }
+    }
+
+    /// Takes a connection at the next free place.
+    fn take(&mut self, alloc: Global, end: E, reads_only: bool) -> Result<usize, AllocError>
+        ensures free { IfOk result (λ place. get self.old.open place ≡ None) }
+        ensures taken { IfOk result (λ place. get self.new.open place ≡ Some (record { live = live_start; answered = 0; reads_only = reads_only })) }
+        ensures others { IfOk result (λ place. OthersStay place (get self.old.open) (get self.new.open)) }
+        ensures results { self.new.results ≡ self.old.results }
+    {
+        let connection = Connection::new(alloc, end)?;
+        let placed = Placed {
+            connection,
+            reads_only,
+            silent: 0,
+        };
+        Ok(self.open.insert(placed)?)
+    }
+
+    /// Gives the connection at a place a turn, if one is there.
+    fn turn<A: Ask>(
+        &mut self,
+        room: &mut [u8; ROOM_BYTES],
+        place: usize,
+        ask: &mut AtPort<A>,
+    ) -> Option<After>
+        ensures turn { HadTurn A.answers place result (get self.old.open) (get self.new.open) ask.old.ask ask.new.ask }
+        ensures results { self.new.results ≡ self.old.results }
+    {
+        let placed = self.open.get_mut(place)?;
+        placed.silent = 0;
+        ask.reads_only = placed.reads_only;
+        Some(placed.connection.turn(&mut self.documents, room, ask))
+    }
+
+    /// Leaves the connection at a place, and notes how its session ended.
+    fn close<L: Log>(
+        &mut self,
+        place: usize,
+        end: Result<u64, FrontError>,
+        log: &L,
+        worker: u64,
+    ) -> Result<(), AllocError>
+        ensures left { get self.new.open place ≡ None }
+        ensures others { OthersStay place (get self.old.open) (get self.new.open) }
+        ensures noted { OnOk result (self.new.results.items ≡ self.old.results.items ++ told_by (Closes place end)) }
+    {
+        let ended = match end {
+            Ok(count) => Ok(count),
+            Err(error) => Err(SessionFault::Front(error)),
+        };
+        log.ended(worker, &ended);
+        let _ = self.open.try_remove(place);
+        self.results.push(ended)?;
+        Ok(())
+    }
+
+    /// Gives the connection at a place a turn, and leaves it if its session is over then.
+    fn serve<A: Ask, L: Log>(
+        &mut self,
+        room: &mut [u8; ROOM_BYTES],
+        place: usize,
+        ask: &mut AtPort<A>,
+        log: &L,
+        worker: u64,
+    ) -> Result<(), AllocError>
+        ensures { OnOk result (Serves A.answers (get self.old.open) (get self.new.open) self.old.results.items self.new.results.items ask.old.ask ask.new.ask) }
+    {
+        match self.turn(room, place, ask) {
+            None => Ok(()),
+            Some(After::Waits) => Ok(()),
+            Some(After::Again) => {
+                self.again.push_back(place)?;
+                Ok(())
+            }
+            Some(After::Over(end)) => self.close(place, end, log, worker),
+        }
+    }
+
+    /// Why the connection at a place is to be left: once its client has owed the rest of a frame, or the room for replies,
+    /// for so many ticks.
+    #[tactic(auto, using(crate::proofs::ServingLemmas::owed_ends))]
+    fn is_silent(&mut self, place: usize, most: u64) -> Option<FrontError>
+        ensures same { AllStay (get self.old.open) (get self.new.open) }
+        ensures why { IfSome result (λ error. (p : Place) × (get self.new.open place ≡ Some p) × EndsSo (Err error) p) }
+        ensures results { self.new.results ≡ self.old.results }
+    {
+        let placed = self.open.get_mut(place)?;
+        let owed = placed.connection.owes()?;
+        placed.silent = placed.silent.saturating_add(1);
+        if placed.silent < most {
+            return None;
+        }
+        Some(owed)
+    }
+
+    /// Leaves the connection at a place if its client has been silent for too long.
+    fn leave_if_silent<L: Log>(
+        &mut self,
+        place: usize,
+        most: u64,
+        log: &L,
+        worker: u64,
+    ) -> Result<(), AllocError>
+        ensures { OnOk result (Leaves (get self.old.open) (get self.new.open) self.old.results.items self.new.results.items) }
+    {
+        match self.is_silent(place, most) {
+            Some(error) => self.close(place, Err(error), log, worker),
+            None => Ok(()),
+        }
+    }
+
+    /// Leaves each connection whose client has been silent for too long.
+    fn leave_silent<L: Log>(&mut self, most: u64, log: &L, worker: u64) -> Result<(), AllocError>
+        ensures { OnOk result (Leaves (get self.old.open) (get self.new.open) self.old.results.items self.new.results.items) }
+    {
+        let places = self.open.capacity();
+        let mut place = 0;
+        while place < places {
+            self.leave_if_silent(place, most, log, worker)?;
+            place += 1;
+        }
+        Ok(())
+    }
+
+    /// Ends the input of the connection at a place, if one is there.
+    fn end_input(&mut self, place: usize) -> Option<()>
+        ensures same { AllStay (get self.old.open) (get self.new.open) }
+        ensures some { OnSome result ((p : Place) × (get self.new.open place ≡ Some p)) }
+        ensures none { IfNone result (get self.new.open place ≡ None) }
+        ensures results { self.new.results ≡ self.old.results }
+    {
+        let placed = self.open.get_mut(place)?;
+        placed.connection.end_input();
+        Some(())
+    }
+
+    /// Gives the connection at a place its last turns: nothing is read any more. The answer is how its session ends.
+    fn last_turns<A: Ask>(
+        &mut self,
+        room: &mut [u8; ROOM_BYTES],
+        place: usize,
+        ask: &mut AtPort<A>,
+    ) -> Result<u64, FrontError>
+        requires { (p : Place) × (get self.old.open place ≡ Some p) }
+        ensures served { Serves A.answers (get self.old.open) (get self.new.open) [] [] ask.old.ask ask.new.ask }
+        ensures ends { (p : Place) × (get self.new.open place ≡ Some p) × EndsSo result p }
+        ensures others { OthersStay place (get self.old.open) (get self.new.open) }
+        ensures results { self.new.results ≡ self.old.results }
+    {
+        let mut turns = 0;
+        while turns < LAST_TURNS {
+            match self.turn(room, place, ask) {
+                Some(After::Over(end)) => return end,
+                Some(After::Again) => turns += 1,
+                _ => break,
+            }
+        }
+        Err(FrontError::WriteFault)
+    }
+
+    /// Ends the session at a place, if one is there: what has come is answered, as far as the client takes it.
+    fn end<A: Ask, L: Log>(
+        &mut self,
+        room: &mut [u8; ROOM_BYTES],
+        place: usize,
+        ask: &mut AtPort<A>,
+        log: &L,
+        worker: u64,
+    ) -> Result<(), AllocError>
+        ensures served { OnOk result (Serves A.answers (get self.old.open) (get self.new.open) self.old.results.items self.new.results.items ask.old.ask ask.new.ask) }
+        ensures left { OnOk result (get self.new.open place ≡ None) }
+        ensures others { OthersStay place (get self.old.open) (get self.new.open) }
+    {
+        if self.end_input(place).is_none() {
+            return Ok(());
+        }
+        let end = self.last_turns(room, place, ask);
+        self.close(place, end, log, worker)
+    }
+
+    /// Ends all sessions.
+    fn end_all<A: Ask, L: Log>(
+        &mut self,
+        room: &mut [u8; ROOM_BYTES],
+        ask: &mut AtPort<A>,
+        log: &L,
+        worker: u64,
+    ) -> Result<(), AllocError>
+        ensures { OnOk result (Serves A.answers (get self.old.open) nobody self.old.results.items self.new.results.items ask.old.ask ask.new.ask) }
+    {
+        let places = self.open.capacity();
+        let mut place = 0;
+        while place < places {
+            self.end(room, place, ask, log, worker)?;
+            place += 1;
+        }
+        Ok(())
+    }
+
+    /// Takes a connection at the next free place, and gives it a turn.
+    fn begin<A: Ask, L: Log>(
+        &mut self,
+        alloc: Global,
+        room: &mut [u8; ROOM_BYTES],
+        end: E,
+        reads_only: bool,
+        ask: &mut AtPort<A>,
+        log: &L,
+        worker: u64,
+    ) -> Result<(), AllocError>
+        ensures { OnOk result (Serves A.answers (get self.old.open) (get self.new.open) self.old.results.items self.new.results.items ask.old.ask ask.new.ask) }
+    {
+        let place = self.take(alloc, end, reads_only)?;
+        self.serve(room, place, ask, log, worker)
+    }
+
+    /// Notes that the listener failed.
+    fn note_failure<L: Log>(&mut self, log: &L, worker: u64) -> Result<(), AllocError>
+        ensures open { self.new.open ≡ self.old.open }
+        ensures noted { OnOk result (self.new.results.items ≡ self.old.results.items ++ told_by Fails) }
+    {
+        let none_came = Err(SessionFault::Listen);
+        log.ended(worker, &none_came);
+        self.results.push(none_came)?;
+        Ok(())
+    }
+
+    /// Does what the arrival asks for.
+    fn follow<A: Ask, L: Log>(
+        &mut self,
+        alloc: Global,
+        room: &mut [u8; ROOM_BYTES],
+        arrival: Arrival<E>,
+        most_silent: u64,
+        ask: &mut AtPort<A>,
+        log: &L,
+        worker: u64,
+    ) -> Result<(), AllocError>
+        ensures { OnOk result (Serves A.answers (get self.old.open) (get self.new.open) self.old.results.items self.new.results.items ask.old.ask ask.new.ask) }
+    {
+        match arrival {
+            Arrival::Opens { end, reads_only } => {
+                self.begin(alloc, room, end, reads_only, ask, log, worker)
+            }
+            Arrival::Ready(place) => self.serve(room, place, ask, log, worker),
+            Arrival::Tick => self.leave_silent(most_silent, log, worker),
+            Arrival::Fails => self.note_failure(log, worker),
+            Arrival::Nothing => Ok(()),
+            Arrival::Stops => Ok(()),
+        }
+    }
+
+    /// Gives a turn to the connection that has waited longest for another one.
+    fn serve_again<A: Ask, L: Log>(
+        &mut self,
+        room: &mut [u8; ROOM_BYTES],
+        ask: &mut AtPort<A>,
+        log: &L,
+        worker: u64,
+    ) -> Result<(), AllocError>
+        ensures { OnOk result (Serves A.answers (get self.old.open) (get self.new.open) self.old.results.items self.new.results.items ask.old.ask ask.new.ask) }
+    {
+        match self.again.pop_front() {
+            Some(place) => self.serve(room, place, ask, log, worker),
+            None => Ok(()),
+        }
+    }
+}
+
+/// Serves connections beside each other until no more come: each whose stream is ready has a turn, and one that has had its
+/// share has another after one of the others. A client that owes the rest of a frame, or room for replies, for
+/// `most_silent` ticks is left. The answer is how each session ended, in this order; the log is told of each end.
+pub fn serve_arrivals<V: Arrivals, A: Ask, L: Log>(
+    alloc: Global,
+    arrivals: &mut V,
+    ask: &mut AtPort<A>,
+    most_silent: u64,
+    log: &L,
+    worker: u64,
+) -> Result<Vec<Result<u64, SessionFault>>, AllocError>
+    ensures { IfOk result (λ results. ServedAll A.answers results.items ask.old.ask ask.new.ask) }
+{
+    let mut served = Served::new(alloc);
+    let mut room = [0; ROOM_BYTES];
+    loop {
+        let is_busy = !served.again.is_empty();
+        match arrivals.next(served.open.vacant_key(), served.open.len(), is_busy) {
+            Arrival::Stops => break,
+            arrival => served.follow(alloc, &mut room, arrival, most_silent, ask, log, worker)?,
+        }
+        served.serve_again(&mut room, ask, log, worker)?;
+    }
+    served.end_all(&mut room, ask, log, worker)?;
+    Ok(served.results)
+}

@@ -1,0 +1,137 @@
+//! Two workers over a store that they share.
+ghost use Rattle.std.specs.Prelude.{◌≡◌, vec_len, IfOk};
+ghost use Rattle.std.specs.List.{All};
+ghost use Rattle.shard_store.specs.Pass.{IsOf};
+
+use super::{MOST_ARRIVALS, is_equal};
+use connections::Stream;
+use live_workers::{Arrival, Arrivals, run_arrivals};
+use shard_store::{Pass, Store};
+use std::alloc::{AllocError, Global};
+use std::io;
+use std::io::Read;
+use std::sync::atomic::{AtomicU64, Ordering};
+use std::test::Fail;
+use std::thread::Threads;
+use std::time::Clock;
+use workers::{Open, Quiet, Worked};
+
+/// A set of `a` and a get of it.
+const SET_AND_GET: &[u8] = b"\x00\x00\x00\x0eS\x01a{\"keys\":[]}\x00\x00\x00\x03G\x01a";
+
+/// How many bytes they are answered: `s` or `u`, and a document of 11 bytes.
+const REPLY_BYTES: u64 = 5 + 16;
+
+/// A client that gives all at once, and counts the bytes that it gets.
+#[derive(Drop)]
+struct Counting<'a> {
+    input: &'static [u8],
+    taken: &'a AtomicU64,
+}
+
+impl<'a> Stream for Counting<'a> {
+    ghost use Rattle.std.specs.Prelude.{None};
+
+    ghost left = { λ _. None };
+
+    ghost held = { λ _. None };
+
+    fn read(&mut self, buf: &mut [u8]) -> io::Result<usize> {
+        self.input.read(buf)
+    }
+
+    fn write(&mut self, buf: &[u8]) -> io::Result<usize> {
+        self.taken.fetch_add(buf.len() as u64, Ordering::SeqCst);
+        Ok(buf.len())
+    }
+}
+
+/// So many clients, one after the other.
+#[derive(Drop)]
+struct Queue<'a> {
+    clients: u64,
+    taken: &'a AtomicU64,
+    left: u64,
+}
+
+fn queue(clients: u64, taken: &AtomicU64) -> Queue<'_> {
+    Queue {
+        clients,
+        taken,
+        left: MOST_ARRIVALS,
+    }
+}
+
+impl<'a> Arrivals for Queue<'a> {
+    type End = Counting<'a>;
+
+    ghost left = { λ queue. queue.left };
+
+    fn next(&mut self, _free: usize, _open: usize, _is_busy: bool) -> Arrival<Counting<'a>> {
+        if self.left == 0 || self.clients == 0 {
+            return Arrival::Stops;
+        }
+        self.left -= 1;
+        self.clients -= 1;
+        Arrival::Opens {
+            end: Counting {
+                input: SET_AND_GET,
+                taken: self.taken,
+            },
+            reads_only: false,
+        }
+    }
+}
+
+/// A store, and a pass for each of two workers.
+fn store_for_two(alloc: Global) -> Result<(Store, Vec<Pass>), AllocError>
+    ensures count { IfOk result (λ made. vec_len made.1 ≡ 2) }
+    ensures own { IfOk result (λ made. All (λ pass. IsOf pass made.0) made.1.items) }
+{
+    let (store, mut first) = Store::new(alloc, 4, 3, 1_000_000)?;
+    let second = store.split(&mut first, 1000);
+    let mut passes = Vec::new(alloc);
+    passes.push(first)?;
+    passes.push(second)?;
+    Ok((store, passes))
+}
+
+/// How many sessions answered two requests and ended well.
+fn count_well(worked: &[Worked]) -> u64 {
+    let mut well: u64 = 0;
+    for worker in worked {
+        for result in worker.results.as_slice() {
+            if *result == Ok(2) {
+                well = well.saturating_add(1);
+            }
+        }
+    }
+    well
+}
+
+/// Runs two workers, to each of which so many clients come.
+fn run_two<R: Threads + Clock + Sync>(
+    rt: &R,
+    alloc: Global,
+    clients: u64,
+    taken: &AtomicU64,
+) -> Result<u64, AllocError> {
+    let (store, passes) = store_for_two(alloc)?;
+    let mut arrivals = Vec::new(alloc);
+    arrivals.push(queue(clients, taken))?;
+    arrivals.push(queue(clients, taken))?;
+    let worked = run_arrivals(
+        rt, alloc, &store, passes, arrivals, &Open, 1_000_000, 3, &Quiet,
+    )?;
+    Ok(count_well(worked.as_slice()))
+}
+
+// All clients set and get the same domain, to the same document.
+#[test]
+fn two_workers_serve_many_clients(rt: HostRuntime) -> Result<(), Fail> {
+    let taken = AtomicU64::new(0);
+    let well = run_two(&rt, rt.alloc(), 50, &taken)?;
+    is_equal(&rt, &well, &100);
+    is_equal(&rt, &taken.load(Ordering::SeqCst), &(100 * REPLY_BYTES));
+    Ok(())
+}
