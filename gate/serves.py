@@ -11,6 +11,7 @@ import struct
 import subprocess
 import sys
 import tempfile
+import threading
 import time
 
 sys.dont_write_bytecode = True
@@ -34,14 +35,16 @@ class Server:
         words = [program("bundled"), "serve", "--port", port, *options]
         self.started = subprocess.Popen(words, stdin=stdin, stdout=subprocess.PIPE, stderr=subprocess.PIPE)
         self.line = self.started.stdout.readline().decode()
-        self.port = int(self.line.split()[1]) if self.line.startswith("listening ") else None
+        words = self.line.split()
+        self.port = int(words[1]) if words[:1] == ["listening"] else None
+        self.read_port = int(words[3]) if words[2:3] == ["read-only"] else None
 
-    def connect(self):
-        return socket.create_connection(("127.0.0.1", self.port), timeout=SECONDS)
+    def connect(self, port=None):
+        return socket.create_connection(("127.0.0.1", port or self.port), timeout=SECONDS)
 
-    def ask(self, request):
+    def ask(self, request, port=None):
         """What comes back, to its end, for a request that is the last."""
-        with self.connect() as stream:
+        with self.connect(port) as stream:
             stream.sendall(request)
             stream.shutdown(socket.SHUT_WR)
             return b"".join(iter(lambda: stream.recv(65536), b""))
@@ -232,8 +235,192 @@ def told_changes():
     assert server.ended() == (0, "served 2\ndomains 1\n", f"{log}fault 52\n"), "ended otherwise"
 
 
+class Lasting(Server):
+    """A server that takes connections without end, until it is told to stop."""
+
+    def __init__(self, *options):
+        end, self.hold = os.pipe()
+        super().__init__("--connections", "unlimited", "--until-eof", *options, stdin=end)
+        os.close(end)
+
+    def ended(self):
+        os.close(self.hold)
+        return super().ended()
+
+    def kilobytes(self):
+        """How much memory of the machine it has now."""
+        with open(f"/proc/{self.started.pid}/status", encoding="ascii") as it:
+            return next(int(line.split()[1]) for line in it if line.startswith("VmRSS:"))
+
+
+def name_of(number):
+    return b"n%04d" % number
+
+
+def set_of(number):
+    return frame(b"S\x05" + name_of(number) + EMPTY)
+
+
+def get_of(number):
+    return frame(b"G\x05" + name_of(number))
+
+
+def a_thousand_connections():
+    """On 4 workers a thousand connections are open at once, and each gets all its replies, in order."""
+    server = Lasting("--workers", "4", "--max-open", "1000")
+    streams = [server.connect() for _ in range(1000)]
+    for number, stream in enumerate(streams):
+        stream.sendall(set_of(number) + 3 * get_of(number))
+    for stream in streams:
+        assert received(stream, 5 + 3 * 16) == frame(b"s") + 3 * frame(b"f" + EMPTY)
+    # All are open still, and are answered again, in another order.
+    for number, stream in reversed(list(enumerate(streams))):
+        stream.sendall(get_of((number + 1) % 1000))
+    for stream in streams:
+        assert received(stream, 16) == frame(b"f" + EMPTY)
+    for stream in streams:
+        stream.close()
+    assert server.ended() == (0, "served 1000\ndomains 1000\n", ""), "ended otherwise"
+
+
+def received(stream, size):
+    """So many bytes, or as many as come."""
+    data = b""
+    while len(data) < size:
+        more = stream.recv(size - len(data))
+        if not more:
+            break
+        data += more
+    return data
+
+
+def connections_in_wait():
+    """One more than may be open waits, and is answered once another is closed."""
+    server = Lasting("--workers", "2", "--max-open", "2")
+    streams = [server.connect() for _ in range(3)]
+    for stream in streams:
+        stream.sendall(GET_A)
+    for stream in streams[:2]:
+        assert received(stream, 5) == frame(b"\x1e")
+    streams[2].settimeout(0.6)
+    try:
+        raise AssertionError(f"one too many was answered: {streams[2].recv(5)}")
+    except TimeoutError:
+        streams[2].settimeout(SECONDS)
+    streams[0].close()
+    assert received(streams[2], 5) == frame(b"\x1e")
+    for stream in streams[1:]:
+        stream.close()
+    assert server.ended() == (0, "served 3\ndomains 0\n", ""), "ended otherwise"
+
+
+def read_only_port():
+    """At the port for reads only nothing is changed, and what is set at the other port is seen."""
+    server = Lasting("--workers", "2", "--read-port", "0")
+    shut = frame(b"\x38")
+    tried = SET_A + frame(b"R\x01a") + frame(b"A\x01a" + ENTRY) + GET_A + frame(b"F")
+    none = frame(b"a" + bytes(8))
+    assert server.ask(tried, server.read_port) == 3 * shut + frame(b"\x1e") + none
+    assert server.ask(frame(b"V\2") + frame(b"C\x01a\0" + EMPTY), server.read_port) == frame(b"v\2") + shut
+    assert server.ask(SET_A) == frame(b"s")
+    found = frame(b"f" + EMPTY)
+    assert server.ask(frame(b"R\x01a") + GET_A, server.read_port) == shut + found
+    assert server.ended() == (0, "served 4\ndomains 1\n", ""), "ended otherwise"
+
+
+def flood_beside_others():
+    """One client sends without pause, one a byte at a time, one bad lengths; another one has its answers soon."""
+    server = Lasting("--workers", "1", "--idle", "60")
+    until = time.monotonic() + 3
+    flood = threading.Thread(target=send_gets, args=(server, until))
+    bad = threading.Thread(target=send_bad_lengths, args=(server, until))
+    slow = server.connect()
+    flood.start()
+    bad.start()
+    worst, before, at = 0.0, server.kilobytes(), 0
+    with server.connect() as stream:
+        while time.monotonic() < until:
+            slow.sendall(bytes([GET_A[at % len(GET_A)]]))
+            at += 1
+            asked = time.monotonic()
+            stream.sendall(GET_A)
+            assert received(stream, 5) == frame(b"\x1e")
+            worst = max(worst, time.monotonic() - asked)
+            time.sleep(0.05)
+    flood.join()
+    bad.join()
+    assert received(slow, at // len(GET_A) * 5) == at // len(GET_A) * frame(b"\x1e")
+    slow.close()
+    grown = server.kilobytes() - before
+    assert worst < 1, f"an answer took {worst} seconds"
+    assert grown < 20_000, f"the server has grown by {grown} kB"
+    status, out, _ = server.ended()
+    assert status == 0 and out.endswith("domains 0\n"), (status, out)
+
+
+def send_gets(server, until):
+    """Sends gets as fast as they are taken, and reads the replies as they come."""
+    with server.connect() as stream:
+        reader = threading.Thread(target=read_all, args=(stream,))
+        reader.start()
+        while time.monotonic() < until:
+            stream.sendall(1000 * GET_A)
+        stream.shutdown(socket.SHUT_WR)
+        reader.join()
+
+
+def read_all(stream):
+    while stream.recv(1 << 20):
+        pass
+
+
+def send_bad_lengths(server, until):
+    """Connects again and again, and sends lengths of 4,294,967,295 until the server takes no more."""
+    lengths = 100_000 * b"\xff\xff\xff\xff"
+    while time.monotonic() < until:
+        with server.connect() as stream:
+            try:
+                for _ in range(50):
+                    stream.sendall(lengths)
+            except OSError:
+                pass
+
+
+def stops_while_clients_write():
+    """A stop while 100 clients set domains: each that was told `stored` is there at the end."""
+    server = Lasting("--workers", "4")
+    stored = []
+    clients = [threading.Thread(target=set_until_it_ends, args=(server, number, stored)) for number in range(100)]
+    for client in clients:
+        client.start()
+    time.sleep(1)
+    status, out, _ = server.ended()
+    for client in clients:
+        client.join()
+    domains = int(out.split()[3])
+    assert status == 0 and sum(stored) <= domains, (status, out, sum(stored))
+    assert sum(stored) > 0, "no client was told anything"
+
+
+def set_until_it_ends(server, number, stored):
+    """Sets one domain of its own after the other, and counts the replies."""
+    count = 0
+    try:
+        with server.connect() as stream:
+            for domain in range(1_000_000):
+                name = b"c%02d-%06d" % (number, domain)
+                stream.sendall(frame(b"S" + bytes([len(name)]) + name + EMPTY))
+                if received(stream, 5) != frame(b"s"):
+                    break
+                count += 1
+    except OSError:
+        pass
+    stored.append(count)
+
+
 CHECKS = [two_workers, side_by_side, real_bundles, filled_stores, clients_that_fail, many_workers, ports_and_outputs, silent_clients,
-          client_that_never_reads, replies_before_a_bad_length, stops_at_the_end_of_input, told_changes]
+          client_that_never_reads, replies_before_a_bad_length, stops_at_the_end_of_input, told_changes, a_thousand_connections,
+          connections_in_wait, read_only_port, flood_beside_others, stops_while_clients_write]
 
 
 def main():

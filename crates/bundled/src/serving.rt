@@ -1,7 +1,7 @@
 //! The command `serve`: workers answer connections, over a store that they share.
-mod connections;
 mod incoming;
 mod listening;
-mod stop;
+mod shared;
+mod stream;
 
 pub use listening::serve_over;

@@ -24,4 +24,4 @@ AreSettings (Snapshot wanted) = Unit {0}
 AreSettings (Serve port load log settings) = (0 < settings.workers) × (settings.workers ≤ 64) × IfSome settings.connections (λ n. (0 < n) × (n ≤ 1000))
     × (0 < settings.shards) × (settings.shards ≤ 256) × (0 < settings.rounds) × (settings.rounds ≤ 16)
     × (settings.retries ≤ 1000000) × (0 < settings.idle) × (settings.idle ≤ 86400)
-    × (0 < settings.tries) × (settings.tries ≤ 1000000) × (0 < settings.turns) × (settings.turns ≤ 1000000000)
+    × (0 < settings.tries) × (settings.tries ≤ 1000000) × (0 < settings.most_open) × (settings.most_open ≤ 1000000)

@@ -310,9 +310,9 @@ What to do: Connect again, or raise --turns.
         56,
         "\
 56 GateShut
-The request was not asked: the server is being shut down, or requests of its kind are not taken
-here.
-What to do: Connect again later, or to another port.
+The request was not asked: it would change something, and this port is for reads only; or the
+server is being shut down.
+What to do: Ask at the server's other port, or later.
 ",
     ),
     (

@@ -99,9 +99,19 @@ fn workers<'a>(alloc: Global) -> Arg<'a> {
 }
 
 fn connections<'a>(alloc: Global) -> Arg<'a> {
-    let help =
-        "How many connections each worker serves, one after the other: 1..=1000, or unlimited";
+    let help = "How many connections each worker takes before it ends: 1..=1000, or unlimited";
     optional(alloc, "connections", "COUNT", help).default_value("1")
+}
+
+fn max_open<'a>(alloc: Global) -> Arg<'a> {
+    let help = "How many connections may be open at once; others wait to be taken";
+    let range = value_parser!(u64).range(1..=1_000_000);
+    number(alloc, "max-open", "COUNT", range, "1000", help)
+}
+
+fn read_port<'a>(alloc: Global) -> Arg<'a> {
+    let help = "A second port, where clients may read and change nothing; 0 takes one that is free";
+    optional(alloc, "read-port", "PORT", help).value_parser(value_parser!(u16))
 }
 
 fn load<'a>(alloc: Global) -> Arg<'a> {
@@ -266,9 +276,10 @@ fn with_connections<'a>(alloc: Global, command: Command<'a>) -> Result<Command<'
     command
         .arg(port(alloc))?
         .arg(workers(alloc))?
+        .arg(read_port(alloc))?
         .arg(connections(alloc))?
-        .arg(idle(alloc))?
-        .arg(turns(alloc))
+        .arg(max_open(alloc))?
+        .arg(idle(alloc))
 }
 
 /// The options of the store.

@@ -30,6 +30,9 @@ const SHARDS: usize = 4;
 /// The rounds of a fetch-all if the command line doesn't say.
 const ROUNDS: usize = 3;
 
+/// How many connections may be open if the command line doesn't say.
+const MOST_OPEN: u64 = 1000;
+
 /// The workers of a server if the command line doesn't say.
 const WORKERS: u64 = 2;
 
@@ -309,7 +312,7 @@ fn turns_of(run: &ArgMatches<'_>) -> u64
 
 fn settings_of(serve: &ArgMatches<'_>, connections: Option<u64>) -> Settings
     ensures connections { result.connections ≡ connections }
-    ensures limits { (result.rounds ≤ 16) × (result.tries ≤ 1000000) × (0 < result.turns) }
+    ensures limits { (result.rounds ≤ 16) × (result.tries ≤ 1000000) × (result.most_open ≤ 1000000) }
     ensures times { (result.retries ≤ 1000000) × (0 < result.idle) × (result.idle ≤ 86400) }
 {
     Settings {
@@ -330,7 +333,11 @@ fn settings_of(serve: &ArgMatches<'_>, connections: Option<u64>) -> Settings
             .get_one::<u64>("tries")
             .unwrap_or(TRIES)
             .clamp(1, 1_000_000),
-        turns: turns_of(serve),
+        most_open: serve
+            .get_one::<u64>("max-open")
+            .unwrap_or(MOST_OPEN)
+            .clamp(1, 1_000_000),
+        read_port: serve.get_one::<u16>("read-port"),
     }
 }
 

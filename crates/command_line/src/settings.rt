@@ -6,8 +6,12 @@ ghost use Rattle.std.specs.Prelude.{◌<◌, ◌≤◌};
 pub struct Settings {
     /// How many workers there are: 1 to 64.
     pub workers: u64,
-    /// How many connections each worker accepts, one after the other; without a number there is no end of them.
+    /// How many connections each worker takes before it ends; without a number there is no end of them.
     pub connections: Option<u64>,
+    /// How many connections may be open at once, those of all workers together: at least one.
+    pub most_open: u64,
+    /// Where connections may only read, if there is such a port: one that is free, if it is 0.
+    pub read_port: Option<u16>,
     /// Whether the server stops at the end of its input.
     pub until_eof: bool,
     /// How many shards the store has: 1 to 256.
@@ -20,8 +24,6 @@ pub struct Settings {
     pub idle: u64,
     /// How often a call tries a shard that others hold before it gives up: at least once.
     pub tries: u64,
-    /// How many reads a session may make: at most 1,000,000,000.
-    pub turns: u64,
-    pub ghost some: { (0 < workers) × (0 < shards) × (0 < rounds) × (0 < tries) },
-    pub ghost few: { (workers ≤ 64) × (shards ≤ 256) × (turns ≤ 1000000000) },
+    pub ghost some: { (0 < workers) × (0 < shards) × (0 < rounds) × (0 < tries) × (0 < most_open) },
+    pub ghost few: { (workers ≤ 64) × (shards ≤ 256) },
 }

@@ -175,14 +175,15 @@ and 42 are told and tried again; any other fault ends the command, with status 1
 folder.";
 
 pub const SERVING: &str = "\
-Each worker is a thread: it accepts one connection after the other, and serves each to its end. All workers
-share one store, which is empty at the start, or holds what --load gives it: a dump, judged whole and stored before
-the port is listened at. A connection carries the frames that `run` reads and writes; see bundled run --help.
+Each worker is a thread, and serves many connections beside each other. All workers share one store, which is empty at
+the start, or holds what --load gives it: a dump, judged whole and stored before the port is listened at. A connection
+carries the frames that `run` reads and writes; see bundled run --help. At the port of --read-port gets and fetch-alls
+are answered, and what would change a bundle is refused with 56.
 
-On standard output come `listening PORT` before the first connection is accepted, and at the end `served N`,
-how many connections were served, and `domains M`, how many domains have a bundle. Faults of connections go to
-standard error then, in order of the workers. The status is 1 after a fault of the server itself, such
-as a port that is taken, and 0 otherwise.
+On standard output come `listening PORT` before the first connection is taken, with `read-only PORT` on the same line if
+there is such a port, and at the end `served N`, how many connections were served, and `domains M`, how many domains
+have a bundle. Faults of connections go to standard error then, in order of the workers. The status is 1 after a fault
+of the server itself, such as a port that is taken, and 0 otherwise.
 
 With --log each change of a bundle is a line on standard error, with the sequence before and after it, and so is each
 end of a connection:
@@ -191,5 +192,5 @@ end of a connection:
   worker 1 appended a.example 7 to 8
   worker 1 session ended after 3 replies
 
-  bundled serve --port 8443 --connections 10
+  bundled serve --port 8443 --read-port 8444 --connections unlimited
   bundled refresh --relationships list --documents documents --port 8443";

@@ -88,10 +88,11 @@ fn wanted(alloc: Global, words: &[&str]) -> Result<String, AllocError> {
             let (workers, stops) = (settings.workers, settings.until_eof);
             let connections = settings.connections.unwrap_or(0);
             let (shards, rounds) = (settings.shards, settings.rounds);
-            let (tries, turns) = (settings.tries, settings.turns);
+            let (tries, most_open) = (settings.tries, settings.most_open);
+            let read_port = settings.read_port;
             let (retries, idle) = (settings.retries, settings.idle);
             format!(in alloc;
-                "serve {port} {load:?} {log} {workers} {connections} {stops} {shards} {rounds} {tries} {retries} {idle} {turns}"
+                "serve {port} {read_port:?} {load:?} {log} {workers} {connections} {stops} {shards} {rounds} {tries} {retries} {idle} {most_open}"
             )
         }
         Err(error) => format!(in alloc; "{error}"),
@@ -189,7 +190,7 @@ fn numbers() -> &'static [Line] {
         (&["bundled", "migrate"], "migrate"),
         (
             &["bundled", "serve", "--port", "0"],
-            "serve 0 None false 2 1 false 4 3 1000 1000 60 1000000",
+            "serve 0 None None false 2 1 false 4 3 1000 1000 60 1000",
         ),
         (
             &[
@@ -205,9 +206,10 @@ fn numbers() -> &'static [Line] {
                 "--idle=86400",
                 "--load=dumps/a",
                 "--log",
-                "--turns=1000000000",
+                "--max-open=1000000",
+                "--read-port=8444",
             ],
-            "serve 65535 Some(\"dumps/a\") true 64 1000 false 256 16 1000000 1000000 86400 1000000000",
+            "serve 65535 Some(8444) Some(\"dumps/a\") true 64 1000 false 256 16 1000000 1000000 86400 1000000",
         ),
         (
             &["bundled", "serve", "--port", "1", "--workers", "65"],
@@ -221,7 +223,7 @@ fn numbers() -> &'static [Line] {
                 "--connections=unlimited",
                 "--until-eof",
             ],
-            "serve 1 None false 2 0 true 4 3 1000 1000 60 1000000",
+            "serve 1 None None false 2 0 true 4 3 1000 1000 60 1000",
         ),
         (
             &["bundled", "serve", "--port", "1", "--connections", "0"],

@@ -26,12 +26,13 @@ use Rattle.commands.specs.Streams.{End, Tells, TellsUnlessFailed}
 use Rattle.command_line.specs.declared.settings.Settings.{Settings}
 use Rattle.workers.specs.Filling.{Fills, NotFills}
 use Rattle.workers.specs.declared.filling.FillError.TheVariants as fill
-use Rattle.workers.specs.Workers.{AllWorked}
+use Rattle.live_workers.specs.Workers.{AllServed}
 use Rattle.workers.specs.Closing.{ranges_of, AreAll, ClosesAs}
 
--- a line of a word and a number
+-- a line of words, each with a number
 abbrev pub said_line : Said → List ℕ
-said_line (Listening port) = codes "listening " ++ (decimal port ++ 10 ∷ [])
+said_line (Listening port None) = codes "listening " ++ (decimal port ++ 10 ∷ [])
+said_line (Listening port (Some read_port)) = codes "listening " ++ (decimal port ++ (codes " read-only " ++ (decimal read_port ++ 10 ∷ [])))
 said_line (Served count) = codes "served " ++ (decimal count ++ 10 ∷ [])
 said_line (Domains count) = codes "domains " ++ (decimal count ++ 10 ∷ [])
 
@@ -82,7 +83,7 @@ closing_line (Ok contents) taken = write_fault taken
 closing_line (Err error) taken = fault_line (Close error)
 
 -- After the sessions: `served N`, their faults in order of the workers, and `domains M` or why the store gave no map. The status
--- is 0 if both lines were taken and a session came each time that a worker waited for one.
+-- is 0 if both lines were taken and no listener failed.
 pub record Reports (worked : List Worked) (before status : ℕ) (out_old out_new err_old err_new : End) : Type 0 where
   pub served_taken : Bool
   pub between : End
@@ -144,19 +145,20 @@ NotSetUp requests error = (error ≡ Memory) ⊎ ((store : StoreView) × (fresh 
 abbrev pub Serves : StoreView → List PassView → ℕ → ℕ → End → End → End → End → Type 0
 Serves store passes before status out_old out_new err_old err_new =
     ((status ≡ 1) × (out_new ≡ out_old) × TellsUnlessFailed before err_old err_new (fault_line (Front Memory)))
-    ⊎ ((worked : List Worked) × AllWorked always_open store 0 passes worked × Reports worked before status out_old out_new err_old err_new)
+    ⊎ ((worked : List Worked) × AllServed always_open store 0 passes worked × Reports worked before status out_old out_new err_old err_new)
 
--- Nothing is accepted if `listening PORT` is not taken.
+-- No connection is taken if that line is not taken.
 abbrev pub ServesIf : Bool → StoreView → List PassView → ℕ → ℕ → End → End → End → End → Type 0
 ServesIf true store passes before status out_old out_new err_old err_new = Serves store passes before status out_old out_new err_old err_new
 ServesIf false store passes before status out_old out_new err_old err_new = (status ≡ 1) × (out_new ≡ out_old) × (err_new ≡ err_old)
 
--- `listening PORT` is offered, and then connections are served.
+-- The line of the ports is offered, and then connections are served.
 pub record Listens (store : StoreView) (passes : List PassView) (port status : ℕ) (out_old out_new err_old err_new : End) : Type 0 where
   pub taken : Bool
   pub out : End
   pub error : End
-  pub listening : IsOffered taken (said_line (Listening port)) out_old out
+  pub read_port : Option ℕ
+  pub listening : IsOffered taken (said_line (Listening port read_port)) out_old out
   pub tells : TellsUnlessFailed err_old.faults err_old error (write_fault taken)
   pub serves : ServesIf taken store passes err_old.faults status out out_new error err_new
 
@@ -164,10 +166,10 @@ pub record Listens (store : StoreView) (passes : List PassView) (port status : �
 abbrev pub EndsEarly : Fault → ℕ → End → End → End → End → Type 0
 EndsEarly fault status out_old out_new err_old err_new = (status ≡ 1) × (out_new ≡ out_old) × Tells err_old err_new (fault_line fault)
 
--- There is a listener, and connections are served; or it can't be had, and that is told.
+-- There is a listener, and connections are served; or it can't be had, or memory runs out before, and that is told.
 abbrev pub ServeRun : StoreView → List PassView → ℕ → End → End → End → End → Type 0
 ServeRun store passes status out_old out_new err_old err_new =
-    EndsEarly ListenFault status out_old out_new err_old err_new
+    EndsEarly ListenFault status out_old out_new err_old err_new ⊎ EndsEarly (Front Memory) status out_old out_new err_old err_new
     ⊎ ((port : ℕ) × Listens store passes port status out_old out_new err_old err_new)
 
 -- The store is set up, and serves; or it is not, and why is told.

@@ -1,5 +1,6 @@
 //! What a server says, on its output and on standard error.
-ghost use Rattle.std.specs.Prelude.{◌≡◌, ◌<◌, ◌≤◌, ◌-◌, ◌+◌, ◌^◌, ◌++◌, ◌∷◌, [], min, length, decimal};
+ghost use Rattle.std.specs.Prelude.{◌≡◌, ◌<◌, ◌≤◌, ◌-◌, ◌+◌, ◌^◌, ◌++◌, ◌∷◌, [], min, length, decimal, Some};
+ghost use Rattle.server.specs.declared.lines.Said.TheVariants.{Listening};
 ghost use Rattle.server.specs.Serve.{IsOffered, said_line, write_fault, session_count, all_came, session_lines, results_of};
 ghost use Rattle.commands.specs.Streams.{TellsUnlessFailed, end_of};
 
@@ -10,14 +11,14 @@ use itoa::Buffer;
 use std::io::Write;
 use workers::{SessionFault, Worked};
 
-/// The most bytes of a line: a word of 9 letters, a number of 20 digits, a space and a line feed.
-const LINE_BYTES: usize = 31;
+/// The most bytes of a line: two words of 9 letters, two numbers of 20 digits, three spaces and a line feed.
+const LINE_BYTES: usize = 62;
 
-/// What a server says on its output: a word and a number.
+/// What a server says on its output: words, each with a number.
 #[derive(Clone, Copy, Debug)]
 pub enum Said {
-    /// The port where it listens.
-    Listening(u16),
+    /// The port where it listens, and the port for reads only, if there is one.
+    Listening(u16, Option<u16>),
     /// How many sessions were begun.
     Served(u64),
     /// How many domains had a bundle at the end.
@@ -29,7 +30,8 @@ impl Said {
         ensures { result.items ≡ said_line self }
     {
         match self {
-            Said::Listening(port) => line_of(b"listening ", u64::from(port)),
+            Said::Listening(port, None) => line_of(b"listening ", u64::from(port)),
+            Said::Listening(port, Some(read_port)) => ports_line(port, read_port),
             Said::Served(count) => line_of(b"served ", count),
             Said::Domains(count) => line_of(b"domains ", count),
         }
@@ -45,6 +47,35 @@ fn line_of(word: &[u8], number: u64) -> ArrayVec<u8, LINE_BYTES>
     let _fits = line.try_extend_from_slice(word);
     let _fits = line.try_extend_from_slice(digits.format(number).as_bytes());
     let _fits = line.try_extend_from_slice(b"\n");
+    line
+}
+
+/// Adds a word and a number.
+fn push_both(line: &mut ArrayVec<u8, LINE_BYTES>, word: &[u8], number: u64)
+    requires { length line.old.items + length word.now + 20 ≤ 62 }
+    ensures pushed { line.new.items ≡ line.old.items ++ (word.now ++ decimal number) }
+    ensures short { length line.new.items ≤ length line.old.items + length word.now + 20 }
+{
+    let mut digits = Buffer::new();
+    let _fits = line.try_extend_from_slice(word);
+    let _fits = line.try_extend_from_slice(digits.format(number).as_bytes());
+}
+
+/// Adds a line feed.
+fn end_line(line: &mut ArrayVec<u8, LINE_BYTES>)
+    requires { length line.old.items < 62 }
+    ensures { line.new.items ≡ line.old.items ++ 10 ∷ [] }
+{
+    let _fits = line.try_extend_from_slice(b"\n");
+}
+
+fn ports_line(port: u16, read_port: u16) -> ArrayVec<u8, LINE_BYTES>
+    ensures { result.items ≡ said_line (Listening port (Some read_port)) }
+{
+    let mut line = ArrayVec::new();
+    push_both(&mut line, b"listening ", u64::from(port));
+    push_both(&mut line, b" read-only ", u64::from(read_port));
+    end_line(&mut line);
     line
 }
 

@@ -1,153 +1,277 @@
-//! What a client sends, and when a server waits for it no longer.
-ghost use Rattle.std.specs.Prelude.{◌<◌};
+//! What comes to a worker from the ports.
+ghost use Rattle.std.specs.Prelude.{◌≡◌};
 
-use crate::serving::stop::Stop;
-use std::io;
-use std::io::{ErrorKind, Read};
-use std::net::{Shutdown, TcpStream};
-use std::time::Duration;
+use crate::serving::shared::{Seated, Shared};
+use crate::serving::stream::Stream;
+use commands::Fault;
+use frame_front::FrontError;
+use live_workers::{Arrival, Arrivals};
+use mio::net::{TcpListener, TcpStream};
+use mio::{Events, Interest, Poll, Token};
+use std::alloc::Global;
+use std::io::ErrorKind;
+use std::time::{Clock, Duration, Instant};
 
-/// How many bytes the length of a frame has.
-const LENGTH_BYTES: usize = 4;
-
-/// How many milliseconds a read waits before it looks whether the server is to stop: a tick.
+/// How many milliseconds a worker waits at most before it looks at what its clients owe: a tick.
 pub const TICK: u64 = 250;
 
 /// How many ticks a second has.
 pub const TICKS_A_SECOND: u64 = 4;
 
-/// How many milliseconds a read waits for the rest of a connection that is not answered any more.
-const LAST_WAIT: u64 = 250;
+/// The most events of one wait.
+pub const MOST_EVENTS: usize = 256;
 
-/// How many such reads there are.
-const LAST_READS: usize = 16;
+/// The token of the ports and of the waker: a client may be waiting. Those of clients are the numbers of their places.
+pub const PORT: Token = Token(usize::MAX);
 
-/// How far a stream of frames is: in a length, of which so many bytes have come, or in a payload, of which so many
-/// bytes are left.
-#[derive(Clone, Copy, Debug)]
-pub struct Place {
-    length: [u8; LENGTH_BYTES],
-    come: usize,
-    left: usize,
-    pub ghost short: { come < 4 },
+/// A port that a worker takes clients from.
+#[derive(Drop)]
+pub struct Port {
+    pub listener: TcpListener,
+    pub reads_only: bool,
 }
 
-impl Place {
-    /// Before the first frame.
-    pub fn new() -> Place {
-        Place {
-            length: [0; LENGTH_BYTES],
-            come: 0,
-            left: 0,
+/// What comes to one worker.
+#[derive(Drop)]
+pub struct Incoming<'a, C> {
+    clock: &'a C,
+    seat: Seated<'a>,
+    poll: Poll,
+    events: Events,
+    /// How many of the events have been told.
+    told: usize,
+    ports: Vec<Port>,
+    /// Whether a client may be waiting at a port.
+    may_take: bool,
+    /// Whether a client was taken since the worker has waited.
+    has_taken: bool,
+    /// How many clients the worker may take still.
+    left: u64,
+    /// How many clients were connected to the worker when it waited last.
+    open: usize,
+    /// How often the worker may wait still.
+    waits: u64,
+    last_tick: Instant,
+    /// Whether it was told that a port has failed.
+    has_failed: bool,
+}
+
+/// What a port has for a worker.
+#[derive(Drop)]
+enum Accepted {
+    Client(TcpStream, bool),
+    Nobody,
+    Failed,
+}
+
+/// The first client that waits at one of the ports.
+fn first_at(ports: &[Port]) -> Accepted {
+    for port in ports {
+        match port.listener.accept() {
+            Ok((stream, _)) => return Accepted::Client(stream, port.reads_only),
+            Err(error) if error.kind() == ErrorKind::WouldBlock => {}
+            Err(_) => return Accepted::Failed,
         }
     }
-
-    /// Whether the last frame is whole.
-    pub fn is_between_frames(&self) -> bool {
-        self.come == 0 && self.left == 0
-    }
-
-    /// Goes on over the bytes that have come.
-    pub fn pass(&mut self, bytes: &[u8]) {
-        let mut rest = bytes;
-        while let Some((byte, more)) = rest.split_first() {
-            if self.left > 0 {
-                let (_, behind) = rest.split_at(self.left.min(rest.len()));
-                self.left -= self.left.min(rest.len());
-                rest = behind;
-                continue;
-            }
-            if let Some(place) = self.length.get_mut(self.come) {
-                *place = *byte;
-            }
-            self.come += 1;
-            if self.come >= LENGTH_BYTES {
-                self.left = u32::from_be_bytes(self.length) as usize;
-                self.come = 0;
-            }
-            rest = more;
-        }
-    }
+    Accepted::Nobody
 }
 
-/// The bytes that a client sends. A read fails if the client is silent inside a frame for too long; between frames it may
-/// be silent as long as it likes. If the server is to stop, the client's bytes end here.
-pub struct Incoming<'a> {
-    stream: TcpStream,
-    stop: &'a Stop,
-    /// For how many ticks the client may be silent inside a frame.
-    idle: u64,
-    place: Place,
-    /// Whether the client has ended, or a read has failed.
-    has_ended: bool,
-}
-
-impl<'a> Incoming<'a> {
-    /// The bytes of a stream whose reads wait for a tick. The client may be silent inside a frame for so many of them.
-    pub fn new(stream: TcpStream, stop: &'a Stop, idle: u64) -> Incoming<'a> {
-        Incoming {
-            stream,
-            stop,
-            idle,
-            place: Place::new(),
-            has_ended: false,
-        }
-    }
-
-    /// Whether a client that has been silent for so many ticks is given up.
-    fn is_too_silent(&self, ticks: u64) -> bool {
-        ticks >= self.idle && !self.place.is_between_frames()
-    }
-}
-
-impl<'a> Read for Incoming<'a> {
-    fn read(&mut self, buf: &mut [u8]) -> io::Result<usize> {
-        for ticks in 1..u64::MAX {
-            if self.stop.is_asked() {
-                return Ok(0);
-            }
-            match self.stream.read(buf) {
-                Ok(count) => {
-                    self.has_ended = count == 0;
-                    self.place.pass(buf.split_at(count).0);
-                    return Ok(count);
-                }
-                Err(error) => {
-                    if error.kind() != ErrorKind::WouldBlock || self.is_too_silent(ticks) {
-                        self.has_ended = true;
-                        return Err(error);
-                    }
-                }
+impl<'a, C: Clock> Incoming<'a, C> {
+    /// What comes to a worker that may take so many clients from these ports.
+    pub fn new(
+        alloc: Global,
+        clock: &'a C,
+        shared: &'a Shared,
+        worker: usize,
+        poll: Poll,
+        mut ports: Vec<Port>,
+        left: u64,
+    ) -> Result<Incoming<'a, C>, Fault> {
+        let Ok(events) = Events::with_capacity(alloc, MOST_EVENTS) else {
+            return Err(Fault::Front(FrontError::Memory));
+        };
+        for port in ports.iter_mut() {
+            let registry = poll.registry();
+            if registry
+                .register(&mut port.listener, PORT, Interest::READABLE)
+                .is_err()
+            {
+                return Err(Fault::Listen);
             }
         }
-        Ok(0)
+        let Ok(last_tick) = Instant::now(clock) else {
+            return Err(Fault::Listen);
+        };
+        Ok(Incoming {
+            clock,
+            seat: Seated::new(shared, worker),
+            poll,
+            events,
+            told: 0,
+            ports,
+            may_take: true,
+            has_taken: false,
+            left,
+            open: 0,
+            waits: u64::MAX,
+            last_tick,
+            has_failed: false,
+        })
     }
-}
 
-// If the connection is closed while bytes of it are unread, the system resets it, and the client may lose the last
-// replies. So the client is told that no more replies come, and what it still sends is read, for a moment.
-impl Drop for Incoming<'_> {
-    fn drop(self) {
-        let Incoming {
-            stream,
-            stop: _,
-            idle: _,
-            place: _,
-            has_ended,
-        } = self;
-        if !has_ended {
-            read_the_rest(stream);
+    /// Tells the other workers how many clients have left this one.
+    fn count(&mut self, open: usize)
+        ensures { self.new.waits ≡ self.old.waits }
+    {
+        if open < self.open {
+            self.seat.leave((self.open - open) as u64);
+        }
+        self.open = open;
+    }
+
+    /// Takes a client that waits at a port, if it is this worker's turn. It is known by the place from then on.
+    fn take(&mut self, place: usize) -> Option<Arrival<Stream>>
+        ensures { self.new.waits ≡ self.old.waits }
+    {
+        self.may_take = false;
+        if self.left == 0 || !self.seat.may_take() {
+            return None;
+        }
+        match first_at(self.ports.as_slice()) {
+            Accepted::Client(stream, reads_only) => Some(self.watch(place, stream, reads_only)),
+            Accepted::Nobody => None,
+            Accepted::Failed => Some(self.fail()),
+        }
+    }
+
+    /// Waits for the client from now on.
+    fn watch(&mut self, place: usize, mut stream: TcpStream, reads_only: bool) -> Arrival<Stream>
+        ensures { self.new.waits ≡ self.old.waits }
+    {
+        // Replies are gathered into few writes already; none of them is to wait for an answer to the one before.
+        let _ = stream.set_nodelay(true);
+        let both = Interest::READABLE | Interest::WRITABLE;
+        if self
+            .poll
+            .registry()
+            .register(&mut stream, Token(place), both)
+            .is_err()
+        {
+            return self.fail();
+        }
+        self.left = self.left.saturating_sub(1);
+        self.open = self.open.saturating_add(1);
+        self.seat.take();
+        if self.left == 0 {
+            // Clients that still come are the others'.
+            self.seat.stand();
+        }
+        // Another client may be waiting.
+        self.may_take = true;
+        Arrival::Opens {
+            end: Stream::new(stream),
+            reads_only,
+        }
+    }
+
+    /// The worker takes clients from now on, if it may.
+    fn sit(&mut self)
+        ensures { self.new.waits ≡ self.old.waits }
+    {
+        if self.left > 0 {
+            self.seat.sit();
+        }
+    }
+
+    /// A port has failed, which is told once.
+    fn fail(&mut self) -> Arrival<Stream>
+        ensures { self.new.waits ≡ self.old.waits }
+    {
+        if self.has_failed {
+            return Arrival::Nothing;
+        }
+        self.has_failed = true;
+        Arrival::Fails
+    }
+
+    /// The place of the next client whose stream is ready, among the events that are not told yet.
+    fn next_ready(&mut self) -> Option<usize>
+        ensures { self.new.waits ≡ self.old.waits }
+    {
+        for _ in 0..MOST_EVENTS {
+            let event = self.events.iter().as_slice().get(self.told)?;
+            self.told = self.told.saturating_add(1);
+            let token = event.token();
+            if token == PORT {
+                self.may_take = true;
+            } else {
+                return Some(usize::from(token));
+            }
+        }
+        None
+    }
+
+    /// Whether the time of a tick has passed since the last one.
+    fn is_tick_due(&mut self) -> bool
+        ensures { self.new.waits ≡ self.old.waits }
+    {
+        let Ok(now) = Instant::now(self.clock) else {
+            return false;
+        };
+        if now.duration_since(self.last_tick) < Duration::from_millis(TICK) {
+            return false;
+        }
+        self.last_tick = now;
+        true
+    }
+
+    /// Waits until something is ready, but not if `is_busy`, and tells of the first.
+    fn wait(&mut self, is_busy: bool) -> Arrival<Stream>
+        ensures { self.new.waits ≡ self.old.waits }
+    {
+        if self.is_tick_due() {
+            // A port that failed may be well again, and a worker that had the turn may be gone.
+            self.may_take = true;
+            self.sit();
+            return Arrival::Tick;
+        }
+        let most = if is_busy || self.may_take { 0 } else { TICK };
+        self.told = 0;
+        let _ = self
+            .poll
+            .poll(&mut self.events, Some(Duration::from_millis(most)));
+        match self.next_ready() {
+            Some(place) => Arrival::Ready(place),
+            None => Arrival::Nothing,
         }
     }
 }
 
-fn read_the_rest(mut stream: TcpStream) {
-    let _ = stream.shutdown(Shutdown::Write);
-    let _ = stream.set_read_timeout(Some(Duration::from_millis(LAST_WAIT)));
-    let mut unread = [0; 4096];
-    for _ in 0..LAST_READS {
-        if !matches!(stream.read(&mut unread), Ok(1..)) {
-            return;
+impl<'a, C: Clock> Arrivals for Incoming<'a, C> {
+    type End = Stream;
+
+    ghost left = { λ incoming. incoming.waits };
+
+    fn next(&mut self, free: usize, open: usize, is_busy: bool) -> Arrival<Stream> {
+        self.count(open);
+        if self.waits == 0 || self.seat.is_asked() || (self.left == 0 && open == 0) {
+            return Arrival::Stops;
         }
+        if self.waits == u64::MAX {
+            self.sit();
+        }
+        self.waits -= 1;
+        if let Some(place) = self.next_ready() {
+            return Arrival::Ready(place);
+        }
+        // One client at a time, so that those who are connected are not kept waiting by those who connect.
+        if self.may_take && !self.has_taken {
+            self.has_taken = true;
+            if let Some(arrival) = self.take(free) {
+                return arrival;
+            }
+        }
+        self.has_taken = false;
+        self.wait(is_busy)
     }
 }

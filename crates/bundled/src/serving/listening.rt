@@ -1,17 +1,22 @@
-//! A server: its workers and their connections.
-ghost use Rattle.std.specs.Prelude.{◌≡◌, false, ◌<◌, ◌-◌, ◌^◌, IfOk, vec_len};
+//! A server: its ports, its workers and their connections.
+ghost use Rattle.std.specs.Prelude.{◌≡◌, false, ◌<◌, ◌-◌, ◌+◌, ◌^◌, ◌⊎◌, IfOk, OnOk, vec_len};
 ghost use Rattle.std.specs.List.{All};
 ghost use Rattle.shard_store.specs.Pass.{IsOf};
-ghost use Rattle.workers.specs.Workers.{AllWorked};
+ghost use Rattle.live_workers.specs.Workers.{AllServed};
 ghost use Rattle.workers.specs.Closing.{AreAll, ranges_of};
 ghost use Rattle.server.specs.Serve.{always_open, ServeCommand, ServeRun};
-ghost use Rattle.commands.specs.Streams.{end_of};
+ghost use Rattle.commands.specs.Fault.{fault_line};
+ghost use Rattle.commands.specs.Streams.{Tells, end_of};
+ghost use Rattle.commands.specs.declared.fault.Fault.TheVariants.{Front, Listen};
+ghost use Rattle.frame_front.specs.declared.error.FrontError.TheVariants.{Memory};
 
-use crate::serving::connections::Connections;
-use crate::serving::stop::{Stop, Watch};
+use crate::serving::incoming::{Incoming, PORT, Port, TICKS_A_SECOND};
+use crate::serving::shared::{Seat, Shared, Watch};
 use command_line::Settings;
 use commands::Fault;
 use frame_front::{Counted, FrontError};
+use live_workers::run_arrivals;
+use mio::{Poll, Waker};
 use server::{Said, SetUp, report, requests_of, say};
 use shard_store::{Pass, Store};
 use std::alloc::{AllocError, Global};
@@ -21,104 +26,230 @@ use std::net::{Ipv4Addr, Net, TcpListener, TcpStream};
 use std::thread;
 use std::thread::Threads;
 use std::time::Clock;
-use workers::{Log, Open, Worked, run_workers};
+use workers::{Log, Open, Worked};
 
-/// The same listener for each worker.
-fn connections_of<'a>(
+/// A listener at a port of 127.0.0.1 whose calls do not wait.
+fn listener_at<H: Net<Listener = TcpListener, Stream = TcpStream>>(
+    host: &H,
+    port: u16,
+) -> Result<TcpListener, Fault> {
+    match TcpListener::bind(host, (Ipv4Addr::LOCALHOST, port)) {
+        Ok(listener) if listener.set_nonblocking(true).is_ok() => Ok(listener),
+        _ => Err(Fault::Listen),
+    }
+}
+
+/// The port of a listener.
+fn port_of(listener: &TcpListener) -> Result<u16, Fault> {
+    match listener.local_addr() {
+        Ok(address) => Ok(address.port()),
+        Err(_) => Err(Fault::Listen),
+    }
+}
+
+/// Where a server listens, and for reads only.
+#[derive(Drop)]
+struct Listeners {
+    all: TcpListener,
+    reads: Option<TcpListener>,
+}
+
+impl Listeners {
+    fn new<H: Net<Listener = TcpListener, Stream = TcpStream>>(
+        host: &H,
+        port: u16,
+        read_port: Option<u16>,
+    ) -> Result<Listeners, Fault> {
+        let all = listener_at(host, port)?;
+        let reads = match read_port {
+            Some(port) => Some(listener_at(host, port)?),
+            None => None,
+        };
+        Ok(Listeners { all, reads })
+    }
+
+    /// Their numbers.
+    fn ports(&self) -> Result<(u16, Option<u16>), Fault> {
+        let port = port_of(&self.all)?;
+        match &self.reads {
+            Some(reads) => Ok((port, Some(port_of(reads)?))),
+            None => Ok((port, None)),
+        }
+    }
+
+    /// The same ports for one worker.
+    fn copies(&self, alloc: Global) -> Result<Vec<Port>, Fault> {
+        let mut ports = Vec::new(alloc);
+        push_copy(&mut ports, &self.all, false)?;
+        if let Some(reads) = &self.reads {
+            push_copy(&mut ports, reads, true)?;
+        }
+        Ok(ports)
+    }
+}
+
+fn push_copy(ports: &mut Vec<Port>, listener: &TcpListener, reads_only: bool) -> Result<(), Fault> {
+    let Ok(listener) = listener.try_clone() else {
+        return Err(Fault::Listen);
+    };
+    let listener = mio::net::TcpListener::from_std(listener);
+    match ports.push(Port {
+        listener,
+        reads_only,
+    }) {
+        Ok(()) => Ok(()),
+        Err(_) => Err(Fault::Front(FrontError::Memory)),
+    }
+}
+
+/// For each worker, where it waits; and what wakes it.
+#[derive(Drop)]
+struct Waits {
+    polls: Vec<Poll>,
+    seats: Vec<Seat>,
+}
+
+impl Waits {
+    fn new<N: Net>(net: &N, alloc: Global, workers: u64) -> Result<Waits, Fault>
+        ensures { IfOk result (λ waits. vec_len waits.polls ≡ workers) }
+    {
+        let mut waits = Waits {
+            polls: Vec::new(alloc),
+            seats: Vec::new(alloc),
+        };
+        for _ in 0..workers {
+            waits.push(net)?;
+        }
+        Ok(waits)
+    }
+
+    fn push<N: Net>(&mut self, net: &N) -> Result<(), Fault>
+        ensures { OnOk result (vec_len self.new.polls ≡ vec_len self.old.polls + 1) }
+    {
+        let Ok(poll) = Poll::new(net) else {
+            return Err(Fault::Listen);
+        };
+        let Ok(waker) = Waker::new(poll.registry(), PORT) else {
+            return Err(Fault::Listen);
+        };
+        if self.seats.push(Seat::new(waker)).is_err() || self.polls.push(poll).is_err() {
+            return Err(Fault::Front(FrontError::Memory));
+        }
+        Ok(())
+    }
+}
+
+/// What comes to each worker.
+fn incoming_of<'a, C: Clock>(
     alloc: Global,
-    listener: &'a TcpListener,
-    stop: &'a Stop,
+    clock: &'a C,
+    shared: &'a Shared,
+    listeners: &Listeners,
+    polls: Vec<Poll>,
     settings: Settings,
-) -> Result<Vec<Connections<'a>>, AllocError>
-    ensures { IfOk result (λ all. vec_len all ≡ settings.workers) }
+) -> Result<Vec<Incoming<'a, C>>, Fault>
+    ensures { IfOk result (λ all. vec_len all ≡ vec_len polls) }
 {
+    let left = settings.connections.unwrap_or(u64::MAX);
     let mut all = Vec::new(alloc);
-    for _ in 0..settings.workers {
-        all.push(Connections {
-            listener,
-            stop,
-            left: settings.connections.unwrap_or(u64::MAX),
-            idle: settings.idle,
-            turns: settings.turns,
-        })?;
+    for poll in polls {
+        let worker = all.len();
+        let ports = listeners.copies(alloc)?;
+        let incoming = Incoming::new(alloc, clock, shared, worker, poll, ports, left)?;
+        if all.push(incoming).is_err() {
+            return Err(Fault::Front(FrontError::Memory));
+        }
     }
     Ok(all)
 }
 
+/// How many ticks a client may owe something.
+fn most_silent_of(settings: Settings) -> u64 {
+    settings.idle.saturating_mul(TICKS_A_SECOND)
+}
+
 /// Runs the workers, and beside them waits for the end of the input: then they are to stop.
-fn run_until_end<R: Threads + Clock + Net<Stream = TcpStream> + Sync, I: Read, L: Log + Sync>(
+fn run_until_end<R: Threads + Clock + Sync, I: Read, L: Log + Sync>(
     rt: &R,
     alloc: Global,
     store: &Store,
     passes: Vec<Pass>,
-    connections: Vec<Connections<'_>>,
+    incoming: Vec<Incoming<'_, R>>,
     settings: Settings,
-    end: &mut Watch<'_, I>,
+    end: &mut Watch<'_, '_, I>,
     log: &L,
 ) -> Result<Vec<Worked>, AllocError>
-    requires same { vec_len passes ≡ vec_len connections }
+    requires same { vec_len passes ≡ vec_len incoming }
     requires own { All (λ pass. IsOf pass store.now) passes.items }
-    ensures { IfOk result (λ all. AllWorked always_open store.now 0 passes.items all.items) }
+    ensures { IfOk result (λ all. AllServed always_open store.now 0 passes.items all.items) }
 {
     let retries = settings.retries;
+    let most_silent = most_silent_of(settings);
     let run = || -> Result<Vec<Worked>, AllocError>
-        requires same { vec_len passes ≡ vec_len connections }
+        requires same { vec_len passes ≡ vec_len incoming }
         requires own { All (λ pass. IsOf pass store.now) passes.items }
-        ensures { IfOk result (λ all. AllWorked always_open store.entry.now 0 passes.items all.items) }
-    { run_workers(rt, alloc, store, passes, connections, &Open, retries, log) };
-    let (worked, ()) = thread::join(rt, run, || end.stop_at_end(rt, settings.workers));
+        ensures { IfOk result (λ all. AllServed always_open store.entry.now 0 passes.items all.items) }
+    {
+        run_arrivals(
+            rt,
+            alloc,
+            store,
+            passes,
+            incoming,
+            &Open,
+            retries,
+            most_silent,
+            log,
+        )
+    };
+    let (worked, ()) = thread::join(rt, run, || end.stop_at_end());
     worked
 }
 
-/// Serves connections until each worker has had as many as it may accept, or the server is to stop; answers what the
-/// workers gave back.
-fn serve_all<R: Threads + Clock + Net<Stream = TcpStream> + Sync, I: Read, L: Log + Sync>(
+/// Runs the workers; if the server is to stop at the end of its input, that is waited for beside them.
+fn serve_all<R: Threads + Clock + Sync, I: Read, L: Log + Sync>(
     rt: &R,
     alloc: Global,
-    listener: &TcpListener,
-    port: u16,
-    settings: Settings,
     store: &Store,
     passes: Vec<Pass>,
+    incoming: Vec<Incoming<'_, R>>,
+    shared: &Shared,
+    settings: Settings,
     input: &mut Counted<I>,
     log: &L,
 ) -> Result<Vec<Worked>, AllocError>
-    requires workers { vec_len passes ≡ settings.workers }
+    requires same { vec_len passes ≡ vec_len incoming }
     requires own { All (λ pass. IsOf pass store.now) passes.items }
-    ensures worked { IfOk result (λ all. AllWorked always_open store.now 0 passes.items all.items) }
+    ensures served { IfOk result (λ all. AllServed always_open store.now 0 passes.items all.items) }
     ensures read { settings.until_eof ≡ false → input.new ≡ input.old }
 {
-    let stop = Stop::new();
-    let connections = connections_of(alloc, listener, &stop, settings)?;
     if !settings.until_eof {
-        let retries = settings.retries;
-        return run_workers(rt, alloc, store, passes, connections, &Open, retries, log);
+        let most_silent = most_silent_of(settings);
+        return run_arrivals(
+            rt,
+            alloc,
+            store,
+            passes,
+            incoming,
+            &Open,
+            settings.retries,
+            most_silent,
+            log,
+        );
     }
-    let mut end = Watch {
-        input,
-        stop: &stop,
-        port,
-    };
-    run_until_end(
-        rt,
-        alloc,
-        store,
-        passes,
-        connections,
-        settings,
-        &mut end,
-        log,
-    )
+    let mut end = Watch { input, shared };
+    run_until_end(rt, alloc, store, passes, incoming, settings, &mut end, log)
 }
 
-/// Answers the connections of a listener over a store that is set up, until each worker has had as many as it may accept,
-/// or until the end of the input if the server is to stop then; answers the exit status.
+/// Serves at the listeners over a store that is set up, until each worker has had as many connections as it may take, or
+/// until the end of the input if the server is to stop then; answers the exit status.
 ///
-/// `listening PORT` goes to the output first; nothing is accepted if it is not taken. At the end come `served N`, how many
-/// sessions were begun, and `domains M`, how many domains have a bundle then. The faults of sessions are told in between,
-/// in order of the workers; they don't change the status, except that a worker to which no connection came does. The log is
-/// told of changes and of the ends of sessions while it serves.
-pub fn serve_on<
+/// `listening PORT` goes to the output first, and if there is a port for reads only, `read-only PORT` behind it on the same
+/// line; no connection is taken if it is not taken. At the end come `served N`, how many sessions were begun, and
+/// `domains M`, how many domains have a bundle then. The faults of sessions are told in between, in order of the workers;
+/// they don't change the status, except that a listener that failed does. The log is told of changes and of the ends of
+/// sessions while it serves.
+fn serve_on<
     R: Threads + Clock + Net<Stream = TcpStream> + Sync,
     I: Read,
     W: Write,
@@ -127,7 +258,7 @@ pub fn serve_on<
 >(
     rt: &R,
     alloc: Global,
-    listener: &TcpListener,
+    listeners: &Listeners,
     settings: Settings,
     set_up: SetUp,
     input: &mut Counted<I>,
@@ -145,21 +276,44 @@ pub fn serve_on<
 {
     let before = err.faults();
     let SetUp { store, passes } = set_up;
-    let Ok(address) = listener.local_addr() else {
-        return Fault::Listen.tell(err);
+    let (port, read_port) = match listeners.ports() {
+        Ok(ports) => ports,
+        Err(fault) => return tell_early(fault, err),
     };
-    let port = address.port();
-    if !say(out, err, before, Said::Listening(port)) {
+    let waits = match Waits::new(rt, alloc, settings.workers) {
+        Ok(waits) => waits,
+        Err(fault) => return tell_early(fault, err),
+    };
+    let Waits { polls, seats } = waits;
+    let shared = Shared::new(seats, settings.most_open);
+    let incoming = match incoming_of(alloc, rt, &shared, listeners, polls, settings) {
+        Ok(incoming) => incoming,
+        Err(fault) => return tell_early(fault, err),
+    };
+    if !say(out, err, before, Said::Listening(port, read_port)) {
         return 1;
     }
     match serve_all(
-        rt, alloc, listener, port, settings, &store, passes, input, log,
+        rt, alloc, &store, passes, incoming, &shared, settings, input, log,
     ) {
         Ok(worked) => report(store, worked, out, err, before),
         Err(_) => {
             Fault::Front(FrontError::Memory).tell_unless_failed(err, before);
             1
         }
+    }
+}
+
+/// Tells why there is no listener: memory ran out, or the system has none.
+fn tell_early<E: Write>(fault: Fault, err: &mut Counted<E>) -> u8
+    requires { err.old.faults < 2 ^ 64 - 1 }
+    ensures status { result ≡ 1 }
+    ensures tells { Tells (end_of E.contents err.old) (end_of E.contents err.new) (fault_line Listen)
+        ⊎ Tells (end_of E.contents err.old) (end_of E.contents err.new) (fault_line (Front Memory)) }
+{
+    match fault {
+        Fault::Front(FrontError::Memory) => Fault::Front(FrontError::Memory).tell(err),
+        _ => Fault::Listen.tell(err),
     }
 }
 
@@ -190,9 +344,9 @@ fn serve_at<
         (end_of E.contents err.old) (end_of E.contents err.new) }
     ensures read { settings.until_eof ≡ false → input.new ≡ input.old }
 {
-    match TcpListener::bind(host, (Ipv4Addr::LOCALHOST, port)) {
-        Ok(listener) => serve_on(
-            host, alloc, &listener, settings, set_up, input, out, err, log,
+    match Listeners::new(host, port, settings.read_port) {
+        Ok(listeners) => serve_on(
+            host, alloc, &listeners, settings, set_up, input, out, err, log,
         ),
         Err(_) => Fault::Listen.tell(err),
     }

@@ -1,0 +1,222 @@
+#!/usr/bin/env python3
+"""Clients that ask a server for as long as is wanted, and a checker of what they were answered. No part of the gate.
+
+usage: gate/soak.py [--seconds N] [--clients N] [--workers N] [--round SECONDS]   (over the program in crates/bundled/out/)
+
+Each client gets, sets and fetches all, over a connection of its own. After each round all of them stop for a moment, and what
+they were told is checked: there has to be one order of all operations of the round that keeps each client's own order and gives
+every reply. Sets of a domain carry rising sequences, so the order of its versions is known; then such an order exists if and
+only if nothing has to come before itself: a reply comes after the version that it shows, and before the next one.
+"""
+import argparse
+import os
+import random
+import sys
+import threading
+import time
+
+sys.dont_write_bytecode = True
+
+from program_runs import frame  # noqa: E402
+from serves import Lasting, received  # noqa: E402
+
+DOMAINS = [b"d%02d" % number for number in range(20)]
+SET, READ = "set", "read"
+
+
+def document(sequence):
+    return b'{"keys":[],"spiffe_sequence":%d}' % sequence
+
+
+def sequence_of(text):
+    return int(text[text.rindex(b":") + 1:-1])
+
+
+class Client:
+    """One connection, and what it was told: each deed is SET and one version, or READ and the versions that it shows."""
+
+    def __init__(self, server, seed):
+        self.stream = server.connect()
+        self.chance = random.Random(seed)
+        self.deeds = []
+        self.passed = 0
+
+    def reply(self):
+        size = int.from_bytes(received(self.stream, 4), "big")
+        return received(self.stream, size)
+
+    def ask(self, payload):
+        self.stream.sendall(frame(payload))
+        return self.reply()
+
+    def named(self, letter, domain, rest=b""):
+        return self.ask(letter + bytes([len(domain)]) + domain + rest)
+
+    def get(self, domain):
+        reply = self.named(b"G", domain)
+        if reply[:1] == b"f":
+            return self.deeds.append((READ, {domain: sequence_of(reply[1:])}))
+        return self.say_other(reply, domain)
+
+    def set(self, domain, sequence):
+        reply = self.named(b"S", domain, document(sequence))
+        if reply == b"s":
+            return self.deeds.append((SET, {domain: sequence}))
+        if reply == b"u":
+            return self.deeds.append((READ, {domain: sequence}))
+        if reply[:1] == b"\x1f":
+            return self.deeds.append((READ, {domain: int.from_bytes(reply[1:9], "big")}))
+        return self.say_other(reply, domain)
+
+    def say_other(self, reply, domain):
+        """30 shows that nothing stands there; 41 and 42 show nothing, and have changed nothing."""
+        if reply == b"\x1e":
+            return self.deeds.append((READ, {domain: 0}))
+        if reply[:1] in (b"\x29", b"\x2a"):
+            self.passed += 1
+            return None
+        raise AssertionError(f"a reply that none expects: {reply[:20]!r}")
+
+    def fetch(self):
+        reply = self.ask(b"F")
+        if reply[:1] != b"a":
+            return self.say_other(reply, b"")
+        shown = dict.fromkeys(DOMAINS, 0)
+        for _ in range(int.from_bytes(reply[1:9], "big")):
+            item = self.reply()
+            assert item[:1] == b"i", item[:20]
+            end = 2 + item[1]
+            shown[item[2:end]] = sequence_of(item[end:])
+        return self.deeds.append((READ, shown))
+
+    def run(self, until, newest):
+        while time.monotonic() < until:
+            kind, domain = self.chance.random(), self.chance.choice(DOMAINS)
+            if kind < 0.6:
+                self.get(domain)
+            elif kind < 0.95:
+                # Often one that is new, sometimes one that is not. Another client may choose the same.
+                newest[domain] = sequence = newest[domain] + self.chance.choice([-1, 0, 1, 1, 1, 2])
+                self.set(domain, max(sequence, 1))
+            else:
+                self.fetch()
+
+
+def check(histories, start):
+    """Whether the deeds have one order, if these versions stood there before. Says what is wrong, or nothing."""
+    versions = {domain: [start[domain]] for domain in DOMAINS}
+    for deeds in histories:
+        for kind, shown in deeds:
+            if kind == SET:
+                for domain, version in shown.items():
+                    versions[domain].append(version)
+    for domain, all_versions in versions.items():
+        if len(set(all_versions)) < len(all_versions):
+            return f"a version of {domain!r} was stored twice"
+        all_versions.sort()
+        if all_versions[0] != start[domain]:
+            return f"an older version of {domain!r} was stored"
+    return one_order(histories, versions)
+
+
+def one_order(histories, versions):
+    """Takes the deeds in an order that gives each of them, as long as one can be taken."""
+    place = {domain: {version: at for at, version in enumerate(all_versions)} for domain, all_versions in versions.items()}
+    now, at = dict.fromkeys(DOMAINS, 0), [0] * len(histories)
+    waits = {}
+    ready = list(range(len(histories)))
+    for deeds in histories:
+        for _, shown in deeds:
+            if any(version not in place[domain] for domain, version in shown.items()):
+                return f"a version was shown that nobody stored: {shown}"
+    left = left_to_read(histories, place)
+    while ready:
+        client = ready.pop()
+        while at[client] < len(histories[client]):
+            kind, shown = histories[client][at[client]]
+            lacking = lacks(kind, shown, place, now, left)
+            if lacking:
+                waits.setdefault(lacking, []).append(client)
+                break
+            at[client] += 1
+            for domain, version in shown.items():
+                there = place[domain][version]
+                if kind == SET:
+                    now[domain] = there
+                    ready += waits.pop((domain, there), [])
+                else:
+                    left[domain][there] -= 1
+                    if not left[domain][there]:
+                        ready += waits.pop((domain, there, "read"), [])
+    for client, deeds in enumerate(histories):
+        if at[client] < len(deeds):
+            return f"there is no order: client {client} was told {deeds[at[client]]}, which has to come before itself"
+    return ""
+
+
+def left_to_read(histories, place):
+    """How many deeds show each version."""
+    left = {domain: [0] * len(places) for domain, places in place.items()}
+    for deeds in histories:
+        for kind, shown in deeds:
+            if kind == READ:
+                for domain, version in shown.items():
+                    left[domain][place[domain][version]] += 1
+    return left
+
+
+def lacks(kind, shown, place, now, left):
+    """What has to be done before this deed: a version is to be stored, or all that show the one before are to be done."""
+    for domain, version in shown.items():
+        there = place[domain][version]
+        if kind == READ and now[domain] != there:
+            return (domain, there)
+        if kind == SET and now[domain] != there - 1:
+            return (domain, there - 1)
+        if kind == SET and left[domain][there - 1]:
+            return (domain, there - 1, "read")
+    return None
+
+
+def versions_now(server):
+    client = Client(server, 0)
+    client.fetch()
+    client.stream.close()
+    return client.deeds[0][1]
+
+
+def main():
+    parser = argparse.ArgumentParser(description=__doc__.split("\n", maxsplit=1)[0])
+    parser.add_argument("--seconds", type=int, default=3600)
+    parser.add_argument("--clients", type=int, default=64)
+    parser.add_argument("--workers", type=int, default=4)
+    parser.add_argument("--round", type=int, default=20)
+    wanted = parser.parse_args()
+    server = Lasting("--workers", str(wanted.workers), "--max-open", str(wanted.clients + 1))
+    clients = [Client(server, seed) for seed in range(wanted.clients)]
+    end, deeds, passed, bad = time.monotonic() + wanted.seconds, 0, 0, ""
+    memory = server.kilobytes()
+    while time.monotonic() < end and not bad:
+        start = versions_now(server)
+        newest, until = dict(start), time.monotonic() + wanted.round
+        threads = [threading.Thread(target=it.run, args=(until, newest)) for it in clients]
+        for thread in threads:
+            thread.start()
+        for thread in threads:
+            thread.join()
+        deeds += sum(len(it.deeds) for it in clients)
+        bad = check([it.deeds for it in clients], start)
+        passed = sum(it.passed for it in clients)
+        for client in clients:
+            client.deeds = []
+    memory = server.kilobytes() - memory
+    for client in clients:
+        client.stream.close()
+    server.ended()
+    print(f"{deeds} operations by {wanted.clients} clients, {passed} of them given up; memory has grown by {memory} kB")
+    print(bad or "there is one order of the operations of each round that gives every reply")
+    return 1 if bad else 0
+
+
+if __name__ == "__main__":
+    sys.exit(main())
