@@ -166,10 +166,10 @@ pub record Listens (store : StoreView) (passes : List PassView) (port status : �
 abbrev pub EndsEarly : Fault → ℕ → End → End → End → End → Type 0
 EndsEarly fault status out_old out_new err_old err_new = (status ≡ 1) × (out_new ≡ out_old) × Tells err_old err_new (fault_line fault)
 
--- There is a listener, and connections are served; or it can't be had, or memory runs out before, and that is told.
+-- There is a listener, and connections are served; or it can't be had, and that is told.
 abbrev pub ServeRun : StoreView → List PassView → ℕ → End → End → End → End → Type 0
 ServeRun store passes status out_old out_new err_old err_new =
-    EndsEarly ListenFault status out_old out_new err_old err_new ⊎ EndsEarly (Front Memory) status out_old out_new err_old err_new
+    EndsEarly ListenFault status out_old out_new err_old err_new
     ⊎ ((port : ℕ) × Listens store passes port status out_old out_new err_old err_new)
 
 -- The store is set up, and serves; or it is not, and why is told.

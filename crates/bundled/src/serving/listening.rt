@@ -1,10 +1,10 @@
 //! A server: its ports, its workers and their connections.
-ghost use Rattle.std.specs.Prelude.{◌≡◌, false, ◌<◌, ◌-◌, ◌+◌, ◌^◌, ◌⊎◌, IfOk, OnOk, vec_len};
+ghost use Rattle.std.specs.Prelude.{◌≡◌, false, ◌<◌, ◌-◌, ◌+◌, ◌^◌, ◌⊎◌, IfOk, IfErr, OnOk, OnErr, vec_len};
 ghost use Rattle.std.specs.List.{All};
 ghost use Rattle.shard_store.specs.Pass.{IsOf};
 ghost use Rattle.live_workers.specs.Workers.{AllServed};
 ghost use Rattle.workers.specs.Closing.{AreAll, ranges_of};
-ghost use Rattle.server.specs.Serve.{always_open, ServeCommand, ServeRun};
+ghost use Rattle.server.specs.Serve.{always_open, EndsEarly, ServeCommand, ServeRun};
 ghost use Rattle.commands.specs.Fault.{fault_line};
 ghost use Rattle.commands.specs.Streams.{Tells, end_of};
 ghost use Rattle.commands.specs.declared.fault.Fault.TheVariants.{Front, Listen};
@@ -270,7 +270,8 @@ fn serve_on<
     requires workers { vec_len set_up.passes ≡ settings.workers }
     requires own { All (λ pass. IsOf pass set_up.store) set_up.passes.items }
     requires all { AreAll (ranges_of set_up.passes.items) }
-    ensures run { ServeRun set_up.store set_up.passes.items result (end_of W.contents out.old) (end_of W.contents out.new)
+    ensures run { EndsEarly (Front Memory) result (end_of W.contents out.old) (end_of W.contents out.new) (end_of E.contents err.old) (end_of E.contents err.new)
+        ⊎ ServeRun set_up.store set_up.passes.items result (end_of W.contents out.old) (end_of W.contents out.new)
         (end_of E.contents err.old) (end_of E.contents err.new) }
     ensures read { settings.until_eof ≡ false → input.new ≡ input.old }
 {
@@ -317,8 +318,26 @@ fn tell_early<E: Write>(fault: Fault, err: &mut Counted<E>) -> u8
     }
 }
 
+/// Listens at the ports; or one of them can't be had, which is told, and the answer is the exit status.
+fn listeners_or_told<H: Net<Listener = TcpListener, Stream = TcpStream>, E: Write>(
+    host: &H,
+    port: u16,
+    read_port: Option<u16>,
+    err: &mut Counted<E>,
+) -> Result<Listeners, u8>
+    requires { err.old.faults < 2 ^ 64 - 1 }
+    ensures ok { OnOk result (err.new ≡ err.old) }
+    ensures status { IfErr result (λ status. status ≡ 1) }
+    ensures tells { OnErr result (Tells (end_of E.contents err.old) (end_of E.contents err.new) (fault_line Listen)) }
+{
+    match Listeners::new(host, port, read_port) {
+        Ok(listeners) => Ok(listeners),
+        Err(_) => Err(Fault::Listen.tell(err)),
+    }
+}
+
 /// Serves over a store that is set up, at the port of 127.0.0.1, or at one that is free if it is 0. A port that can't be had
-/// is a fault.
+/// is a fault, and so it is if memory for the workers runs out.
 fn serve_at<
     H: Threads + Clock + Net<Listener = TcpListener, Stream = TcpStream> + Sync,
     I: Read,
@@ -340,15 +359,16 @@ fn serve_at<
     requires workers { vec_len set_up.passes ≡ settings.workers }
     requires own { All (λ pass. IsOf pass set_up.store) set_up.passes.items }
     requires all { AreAll (ranges_of set_up.passes.items) }
-    ensures run { ServeRun set_up.store set_up.passes.items result (end_of W.contents out.old) (end_of W.contents out.new)
+    ensures run { EndsEarly (Front Memory) result (end_of W.contents out.old) (end_of W.contents out.new) (end_of E.contents err.old) (end_of E.contents err.new)
+        ⊎ ServeRun set_up.store set_up.passes.items result (end_of W.contents out.old) (end_of W.contents out.new)
         (end_of E.contents err.old) (end_of E.contents err.new) }
     ensures read { settings.until_eof ≡ false → input.new ≡ input.old }
 {
-    match Listeners::new(host, port, settings.read_port) {
+    match listeners_or_told(host, port, settings.read_port, err) {
         Ok(listeners) => serve_on(
             host, alloc, &listeners, settings, set_up, input, out, err, log,
         ),
-        Err(_) => Fault::Listen.tell(err),
+        Err(status) => status,
     }
 }
 

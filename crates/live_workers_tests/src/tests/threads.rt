@@ -54,7 +54,7 @@ struct Queue<'a> {
     left: u64,
 }
 
-fn queue(clients: u64, taken: &AtomicU64) -> Queue<'_> {
+fn queue_of(clients: u64, taken: &AtomicU64) -> Queue<'_> {
     Queue {
         clients,
         taken,
@@ -118,8 +118,8 @@ fn run_two<R: Threads + Clock + Sync>(
 ) -> Result<u64, AllocError> {
     let (store, passes) = store_for_two(alloc)?;
     let mut arrivals = Vec::new(alloc);
-    arrivals.push(queue(clients, taken))?;
-    arrivals.push(queue(clients, taken))?;
+    arrivals.push(queue_of(clients, taken))?;
+    arrivals.push(queue_of(clients, taken))?;
     let worked = run_arrivals(
         rt, alloc, &store, passes, arrivals, &Open, 1_000_000, 3, &Quiet,
     )?;
