@@ -1,7 +1,7 @@
 -- The parts of a turn, one after the other.
-use Rattle.std.proofs.Common.{◌≡◌, ℕ, ◌+◌, ◌*◌, ◌≤◌, List, [], ◌∷◌, ◌++◌, refl, sym, ap, ◌∙◌, arith, append_assoc, append-nil, subst, inl, inr, Result, Ok, Err}
-use Rattle.std.specs.Prelude.{◌⊎◌, ◌<◌, Option, Some, None, Bool, true}
-use Rattle.std.specs.Io.KnownBytes.{Appends, Consumes, IsAtEnd}
+use Rattle.std.proofs.Common.{◌≡◌, ℕ, ◌+◌, ◌*◌, ◌≤◌, List, [], ◌∷◌, ◌++◌, length, refl, sym, ap, ◌∙◌, arith, append_assoc, append-nil, length-append, subst, inl, inr, Result, Ok, Err}
+use Rattle.std.specs.Prelude.{◌<◌, Option, Bool}
+use Rattle.std.specs.Io.KnownBytes.{Appends, Consumes}
 use Rattle.std.proofs.KnownBytes.{Appends-nil, Appends-trans, Consumes-nil, Consumes-trans}
 use Rattle.std.proofs.lemmas.Grind.{flat_map-append}
 use Rattle.map_core.specs.declared.op.Op.{Op}
@@ -11,41 +11,55 @@ use Rattle.frame_front.specs.declared.error.FrontError.{FrontError}
 use Rattle.frame_front.specs.declared.error.FrontError.TheVariants.{BadLength, Truncated, ReadFault, WriteFault, TurnsUsed, Memory}
 use Rattle.frame_front.specs.Frame.{IsBadLength}
 use Rattle.frame_front.specs.Live.{LiveView, Sends, StopsAt, most_frames}
-use Rattle.frame_front.specs.LiveCalls.{LiveCall, DoesAll, piece_of, bytes_of, frames_in, Feed, Send, fed, sent, frames_of}
+use Rattle.frame_front.specs.LiveCalls.{LiveCall, DoesAll, piece_of, bytes_of, Feed, Send, fed, sent, frames_of}
 use Rattle.connections.specs.declared.after.After.{After}
 use Rattle.connections.specs.declared.ends.Broken.{Broken}
-use Rattle.connections.specs.declared.after.After.TheVariants.{Again, Over}
-use Rattle.connections.specs.Connection.{ConnectionView, IsLost, StopsFor, Turn, counted}
-use Rattle.connections.specs.Private.Goes.{Goes, GoesOn, ReadsAs, Round, SendsAs}
+use Rattle.connections.specs.declared.after.After.TheVariants.{Waits, Again, Over}
+use Rattle.connections.specs.Connection.{ConnectionView, EndsFor, EndsHere, HadShare, IsLost, StopsFor, Turn}
+use Rattle.connections.specs.Private.Goes.{Goes, GoesOn, ReadsAs, Round, SendsAs, StaysSo}
 
-frames_append : (xs ys : List LiveCall) → frames_of (xs ++ ys) ≡ frames_of xs + frames_of ys
+pub frames_append : (xs ys : List LiveCall) → frames_of (xs ++ ys) ≡ frames_of xs + frames_of ys
 frames_append [] ys = omega arith
 frames_append (x ∷ xs) ys = omega (arith, frames_append xs ys)
 
+fed_append : (xs ys : List LiveCall) → length (fed (xs ++ ys)) ≡ length (fed xs) + length (fed ys)
+fed_append xs ys = ap length (flat_map-append piece_of xs ys) ∙ length-append (fed xs) (fed ys)
+
+sent_append : (xs ys : List LiveCall) → length (sent (xs ++ ys)) ≡ length (sent xs) + length (sent ys)
+sent_append xs ys = ap length (flat_map-append bytes_of xs ys) ∙ length-append (sent xs) (sent ys)
+
+-- a round more
+share_then : (rounds : ℕ) (xs ys : List LiveCall) → HadShare rounds xs → HadShare 1 ys → HadShare (rounds + 1) (xs ++ ys)
+share_then rounds xs ys h k = (
+  h.0 + k.0,
+  h.1 + k.1,
+  omega (arith, h.2, k.2),
+  omega (arith, h.3, k.3, fed_append xs ys),
+  omega (arith, h.4, k.4, sent_append xs ys),
+)
+
+pub stays_then : (a b c : ConnectionView) → StaysSo a b → StaysSo b c → StaysSo a c
+stays_then a b c p q = (q.0 ∙ p.0, q.1 ∙ p.1)
+
+-- the input ends where it has not ended before
+pub ends_then : (a b c : ConnectionView) → b.has_ended ≡ a.has_ended → EndsHere b c → EndsHere a c
+ends_then a b c same (inl before) = inl (before ∙ same)
+ends_then a b c same (inr now) = inr now
+
 module _ {S : Type 0} (answers : S → Op → Result Reply AskError → S → Type 0) where
-  does_then : (xs ys : List LiveCall) (a b c : LiveView × S) → DoesAll answers xs a b → DoesAll answers ys b c → DoesAll answers (xs ++ ys) a c
+  pub does_then : (xs ys : List LiveCall) (a b c : LiveView × S) → DoesAll answers xs a b → DoesAll answers ys b c → DoesAll answers (xs ++ ys) a c
   does_then [] ys a b c p q = subst (λ s. DoesAll answers ys s c) p q
   does_then (x ∷ xs) ys a b c p q = (p.0, p.1, does_then xs ys p.0 b c p.2 q)
 
-  -- nothing was done yet
-  pub goes_nowhere : (a : ConnectionView) (m : S) → counted a.answered ≡ a.answered → Goes answers 0 [] a a m m
-  goes_nowhere a m few = record {
-    calls = [];
-    does = refl;
-    consumes = Consumes-nil a.left;
-    appends = Appends-nil a.held;
-    answered = sym few ∙ ap counted (omega arith);
-    share = omega arith;
-  }
-
-  module _ (most more : ℕ) (lost : List ℕ) (a b c : ConnectionView) (m n o : S) (p : Goes answers most [] a b m n) (q : Goes answers more lost b c n o) where
-    fed_both : (fed p.calls ++ []) ++ (fed q.calls ++ lost) ≡ fed (p.calls ++ q.calls) ++ lost
+  module _ (most more total : ℕ) (lost : List ℕ) (a b c : ConnectionView) (m n o : S) (p : Goes answers most [] a b m n) (q : Goes answers more lost b c n o)
+      (enough : most + more ≤ total) where
+    pub fed_both : (fed p.calls ++ []) ++ (fed q.calls ++ lost) ≡ fed (p.calls ++ q.calls) ++ lost
     fed_both =
         ap (λ (l : List ℕ). l ++ (fed q.calls ++ lost)) (append-nil (fed p.calls))
         ∙ (sym (append_assoc (fed p.calls) (fed q.calls) lost) ∙ ap (λ (l : List ℕ). l ++ lost) (sym (flat_map-append piece_of p.calls q.calls)))
 
     -- one part, and then another
-    pub goes_then : Goes answers (most + more) lost a c m o
+    abbrev pub goes_then : Goes answers total lost a c m o
     goes_then = record {
       calls = p.calls ++ q.calls;
       does = does_then p.calls q.calls (a.live, m) (b.live, n) (c.live, o) p.does q.does;
@@ -54,61 +68,78 @@ module _ {S : Type 0} (answers : S → Op → Result Reply AskError → S → Ty
       appends = subst (Appends a.held c.held) (sym (flat_map-append bytes_of p.calls q.calls))
           (Appends-trans a.held b.held c.held (sent p.calls) (sent q.calls) p.appends q.appends);
       answered = omega (arith, p.answered, q.answered, frames_append p.calls q.calls);
-      share = omega (arith, p.share, q.share, frames_append p.calls q.calls);
+      share = omega (arith, p.share, q.share, frames_append p.calls q.calls, enough);
+      stays = stays_then a b c p.stays q.stays;
     }
 
+  -- What is known of a turn after some rounds and its next part.
+  abbrev Further : ℕ → List ℕ → List LiveCall → ConnectionView → ConnectionView → S → S → Type 0
+  Further rounds lost calls a c m o = (goes : Goes answers ((rounds + 1) * most_frames) lost a c m o) × (HadShare 1 calls → HadShare (rounds + 1) goes.calls)
+
   -- a turn after some rounds, and the next part of it
-  pub goes_on : (rounds : ℕ) (lost : List ℕ) (a b c : ConnectionView) (m n o : S) → GoesOn answers rounds a b m n → Goes answers most_frames lost b c n o
-      → Goes answers ((rounds + 1) * most_frames) lost a c m o
+  pub goes_on : (rounds : ℕ) (lost : List ℕ) (a b c : ConnectionView) (m n o : S) → GoesOn answers rounds a b m n → (q : Goes answers most_frames lost b c n o)
+      → Further rounds lost q.calls a c m o
   goes_on rounds lost a b c m n o (inl none) q =
-      more (omega (arith, none.0)) (subst (λ s. Goes answers most_frames lost s c m o) none.1 (subst (λ s. Goes answers most_frames lost b c s o) none.2 q))
+      subst (λ s. Further rounds lost q.calls s c m o) none.1 (subst (λ s. Further rounds lost q.calls b c s o) none.2 (first, λ h. (h.0, h.1, omega (arith, none.0, h.2), h.3, h.4)))
     where
-      more : most_frames ≤ (rounds + 1) * most_frames → Goes answers most_frames lost a c m o → Goes answers ((rounds + 1) * most_frames) lost a c m o
-      more enough p = record { calls = p.calls; does = p.does; consumes = p.consumes; appends = p.appends; answered = p.answered; share = omega (arith, enough, p.share) }
-  goes_on rounds lost a b c m n o (inr p) q =
-      subst (λ most. Goes answers most lost a c m o) (omega arith) (goes_then (rounds * most_frames) most_frames lost a b c m n o p q)
+      first : Goes answers ((rounds + 1) * most_frames) lost b c n o
+      first = record {
+        calls = q.calls;
+        does = q.does;
+        consumes = q.consumes;
+        appends = q.appends;
+        answered = q.answered;
+        share = omega (arith, q.share);
+        stays = q.stays;
+      }
+  goes_on rounds lost a b c m n o (inr p) q = (
+    goes_then (rounds * most_frames) most_frames ((rounds + 1) * most_frames) lost a b c m n o p.0 q (omega arith),
+    λ h. share_then rounds p.0.calls q.calls p.1 h,
+  )
 
   -- frames are answered, and replies written
-  pub round_sent : (result : Result Bool Broken) (a b c : ConnectionView) (m n : S) → Goes answers most_frames [] a b m n → SendsAs result b c
-      → Goes answers most_frames [] a c m n
+  pub round_sent : (result : Result Bool Broken) (a b c : ConnectionView) (m n : S) → Goes answers most_frames [] a b m n → (q : SendsAs result b c)
+      → (goes : Goes answers most_frames [] a c m n) × (length q.bytes ≤ length (sent goes.calls))
   round_sent result a b c m n p q =
-      subst (λ most. Goes answers most [] a c m n) (omega arith) (goes_then most_frames 0 [] a b c m n n p (record {
+      let sends : Goes answers 0 [] b c n n = record {
         calls = Send q.bytes ∷ [];
         does = ((c.live, n), (q.sends, refl), refl);
         consumes = subst (λ (l : Option (List ℕ)). Consumes b.left l []) (sym q.left) (Consumes-nil b.left);
         appends = subst (Appends b.held c.held) (sym (append-nil q.bytes)) q.appends;
         answered = omega (arith, p.answered, q.answered);
         share = omega arith;
-      }))
+        stays = q.stays;
+      } in
+      (goes_then most_frames 0 most_frames [] a b c m n n p sends (omega arith), omega (arith, sent_append p.calls (Send q.bytes ∷ []), length-append q.bytes []))
 
   -- and then a piece is read
-  pub round_read : (result : Option After) (a b c : ConnectionView) (m n : S) → Goes answers most_frames [] a b m n → (q : ReadsAs result b c)
-      → Goes answers most_frames q.lost a c m n
+  pub round_read : (result : Result Bool After) (a b c : ConnectionView) (m n : S) → Goes answers most_frames [] a b m n → (q : ReadsAs result b c)
+      → (goes : Goes answers most_frames q.lost a c m n) × (length q.piece ≤ length (fed goes.calls))
   round_read result a b c m n p q =
-      subst (λ most. Goes answers most q.lost a c m n) (omega arith) (goes_then most_frames 0 q.lost a b c m n n p (record {
+      let reads : Goes answers 0 q.lost b c n n = record {
         calls = Feed q.piece ∷ [];
         does = ((c.live, n), (q.feeds, refl), refl);
         consumes = subst (λ (l : List ℕ). Consumes b.left c.left (l ++ q.lost)) (sym (append-nil q.piece)) q.consumes;
         appends = subst (λ (l : Option (List ℕ)). Appends b.held l []) (sym q.held) (Appends-nil b.held);
         answered = omega (arith, p.answered, q.answered);
         share = omega arith;
-      }))
+        stays = q.stays;
+      } in
+      (goes_then most_frames 0 most_frames q.lost a b c m n n p reads (omega arith), omega (arith, fed_append p.calls (Feed q.piece ∷ []), length-append q.piece []))
 
   -- what ends the read ends the round
-  pub round_ends : (result : Option After) (a b c : ConnectionView) (m n : S) (q : ReadsAs result b c) → Goes answers most_frames q.lost a c m n
-      → b.has_ended ≡ a.has_ended → Round answers result a c m n
-  round_ends (Some after) a b c m n q goes same = (q.lost, goes, q.until.0, λ ended. ends (q.until.1 ended), q.until.2)
-    where
-      ends : (b.has_ended ≡ true) ⊎ IsAtEnd c.left → (a.has_ended ≡ true) ⊎ IsAtEnd c.left
-      ends (inl before) = inl (sym same ∙ before)
-      ends (inr now) = inr now
-  round_ends None a b c m n q goes same = (subst (λ lost. Goes answers most_frames lost a c m n) q.until.0 goes, q.until.1 ∙ same)
+  pub round_ends : (result : Result Bool After) (a b c : ConnectionView) (m n : S) (q : ReadsAs result b c)
+      → (goes : Goes answers most_frames q.lost a c m n) × (length q.piece ≤ length (fed goes.calls)) → b.has_ended ≡ a.has_ended → Round answers result a c m n
+  round_ends (Err after) a b c m n q goes same = (q.lost, goes.0, q.until.0, ends_then a b c same q.until.1, q.until.2)
+  round_ends (Ok has_left) a b c m n q goes same =
+      subst (λ (lost : List ℕ). (g : Goes answers most_frames lost a c m n) × (length q.piece ≤ length (fed g.calls)) → Round answers (Ok has_left) a c m n) (sym q.until.0)
+      (λ g. (g.0, q.until.1 ∙ same, (1, 0, omega arith, omega (arith, g.1, q.until.2), omega arith), q.until.3)) goes
 
   -- a turn ends with a round
-  pub turn_ends : (rounds : ℕ) (after : After) (a b c : ConnectionView) (m n o : S) → rounds < 8 → GoesOn answers rounds a b m n → b.has_ended ≡ a.has_ended
-      → Round answers (Some after) b c n o → Turn answers after a c m o
-  turn_ends rounds after a b c m n o few before same e =
-      let goes = goes_on rounds e.0 a b c m n o before e.1 in
+  pub turn_ends : (most rounds : ℕ) (after : After) (a b c : ConnectionView) (m n o : S) → rounds < most → GoesOn answers rounds a b m n → b.has_ended ≡ a.has_ended
+      → Round answers (Err after) b c n o → Turn most answers after a c m o
+  turn_ends most rounds after a b c m n o few before same e =
+      let goes = (goes_on rounds e.0 a b c m n o before e.1).0 in
       record {
         calls = goes.calls;
         lost = e.0;
@@ -117,31 +148,38 @@ module _ {S : Type 0} (answers : S → Op → Result Reply AskError → S → Ty
         appends = goes.appends;
         answered = goes.answered;
         share = omega (arith, goes.share, few);
+        may = goes.stays.0;
+        closing = goes.stays.1;
         loses = e.2;
-        ends = λ ended. ends (e.3 ended);
-        stops = e.4;
+        ends = ends_then a b c same e.3;
+        why = why after goes.calls e.4;
       }
     where
-      ends : (b.has_ended ≡ true) ⊎ IsAtEnd c.left → (a.has_ended ≡ true) ⊎ IsAtEnd c.left
-      ends (inl earlier) = inl (sym same ∙ earlier)
-      ends (inr now) = inr now
+      why : (after : After) (calls : List LiveCall) → StopsFor after c → EndsFor most after calls c
+      why Waits calls stops = stops
+      why Again calls stops = absurd stops
+      why (Over result) calls stops = stops
 
   -- or after all its rounds
-  pub turn_is_over : (rounds : ℕ) (a b : ConnectionView) (m n : S) → rounds ≡ 8 → GoesOn answers rounds a b m n → b.has_ended ≡ a.has_ended
-      → Turn answers Again a b m n
-  turn_is_over rounds a b m n all (inl none) same = absurd (omega (arith, all, none.0))
-  turn_is_over rounds a b m n all (inr goes) same = record {
-    calls = goes.calls;
-    lost = [];
-    does = goes.does;
-    consumes = goes.consumes;
-    appends = goes.appends;
-    answered = goes.answered;
-    share = omega (arith, goes.share, all);
-    loses = refl;
-    ends = λ ended. inl (sym same ∙ ended);
-    stops = tt;
-  }
+  pub turn_is_over : (most rounds : ℕ) (a b : ConnectionView) (m n : S) → 0 < most → rounds ≡ most → GoesOn answers rounds a b m n → b.has_ended ≡ a.has_ended
+      → Turn most answers Again a b m n
+  turn_is_over most rounds a b m n some all (inl none) same = absurd (omega (arith, all, some, none.0))
+  turn_is_over most rounds a b m n some all (inr p) same =
+      let goes = p.0 in
+      record {
+        calls = goes.calls;
+        lost = [];
+        does = goes.does;
+        consumes = goes.consumes;
+        appends = goes.appends;
+        answered = goes.answered;
+        share = subst (λ r. frames_of goes.calls ≤ r * most_frames) all goes.share;
+        may = goes.stays.0;
+        closing = goes.stays.1;
+        loses = refl;
+        ends = inl same;
+        why = subst (λ r. HadShare r goes.calls) all p.1;
+      }
 
 -- no byte is lost
 pub none_lost : (error : FrontError) → IsLost (Over (Err error)) []

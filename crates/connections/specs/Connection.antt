@@ -1,55 +1,91 @@
 -- A connection, and what one turn of it does.
-use Rattle.std.specs.Prelude.{◌≡◌, ◌≢◌, ℕ, ◌+◌, ◌-◌, ◌*◌, ◌^◌, ◌≤◌, ◌⊎◌, min, ⊤, List, [], ◌++◌, Option, Some, None, Result, Ok, Err, Bool, true}
+use Rattle.std.specs.Prelude.{◌≡◌, ◌≢◌, ℕ, ◌+◌, ◌-◌, ◌*◌, ◌^◌, ◌≤◌, ◌⊎◌, min, ⊤, List, [], ◌++◌, length, Option, Some, None, Result, Ok, Err, Bool, true, false}
 use Rattle.std.specs.Io.KnownBytes.{Appends, Consumes, IsAtEnd}
 use Rattle.map_core.specs.declared.op.Op.{Op}
 use Rattle.map_core.specs.declared.reply.Reply.{Reply}
 use Rattle.map_core.specs.declared.reply.AskError.{AskError}
 use Rattle.frame_front.specs.declared.error.FrontError.{FrontError}
-use Rattle.frame_front.specs.declared.error.FrontError.TheVariants.{BadLength, Truncated, ReadFault, WriteFault, Memory}
+use Rattle.frame_front.specs.declared.error.FrontError.TheVariants.{BadLength, Truncated, ReadFault, WriteFault, TurnsUsed, Memory}
 use Rattle.frame_front.specs.Frame.{IsUnfinished, IsBadLength}
 use Rattle.frame_front.specs.Decoder.{BeginsWithFrame}
-use Rattle.frame_front.specs.Live.{LiveView, most_frames, waiting}
+use Rattle.frame_front.specs.Live.{LiveView, live_start, most_frames, reply_limit, waiting}
 use Rattle.frame_front.specs.LiveCalls.{LiveCall, DoesAll, fed, sent, frames_of}
+use Rattle.connections.specs.Stream.{May}
 use Rattle.connections.specs.declared.after.After.{After}
 use Rattle.connections.specs.declared.after.After.TheVariants.{Waits, Again, Over}
 
--- A connection between two turns: its session, how many frames were answered, whether its input has ended or a call of its
--- stream has failed, and, where they are known, the bytes that its stream has left to read, and those that were written to it.
+-- A connection between two turns: its session, how many frames were answered, whether its input has ended, whether its client
+-- is known to have closed its side, and of its stream what its calls may come to and, where they are known, the bytes that it
+-- has left to read, and those that were written to it.
 pub record ConnectionView : Type 0 where
   pub live : LiveView
   pub answered : ℕ
   pub has_ended : Bool
-  pub has_failed : Bool
+  pub is_closing : Bool
+  pub may : May
   pub left : Option (List ℕ)
   pub held : Option (List ℕ)
+
+-- a new connection over a stream
+abbrev pub opened : May → Option (List ℕ) → Option (List ℕ) → ConnectionView
+opened may left held = record { live = live_start; answered = 0; has_ended = false; is_closing = false; may = may; left = left; held = held }
+
+-- its input has ended
+abbrev pub ended : ConnectionView → ConnectionView
+ended c = record c { has_ended = true }
+
+-- maybe it is told that its client has closed its side
+abbrev pub told : Bool → ConnectionView → ConnectionView
+told true c = record c { is_closing = true }
+told false c = c
 
 -- a count that stays at 2^64 - 1 once there
 abbrev pub counted : ℕ → ℕ
 counted n = min n (2 ^ 64 - 1)
 
--- in one turn no more frames are answered: in each of 8 rounds as many as one call of the session answers
-abbrev pub most_share : ℕ
-most_share = 8 * most_frames
+-- A turn has so many rounds. In each no more frames are answered than one call of the session answers.
+abbrev pub turn_rounds : ℕ
+turn_rounds = 8
+
+-- the last turn is longer
+abbrev pub last_rounds : ℕ
+last_rounds = 64
 
 -- the input ends now: it had ended before, or the stream has no byte left
 abbrev pub EndsHere : ConnectionView → ConnectionView → Type 0
-EndsHere old new = new.has_ended ≡ true → (old.has_ended ≡ true) ⊎ IsAtEnd new.left
+EndsHere old new = (new.has_ended ≡ old.has_ended) ⊎ ((new.has_ended ≡ true) × IsAtEnd new.left)
 
 -- no reply waits
 abbrev pub AllSent : ConnectionView → Type 0
 AllSent new = waiting new.live ≡ []
 
--- Why a turn ends. A connection waits only while its stream takes no more replies, or no whole frame is left.
+-- In each of so many rounds a byte was read, or as many bytes of replies were sent as are ready at once.
+abbrev pub HadShare : ℕ → List LiveCall → Type 0
+HadShare rounds calls = (reads : ℕ) × (writes : ℕ) × (rounds ≤ reads + writes) × (reads ≤ length (fed calls)) × (writes * reply_limit ≤ length (sent calls))
+
+-- The stream has nothing more to read now: it would have to wait, or a read has left some of its room. That does not say that
+-- there is no more if the client has closed its side.
+abbrev pub HasNoMore : ConnectionView → Type 0
+HasNoMore new = (new.may.block ≡ true) ⊎ ((new.may.leave_room ≡ true) × (new.is_closing ≡ false))
+
+-- Why a turn stops before it has had its share. A connection waits only while its stream takes no more replies, or no whole
+-- frame is left, its input has not ended, and there is no more to read now.
 abbrev pub StopsFor : After → ConnectionView → Type 0
-StopsFor Waits new = (new.live.ready ≢ []) ⊎ (IsUnfinished new.live.kept × AllSent new)
-StopsFor Again new = ⊤
+StopsFor Waits new = ((new.live.ready ≢ []) × (new.may.block ≡ true))
+    ⊎ (IsUnfinished new.live.kept × AllSent new × (new.has_ended ≡ false) × HasNoMore new)
+StopsFor Again new = ⊥
 StopsFor (Over (Ok count)) new = (count ≡ new.answered) × (new.live.kept ≡ []) × AllSent new × (new.has_ended ≡ true)
 StopsFor (Over (Err BadLength)) new = IsBadLength new.live.kept × AllSent new
 StopsFor (Over (Err Truncated)) new = IsUnfinished new.live.kept × (new.live.kept ≢ []) × AllSent new × (new.has_ended ≡ true)
-StopsFor (Over (Err ReadFault)) new = IsUnfinished new.live.kept × AllSent new × (new.has_failed ≡ true)
-StopsFor (Over (Err WriteFault)) new = (new.live.ready ≢ []) × (new.has_failed ≡ true)
+StopsFor (Over (Err ReadFault)) new = IsUnfinished new.live.kept × AllSent new × (new.has_ended ≡ false) × (new.may.fail ≡ true)
+StopsFor (Over (Err WriteFault)) new = (new.live.ready ≢ []) × (new.may.fail ≡ true)
 StopsFor (Over (Err Memory)) new = ⊤
 StopsFor (Over (Err error)) new = ⊥
+
+-- why a turn of so many rounds ends, in which these calls were made
+abbrev pub EndsFor : ℕ → After → List LiveCall → ConnectionView → Type 0
+EndsFor rounds Again calls new = HadShare rounds calls
+EndsFor rounds after calls new = StopsFor after new
 
 -- What a client owes: the rest of a frame, or that it takes replies. It owes nothing if no reply is ready, and nothing is kept
 -- but whole frames.
@@ -65,7 +101,7 @@ IsLost (Over (Err Memory)) lost = ⊤
 IsLost result lost = lost ≡ []
 
 -- One turn of a connection: calls of its session, one after the other, fed with what was read and whose replies were written.
-pub record Turn {S : Type 0} (answers : S → Op → Result Reply AskError → S → Type 0) (result : After)
+pub record Turn (rounds : ℕ) {S : Type 0} (answers : S → Op → Result Reply AskError → S → Type 0) (result : After)
     (old new : ConnectionView) (map_old map_new : S) : Type 0 where
   pub calls : List LiveCall
   pub lost : List ℕ
@@ -73,7 +109,21 @@ pub record Turn {S : Type 0} (answers : S → Op → Result Reply AskError → S
   pub consumes : Consumes old.left new.left (fed calls ++ lost)
   pub appends : Appends old.held new.held (sent calls)
   pub answered : new.answered ≡ counted (old.answered + frames_of calls)
-  pub share : frames_of calls ≤ most_share
+  pub share : frames_of calls ≤ rounds * most_frames
+  pub may : new.may ≡ old.may
+  pub closing : new.is_closing ≡ old.is_closing
   pub loses : IsLost result lost
   pub ends : EndsHere old new
-  pub stops : StopsFor result new
+  pub why : EndsFor rounds result calls new
+
+-- how a session ends after its last turn: if it would wait, its client takes no more
+abbrev pub last_end : After → Result ℕ FrontError
+last_end (Over result) = result
+last_end Waits = Err WriteFault
+last_end Again = Err TurnsUsed
+
+-- the last turn of a connection, whose input ends before it, and how its session ends
+abbrev pub LastTurn : {S : Type 0} (answers : S → Op → Result Reply AskError → S → Type 0) → Result ℕ FrontError
+    → ConnectionView → ConnectionView → S → S → Type 0
+LastTurn answers result old new map_old map_new =
+    (after : After) × Turn last_rounds answers after (ended old) new map_old map_new × (result ≡ last_end after)

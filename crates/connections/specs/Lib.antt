@@ -1,2 +1,3 @@
+pub mod Stream
 pub mod Connection
 pub mod Private

@@ -1,8 +1,9 @@
 //! A stream that never waits, and the session that it carries.
-ghost use Rattle.std.specs.Prelude.{◌≡◌, ◌<◌, [], length, true, false, IfOk};
+ghost use Rattle.std.specs.Prelude.{◌≡◌, ◌<◌, [], true, IfOk};
 ghost use Rattle.frame_front.specs.Frame.{IsUnfinished};
-ghost use Rattle.frame_front.specs.Live.{live_start, most_frames, waiting, StopsAt};
-ghost use Rattle.connections.specs.Connection.{IsLost, Owes, StopsFor, Turn};
+ghost use Rattle.frame_front.specs.Live.{waiting, StopsAt};
+ghost use Rattle.connections.specs.Connection.{IsLost, LastTurn, Owes, StopsFor, Turn, ended, opened, told, turn_rounds};
+ghost use Rattle.connections.specs.Private.Ends.{LeavesAs};
 ghost use Rattle.connections.specs.Private.Goes.{Answers, SendsAs, ReadsAs, Round};
 
 use crate::after::After;
@@ -15,7 +16,10 @@ use std::alloc::{AllocError, Global};
 use std::marker::Model;
 
 /// How often a connection may read in one turn.
-const MOST_ROUNDS: u64 = 8;
+const TURN_ROUNDS: u64 = 8;
+
+/// How often replies may be written in the last turn.
+const LAST_ROUNDS: u64 = 64;
 
 /// A stream whose reads and writes return at once, with `WouldBlock` where they would wait, and its session.
 #[derive(Drop)]
@@ -26,8 +30,8 @@ pub struct Connection<E: Stream + Drop> {
     answered: u64,
     /// Whether no more input comes, or none is taken any more.
     has_ended: bool,
-    /// Whether a call of the stream has failed.
-    has_failed: bool,
+    /// Whether the client is known to have closed its side: then reads are to go on to the end.
+    is_closing: bool,
 }
 
 impl<E: Stream + Drop> Model for Connection<E> {
@@ -39,7 +43,8 @@ impl<E: Stream + Drop> Model for Connection<E> {
       live = c.live;
       answered = c.answered;
       has_ended = c.has_ended;
-      has_failed = c.has_failed;
+      is_closing = c.is_closing;
+      may = E.may c.end;
       left = E.left c.end;
       held = E.held c.end;
     } };
@@ -48,29 +53,15 @@ impl<E: Stream + Drop> Model for Connection<E> {
 impl<E: Stream + Drop> Connection<E> {
     /// Nothing has come yet.
     pub fn new(alloc: Global, end: E) -> Result<Connection<E>, AllocError>
-        ensures { IfOk result (λ new. new ≡ record {
-          live = live_start;
-          answered = 0;
-          has_ended = false;
-          has_failed = false;
-          left = E.left end;
-          held = E.held end;
-        }) }
+        ensures { IfOk result (λ new. new ≡ opened (E.may end) (E.left end) (E.held end)) }
     {
         Ok(Connection {
             end,
             live: LiveSession::new(alloc)?,
             answered: 0,
             has_ended: false,
-            has_failed: false,
+            is_closing: false,
         })
-    }
-
-    /// The input ends here: what the client sends from now on is not read.
-    pub fn end_input(&mut self)
-        ensures { self.new ≡ record self.old { has_ended = true } }
-    {
-        self.has_ended = true;
     }
 
     /// What the client owes: the rest of a frame (`ReadFault`), or that it takes replies (`WriteFault`).
@@ -104,11 +95,7 @@ impl<E: Stream + Drop> Connection<E> {
     fn send(&mut self) -> Result<bool, Broken>
         ensures { SendsAs result self.old self.new }
     {
-        let sent = write_replies(&mut self.end, &mut self.live);
-        if sent.is_err() {
-            self.has_failed = true;
-        }
-        sent
+        write_replies(&mut self.end, &mut self.live)
     }
 
     /// How the session ends, if its input ends here.
@@ -121,76 +108,123 @@ impl<E: Stream + Drop> Connection<E> {
     {
         match self.live.finish() {
             Ok(true) => After::Over(Ok(self.answered)),
-            // (no whole frame is left, so this does not come)
-            Ok(false) => After::Again,
+            Ok(false) => unreachable!(),
             Err(error) => After::Over(Err(error)),
         }
     }
 
-    /// Reads once, if no whole frame is left and nothing waits.
-    fn read(&mut self, room: &mut [u8; ROOM_BYTES]) -> Option<After>
+    /// Reads once, if no whole frame is left and nothing waits. The turn ends with the answer, or goes on: then the answer
+    /// is whether the read has left some of its room. If the one before has, there is no more to read now.
+    fn read(&mut self, room: &mut [u8; ROOM_BYTES], has_left: bool) -> Result<bool, After>
         requires unfinished { IsUnfinished self.old.live.kept }
         requires sent { waiting self.old.live ≡ [] }
+        requires left { LeavesAs has_left self.old.may }
         ensures { ReadsAs result self.old self.new }
     {
         if self.has_ended {
-            return Some(self.finish());
+            return Err(self.finish());
+        }
+        if has_left && !self.is_closing {
+            return Err(After::Waits);
         }
         match read_piece(&mut self.end, &mut self.live, room) {
-            Came::Piece => None,
-            Came::Nothing => Some(After::Waits),
+            Came::Piece(has_left) => Ok(has_left),
+            Came::Nothing => Err(After::Waits),
             Came::End => {
-                self.end_input();
-                Some(self.finish())
+                self.has_ended = true;
+                Err(self.finish())
             }
-            Came::NoMemory => Some(After::Over(Err(FrontError::Memory))),
-            Came::Broken => {
-                self.has_failed = true;
-                Some(After::Over(Err(FrontError::ReadFault)))
-            }
+            Came::NoMemory => Err(After::Over(Err(FrontError::Memory))),
+            Came::Broken => Err(After::Over(Err(FrontError::ReadFault))),
         }
     }
 
-    /// Answers what has come, writes the replies, and reads once. There is an answer if the turn ends then.
+    /// Answers what has come, writes the replies, and reads once. The turn ends with the answer, or goes on: then the
+    /// answer is whether the last read has left some of its room.
     fn go_round<A: Ask>(
         &mut self,
         documents: &mut DocumentReader,
         room: &mut [u8; ROOM_BYTES],
         ask: &mut A,
-    ) -> Option<After>
+        has_left: bool,
+    ) -> Result<bool, After>
+        requires { LeavesAs has_left self.old.may }
         ensures { Round A.answers result self.old self.new ask.old ask.new }
     {
         let wants = self.answer(documents, ask);
         match self.send() {
             Ok(true) => {}
-            Ok(false) => return Some(After::Waits),
-            Err(Broken) => return Some(After::Over(Err(FrontError::WriteFault))),
+            Ok(false) => return Err(After::Waits),
+            Err(Broken) => return Err(After::Over(Err(FrontError::WriteFault))),
         }
+        let wants = match wants {
+            Ok(wants) => wants,
+            Err(error) => return Err(After::Over(Err(error))),
+        };
         match wants {
-            Ok(Wants::Write) => None,
-            Ok(Wants::Read) => self.read(room),
-            Err(error) => Some(After::Over(Err(error))),
+            Wants::Write => Ok(has_left),
+            Wants::Read => self.read(room, has_left),
         }
     }
 
+    /// A turn of so many rounds.
+    fn go<A: Ask>(
+        &mut self,
+        documents: &mut DocumentReader,
+        room: &mut [u8; ROOM_BYTES],
+        ask: &mut A,
+        most: u64,
+    ) -> After
+        requires { 0 < most }
+        ensures { Turn most A.answers result self.old self.new ask.old ask.new }
+    {
+        let mut rounds = 0;
+        let mut has_left = false;
+        while rounds < most {
+            match self.go_round(documents, room, ask, has_left) {
+                Ok(has) => has_left = has,
+                Err(after) => return after,
+            }
+            rounds += 1;
+        }
+        After::Again
+    }
+
     /// Answers what has come and what comes now, in order, until the stream has no more or takes no more, the session is
-    /// over, or the connection has had its share: 8 reads. The connections of one thread can share the room for reading, and
-    /// the reader of documents.
+    /// over, or the connection has had its share: 8 reads. After a read that left some of its room there is no more to
+    /// read, unless the client `is_closing`: then its side is closed, or the stream has failed, and reads go on until they
+    /// say so. The connections of one thread can share the room for reading, and the reader of documents.
     pub fn turn<A: Ask>(
         &mut self,
         documents: &mut DocumentReader,
         room: &mut [u8; ROOM_BYTES],
         ask: &mut A,
+        is_closing: bool,
     ) -> After
-        ensures { Turn A.answers result self.old self.new ask.old ask.new }
+        ensures { Turn turn_rounds A.answers result (told is_closing self.old) self.new ask.old ask.new }
     {
-        let mut rounds = 0;
-        while rounds < MOST_ROUNDS {
-            if let Some(after) = self.go_round(documents, room, ask) {
-                return after;
-            }
-            rounds += 1;
+        if is_closing {
+            self.is_closing = true;
         }
-        After::Again
+        self.go(documents, room, ask, TURN_ROUNDS)
+    }
+
+    /// The last turn: nothing is read any more, and what has come is answered, as far as the stream takes it at once. If it
+    /// takes no more, the session ends with `WriteFault`; and with `TurnsUsed` after 64 rounds, if more would be owed than
+    /// those 4,194,304 bytes of replies.
+    pub fn last_turn<A: Ask>(
+        &mut self,
+        documents: &mut DocumentReader,
+        room: &mut [u8; ROOM_BYTES],
+        ask: &mut A,
+    ) -> Result<u64, FrontError>
+        ensures { LastTurn A.answers result self.old self.new ask.old ask.new }
+    {
+        self.has_ended = true;
+        match self.go(documents, room, ask, LAST_ROUNDS) {
+            After::Over(end) => end,
+            After::Waits => Err(FrontError::WriteFault),
+            After::Again => Err(FrontError::TurnsUsed),
+        }
     }
 }

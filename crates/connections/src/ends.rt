@@ -1,5 +1,7 @@
 //! What one read or write of a stream does for a session.
-ghost use Rattle.std.specs.Prelude.{◌≡◌, ℕ, List};
+ghost use Rattle.std.specs.Prelude.{◌≡◌, ◌≢◌, ℕ, List, true, false};
+ghost use Rattle.std.specs.IoError.{error_kind};
+ghost use Rattle.std.specs.declared.io.ErrorKind.TheVariants.{WouldBlock};
 ghost use Rattle.std.specs.Io.KnownBytes.{Appends};
 ghost use Rattle.frame_front.specs.Frame.{IsUnfinished};
 ghost use Rattle.frame_front.specs.Live.{Sends};
@@ -7,6 +9,7 @@ ghost use Rattle.connections.specs.Private.Ends.{IsSentAs, Takes};
 
 use crate::stream::Stream;
 use frame_front::LiveSession;
+use std::io;
 use std::io::ErrorKind;
 
 /// How many bytes there is room for in one read.
@@ -17,8 +20,8 @@ pub(crate) struct Broken;
 
 /// What comes of one read.
 pub(crate) enum Came {
-    /// A piece of the input, which was fed to the session.
-    Piece,
+    /// A piece of the input, which was fed to the session; and whether the read has left some of its room.
+    Piece(bool),
     /// The stream would have to wait.
     Nothing,
     /// The end of the input.
@@ -29,17 +32,26 @@ pub(crate) enum Came {
     Broken,
 }
 
+/// Whether a call that ended so would have to wait.
+fn would_wait(error: &io::Error) -> bool
+    ensures waits { result ≡ true → error_kind error.now ≡ WouldBlock }
+    ensures fails { result ≡ false → error_kind error.now ≢ WouldBlock }
+{
+    error.kind() == ErrorKind::WouldBlock
+}
+
 /// Writes the replies that are ready. The answer is whether all are written; if not, the stream takes no more now.
 pub(crate) fn write_replies<E: Stream>(end: &mut E, live: &mut LiveSession) -> Result<bool, Broken>
     ensures sends { (bytes : List ℕ) × Sends bytes live.old live.new × Appends (E.held end.old) (E.held end.new) bytes }
     ensures left { E.left end.new ≡ E.left end.old }
-    ensures until { IsSentAs result live.new.ready }
+    ensures may { E.may end.new ≡ E.may end.old }
+    ensures until { IsSentAs result (E.may end.old) live.new.ready }
 {
     while !live.replies().is_empty() {
         match end.write(live.replies()) {
             Ok(0) => return Err(Broken),
             Ok(count) => live.sent(count),
-            Err(error) if error.kind() == ErrorKind::WouldBlock => return Ok(false),
+            Err(error) if would_wait(&error) => return Ok(false),
             Err(_) => return Err(Broken),
         }
     }
@@ -53,17 +65,23 @@ pub(crate) fn read_piece<E: Stream>(
     room: &mut [u8; ROOM_BYTES],
 ) -> Came
     requires { IsUnfinished live.old.kept }
-    ensures takes { Takes result (E.left end.old) (E.left end.new) live.old live.new }
+    ensures takes { Takes result (E.may end.old) (E.left end.old) (E.left end.new) live.old live.new }
     ensures held { E.held end.new ≡ E.held end.old }
+    ensures may { E.may end.new ≡ E.may end.old }
 {
     let (room, _) = room.split_at_mut(live.room().min(ROOM_BYTES));
     match end.read(room) {
         Ok(0) => Came::End,
         Ok(count) => match live.feed(room.split_at(count).0) {
-            Ok(_) => Came::Piece,
+            Ok(_) => Came::Piece(count < room.len()),
             Err(_) => Came::NoMemory,
         },
-        Err(error) if error.kind() == ErrorKind::WouldBlock => Came::Nothing,
-        Err(_) => Came::Broken,
+        Err(error) => {
+            if would_wait(&error) {
+                Came::Nothing
+            } else {
+                Came::Broken
+            }
+        }
     }
 }

@@ -17,7 +17,9 @@ use Rattle.frame_front.specs.LiveCalls.{LiveCall, Does, DoesAll, Feed, Answer, S
 use Rattle.workers.specs.Gate.{AnsweredBehind}
 use Rattle.workers.specs.ReadOnly.{is_read}
 use Rattle.live_workers.specs.AtPort.{PortAnswer}
-use Rattle.live_workers.specs.Sessions.{Places, Step, Opens, Turns, Closes, Fails, Takes, TakesAll, ServedAll, nobody}
+use Rattle.connections.specs.Connection.{ConnectionView, Turn, turn_rounds, last_rounds}
+use Rattle.connections.specs.declared.after.After.{After}
+use Rattle.live_workers.specs.Sessions.{Places, Step, Opens, Turns, Misses, Closes, Ends, Fails, Takes, TakesAll, ServedAll, nobody}
 
 module _ {S : Type 0} (answers : S → Op → Result Reply AskError → S → Type 0) (Keeps : S → S → Type 0)
     (same : (s : S) → Keeps s s) (further : (s t u : S) → Keeps s t → Keeps t u → Keeps s u)
@@ -70,11 +72,16 @@ module _ {S : Type 0} (answers : S → Op → Result Reply AskError → S → Ty
   port_keeps true s op answer t a = behind_keeps (is_read op) s op answer t a
   port_keeps false s op answer t a = each s op answer t a
 
+  turn_keeps : (rounds : ℕ) (reads_only : Bool) (after : After) (a b : ConnectionView) (old new : S) → Turn rounds (PortAnswer answers reads_only) after a b old new → Keeps old new
+  turn_keeps rounds reads_only after a b old new t =
+      does_all_keep (PortAnswer answers reads_only) Keeps same further (port_keeps reads_only) t.calls (a.live, old) (b.live, new) t.does
+
   step_keeps : (step : Step) (old new : Places × S) → Takes answers step old new → Keeps old.1 new.1
-  step_keeps (Opens place reads_only) old new a = stays old.1 new.1 a.3
-  step_keeps (Turns place calls) old new a =
-      does_all_keep (PortAnswer answers a.0.reads_only) Keeps same further (port_keeps a.0.reads_only) calls (a.0.live, old.1) (a.1.live, new.1) a.4
+  step_keeps (Opens place start reads_only) old new a = stays old.1 new.1 a.3
+  step_keeps (Turns place ready after) old new a = turn_keeps turn_rounds a.0.reads_only after _ a.1.connection old.1 new.1 a.4
+  step_keeps (Misses place is_closing) old new a = stays old.1 new.1 a.2
   step_keeps (Closes place result) old new a = stays old.1 new.1 a.5
+  step_keeps (Ends place result) old new a = turn_keeps last_rounds a.0.reads_only a.3.0 _ a.1 old.1 new.1 a.3.1
   step_keeps Fails old new a = stays old.1 new.1 a.1
 
   steps_keep : (steps : List Step) (old new : Places × S) → TakesAll answers steps old new → Keeps old.1 new.1

@@ -9,38 +9,14 @@ use Rattle.map_core.specs.declared.op.Op.{Op}
 use Rattle.map_core.specs.declared.reply.Reply.{Reply}
 use Rattle.map_core.specs.declared.reply.AskError.{AskError}
 use Rattle.frame_front.specs.declared.error.FrontError.{FrontError}
-use Rattle.frame_front.specs.declared.error.FrontError.TheVariants.{BadLength, Truncated, ReadFault, WriteFault, TurnsUsed, Memory}
-use Rattle.frame_front.specs.Live.{live_start, waiting}
-use Rattle.connections.specs.Connection.{ConnectionView, Owes, StopsFor, Turn}
+use Rattle.connections.specs.Connection.{ConnectionView, Turn, told, turn_rounds}
 use Rattle.connections.specs.declared.after.After.{After}
-use Rattle.connections.specs.declared.after.After.TheVariants.{Waits, Again, Over}
 use Rattle.live_workers.specs.AtPort.{PortAnswer}
+use Rattle.live_workers.specs.Arrivals.{News, NewClient}
 use Rattle.workers.specs.declared.sessions.SessionFault.{SessionFault}
-use Rattle.live_workers.specs.Sessions.{Place, Places, Step, Opens, Turns, Closes, Fails, AllStay, EndsSo, OthersStay, TakesAll, told_by}
-use Rattle.live_workers.specs.Private.Serving.{AreEnds, Asks, HasTurn, Leaves, MayEnd, Serves}
-use Rattle.live_workers.proofs.StepLemmas.{all_stay, notes_then, serves_none, serves_one, serves_then, steps_then, turn_step}
-
--- a connection whose client owes something may be left
-pub owed_ends : (error : FrontError) (c : ConnectionView) (p : Place) → Owes (Some error) c → EndsSo (Err error) p
-owed_ends BadLength c p owed = absurd owed
-owed_ends Truncated c p owed = absurd owed
-owed_ends ReadFault c p owed = tt
-owed_ends WriteFault c p owed = tt
-owed_ends TurnsUsed c p owed = absurd owed
-owed_ends Memory c p owed = absurd owed
-
--- a turn that ends a session ends it so
-pub turn_may_end : (after : After) (c : ConnectionView) (reads_only : Bool) → StopsFor after c
-    → MayEnd after (record { live = c.live; answered = c.answered; reads_only = reads_only })
-turn_may_end Waits c reads_only stops = tt
-turn_may_end Again c reads_only stops = tt
-turn_may_end (Over (Ok count)) c reads_only stops = (stops.0, stops.1, stops.2)
-turn_may_end (Over (Err BadLength)) c reads_only stops = stops
-turn_may_end (Over (Err Truncated)) c reads_only stops = (stops.0, stops.1, stops.2)
-turn_may_end (Over (Err ReadFault)) c reads_only stops = tt
-turn_may_end (Over (Err WriteFault)) c reads_only stops = tt
-turn_may_end (Over (Err Memory)) c reads_only stops = tt
-turn_may_end (Over (Err TurnsUsed)) c reads_only stops = absurd stops
+use Rattle.live_workers.specs.Sessions.{Place, Places, Step, Opens, Turns, Misses, Closes, Ends, Fails, AllStay, EndsSo, OthersStay, TakesAll, told_by, closing_of, front_end, news_of, all_news}
+use Rattle.live_workers.specs.Private.Serving.{AreEnds, Asks, HadTurn, HadLastTurn, Leaves, NobodyThere, Serves, turn_news}
+use Rattle.live_workers.proofs.StepLemmas.{all_stay, notes_then, serves_ending, serves_none, serves_quietly, stay_then, steps_then}
 
 on_ok : {X E : Type 0} {P Q : Type 0} (r : Result X E) → OnOk r P → (P → Q) → OnOk r Q
 on_ok (Ok x) p f = f p
@@ -61,17 +37,57 @@ beyond s place far = get_or_past s.slots place None far
 -- ---- turns and ends as steps
 
 module _ {S : Type 0} (answers : S → Op → Result Reply AskError → S → Type 0) where
-  pub turn_serves : (place : ℕ) (after : After) (old new : Places) (noted noted_new : List (Result ℕ SessionFault)) (s t : S) → HasTurn answers place after old new s t
-      → noted_new ≡ noted → Serves answers old new noted noted_new s t
-  turn_serves place after old new noted noted_new s t h same =
-      subst (λ (n : List (Result ℕ SessionFault)). Serves answers old new noted n s t) (append-nil noted ∙ sym same)
-      (serves_one answers (Turns place h.calls) old new noted s t (turn_step answers place after old new s t h))
+  -- a turn, whatever it follows
+  pub turn_serves : (place : ℕ) (is_closing : Bool) (after : After) (old new : Places) (noted noted_new : List (Result ℕ SessionFault)) (s t : S)
+      → HadTurn answers place is_closing (Some after) old new s t → noted_new ≡ noted
+      → (ready : Option Bool) → closing_of ready ≡ is_closing → Serves answers (turn_news place ready) old new noted noted_new s t
+  turn_serves place is_closing after old new noted noted_new s t h same None closes =
+      serves_quietly answers (Turns place None after) old new noted noted_new s t
+      (h.before, record { connection = h.behind; reads_only = h.before.reads_only }, h.was, h.is, told_so, refl, h.others) refl same
+    where
+      told_so : Turn turn_rounds (PortAnswer answers h.before.reads_only) after (told (closing_of None) h.before.connection) h.behind s t
+      told_so = subst (λ b. Turn turn_rounds (PortAnswer answers h.before.reads_only) after (told b h.before.connection) h.behind s t) (sym closes) h.does
+  turn_serves place is_closing after old new noted noted_new s t h same (Some b) closes =
+      serves_quietly answers (Turns place (Some b) after) old new noted noted_new s t
+      (h.before, record { connection = h.behind; reads_only = h.before.reads_only }, h.was, h.is, told_so, refl, h.others) refl same
+    where
+      told_so : Turn turn_rounds (PortAnswer answers h.before.reads_only) after (told b h.before.connection) h.behind s t
+      told_so = subst (λ d. Turn turn_rounds (PortAnswer answers h.before.reads_only) after (told d h.before.connection) h.behind s t) (sym closes) h.does
 
-  pub close_serves : (place : ℕ) (end : Result ℕ FrontError) (old new : Places) (noted noted_new : List (Result ℕ SessionFault)) (s : S) (p : Place) → old place ≡ Some p → EndsSo end p
-      → new place ≡ None → OthersStay place old new → noted_new ≡ noted ++ told_by (Closes place end) → Serves answers old new noted noted_new s s
+  pub stays_serves : (old new : Places) (noted noted_new : List (Result ℕ SessionFault)) (s t : S)
+      → AllStay old new → noted_new ≡ noted → t ≡ s → Serves answers [] old new noted noted_new s t
+  stays_serves old new noted noted_new s t same kept still =
+      subst (λ (u : S). Serves answers [] old new noted noted_new s u) (sym still)
+      (subst (λ (n : List (Result ℕ SessionFault)). Serves answers [] old new noted n s s) (sym kept) (serves_none answers old new noted s same))
+
+  pub by_news : (h k : List News) (old new : Places) (noted noted_new : List (Result ℕ SessionFault)) (s t : S)
+      → k ≡ h → Serves answers h old new noted noted_new s t → Serves answers k old new noted noted_new s t
+  by_news h k old new noted noted_new s t same a = subst (λ n. Serves answers n old new noted noted_new s t) (sym same) a
+
+  pub unchanged_news : (h : List News) (old new : Places) (noted noted_new : List (Result ℕ SessionFault)) (s t : S)
+      → Serves answers (h ++ []) old new noted noted_new s t → Serves answers h old new noted noted_new s t
+  unchanged_news h old new noted noted_new s t a = subst (λ n. Serves answers n old new noted noted_new s t) (append-nil h) a
+
+  -- nobody had a turn
+  pub missed_serves : (place : ℕ) (old new : Places) (noted noted_new : List (Result ℕ SessionFault)) (s t : S)
+      → NobodyThere answers place old new s t → noted_new ≡ noted → (ready : Option Bool) → Serves answers (turn_news place ready) old new noted noted_new s t
+  missed_serves place old new noted noted_new s t n same None = stays_serves old new noted noted_new s t n.1 same n.2
+  missed_serves place old new noted noted_new s t n same (Some b) =
+      serves_quietly answers (Misses place b) old new noted noted_new s t (n.0, n.1, n.2) refl same
+
+  pub close_serves : (place : ℕ) (end : Result ℕ FrontError) (old new : Places) (noted noted_new : List (Result ℕ SessionFault)) (s : S) (p : Place) → old place ≡ Some p
+      → EndsSo end p.connection → new place ≡ None → OthersStay place old new → noted_new ≡ noted ++ front_end end ∷ [] → Serves answers [] old new noted noted_new s s
   close_serves place end old new noted noted_new s p was ends left others notes =
-      subst (λ (n : List (Result ℕ SessionFault)). Serves answers old new noted n s s) (sym notes)
-      (serves_one answers (Closes place end) old new noted s s (p, was, ends, left, others, refl))
+      serves_ending answers (Closes place end) old new noted noted_new s s (p, was, ends, left, others, refl) notes
+
+  -- a last turn, and then the connection is left
+  pub last_serves : (place : ℕ) (end : Result ℕ FrontError) (old mid new : Places) (noted kept noted_new : List (Result ℕ SessionFault)) (s t : S)
+      → HadLastTurn answers place (Some end) old mid s t → kept ≡ noted → new place ≡ None → OthersStay place mid new → noted_new ≡ kept ++ front_end end ∷ []
+      → Serves answers [] old new noted noted_new s t
+  last_serves place end old mid new noted kept noted_new s t h same left others notes =
+      serves_ending answers (Ends place end) old new noted noted_new s t
+      (h.before, h.behind, h.was, h.does, left, stay_then place old mid new h.others others)
+      (notes ∙ ap (λ (l : List (Result ℕ SessionFault)). l ++ front_end end ∷ []) same)
 
   -- ends of sessions may stand in any run
   ends_anywhere : (steps : List Step) (p q : Places) (s : S) → AreEnds steps → TakesAll Asks steps (p, tt) (q, tt) → TakesAll answers steps (p, s) (q, s)
@@ -79,18 +95,43 @@ module _ {S : Type 0} (answers : S → Op → Result Reply AskError → S → Ty
   ends_anywhere (Closes place result ∷ steps) p q s ends a =
       let one = a.1 in
       ((a.0.0, s), (one.0, one.1, one.2, one.3, one.4, refl), ends_anywhere steps a.0.0 q s ends a.2)
-  ends_anywhere (Opens place reads_only ∷ steps) p q s ends a = absurd ends
-  ends_anywhere (Turns place calls ∷ steps) p q s ends a = absurd ends
+  ends_anywhere (Opens place start reads_only ∷ steps) p q s ends a = absurd ends
+  ends_anywhere (Turns place ready after ∷ steps) p q s ends a = absurd ends
+  ends_anywhere (Misses place is_closing ∷ steps) p q s ends a = absurd ends
+  ends_anywhere (Ends place result ∷ steps) p q s ends a = absurd ends
   ends_anywhere (Fails ∷ steps) p q s ends a = absurd ends
 
-  pub leaves_serves : (old new : Places) (n o : List (Result ℕ SessionFault)) (s : S) → Leaves old new n o → Serves answers old new n o s s
-  leaves_serves old new n o s l = record { steps = l.steps; takes = ends_anywhere l.steps old new s l.ends l.takes; notes = l.notes }
+  no_news : (steps : List Step) → AreEnds steps → all_news steps ≡ []
+  no_news [] ends = refl
+  no_news (Closes place result ∷ steps) ends = no_news steps ends
+  no_news (Opens place start reads_only ∷ steps) ends = absurd ends
+  no_news (Turns place ready after ∷ steps) ends = absurd ends
+  no_news (Misses place is_closing ∷ steps) ends = absurd ends
+  no_news (Ends place result ∷ steps) ends = absurd ends
+  no_news (Fails ∷ steps) ends = absurd ends
+
+  pub leaves_serves : (old new : Places) (n o : List (Result ℕ SessionFault)) (s : S) → Leaves old new n o → Serves answers [] old new n o s s
+  leaves_serves old new n o s l =
+      record { steps = l.steps; takes = ends_anywhere l.steps old new s l.ends l.takes; notes = l.notes; follows = no_news l.steps l.ends }
+
+  -- a free place is taken
+  pub take_serves : (place : ℕ) (start : ConnectionView) (reads_only : Bool) (old new : Places) (noted noted_new : List (Result ℕ SessionFault)) (s : S)
+      → old place ≡ None → new place ≡ Some (record { connection = start; reads_only = reads_only }) → OthersStay place old new → noted_new ≡ noted
+      → Serves answers (NewClient start reads_only ∷ []) old new noted noted_new s s
+  take_serves place start reads_only old new noted noted_new s free taken others same =
+      serves_quietly answers (Opens place start reads_only) old new noted noted_new s s (free, taken, others, refl) refl same
+
+  pub fails_serves : (old new : Places) (noted noted_new : List (Result ℕ SessionFault)) (s : S)
+      → AllStay old new → noted_new ≡ noted ++ told_by Fails → Serves answers (news_of Fails) old new noted noted_new s s
+  fails_serves old new noted noted_new s same notes = serves_ending answers Fails old new noted noted_new s s (same, refl) notes
 
 ends_then : (xs ys : List Step) → AreEnds xs → AreEnds ys → AreEnds (xs ++ ys)
 ends_then [] ys p q = q
 ends_then (Closes place result ∷ xs) ys p q = ends_then xs ys p q
-ends_then (Opens place reads_only ∷ xs) ys p q = absurd p
-ends_then (Turns place calls ∷ xs) ys p q = absurd p
+ends_then (Opens place start reads_only ∷ xs) ys p q = absurd p
+ends_then (Turns place ready after ∷ xs) ys p q = absurd p
+ends_then (Misses place is_closing ∷ xs) ys p q = absurd p
+ends_then (Ends place result ∷ xs) ys p q = absurd p
 ends_then (Fails ∷ xs) ys p q = absurd p
 
 pub leaves_none : (old new : Places) (n o : List (Result ℕ SessionFault)) → AllStay old new → o ≡ n → Leaves old new n o
@@ -105,49 +146,20 @@ leaves_then a b c m n o p q = record {
 }
 
 -- a connection is left
-leaves_it : (place : ℕ) (end : Result ℕ FrontError) (old new : Places) (m o : List (Result ℕ SessionFault)) (p : Place) → old place ≡ Some p → EndsSo end p
-    → new place ≡ None → OthersStay place old new → o ≡ m ++ told_by (Closes place end) → Leaves old new m o
+leaves_it : (place : ℕ) (end : Result ℕ FrontError) (old new : Places) (m o : List (Result ℕ SessionFault)) (p : Place) → old place ≡ Some p → EndsSo end p.connection
+    → new place ≡ None → OthersStay place old new → o ≡ m ++ front_end end ∷ [] → Leaves old new m o
 leaves_it place end old new m o p was ends left others notes = record {
   steps = Closes place end ∷ [];
   ends = tt;
   takes = ((new, tt), (p, was, ends, left, others, refl), (all_stay new, refl));
-  notes = notes ∙ ap (λ (l : List (Result ℕ SessionFault)). m ++ l) (sym (append-nil (told_by (Closes place end))));
+  notes = notes ∙ ap (λ (l : List (Result ℕ SessionFault)). m ++ l) (sym (append-nil (front_end end ∷ [])));
 }
 
 -- a connection is left that was as it was
-pub leaves_one : (place : ℕ) (end : Result ℕ FrontError) (old mid new : Places) (n m o : List (Result ℕ SessionFault)) (p : Place) → AllStay old mid → m ≡ n → mid place ≡ Some p → EndsSo end p
-    → new place ≡ None → OthersStay place mid new → o ≡ m ++ told_by (Closes place end) → Leaves old new n o
+pub leaves_one : (place : ℕ) (end : Result ℕ FrontError) (old mid new : Places) (n m o : List (Result ℕ SessionFault)) (p : Place) → AllStay old mid → m ≡ n → mid place ≡ Some p → EndsSo end p.connection
+    → new place ≡ None → OthersStay place mid new → o ≡ m ++ front_end end ∷ [] → Leaves old new n o
 leaves_one place end old mid new n m o p same kept was ends left others notes =
     leaves_then old mid new n m o (leaves_none old mid n m same kept) (leaves_it place end mid new m o p was ends left others notes)
-
--- a free place is taken
-pub take_serves : {S : Type 0} (answers : S → Op → Result Reply AskError → S → Type 0) (place : ℕ) (reads_only : Bool) (old new : Places) (noted noted_new : List (Result ℕ SessionFault)) (s : S)
-    → old place ≡ None → new place ≡ Some (record { live = live_start; answered = 0; reads_only = reads_only }) → OthersStay place old new → noted_new ≡ noted
-    → Serves answers old new noted noted_new s s
-take_serves {S} answers place reads_only old new noted noted_new s free taken others same =
-    subst (λ (n : List (Result ℕ SessionFault)). Serves answers old new noted n s s) (append-nil noted ∙ sym same)
-    (serves_one answers (Opens place reads_only) old new noted s s (free, taken, others, refl))
-
-pub fails_serves : {S : Type 0} (answers : S → Op → Result Reply AskError → S → Type 0) (old new : Places) (noted noted_new : List (Result ℕ SessionFault)) (s : S)
-    → AllStay old new → noted_new ≡ noted ++ told_by Fails → Serves answers old new noted noted_new s s
-fails_serves {S} answers old new noted noted_new s same notes =
-    subst (λ (n : List (Result ℕ SessionFault)). Serves answers old new noted n s s) (sym notes)
-    (serves_one answers Fails old new noted s s (same, refl))
-
-pub stays_serves : {S : Type 0} (answers : S → Op → Result Reply AskError → S → Type 0) (old new : Places) (noted noted_new : List (Result ℕ SessionFault)) (s t : S)
-    → AllStay old new → noted_new ≡ noted → t ≡ s → Serves answers old new noted noted_new s t
-stays_serves {S} answers old new noted noted_new s t same kept still =
-    subst (λ (u : S). Serves answers old new noted noted_new s u) (sym still)
-    (subst (λ (n : List (Result ℕ SessionFault)). Serves answers old new noted n s s) (sym kept) (serves_none answers old new noted s same))
-
--- what was served while nothing was noted
-pub served_quietly : {S : Type 0} (answers : S → Op → Result Reply AskError → S → Type 0) (old new : Places) (noted noted_new : List (Result ℕ SessionFault)) (s t : S)
-    → Serves answers old new [] [] s t → noted_new ≡ noted → Serves answers old new noted noted_new s t
-served_quietly {S} answers old new noted noted_new s t q same = record {
-  steps = q.steps;
-  takes = q.takes;
-  notes = same ∙ (sym (append-nil noted) ∙ ap (λ (l : List (Result ℕ SessionFault)). noted ++ l) q.notes);
-}
 
 -- one place more is free
 pub free_below : (old new : Places) (place : ℕ) → ((other : ℕ) → other < place → old other ≡ None) → new place ≡ None → OthersStay place old new

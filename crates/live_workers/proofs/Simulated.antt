@@ -1,5 +1,5 @@
 -- Sessions over one state are sessions over what is seen of it.
-use Rattle.std.proofs.Common.{◌≡◌, List, [], ◌∷◌, sym, ap, subst, inl, inr}
+use Rattle.std.proofs.Common.{◌≡◌, List, [], ◌∷◌, refl, sym, ap, subst, inl, inr}
 use Rattle.std.specs.Prelude.{ℕ, Bool, true, false, Result, Ok, Err}
 use Rattle.map_core.specs.declared.op.Op.{Op}
 use Rattle.map_core.specs.declared.reply.Reply.{Reply}
@@ -15,7 +15,9 @@ use Rattle.frame_front.specs.LiveCalls.{LiveCall, Does, DoesAll, Feed, Answer, S
 use Rattle.workers.specs.Gate.{AnsweredBehind}
 use Rattle.workers.specs.ReadOnly.{is_read}
 use Rattle.live_workers.specs.AtPort.{PortAnswer}
-use Rattle.live_workers.specs.Sessions.{Places, Step, Opens, Turns, Closes, Fails, Takes, TakesAll, ServedAll, nobody}
+use Rattle.connections.specs.Connection.{ConnectionView, Turn, turn_rounds, last_rounds}
+use Rattle.connections.specs.declared.after.After.{After}
+use Rattle.live_workers.specs.Sessions.{Places, Step, Opens, Turns, Misses, Closes, Ends, Fails, Takes, TakesAll, ServedAll, nobody}
 
 module _ {S T : Type 0} (answers : S → Op → Result Reply AskError → S → Type 0) (answers_seen : T → Op → Result Reply AskError → T → Type 0)
     (seen : S → T) (Stays : S → Type 0)
@@ -74,6 +76,27 @@ module _ {S T : Type 0} (answers : S → Op → Result Reply AskError → S → 
       let rest = does_all_seen calls d.0 new one.0 d.2 in
       (rest.0, ((d.0.0, seen d.0.1), one.1, rest.1))
 
+  pub turn_seen : (rounds : ℕ) (after : After) (a b : ConnectionView) (old new : S) → Stays old → Turn rounds answers after a b old new
+      → Stays new × Turn rounds answers_seen after a b (seen old) (seen new)
+  turn_seen rounds after a b old new stays t =
+      let all = does_all_seen t.calls (a.live, old) (b.live, new) stays t.does in (
+        all.0,
+        record {
+          calls = t.calls;
+          lost = t.lost;
+          does = all.1;
+          consumes = t.consumes;
+          appends = t.appends;
+          answered = t.answered;
+          share = t.share;
+          may = t.may;
+          closing = t.closing;
+          loses = t.loses;
+          ends = t.ends;
+          why = t.why;
+        },
+      )
+
 -- ---- at a port
 
 module _ {S T : Type 0} (answers : S → Op → Result Reply AskError → S → Type 0) (answers_seen : T → Op → Result Reply AskError → T → Type 0)
@@ -89,14 +112,22 @@ module _ {S T : Type 0} (answers : S → Op → Result Reply AskError → S → 
   port_seen true s op answer t stays a = behind_seen (is_read op) s op answer t stays a
   port_seen false s op answer t stays a = each s op answer t stays a
 
+  port_turn_seen : (rounds : ℕ) (reads_only : Bool) (after : After) (a b : ConnectionView) (old new : S) → Stays old
+      → Turn rounds (PortAnswer answers reads_only) after a b old new → Stays new × Turn rounds (PortAnswer answers_seen reads_only) after a b (seen old) (seen new)
+  port_turn_seen rounds reads_only after a b old new stays t =
+      turn_seen (PortAnswer answers reads_only) (PortAnswer answers_seen reads_only) seen Stays (port_seen reads_only) rounds after a b old new stays t
+
   step_seen : (step : Step) (old new : Places × S) → Stays old.1 → Takes answers step old new
       → Stays new.1 × Takes answers_seen step (old.0, seen old.1) (new.0, seen new.1)
-  step_seen (Opens place reads_only) old new stays a = (subst Stays (sym a.3) stays, (a.0, a.1, a.2, ap seen a.3))
-  step_seen (Turns place calls) old new stays a =
-      let all = does_all_seen (PortAnswer answers a.0.reads_only) (PortAnswer answers_seen a.0.reads_only) seen Stays (port_seen a.0.reads_only) calls
-      (a.0.live, old.1) (a.1.live, new.1) stays a.4 in
-      (all.0, (a.0, a.1, a.2, a.3, all.1, a.5, a.6, a.7))
+  step_seen (Opens place start reads_only) old new stays a = (subst Stays (sym a.3) stays, (a.0, a.1, a.2, ap seen a.3))
+  step_seen (Turns place ready after) old new stays a =
+      let t = port_turn_seen turn_rounds a.0.reads_only after _ a.1.connection old.1 new.1 stays a.4 in
+      (t.0, (a.0, a.1, a.2, a.3, t.1, a.5, a.6))
+  step_seen (Misses place is_closing) old new stays a = (subst Stays (sym a.2) stays, (a.0, a.1, ap seen a.2))
   step_seen (Closes place result) old new stays a = (subst Stays (sym a.5) stays, (a.0, a.1, a.2, a.3, a.4, ap seen a.5))
+  step_seen (Ends place result) old new stays a =
+      let t = port_turn_seen last_rounds a.0.reads_only a.3.0 _ a.1 old.1 new.1 stays a.3.1 in
+      (t.0, (a.0, a.1, a.2, (a.3.0, t.1, a.3.2), a.4, a.5))
   step_seen Fails old new stays a = (subst Stays (sym a.1) stays, (a.0, ap seen a.1))
 
   pub steps_seen : (steps : List Step) (old new : Places × S) → Stays old.1 → TakesAll answers steps old new
@@ -107,9 +138,9 @@ module _ {S T : Type 0} (answers : S → Op → Result Reply AskError → S → 
       let rest = steps_seen steps a.0 new one.0 a.2 in
       (rest.0, ((a.0.0, seen a.0.1), one.1, rest.1))
 
-  -- sessions over one state are sessions over what is seen of it
-  pub sessions_seen : (results : List (Result ℕ SessionFault)) (old new : S) → Stays old → ServedAll answers results old new
-      → Stays new × ServedAll answers_seen results (seen old) (seen new)
+  -- sessions over one state are sessions over what is seen of it, by the same steps
+  pub sessions_seen : (results : List (Result ℕ SessionFault)) (old new : S) → Stays old → (a : ServedAll answers results old new)
+      → Stays new × ((b : ServedAll answers_seen results (seen old) (seen new)) × (b.steps ≡ a.steps))
   sessions_seen results old new stays a =
       let all = steps_seen a.steps (nobody, old) (nobody, new) stays a.takes in
-      (all.0, record { steps = a.steps; takes = all.1; ends = a.ends })
+      (all.0, (record { steps = a.steps; takes = all.1; ends = a.ends }, refl))

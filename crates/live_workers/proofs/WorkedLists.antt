@@ -5,11 +5,17 @@ use Rattle.std.specs.List.{flat_map}
 use Rattle.workers.specs.Closing.{ranges_of}
 use Rattle.std.proofs.lemmas.List.{get_or-map, length-map, map_push}
 use Rattle.std.proofs.lemmas.List.Elements.{All-cons}
-use Rattle.live_workers.specs.Workers.{HasServed, AllServed}
+use Rattle.connections.specs.Connection.{ConnectionView}
+use Rattle.live_workers.specs.declared.arrivals.Arrival.{Arrival}
+use Rattle.live_workers.specs.Workers.{HasServed, HasFollowed, AllServed, AllFollowed}
 use Rattle.live_workers.specs.Private.Numbers.{AreNumbered}
 use Rattle.shard_store.specs.Pass.{StoreView, PassView, IsOf}
 use Rattle.live_workers.specs.declared.run.Worker.{Worker}
 use Rattle.workers.specs.declared.run.Worked.{Worked}
+
+pub nil_if : {X : Type 0} (xs : List X) → length xs ≡ 0 → xs ≡ []
+nil_if [] e = refl
+nil_if (x ∷ xs) e = absurd (omega (arith, e))
 
 pub first_of_all : {X : Type 0} (P : X → Type 0) (x : X) (xs : List X) → All P (x ∷ xs) → P x
 first_of_all P x xs h = h 0 x (omega arith)
@@ -62,29 +68,42 @@ module _ (opens : ℕ → ℕ → Bool → Type 0) (store : StoreView) where
         (λ i q v l. subst (λ (n : ℕ). HasServed opens store n (get_or passes i q) (get_or all i v)) (omega arith) (each (suc i) q v (omega arith))),
   )
 
-  -- what was given in each place was worked for the pass in that place, under that number
-  pub worked_in_place : {S E : Type 0} (workers : List (Worker S)) (passes : List PassView) (given : List (Result Worked E)) (all : List Worked)
-      → map (λ (w : Worker S). w.pass) workers ≡ passes → AreNumbered 0 (map (λ (w : Worker S). w.number) workers)
+  -- what was given in each place was worked for the pass in that place, under that number, and follows what came there
+  pub followed_in_place : {E V F : Type 0} (start : E → ConnectionView) (comes : V → Arrival E → V → Type 0) (workers : List (Worker V)) (passes : List PassView) (arrivals : List V)
+      (given : List (Result Worked F)) (all : List Worked)
+      → map (λ (w : Worker V). w.pass) workers ≡ passes → map (λ (w : Worker V). w.arrivals) workers ≡ arrivals → AreNumbered 0 (map (λ (w : Worker V). w.number) workers)
       → map Ok all ≡ given → length given ≡ length workers
-      → ((i : ℕ) (r : Result Worked E) → i < length workers → (job : Worker S) × (job ≡ get_or workers i job) × IfOk (get_or given i r) (λ w. HasServed opens store job.number job.pass w))
-      → AllServed opens store 0 passes all
-  worked_in_place {S} {E} workers passes given all same numbered gave long each =
-      let pass_of : Worker S → PassView = λ w. w.pass in
-      let number_of : Worker S → ℕ = λ w. w.number in
+      → ((i : ℕ) (r : Result Worked F) → i < length workers
+      → (job : Worker V) × (job ≡ get_or workers i job) × IfOk (get_or given i r) (λ w. HasFollowed opens start comes store job.number job.pass job.arrivals w))
+      → AllFollowed opens start comes store passes arrivals all
+  followed_in_place {E} {V} {F} start comes workers passes arrivals given all same same_arrivals numbered gave long each =
+      let pass_of : Worker V → PassView = λ w. w.pass in
+      let arrivals_of : Worker V → V = λ w. w.arrivals in
+      let number_of : Worker V → ℕ = λ w. w.number in
       let passes_long : length passes ≡ length workers = ap length (sym same) ∙ length-map workers pass_of in
       let all_long : length all ≡ length given = sym (length-map all Ok) ∙ ap length gave in
-      all_from_places 0 passes all (omega arith) (λ i p w l.
+      λ i p v w l.
       let in_workers : i < length workers = omega arith in
       let in_all : i < length all = omega arith in
       let e = each i (Ok w) in_workers in
       let pass_is : get_or passes i p ≡ e.0.pass = ap (λ (ps : List PassView). get_or ps i p) (sym same) ∙ (get_or-map pass_of workers i e.0 p in_workers ∙ ap pass_of (sym e.1)) in
-      let number_is : e.0.number ≡ 0 + i =
+      let arrivals_is : get_or arrivals i v ≡ e.0.arrivals =
+      ap (λ (vs : List V). get_or vs i v) (sym same_arrivals) ∙ (get_or-map arrivals_of workers i e.0 v in_workers ∙ ap arrivals_of (sym e.1)) in
+      let number_first : e.0.number ≡ 0 + i =
       ap number_of e.1 ∙ sym (get_or-map number_of workers i e.0 e.0.number in_workers)
       ∙ number_in_place 0 (map number_of workers) i e.0.number numbered (omega (arith, length-map workers number_of)) in
-      let gave_is : get_or given i (Ok w) ≡ Ok (get_or all i w) = ap (λ (gs : List (Result Worked E)). get_or gs i (Ok w)) (sym gave) ∙ get_or-map Ok all i w (Ok w) in_all in
-      subst (λ (n : ℕ). HasServed opens store n (get_or passes i p) (get_or all i w)) number_is
-      (subst (λ (q : PassView). HasServed opens store e.0.number q (get_or all i w)) (sym pass_is)
-      (subst (λ (r : Result Worked E). IfOk r (λ v. HasServed opens store e.0.number e.0.pass v)) gave_is e.2)))
+      let number_is : e.0.number ≡ i = omega (arith, number_first) in
+      let gave_is : get_or given i (Ok w) ≡ Ok (get_or all i w) = ap (λ (gs : List (Result Worked F)). get_or gs i (Ok w)) (sym gave) ∙ get_or-map Ok all i w (Ok w) in_all in
+      subst (λ (n : ℕ). HasFollowed opens start comes store n (get_or passes i p) (get_or arrivals i v) (get_or all i w)) number_is
+      (subst (λ (q : PassView). HasFollowed opens start comes store e.0.number q (get_or arrivals i v) (get_or all i w)) (sym pass_is)
+      (subst (λ (u : V). HasFollowed opens start comes store e.0.number e.0.pass u (get_or all i w)) (sym arrivals_is)
+      (subst (λ (r : Result Worked F). IfOk r (λ x. HasFollowed opens start comes store e.0.number e.0.pass e.0.arrivals x)) gave_is e.2)))
+
+  -- who has followed all has served
+  pub served_in_place : {E V : Type 0} (start : E → ConnectionView) (comes : V → Arrival E → V → Type 0) (passes : List PassView) (arrivals : List V) (all : List Worked)
+      → length all ≡ length passes → ((i : ℕ) → Worked → i < length passes → V) → AllFollowed opens start comes store passes arrivals all → AllServed opens store 0 passes all
+  served_in_place start comes passes arrivals all long some each =
+      all_from_places 0 passes all long (λ i p w l. subst (λ (n : ℕ). HasServed opens store n (get_or passes i p) (get_or all i w)) (omega arith) (each i p (some i w l) w l).0)
 
   -- their passes have the numbers that they had
   pub ranges_same : (first : ℕ) (passes : List PassView) (all : List Worked) → AllServed opens store first passes all

@@ -1,23 +1,22 @@
 -- What becomes of the connections of a worker.
-use Rattle.std.specs.Prelude.{◌≡◌, ◌≢◌, ℕ, ◌+◌, List, [], ◌∷◌, Option, Some, None, Bool, Result, Ok, Err, length}
+use Rattle.std.specs.Prelude.{◌≡◌, ◌≢◌, ◌⊎◌, ℕ, List, [], ◌∷◌, ◌++◌, Option, Some, None, Bool, false, Result, Ok, Err}
 use Rattle.std.specs.List.{flat_map}
 use Rattle.map_core.specs.declared.op.Op.{Op}
 use Rattle.map_core.specs.declared.reply.Reply.{Reply}
 use Rattle.map_core.specs.declared.reply.AskError.{AskError}
 use Rattle.frame_front.specs.declared.error.FrontError.{FrontError}
-use Rattle.frame_front.specs.declared.error.FrontError.TheVariants.{BadLength, Truncated, ReadFault, WriteFault, Memory}
-use Rattle.frame_front.specs.Frame.{IsUnfinished, IsBadLength}
-use Rattle.frame_front.specs.Live.{LiveView, live_start, waiting}
-use Rattle.frame_front.specs.LiveCalls.{LiveCall, DoesAll, frames_of}
-use Rattle.connections.specs.Connection.{counted}
+use Rattle.connections.specs.Connection.{ConnectionView, LastTurn, Owes, StopsFor, Turn, told, turn_rounds}
+use Rattle.connections.specs.declared.after.After.{After}
+use Rattle.connections.specs.declared.after.After.TheVariants.{Over}
+use Rattle.live_workers.specs.Arrivals.{News, NewClient, IsReady, HasFailed, IsToStop, ComesAll, news_in}
 use Rattle.live_workers.specs.AtPort.{PortAnswer}
+use Rattle.live_workers.specs.declared.arrivals.Arrival.{Arrival}
 use Rattle.workers.specs.declared.sessions.SessionFault.{SessionFault}
 use Rattle.workers.specs.declared.sessions.SessionFault.TheVariants.{Front, Listen}
 
--- One connection of a worker: its session, how many frames were answered, and whether it may only read.
+-- one connection of a worker, and whether it may only read
 pub record Place : Type 0 where
-  pub live : LiveView
-  pub answered : ℕ
+  pub connection : ConnectionView
   pub reads_only : Bool
 
 -- the connections that are open, by the numbers of their places
@@ -28,34 +27,56 @@ Places = ℕ → Option Place
 abbrev pub nobody : Places
 nobody place = None
 
--- One thing that a worker does: it takes a connection at a free place; it makes calls of the session there, one after the other;
--- it gives the connection up, whose session ended so; or it learns that its listener failed.
+-- One thing that a worker does: it takes a connection at a free place; it gives the one at a place a turn, since its stream is
+-- ready, and maybe closing, or of its own accord; it finds nobody there whose stream would be ready; it leaves a connection; it
+-- gives one its last turn and leaves it; or it learns that its listener failed.
 pub data Step : Type 0 where
-  Opens : (place : ℕ) → (reads_only : Bool) → Step
-  Turns : (place : ℕ) → (calls : List LiveCall) → Step
+  Opens : (place : ℕ) → (start : ConnectionView) → (reads_only : Bool) → Step
+  Turns : (place : ℕ) → (ready : Option Bool) → (after : After) → Step
+  Misses : (place : ℕ) → (is_closing : Bool) → Step
   Closes : (place : ℕ) → (result : Result ℕ FrontError) → Step
+  Ends : (place : ℕ) → (result : Result ℕ FrontError) → Step
   Fails : Step
+
+abbrev pub front_end : Result ℕ FrontError → Result ℕ SessionFault
+front_end (Ok count) = Ok count
+front_end (Err error) = Err (Front error)
 
 -- what a step tells of the end of a session
 abbrev pub told_by : Step → List (Result ℕ SessionFault)
-told_by (Closes place (Ok count)) = Ok count ∷ []
-told_by (Closes place (Err error)) = Err (Front error) ∷ []
+told_by (Closes place result) = front_end result ∷ []
+told_by (Ends place result) = front_end result ∷ []
 told_by Fails = Err Listen ∷ []
 told_by step = []
 
-abbrev pub told : List Step → List (Result ℕ SessionFault)
-told steps = flat_map told_by steps
+abbrev pub told_all : List Step → List (Result ℕ SessionFault)
+told_all steps = flat_map told_by steps
 
--- How a session may end. At the end of its input all is answered and sent; a bad length and an end inside a frame are told of as
--- such, once the replies before them are sent.
-abbrev pub EndsSo : Result ℕ FrontError → Place → Type 0
-EndsSo (Ok count) p = (count ≡ p.answered) × (p.live.kept ≡ []) × (waiting p.live ≡ [])
-EndsSo (Err BadLength) p = IsBadLength p.live.kept × (waiting p.live ≡ [])
-EndsSo (Err Truncated) p = IsUnfinished p.live.kept × (p.live.kept ≢ []) × (waiting p.live ≡ [])
-EndsSo (Err ReadFault) p = Unit {0}
-EndsSo (Err WriteFault) p = Unit {0}
-EndsSo (Err Memory) p = Unit {0}
-EndsSo (Err error) p = ⊥
+-- the news that a step follows
+abbrev pub news_of : Step → List News
+news_of (Opens place start reads_only) = NewClient start reads_only ∷ []
+news_of (Turns place (Some is_closing) after) = IsReady place is_closing ∷ []
+news_of (Turns place None after) = []
+news_of (Misses place is_closing) = IsReady place is_closing ∷ []
+news_of Fails = HasFailed ∷ []
+news_of step = []
+
+abbrev pub all_news : List Step → List News
+all_news steps = flat_map news_of steps
+
+-- whether a stream that is ready is closing
+abbrev pub closing_of : Option Bool → Bool
+closing_of (Some is_closing) = is_closing
+closing_of None = false
+
+-- the client owes this
+abbrev pub IsOwed : Result ℕ FrontError → ConnectionView → Type 0
+IsOwed (Ok count) c = ⊥
+IsOwed (Err error) c = Owes (Some error) c
+
+-- A connection is left so: its session is over, or its client owes something.
+abbrev pub EndsSo : Result ℕ FrontError → ConnectionView → Type 0
+EndsSo result c = StopsFor (Over result) c ⊎ IsOwed result c
 
 -- at all other places it is as it was
 abbrev pub OthersStay : ℕ → Places → Places → Type 0
@@ -66,13 +87,16 @@ AllStay old new = (place : ℕ) → new place ≡ old place
 
 module _ {S : Type 0} (answers : S → Op → Result Reply AskError → S → Type 0) where
   abbrev pub Takes : Step → Places × S → Places × S → Type 0
-  Takes (Opens place reads_only) old new = (old.0 place ≡ None) × (new.0 place ≡ Some (record { live = live_start; answered = 0; reads_only = reads_only }))
+  Takes (Opens place start reads_only) old new = (old.0 place ≡ None) × (new.0 place ≡ Some (record { connection = start; reads_only = reads_only }))
       × OthersStay place old.0 new.0 × (new.1 ≡ old.1)
-  Takes (Turns place calls) old new = (p : Place) × (q : Place) × (old.0 place ≡ Some p) × (new.0 place ≡ Some q)
-      × DoesAll (PortAnswer answers p.reads_only) calls (p.live, old.1) (q.live, new.1)
-      × (q.answered ≡ counted (p.answered + frames_of calls)) × (q.reads_only ≡ p.reads_only) × OthersStay place old.0 new.0
-  Takes (Closes place result) old new = (p : Place) × (old.0 place ≡ Some p) × EndsSo result p × (new.0 place ≡ None)
+  Takes (Turns place ready after) old new = (p : Place) × (q : Place) × (old.0 place ≡ Some p) × (new.0 place ≡ Some q)
+      × Turn turn_rounds (PortAnswer answers p.reads_only) after (told (closing_of ready) p.connection) q.connection old.1 new.1
+      × (q.reads_only ≡ p.reads_only) × OthersStay place old.0 new.0
+  Takes (Misses place is_closing) old new = (old.0 place ≡ None) × AllStay old.0 new.0 × (new.1 ≡ old.1)
+  Takes (Closes place result) old new = (p : Place) × (old.0 place ≡ Some p) × EndsSo result p.connection × (new.0 place ≡ None)
       × OthersStay place old.0 new.0 × (new.1 ≡ old.1)
+  Takes (Ends place result) old new = (p : Place) × (last : ConnectionView) × (old.0 place ≡ Some p)
+      × LastTurn (PortAnswer answers p.reads_only) result p.connection last old.1 new.1 × (new.0 place ≡ None) × OthersStay place old.0 new.0
   Takes Fails old new = AllStay old.0 new.0 × (new.1 ≡ old.1)
 
   -- the steps are taken, one after the other
@@ -84,4 +108,10 @@ module _ {S : Type 0} (answers : S → Op → Result Reply AskError → S → Ty
   pub record ServedAll (results : List (Result ℕ SessionFault)) (old new : S) : Type 0 where
     pub steps : List Step
     pub takes : TakesAll steps (nobody, old) (nobody, new)
-    pub ends : results ≡ told steps
+    pub ends : results ≡ told_all steps
+
+-- The steps follow all news that came, in order, up to the first stop.
+pub record Follows {E V : Type 0} (start : E → ConnectionView) (comes : V → Arrival E → V → Type 0) (steps : List Step) (old new : V) : Type 0 where
+  pub arrivals : List (Arrival E)
+  pub came : ComesAll comes arrivals old new
+  pub all : flat_map (news_in start) arrivals ≡ all_news steps ++ IsToStop ∷ []

@@ -1,9 +1,11 @@
 -- What workers give back that serve many connections each.
-use Rattle.std.specs.Prelude.{ℕ, suc, List, [], ◌∷◌, Bool}
+use Rattle.std.specs.Prelude.{ℕ, suc, ◌<◌, List, [], ◌∷◌, Bool, length, get_or}
+use Rattle.connections.specs.Connection.{ConnectionView}
 use Rattle.shard_store.specs.Pass.{StoreView, PassView, IsOf}
 use Rattle.workers.specs.Workers.{IsFurther, WorkerAnswer, at_work}
 use Rattle.workers.specs.declared.run.Worked.{Worked}
-use Rattle.live_workers.specs.Sessions.{ServedAll}
+use Rattle.live_workers.specs.Sessions.{Follows, ServedAll}
+use Rattle.live_workers.specs.declared.arrivals.Arrival.{Arrival}
 
 module _ (opens : ℕ → ℕ → Bool → Type 0) where
   -- The pass comes from the store still, has its numbers, and has seen what it had seen. Connections were served over it, beside
@@ -20,3 +22,13 @@ module _ (opens : ℕ → ℕ → Bool → Type 0) where
   AllServed store first (pass ∷ passes) (worked ∷ all) = HasServed store first pass worked × AllServed store (suc first) passes all
   AllServed store first [] (worked ∷ all) = ⊥
   AllServed store first (pass ∷ passes) [] = ⊥
+
+  module _ {E V : Type 0} (start : E → ConnectionView) (comes : V → Arrival E → V → Type 0) where
+    -- a worker has served, and followed all that came to it, up to a stop
+    abbrev pub HasFollowed : StoreView → ℕ → PassView → V → Worked → Type 0
+    HasFollowed store worker pass arrivals worked = (served : HasServed store worker pass worked) × ((end : V) × Follows start comes served.served.steps arrivals end)
+
+    -- each worker in its place
+    abbrev pub AllFollowed : StoreView → List PassView → List V → List Worked → Type 0
+    AllFollowed store passes arrivals all = (i : ℕ) (pass : PassView) (v : V) (worked : Worked) → i < length passes
+        → HasFollowed store i (get_or passes i pass) (get_or arrivals i v) (get_or all i worked)

@@ -7,8 +7,9 @@ use connections::Stream;
 pub enum Arrival<E> {
     /// A client has connected, maybe at a port for reads only.
     Opens { end: E, reads_only: bool },
-    /// The stream at this place may have input, or take replies again.
-    Ready(usize),
+    /// The stream at this place may have input, or take replies again. If it `is_closing`, its client has closed its side, or
+    /// it has failed.
+    Ready { place: usize, is_closing: bool },
     /// Some time has passed, and nothing else has come.
     Tick,
     /// Nothing has come.
@@ -23,6 +24,7 @@ pub enum Arrival<E> {
 pub trait Arrivals {
     ghost use Rattle.std.specs.Prelude.{ℕ, ◌<◌, ◌⊎◌};
     ghost use Rattle.live_workers.specs.Arrivals.{IsStop};
+    ghost use Rattle.live_workers.specs.declared.arrivals.Arrival.{Arrival};
 
     /// A stream whose reads and writes return at once, with `WouldBlock` where they would wait.
     type End: Stream + Drop + Send;
@@ -30,8 +32,12 @@ pub trait Arrivals {
     // At most so much more comes.
     ghost left: { Self → ℕ };
 
+    // What may come, and what comes after it.
+    ghost comes: { Self → Arrival Self.End → Self → Type 0 };
+
     /// Waits for what comes next, but not if `is_busy`: then it may be nothing. A client that connects is known by the
     /// number of the free place from then on. `open` tells how many clients are connected to the worker.
     fn next(&mut self, free: usize, open: usize, is_busy: bool) -> Arrival<Self::End>
-        ensures { IsStop result ⊎ (left self.new < left self.old) };
+        ensures end { IsStop result ⊎ (left self.new < left self.old) }
+        ensures comes { comes self.old result self.new };
 }

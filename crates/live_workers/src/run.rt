@@ -2,7 +2,8 @@
 ghost use Rattle.std.specs.Prelude.{◌≡◌, ◌++◌, ◌∷◌, [], Ok, map, IfOk, OnOk, vec_len};
 ghost use Rattle.std.specs.List.{All};
 ghost use Rattle.shard_store.specs.Pass.{IsOf};
-ghost use Rattle.live_workers.specs.Workers.{AllServed, HasServed};
+ghost use Rattle.connections.specs.Connection.{opened};
+ghost use Rattle.live_workers.specs.Workers.{AllFollowed, AllServed, HasFollowed};
 ghost use Rattle.live_workers.specs.Private.Numbers.{AreNumbered};
 
 use crate::arrivals::Arrivals;
@@ -35,7 +36,7 @@ fn work<C: Clock, V: Arrivals + Drop, G: Gate, L: Log>(
     worker: Worker<V>,
 ) -> Result<Worked, AllocError>
     requires own { IsOf worker.pass store.now }
-    ensures { IfOk result (λ worked. HasServed (G.opens gate.now) store.now worker.number worker.pass worked) }
+    ensures { IfOk result (λ worked. HasFollowed (G.opens gate.now) (λ end. opened (V.End.may end) (V.End.left end) (V.End.held end)) V.comes store.now worker.number worker.pass worker.arrivals worked) }
 {
     let Worker {
         number,
@@ -70,6 +71,7 @@ fn add_worker<V: Drop>(
 ) -> Result<(), AllocError>
     requires numbers { AreNumbered 0 (map (λ w. w.number) workers.old.items) }
     ensures passes { OnOk result (map (λ w. w.pass) workers.new.items ≡ map (λ w. w.pass) workers.old.items ++ pass ∷ []) }
+    ensures arrivals { OnOk result (map (λ w. w.arrivals) workers.new.items ≡ map (λ w. w.arrivals) workers.old.items ++ arrivals ∷ []) }
     ensures numbers { OnOk result (AreNumbered 0 (map (λ w. w.number) workers.new.items)) }
 {
     let number = workers.len() as u64;
@@ -89,6 +91,7 @@ fn workers_of<V: Drop>(
 ) -> Result<Vec<Worker<V>>, AllocError>
     requires same { vec_len passes ≡ vec_len arrivals }
     ensures passes { IfOk result (λ workers. map (λ w. w.pass) workers.items ≡ passes.items) }
+    ensures arrivals { IfOk result (λ workers. map (λ w. w.arrivals) workers.items ≡ arrivals.items) }
     ensures numbers { IfOk result (λ workers. AreNumbered 0 (map (λ w. w.number) workers.items)) }
 {
     let mut workers = Vec::with_capacity(alloc, passes.len())?;
@@ -139,12 +142,13 @@ pub fn run_arrivals<
 ) -> Result<Vec<Worked>, AllocError>
     requires same { vec_len passes ≡ vec_len arrivals }
     requires own { All (λ pass. IsOf pass store.now) passes.items }
-    ensures { IfOk result (λ all. AllServed (G.opens gate.now) store.now 0 passes.items all.items) }
+    ensures served { IfOk result (λ all. AllServed (G.opens gate.now) store.now 0 passes.items all.items) }
+    ensures followed { IfOk result (λ all. AllFollowed (G.opens gate.now) (λ end. opened (V.End.may end) (V.End.left end) (V.End.held end)) V.comes store.now passes.items arrivals.items all.items) }
 {
     let workers = workers_of(alloc, passes, arrivals)?;
     let run = |worker: Worker<V>| -> Result<Worked, AllocError>
         requires { IsOf worker.pass store.now }
-        ensures { IfOk result (λ worked. HasServed (G.opens gate.entry.now) store.entry.now worker.number worker.pass worked) }
+        ensures { IfOk result (λ worked. HasFollowed (G.opens gate.entry.now) (λ end. opened (V.End.may end) (V.End.left end) (V.End.held end)) V.comes store.entry.now worker.number worker.pass worker.arrivals worked) }
     { work(rt, alloc, store, gate, retries, log, most_silent, worker) };
     let given = thread::map_vec(rt, workers, &run)?;
     all_worked(alloc, given)

@@ -1,9 +1,10 @@
 //! Serving many connections beside each other.
-ghost use Rattle.std.specs.Prelude.{◌≡◌, ◌++◌, [], None, Some, Err, IfOk, OnOk, IfSome, IfNone, OnSome};
+ghost use Rattle.std.specs.Prelude.{◌≡◌, ◌++◌, [], ◌∷◌, Bool, Option, None, Some, Err, IfOk, OnOk, IfSome};
 ghost use Rattle.slab.specs.Slab.{get};
-ghost use Rattle.frame_front.specs.Live.{live_start};
-ghost use Rattle.live_workers.specs.Sessions.{Place, AllStay, Closes, Fails, EndsSo, OthersStay, ServedAll, nobody, told_by};
-ghost use Rattle.live_workers.specs.Private.Serving.{HadTurn, Leaves, Serves};
+ghost use Rattle.connections.specs.Connection.{opened};
+ghost use Rattle.live_workers.specs.Arrivals.{IsStop, NewClient, news_in};
+ghost use Rattle.live_workers.specs.Sessions.{Place, AllStay, Fails, EndsSo, Follows, OthersStay, ServedAll, closing_of, front_end, nobody, told_by};
+ghost use Rattle.live_workers.specs.Private.Serving.{HadLastTurn, HadTurn, Leaves, Serves, turn_news};
 
 use crate::arrivals::{Arrival, Arrivals};
 use crate::at_port::AtPort;
@@ -16,9 +17,6 @@ use std::alloc::{AllocError, Global};
 use std::collections::VecDeque;
 use std::marker::Model;
 use workers::{Log, SessionFault};
-
-/// How many turns a connection has to send what waits, once the server is to stop.
-const LAST_TURNS: u64 = 8;
 
 /// A connection at its place.
 #[derive(Drop)]
@@ -44,7 +42,7 @@ impl<E: Stream + Drop> Model for Placed<E> {
 
     ghost Value = { Place };
 
-    ghost view = { λ p. record { live = p.connection.live; answered = p.connection.answered; reads_only = p.reads_only } };
+    ghost view = { λ p. record { connection = p.connection; reads_only = p.reads_only } };
 }
 
 impl<E: Stream + Drop> Served<E> {
@@ -64,7 +62,7 @@ impl<E: Stream + Drop> Served<E> {
     /// Takes a connection at the next free place.
     fn take(&mut self, alloc: Global, end: E, reads_only: bool) -> Result<usize, AllocError>
         ensures free { IfOk result (λ place. get self.old.open place ≡ None) }
-        ensures taken { IfOk result (λ place. get self.new.open place ≡ Some (record { live = live_start; answered = 0; reads_only = reads_only })) }
+        ensures taken { IfOk result (λ place. get self.new.open place ≡ Some (record { connection = opened (E.may end) (E.left end) (E.held end); reads_only = reads_only })) }
         ensures others { IfOk result (λ place. OthersStay place (get self.old.open) (get self.new.open)) }
         ensures results { self.new.results ≡ self.old.results }
     {
@@ -82,15 +80,34 @@ impl<E: Stream + Drop> Served<E> {
         &mut self,
         room: &mut [u8; ROOM_BYTES],
         place: usize,
+        is_closing: bool,
         ask: &mut AtPort<A>,
     ) -> Option<After>
-        ensures turn { HadTurn A.answers place result (get self.old.open) (get self.new.open) ask.old.ask ask.new.ask }
+        ensures turn { HadTurn A.answers place is_closing result (get self.old.open) (get self.new.open) ask.old.ask ask.new.ask }
         ensures results { self.new.results ≡ self.old.results }
     {
         let placed = self.open.get_mut(place)?;
         placed.silent = 0;
         ask.reads_only = placed.reads_only;
-        Some(placed.connection.turn(&mut self.documents, room, ask))
+        let connection = &mut placed.connection;
+        Some(connection.turn(&mut self.documents, room, ask, is_closing))
+    }
+
+    /// Gives the connection at a place its last turn, if one is there: nothing is read any more. The answer is how its
+    /// session ends.
+    fn last_turn<A: Ask>(
+        &mut self,
+        room: &mut [u8; ROOM_BYTES],
+        place: usize,
+        ask: &mut AtPort<A>,
+    ) -> Option<Result<u64, FrontError>>
+        ensures turn { HadLastTurn A.answers place result (get self.old.open) (get self.new.open) ask.old.ask ask.new.ask }
+        ensures results { self.new.results ≡ self.old.results }
+    {
+        let placed = self.open.get_mut(place)?;
+        ask.reads_only = placed.reads_only;
+        let connection = &mut placed.connection;
+        Some(connection.last_turn(&mut self.documents, room, ask))
     }
 
     /// Leaves the connection at a place, and notes how its session ended.
@@ -103,7 +120,7 @@ impl<E: Stream + Drop> Served<E> {
     ) -> Result<(), AllocError>
         ensures left { get self.new.open place ≡ None }
         ensures others { OthersStay place (get self.old.open) (get self.new.open) }
-        ensures noted { OnOk result (self.new.results.items ≡ self.old.results.items ++ told_by (Closes place end)) }
+        ensures noted { OnOk result (self.new.results.items ≡ self.old.results.items ++ front_end end ∷ []) }
     {
         let ended = match end {
             Ok(count) => Ok(count),
@@ -120,13 +137,14 @@ impl<E: Stream + Drop> Served<E> {
         &mut self,
         room: &mut [u8; ROOM_BYTES],
         place: usize,
+        is_closing: bool,
         ask: &mut AtPort<A>,
         log: &L,
         worker: u64,
     ) -> Result<(), AllocError>
-        ensures { OnOk result (Serves A.answers (get self.old.open) (get self.new.open) self.old.results.items self.new.results.items ask.old.ask ask.new.ask) }
+        ensures { OnOk result ((ready : Option Bool) → closing_of ready ≡ is_closing → Serves A.answers (turn_news place ready) (get self.old.open) (get self.new.open) self.old.results.items self.new.results.items ask.old.ask ask.new.ask) }
     {
-        match self.turn(room, place, ask) {
+        match self.turn(room, place, is_closing, ask) {
             None => Ok(()),
             Some(After::Waits) => Ok(()),
             Some(After::Again) => {
@@ -139,10 +157,9 @@ impl<E: Stream + Drop> Served<E> {
 
     /// Why the connection at a place is to be left: once its client has owed the rest of a frame, or the room for replies,
     /// for so many ticks.
-    #[tactic(auto, using(crate::proofs::ServingLemmas::owed_ends))]
     fn is_silent(&mut self, place: usize, most: u64) -> Option<FrontError>
         ensures same { AllStay (get self.old.open) (get self.new.open) }
-        ensures why { IfSome result (λ error. (p : Place) × (get self.new.open place ≡ Some p) × EndsSo (Err error) p) }
+        ensures why { IfSome result (λ error. (p : Place) × (get self.new.open place ≡ Some p) × EndsSo (Err error) p.connection) }
         ensures results { self.new.results ≡ self.old.results }
     {
         let placed = self.open.get_mut(place)?;
@@ -183,42 +200,6 @@ impl<E: Stream + Drop> Served<E> {
         Ok(())
     }
 
-    /// Ends the input of the connection at a place, if one is there.
-    fn end_input(&mut self, place: usize) -> Option<()>
-        ensures same { AllStay (get self.old.open) (get self.new.open) }
-        ensures some { OnSome result ((p : Place) × (get self.new.open place ≡ Some p)) }
-        ensures none { IfNone result (get self.new.open place ≡ None) }
-        ensures results { self.new.results ≡ self.old.results }
-    {
-        let placed = self.open.get_mut(place)?;
-        placed.connection.end_input();
-        Some(())
-    }
-
-    /// Gives the connection at a place its last turns: nothing is read any more. The answer is how its session ends.
-    fn last_turns<A: Ask>(
-        &mut self,
-        room: &mut [u8; ROOM_BYTES],
-        place: usize,
-        ask: &mut AtPort<A>,
-    ) -> Result<u64, FrontError>
-        requires { (p : Place) × (get self.old.open place ≡ Some p) }
-        ensures served { Serves A.answers (get self.old.open) (get self.new.open) [] [] ask.old.ask ask.new.ask }
-        ensures ends { (p : Place) × (get self.new.open place ≡ Some p) × EndsSo result p }
-        ensures others { OthersStay place (get self.old.open) (get self.new.open) }
-        ensures results { self.new.results ≡ self.old.results }
-    {
-        let mut turns = 0;
-        while turns < LAST_TURNS {
-            match self.turn(room, place, ask) {
-                Some(After::Over(end)) => return end,
-                Some(After::Again) => turns += 1,
-                _ => break,
-            }
-        }
-        Err(FrontError::WriteFault)
-    }
-
     /// Ends the session at a place, if one is there: what has come is answered, as far as the client takes it.
     fn end<A: Ask, L: Log>(
         &mut self,
@@ -228,15 +209,14 @@ impl<E: Stream + Drop> Served<E> {
         log: &L,
         worker: u64,
     ) -> Result<(), AllocError>
-        ensures served { OnOk result (Serves A.answers (get self.old.open) (get self.new.open) self.old.results.items self.new.results.items ask.old.ask ask.new.ask) }
+        ensures served { OnOk result (Serves A.answers [] (get self.old.open) (get self.new.open) self.old.results.items self.new.results.items ask.old.ask ask.new.ask) }
         ensures left { OnOk result (get self.new.open place ≡ None) }
         ensures others { OthersStay place (get self.old.open) (get self.new.open) }
     {
-        if self.end_input(place).is_none() {
-            return Ok(());
+        match self.last_turn(room, place, ask) {
+            None => Ok(()),
+            Some(end) => self.close(place, end, log, worker),
         }
-        let end = self.last_turns(room, place, ask);
-        self.close(place, end, log, worker)
     }
 
     /// Ends all sessions.
@@ -247,7 +227,7 @@ impl<E: Stream + Drop> Served<E> {
         log: &L,
         worker: u64,
     ) -> Result<(), AllocError>
-        ensures { OnOk result (Serves A.answers (get self.old.open) nobody self.old.results.items self.new.results.items ask.old.ask ask.new.ask) }
+        ensures { OnOk result (Serves A.answers [] (get self.old.open) nobody self.old.results.items self.new.results.items ask.old.ask ask.new.ask) }
     {
         let places = self.open.capacity();
         let mut place = 0;
@@ -269,10 +249,10 @@ impl<E: Stream + Drop> Served<E> {
         log: &L,
         worker: u64,
     ) -> Result<(), AllocError>
-        ensures { OnOk result (Serves A.answers (get self.old.open) (get self.new.open) self.old.results.items self.new.results.items ask.old.ask ask.new.ask) }
+        ensures { OnOk result (Serves A.answers (NewClient (opened (E.may end) (E.left end) (E.held end)) reads_only ∷ []) (get self.old.open) (get self.new.open) self.old.results.items self.new.results.items ask.old.ask ask.new.ask) }
     {
         let place = self.take(alloc, end, reads_only)?;
-        self.serve(room, place, ask, log, worker)
+        self.serve(room, place, false, ask, log, worker)
     }
 
     /// Notes that the listener failed.
@@ -297,17 +277,20 @@ impl<E: Stream + Drop> Served<E> {
         log: &L,
         worker: u64,
     ) -> Result<(), AllocError>
-        ensures { OnOk result (Serves A.answers (get self.old.open) (get self.new.open) self.old.results.items self.new.results.items ask.old.ask ask.new.ask) }
+        requires { ¬ (IsStop arrival) }
+        ensures { OnOk result (Serves A.answers (news_in (λ end. opened (E.may end) (E.left end) (E.held end)) arrival) (get self.old.open) (get self.new.open) self.old.results.items self.new.results.items ask.old.ask ask.new.ask) }
     {
         match arrival {
             Arrival::Opens { end, reads_only } => {
                 self.begin(alloc, room, end, reads_only, ask, log, worker)
             }
-            Arrival::Ready(place) => self.serve(room, place, ask, log, worker),
+            Arrival::Ready { place, is_closing } => {
+                self.serve(room, place, is_closing, ask, log, worker)
+            }
             Arrival::Tick => self.leave_silent(most_silent, log, worker),
             Arrival::Fails => self.note_failure(log, worker),
             Arrival::Nothing => Ok(()),
-            Arrival::Stops => Ok(()),
+            Arrival::Stops => unreachable!(),
         }
     }
 
@@ -319,10 +302,10 @@ impl<E: Stream + Drop> Served<E> {
         log: &L,
         worker: u64,
     ) -> Result<(), AllocError>
-        ensures { OnOk result (Serves A.answers (get self.old.open) (get self.new.open) self.old.results.items self.new.results.items ask.old.ask ask.new.ask) }
+        ensures { OnOk result (Serves A.answers [] (get self.old.open) (get self.new.open) self.old.results.items self.new.results.items ask.old.ask ask.new.ask) }
     {
         match self.again.pop_front() {
-            Some(place) => self.serve(room, place, ask, log, worker),
+            Some(place) => self.serve(room, place, false, ask, log, worker),
             None => Ok(()),
         }
     }
@@ -330,7 +313,8 @@ impl<E: Stream + Drop> Served<E> {
 
 /// Serves connections beside each other until no more come: each whose stream is ready has a turn, and one that has had its
 /// share has another after one of the others. A client that owes the rest of a frame, or room for replies, for
-/// `most_silent` ticks is left. The answer is how each session ended, in this order; the log is told of each end.
+/// `most_silent` ticks is left. Once no more come, what was read is answered, as far as the clients take it at once. The
+/// answer is how each session ended, in this order; the log is told of each end.
 pub fn serve_arrivals<V: Arrivals, A: Ask, L: Log>(
     alloc: Global,
     arrivals: &mut V,
@@ -339,7 +323,8 @@ pub fn serve_arrivals<V: Arrivals, A: Ask, L: Log>(
     log: &L,
     worker: u64,
 ) -> Result<Vec<Result<u64, SessionFault>>, AllocError>
-    ensures { IfOk result (λ results. ServedAll A.answers results.items ask.old.ask ask.new.ask) }
+    ensures { IfOk result (λ results. (served : ServedAll A.answers results.items ask.old.ask ask.new.ask)
+        × Follows (λ end. opened (V.End.may end) (V.End.left end) (V.End.held end)) V.comes served.steps arrivals.old arrivals.new) }
 {
     let mut served = Served::new(alloc);
     let mut room = [0; ROOM_BYTES];

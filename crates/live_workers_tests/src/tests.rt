@@ -3,6 +3,7 @@ mod ends;
 mod ports;
 mod stops;
 mod threads;
+mod turns;
 
 use connections::Stream;
 use live_workers::{Arrival, Arrivals, AtPort, serve_arrivals};
@@ -33,11 +34,13 @@ struct Client<'i, 'o> {
 }
 
 impl<'i, 'o> Stream for Client<'i, 'o> {
-    ghost use Rattle.std.specs.Prelude.{None};
+    ghost use Rattle.std.specs.Prelude.{None, true};
 
     ghost left = { λ _. None };
 
     ghost held = { λ _. None };
+
+    ghost may = { λ _. record { block = true; leave_room = true; fail = true } };
 
     fn read(&mut self, buf: &mut [u8]) -> io::Result<usize> {
         self.is_awaited = !self.is_awaited;
@@ -96,7 +99,11 @@ struct Clients<'i, 'o> {
 impl<'i, 'o> Arrivals for Clients<'i, 'o> {
     type End = Client<'i, 'o>;
 
+    ghost use Rattle.std.specs.Prelude.{⊤};
+
     ghost left = { λ clients. clients.left };
+
+    ghost comes = { λ _ _ _. ⊤ };
 
     fn next(&mut self, _free: usize, open: usize, _is_busy: bool) -> Arrival<Client<'i, 'o>> {
         if self.left == 0 {
@@ -117,7 +124,10 @@ impl<'i, 'o> Arrivals for Clients<'i, 'o> {
         } else {
             0
         };
-        Arrival::Ready(self.next)
+        Arrival::Ready {
+            place: self.next,
+            is_closing: false,
+        }
     }
 }
 

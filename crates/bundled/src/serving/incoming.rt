@@ -194,8 +194,8 @@ impl<'a, C: Clock> Incoming<'a, C> {
         Arrival::Fails
     }
 
-    /// The place of the next client whose stream is ready, among the events that are not told yet.
-    fn next_ready(&mut self) -> Option<usize>
+    /// The next client whose stream is ready, among the events that are not told yet.
+    fn next_ready(&mut self) -> Option<Arrival<Stream>>
         ensures { self.new.waits ≡ self.old.waits }
     {
         for _ in 0..MOST_EVENTS {
@@ -205,7 +205,10 @@ impl<'a, C: Clock> Incoming<'a, C> {
             if token == PORT {
                 self.may_take = true;
             } else {
-                return Some(usize::from(token));
+                return Some(Arrival::Ready {
+                    place: usize::from(token),
+                    is_closing: event.is_read_closed() || event.is_error(),
+                });
             }
         }
         None
@@ -241,7 +244,7 @@ impl<'a, C: Clock> Incoming<'a, C> {
             .poll
             .poll(&mut self.events, Some(Duration::from_millis(most)));
         match self.next_ready() {
-            Some(place) => Arrival::Ready(place),
+            Some(arrival) => arrival,
             None => Arrival::Nothing,
         }
     }
@@ -250,7 +253,11 @@ impl<'a, C: Clock> Incoming<'a, C> {
 impl<'a, C: Clock> Arrivals for Incoming<'a, C> {
     type End = Stream;
 
+    ghost use Rattle.std.specs.Prelude.{⊤};
+
     ghost left = { λ incoming. incoming.waits };
+
+    ghost comes = { λ _ _ _. ⊤ };
 
     fn next(&mut self, free: usize, open: usize, is_busy: bool) -> Arrival<Stream> {
         self.count(open);
@@ -261,8 +268,8 @@ impl<'a, C: Clock> Arrivals for Incoming<'a, C> {
             self.sit();
         }
         self.waits -= 1;
-        if let Some(place) = self.next_ready() {
-            return Arrival::Ready(place);
+        if let Some(arrival) = self.next_ready() {
+            return arrival;
         }
         // One client at a time, so that those who are connected are not kept waiting by those who connect.
         if self.may_take && !self.has_taken {

@@ -24,11 +24,13 @@ impl Stream {
 }
 
 impl connections::Stream for Stream {
-    ghost use Rattle.std.specs.Prelude.{None};
+    ghost use Rattle.std.specs.Prelude.{None, true};
 
     ghost left = { λ _. None };
 
     ghost held = { λ _. None };
+
+    ghost may = { λ _. record { block = true; leave_room = true; fail = true } };
 
     fn read(&mut self, buf: &mut [u8]) -> io::Result<usize> {
         self.inner.read(buf)

@@ -1,29 +1,34 @@
 -- What one read or write of a stream does for a session.
-use Rattle.std.specs.Prelude.{◌≡◌, ◌≢◌, ℕ, List, [], ◌++◌, Option, Result, Ok, Err, Bool, true, false}
+use Rattle.std.specs.Prelude.{◌≡◌, ◌≢◌, ℕ, ◌<◌, List, [], ◌++◌, length, Option, Result, Ok, Err, Bool, true, false}
 use Rattle.std.specs.Io.KnownBytes.{Consumes, IsAtEnd}
 use Rattle.frame_front.specs.Live.{LiveView, Feeds}
+use Rattle.connections.specs.Stream.{May}
 use Rattle.connections.specs.declared.ends.Broken.{Broken}
 use Rattle.connections.specs.declared.ends.Came.{Came}
 use Rattle.connections.specs.declared.ends.Came.TheVariants.{Piece, Nothing, End, NoMemory, Broken as Fails}
 
 -- all is written, or bytes are left
-abbrev pub IsSentAs : Result Bool Broken → List ℕ → Type 0
-IsSentAs (Ok true) left = left ≡ []
-IsSentAs (Ok false) left = left ≢ []
-IsSentAs (Err broken) left = left ≢ []
+abbrev pub IsSentAs : Result Bool Broken → May → List ℕ → Type 0
+IsSentAs (Ok true) may left = left ≡ []
+IsSentAs (Ok false) may left = (left ≢ []) × (may.block ≡ true)
+IsSentAs (Err broken) may left = (left ≢ []) × (may.fail ≡ true)
+
+-- whether a read that left some of its room says so
+abbrev pub LeavesAs : Bool → May → Type 0
+LeavesAs has_left may = has_left ≡ true → may.leave_room ≡ true
 
 -- If no piece came, the session is as it was. Only if memory was refused, bytes are lost; at the end none is left to be read.
-abbrev pub TakesUntil : Came → List ℕ → Option (List ℕ) → LiveView → LiveView → Type 0
-TakesUntil Piece lost left old new = lost ≡ []
-TakesUntil Nothing lost left old new = (lost ≡ []) × (new ≡ old)
-TakesUntil End lost left old new = (lost ≡ []) × (new ≡ old) × IsAtEnd left
-TakesUntil NoMemory lost left old new = new ≡ old
-TakesUntil Fails lost left old new = (lost ≡ []) × (new ≡ old)
+abbrev pub TakesUntil : Came → List ℕ → List ℕ → May → Option (List ℕ) → LiveView → LiveView → Type 0
+TakesUntil (Piece has_left) piece lost may left old new = (lost ≡ []) × (0 < length piece) × LeavesAs has_left may
+TakesUntil Nothing piece lost may left old new = (lost ≡ []) × (new ≡ old) × (may.block ≡ true)
+TakesUntil End piece lost may left old new = (lost ≡ []) × (new ≡ old) × IsAtEnd left
+TakesUntil NoMemory piece lost may left old new = new ≡ old
+TakesUntil Fails piece lost may left old new = (lost ≡ []) × (new ≡ old) × (may.fail ≡ true)
 
 -- a piece was read, and fed to the session, and these bytes were lost
-pub record Takes (came : Came) (left_old left_new : Option (List ℕ)) (old new : LiveView) : Type 0 where
+pub record Takes (came : Came) (may : May) (left_old left_new : Option (List ℕ)) (old new : LiveView) : Type 0 where
   pub piece : List ℕ
   pub lost : List ℕ
   pub feeds : Feeds piece old new
   pub consumes : Consumes left_old left_new (piece ++ lost)
-  pub until : TakesUntil came lost left_new old new
+  pub until : TakesUntil came piece lost may left_new old new

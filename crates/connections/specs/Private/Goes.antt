@@ -1,5 +1,5 @@
 -- What a connection does in a part of its turn.
-use Rattle.std.specs.Prelude.{◌≡◌, ◌≢◌, ◌⊎◌, ℕ, ◌+◌, ◌*◌, ◌≤◌, List, [], ◌++◌, Option, Some, None, Result, Ok, Err, Bool, true, false}
+use Rattle.std.specs.Prelude.{◌≡◌, ◌⊎◌, ℕ, ◌+◌, ◌*◌, ◌≤◌, ◌<◌, List, [], ◌++◌, length, Result, Ok, Err, Bool}
 use Rattle.std.specs.Io.KnownBytes.{Appends, Consumes}
 use Rattle.map_core.specs.declared.op.Op.{Op}
 use Rattle.map_core.specs.declared.reply.Reply.{Reply}
@@ -8,14 +8,14 @@ use Rattle.frame_front.specs.Live.{Feeds, Sends, most_frames}
 use Rattle.frame_front.specs.LiveCalls.{LiveCall, DoesAll, fed, sent, frames_of}
 use Rattle.connections.specs.declared.after.After.{After}
 use Rattle.connections.specs.declared.ends.Broken.{Broken}
-use Rattle.connections.specs.Connection.{ConnectionView, counted, EndsHere, IsLost, StopsFor}
+use Rattle.connections.specs.Connection.{ConnectionView, counted, EndsHere, HadShare, IsLost, StopsFor}
+use Rattle.connections.specs.Private.Ends.{IsSentAs, LeavesAs}
+
+-- Its stream may come to the same, and its client is known to have closed its side, or not, as before.
+abbrev pub StaysSo : ConnectionView → ConnectionView → Type 0
+StaysSo old new = (new.may ≡ old.may) × (new.is_closing ≡ old.is_closing)
 
 -- Replies were written, and nothing else was done. All are written, or the stream takes no more now, or it failed.
-abbrev pub SendsUntil : Result Bool Broken → ConnectionView → ConnectionView → Type 0
-SendsUntil (Ok true) old new = (new.live.ready ≡ []) × (new.has_failed ≡ old.has_failed)
-SendsUntil (Ok false) old new = (new.live.ready ≢ []) × (new.has_failed ≡ old.has_failed)
-SendsUntil (Err broken) old new = (new.live.ready ≢ []) × (new.has_failed ≡ true)
-
 pub record SendsAs (result : Result Bool Broken) (old new : ConnectionView) : Type 0 where
   pub bytes : List ℕ
   pub sends : Sends bytes old.live new.live
@@ -23,21 +23,23 @@ pub record SendsAs (result : Result Bool Broken) (old new : ConnectionView) : Ty
   pub left : new.left ≡ old.left
   pub answered : new.answered ≡ old.answered
   pub has_ended : new.has_ended ≡ old.has_ended
-  pub until : SendsUntil result old new
+  pub stays : StaysSo old new
+  pub until : IsSentAs result new.may new.live.ready
 
 -- Bytes were read, and fed to the session; nothing else was done. If memory was refused, they are lost.
-abbrev pub ReadsUntil : Option After → List ℕ → ConnectionView → ConnectionView → Type 0
-ReadsUntil (Some after) lost old new = IsLost after lost × EndsHere old new × StopsFor after new
-ReadsUntil None lost old new = (lost ≡ []) × (new.has_ended ≡ old.has_ended)
+abbrev pub ReadsUntil : Result Bool After → List ℕ → List ℕ → ConnectionView → ConnectionView → Type 0
+ReadsUntil (Err after) piece lost old new = IsLost after lost × EndsHere old new × StopsFor after new
+ReadsUntil (Ok has_left) piece lost old new = (lost ≡ []) × (new.has_ended ≡ old.has_ended) × (0 < length piece) × LeavesAs has_left new.may
 
-pub record ReadsAs (result : Option After) (old new : ConnectionView) : Type 0 where
+pub record ReadsAs (result : Result Bool After) (old new : ConnectionView) : Type 0 where
   pub piece : List ℕ
   pub lost : List ℕ
   pub feeds : Feeds piece old.live new.live
   pub consumes : Consumes old.left new.left (piece ++ lost)
   pub held : new.held ≡ old.held
   pub answered : new.answered ≡ old.answered
-  pub until : ReadsUntil result lost old new
+  pub stays : StaysSo old new
+  pub until : ReadsUntil result piece lost old new
 
 module _ {S : Type 0} (answers : S → Op → Result Reply AskError → S → Type 0) where
   -- Calls of its session, one after the other, fed with what was read, and whose replies were written. At most so many frames
@@ -49,19 +51,20 @@ module _ {S : Type 0} (answers : S → Op → Result Reply AskError → S → Ty
     pub appends : Appends old.held new.held (sent calls)
     pub answered : new.answered ≡ counted (old.answered + frames_of calls)
     pub share : frames_of calls ≤ most
+    pub stays : StaysSo old new
 
   -- frames were answered, and nothing was read or written
   abbrev pub Answers : ConnectionView → ConnectionView → S → S → Type 0
-  Answers old new map_old map_new = Goes most_frames [] old new map_old map_new
-      × (new.has_ended ≡ old.has_ended) × (new.has_failed ≡ old.has_failed)
+  Answers old new map_old map_new = Goes most_frames [] old new map_old map_new × (new.has_ended ≡ old.has_ended)
 
-  -- one round of a turn
-  abbrev pub Round : Option After → ConnectionView → ConnectionView → S → S → Type 0
-  Round (Some after) old new map_old map_new =
+  -- One round of a turn, which ends the turn, or goes on: then a byte was read, or enough were sent.
+  abbrev pub Round : Result Bool After → ConnectionView → ConnectionView → S → S → Type 0
+  Round (Err after) old new map_old map_new =
       (lost : List ℕ) × Goes most_frames lost old new map_old map_new × IsLost after lost × EndsHere old new × StopsFor after new
-  Round None old new map_old map_new = Goes most_frames [] old new map_old map_new × (new.has_ended ≡ old.has_ended)
+  Round (Ok has_left) old new map_old map_new =
+      (goes : Goes most_frames [] old new map_old map_new) × (new.has_ended ≡ old.has_ended) × HadShare 1 goes.calls × LeavesAs has_left new.may
 
   -- After so many rounds of a turn. In the first one nothing was done yet.
   abbrev pub GoesOn : ℕ → ConnectionView → ConnectionView → S → S → Type 0
-  GoesOn rounds old new map_old map_new =
-      ((rounds ≡ 0) × (new ≡ old) × (map_new ≡ map_old)) ⊎ Goes (rounds * most_frames) [] old new map_old map_new
+  GoesOn rounds old new map_old map_new = ((rounds ≡ 0) × (new ≡ old) × (map_new ≡ map_old))
+      ⊎ ((goes : Goes (rounds * most_frames) [] old new map_old map_new) × HadShare rounds goes.calls)

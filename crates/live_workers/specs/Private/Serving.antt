@@ -1,53 +1,57 @@
 -- What a worker does in a part of its work.
-use Rattle.std.specs.Prelude.{◌≡◌, ◌+◌, List, [], ◌∷◌, ◌++◌, ℕ, Option, Some, None, Result}
+use Rattle.std.specs.Prelude.{◌≡◌, List, [], ◌∷◌, ◌++◌, ℕ, Bool, Option, Some, None, Result}
+use Rattle.std.specs.List.{flat_map}
 use Rattle.map_core.specs.declared.op.Op.{Op}
 use Rattle.map_core.specs.declared.reply.Reply.{Reply}
 use Rattle.map_core.specs.declared.reply.AskError.{AskError}
 use Rattle.frame_front.specs.declared.error.FrontError.{FrontError}
-use Rattle.connections.specs.Connection.{counted, StopsFor}
+use Rattle.connections.specs.Connection.{ConnectionView, LastTurn, Turn, told, turn_rounds}
 use Rattle.connections.specs.declared.after.After.{After}
-use Rattle.connections.specs.declared.after.After.TheVariants.{Waits, Again, Over}
-use Rattle.frame_front.specs.LiveCalls.{LiveCall, DoesAll, frames_of}
+use Rattle.live_workers.specs.Arrivals.{News, IsReady, ComesAll, news_in}
 use Rattle.live_workers.specs.AtPort.{PortAnswer}
-use Rattle.live_workers.specs.Sessions.{Place, Places, OthersStay, AllStay, EndsSo, Step, Closes, TakesAll, told}
+use Rattle.live_workers.specs.Sessions.{Place, Places, OthersStay, AllStay, Step, Closes, TakesAll, told_all, all_news}
+use Rattle.live_workers.specs.declared.arrivals.Arrival.{Arrival}
 use Rattle.workers.specs.declared.sessions.SessionFault.{SessionFault}
 
--- if the session is over, it may end so
-abbrev pub MayEnd : After → Place → Type 0
-MayEnd (Over result) p = EndsSo result p
-MayEnd after p = Unit {0}
-
--- how a session that has no turn any more ends
-abbrev pub IsGivenUp : Option FrontError → Place → Type 0
-IsGivenUp None p = Unit {0}
-IsGivenUp (Some error) p = EndsSo (Result.Err error) p
+-- the news that a turn follows
+abbrev pub turn_news : ℕ → Option Bool → List News
+turn_news place (Some is_closing) = IsReady place is_closing ∷ []
+turn_news place None = []
 
 module _ {S : Type 0} (answers : S → Op → Result Reply AskError → S → Type 0) where
-  -- the connection at a place had a turn
-  pub record HasTurn (place : ℕ) (after : After) (old new : Places) (map_old map_new : S) : Type 0 where
-    pub calls : List LiveCall
+  -- the connection at a place was asked for something
+  pub record AtPlace (place : ℕ) (Does : Place → ConnectionView → Type 0) (old new : Places) : Type 0 where
     pub before : Place
-    pub behind : Place
+    pub behind : ConnectionView
     pub was : old place ≡ Some before
-    pub is : new place ≡ Some behind
-    pub does : DoesAll (PortAnswer answers before.reads_only) calls (before.live, map_old) (behind.live, map_new)
-    pub answered : behind.answered ≡ counted (before.answered + frames_of calls)
-    pub reads_only : behind.reads_only ≡ before.reads_only
+    pub is : new place ≡ Some (record { connection = behind; reads_only = before.reads_only })
+    pub does : Does before behind
     pub others : OthersStay place old new
-    pub ends : MayEnd after behind
+
+  -- no connection is at the place
+  abbrev pub NobodyThere : ℕ → Places → Places → S → S → Type 0
+  NobodyThere place old new map_old map_new = (old place ≡ None) × AllStay old new × (map_new ≡ map_old)
 
   -- a turn, or no connection is at the place
-  abbrev pub HadTurn : ℕ → Option After → Places → Places → S → S → Type 0
-  HadTurn place (Some after) old new map_old map_new = HasTurn place after old new map_old map_new
-  HadTurn place None old new map_old map_new = (new place ≡ None) × AllStay old new × (map_new ≡ map_old)
+  abbrev pub HadTurn : ℕ → Bool → Option After → Places → Places → S → S → Type 0
+  HadTurn place is_closing (Some after) old new map_old map_new =
+      AtPlace place (λ p c. Turn turn_rounds (PortAnswer answers p.reads_only) after (told is_closing p.connection) c map_old map_new) old new
+  HadTurn place is_closing None old new map_old map_new = NobodyThere place old new map_old map_new
 
-  -- steps were taken, one after the other, and each end of a session was noted
-  pub record Serves (old new : Places) (noted_old noted_new : List (Result ℕ SessionFault)) (map_old map_new : S) : Type 0 where
+  -- the last turn, or no connection is at the place
+  abbrev pub HadLastTurn : ℕ → Option (Result ℕ FrontError) → Places → Places → S → S → Type 0
+  HadLastTurn place (Some end) old new map_old map_new =
+      AtPlace place (λ p c. LastTurn (PortAnswer answers p.reads_only) end p.connection c map_old map_new) old new
+  HadLastTurn place None old new map_old map_new = NobodyThere place old new map_old map_new
+
+  -- steps were taken, one after the other, which follow this news, and each end of a session was noted
+  pub record Serves (news : List News) (old new : Places) (noted_old noted_new : List (Result ℕ SessionFault)) (map_old map_new : S) : Type 0 where
     pub steps : List Step
     pub takes : TakesAll answers steps (old, map_old) (new, map_new)
-    pub notes : noted_new ≡ noted_old ++ told steps
+    pub notes : noted_new ≡ noted_old ++ told_all steps
+    pub follows : all_news steps ≡ news
 
--- only ends of sessions
+-- only connections were left
 abbrev pub AreEnds : List Step → Type 0
 AreEnds [] = Unit {0}
 AreEnds (Closes place result ∷ steps) = AreEnds steps
@@ -62,4 +66,10 @@ pub record Leaves (old new : Places) (noted_old noted_new : List (Result ℕ Ses
   pub steps : List Step
   pub ends : AreEnds steps
   pub takes : TakesAll Asks steps (old, tt) (new, tt)
-  pub notes : noted_new ≡ noted_old ++ told steps
+  pub notes : noted_new ≡ noted_old ++ told_all steps
+
+-- this news came
+pub record Heard {E V : Type 0} (start : E → ConnectionView) (comes : V → Arrival E → V → Type 0) (news : List News) (old new : V) : Type 0 where
+  pub arrivals : List (Arrival E)
+  pub came : ComesAll comes arrivals old new
+  pub all : flat_map (news_in start) arrivals ≡ news

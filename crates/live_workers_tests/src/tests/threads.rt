@@ -30,11 +30,13 @@ struct Counting<'a> {
 }
 
 impl<'a> Stream for Counting<'a> {
-    ghost use Rattle.std.specs.Prelude.{None};
+    ghost use Rattle.std.specs.Prelude.{None, true};
 
     ghost left = { λ _. None };
 
     ghost held = { λ _. None };
+
+    ghost may = { λ _. record { block = true; leave_room = true; fail = true } };
 
     fn read(&mut self, buf: &mut [u8]) -> io::Result<usize> {
         self.input.read(buf)
@@ -65,7 +67,11 @@ fn queue_of(clients: u64, taken: &AtomicU64) -> Queue<'_> {
 impl<'a> Arrivals for Queue<'a> {
     type End = Counting<'a>;
 
+    ghost use Rattle.std.specs.Prelude.{⊤};
+
     ghost left = { λ queue. queue.left };
+
+    ghost comes = { λ _ _ _. ⊤ };
 
     fn next(&mut self, _free: usize, _open: usize, _is_busy: bool) -> Arrival<Counting<'a>> {
         if self.left == 0 || self.clients == 0 {

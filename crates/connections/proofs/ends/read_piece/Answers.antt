@@ -1,5 +1,5 @@
-use Rattle.std.proofs.Common.{[], ◌∙◌, take}
-use Rattle.connections.proofs.ReadLemmas.{feeds_nothing}
+use Rattle.std.proofs.Common.{[], ◌∙◌, refl, take}
+use Rattle.connections.proofs.ReadLemmas.{feeds_nothing, nothing_taken}
 use Rattle.connections.proofs.ends.read_piece.Goals as goal
 
 pub returns-in-Err-feed-clause-takes : goal.returns-in-Err-feed-clause-takes
@@ -9,4 +9,13 @@ returns-in-Err-feed-clause-takes g c = record {
   feeds = c.in-Err-feed.ensures.err ∙ feeds_nothing c.args.live.now;
   consumes = c.in-Ok.ensures.bytes.0;
   until = c.in-Err-feed.ensures.err;
+}
+
+pub returns-else-would_wait-clause-takes : goal.returns-else-would_wait-clause-takes
+returns-else-would_wait-clause-takes g c = record {
+  piece = [];
+  lost = [];
+  feeds = feeds_nothing c.args.live.now;
+  consumes = nothing_taken _ _ c.in-Err.ensures.bytes;
+  until = (refl, refl, c.in-Err.ensures.may.1 (c.would_wait.ensures.fails c.if-would_wait.false));
 }

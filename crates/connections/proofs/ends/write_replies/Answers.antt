@@ -1,4 +1,4 @@
-use Rattle.std.proofs.Common.{◌≡◌, ◌∙◌, ◌++◌, sym, ap, List, ℕ, subst, take, append_assoc}
+use Rattle.std.proofs.Common.{◌∙◌, ◌++◌, sym, ap, List, ℕ, subst, take, append_assoc}
 use Rattle.std.proofs.KnownBytes.{Appends-trans}
 use Rattle.std.specs.Io.KnownBytes.{Appends}
 use Rattle.connections.proofs.ends.write_replies.Goals as goal
@@ -18,4 +18,5 @@ loop-end-preserved g c =
       ),
       Appends-trans (g.E.Stream.held c.args.end.now) (g.E.Stream.held c.loop-end.end) (g.E.Stream.held c.write.new.self) inv.0 piece inv.2 wrote,
       c.in-Ok.ensures.left ∙ inv.3,
+      c.in-Ok.ensures.same ∙ inv.4,
     )

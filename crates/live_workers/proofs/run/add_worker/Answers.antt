@@ -5,3 +5,7 @@ use Rattle.live_workers.proofs.run.add_worker.Goals as goal
 
 pub returns-clause-passes : goal.returns-clause-passes
 returns-clause-passes g c = ap (map (λ (w : Worker g.row.V.Denot). w.pass)) c.in_ok-push.ensures.items ∙ map-append (λ (w : Worker g.row.V.Denot). w.pass) c.args.workers.now.items _
+
+pub returns-clause-arrivals : goal.returns-clause-arrivals
+returns-clause-arrivals g c =
+    ap (map (λ (w : Worker g.row.V.Denot). w.arrivals)) c.in_ok-push.ensures.items ∙ map-append (λ (w : Worker g.row.V.Denot). w.arrivals) c.args.workers.now.items _

@@ -9,4 +9,6 @@ invariant-loop-pass g l =
     × (into_iter_len l.pass-iterator ≡ length (into_iter_items l.pass-iterator))
     × (into_iter_len l.left ≡ into_iter_len l.pass-iterator)
     × (map (λ w. w.pass) l.workers.items ≡ l.yielded)
+    × (map (λ w. w.arrivals) l.workers.items ++ into_iter_items l.left ≡ into_iter_items l.initial.left)
+    × (into_iter_len l.left ≡ length (into_iter_items l.left))
     × AreNumbered 0 (map (λ w. w.number) l.workers.items)

@@ -1,4 +1,4 @@
-use Rattle.std.proofs.Common.{◌≡◌, [], ◌∷◌, sym, refl, arith}
+use Rattle.std.proofs.Common.{[], ◌∷◌, sym, refl, arith}
 use Rattle.std.proofs.KnownBytes.{Appends-nil, Consumes-nil}
 use Rattle.frame_front.specs.LiveCalls.{Answer}
 use Rattle.connections.proofs.connection.Connection.answer.Goals as goal
@@ -12,7 +12,7 @@ returns-clause-answers g c = rw (sym c.self.view_is) (
     appends = Appends-nil (g.E.Stream.held c.self.inside.end);
     answered = omega (arith, c.saturating_add-self-inside.ensures);
     share = omega (arith, c.answer-answered.ensures.share);
+    stays = (refl, refl);
   },
-  refl,
   refl,
 )

@@ -1,14 +1,14 @@
-use Rattle.std.proofs.Common.{◌≡◌, sym, ap, ◌∙◌, refl, subst, arith, [], ℕ, Err}
+use Rattle.std.proofs.Common.{sym, ◌∙◌, arith, []}
 use Rattle.slab.specs.Slab.{get}
 use Rattle.live_workers.proofs.StepLemmas.{all_stay, serves_none, serves_then}
-use Rattle.live_workers.proofs.ServingLemmas.{close_serves, on_ok_then, turn_serves, leaves_one, leaves_none, leaves_then, leaves_serves, take_serves, fails_serves, stays_serves, served_quietly, free_below, all_free, put_back, beyond}
+use Rattle.live_workers.proofs.ServingLemmas.{all_free, beyond, free_below}
 use Rattle.live_workers.specs.Sessions.{nobody}
 use Rattle.live_workers.proofs.serving.Served.end_all.Goals as goal
 
 pub loop-place-preserved : goal.loop-place-preserved
 loop-place-preserved g c =
     let inv = c.loop-place.invariant in (
-      serves_then g.A.Ask.answers (get c.args.self.now.open) (get c.loop-place.self.open) (get c.end.new.self.open) c.args.self.now.results.items c.loop-place.self.results.items c.end.new.self.results.items
+      serves_then g.A.Ask.answers [] [] (get c.args.self.now.open) (get c.loop-place.self.open) (get c.end.new.self.open) c.args.self.now.results.items c.loop-place.self.results.items c.end.new.self.results.items
           c.args.ask.now.ask c.loop-place.ask.ask c.end.new.ask.ask inv.0 c.in_ok-end.ensures.served,
       free_below (get c.loop-place.self.open) (get c.end.new.self.open) c.loop-place.place inv.1 c.in_ok-end.ensures.left c.end.ensures.others,
       λ other far. c.end.ensures.others other (λ e. absurd (omega (arith, far, e, c.loop-place-test.true))) ∙ inv.2 other far,
@@ -25,6 +25,6 @@ pub returns : goal.returns
 returns g c =
     let inv = c.loop-place.invariant in
     let free = all_free (get c.loop-place.self.open) c.loop-place.place c.capacity-places.result (omega (arith, c.loop-place-test.false)) inv.1 inv.2 in
-    serves_then g.A.Ask.answers (get c.args.self.now.open) (get c.loop-place.self.open) nobody c.args.self.now.results.items c.loop-place.self.results.items c.loop-place.self.results.items
+    serves_then g.A.Ask.answers [] [] (get c.args.self.now.open) (get c.loop-place.self.open) nobody c.args.self.now.results.items c.loop-place.self.results.items c.loop-place.self.results.items
     c.args.ask.now.ask c.loop-place.ask.ask c.loop-place.ask.ask inv.0
     (serves_none g.A.Ask.answers (get c.loop-place.self.open) nobody c.loop-place.self.results.items c.loop-place.ask.ask (λ other. sym (free other)))

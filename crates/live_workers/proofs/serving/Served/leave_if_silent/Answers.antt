@@ -1,7 +1,6 @@
-use Rattle.std.proofs.Common.{◌≡◌, sym, ap, ◌∙◌, refl, subst, arith, [], ℕ, Err}
+use Rattle.std.proofs.Common.{ap, Err}
 use Rattle.slab.specs.Slab.{get}
-use Rattle.live_workers.proofs.StepLemmas.{all_stay, serves_none, serves_then}
-use Rattle.live_workers.proofs.ServingLemmas.{close_serves, on_ok_then, turn_serves, leaves_one, leaves_none, leaves_then, leaves_serves, take_serves, fails_serves, stays_serves, put_back, beyond}
+use Rattle.live_workers.proofs.ServingLemmas.{leaves_none, leaves_one, on_ok_then}
 use Rattle.live_workers.proofs.serving.Served.leave_if_silent.Goals as goal
 
 pub returns-in-Some : goal.returns-in-Some

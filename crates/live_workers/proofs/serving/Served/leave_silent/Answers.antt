@@ -1,7 +1,7 @@
-use Rattle.std.proofs.Common.{◌≡◌, sym, ap, ◌∙◌, refl, subst, arith, [], ℕ}
+use Rattle.std.proofs.Common.{refl}
 use Rattle.slab.specs.Slab.{get}
-use Rattle.live_workers.proofs.StepLemmas.{all_stay, serves_none, serves_then}
-use Rattle.live_workers.proofs.ServingLemmas.{close_serves, on_ok_then, turn_serves, leaves_one, leaves_none, leaves_then, leaves_serves, take_serves, fails_serves, stays_serves, put_back, beyond}
+use Rattle.live_workers.proofs.StepLemmas.{all_stay}
+use Rattle.live_workers.proofs.ServingLemmas.{leaves_none, leaves_then}
 use Rattle.live_workers.proofs.serving.Served.leave_silent.Goals as goal
 
 pub loop-place-init : goal.loop-place-init
