@@ -302,7 +302,8 @@ What to do: See where the output goes.
         55,
         "\
 55 TurnsUsed
-The session has made as many reads as --turns allows.
+The session has made as many reads as --turns allows; or the server was stopped while more
+than 4 MiB of replies were to be sent to the client.
 What to do: Connect again, or raise --turns.
 ",
     ),
