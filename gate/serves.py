@@ -356,6 +356,7 @@ def flood_beside_others():
     assert grown < 20_000, f"the server has grown by {grown} kB"
     status, out, _ = server.ended()
     assert status == 0 and out.endswith("domains 0\n"), (status, out)
+    return f"; the worst answer took {1000 * worst:.1f} ms, and the server has grown by {grown} kB"
 
 
 def send_gets(server, until):
@@ -427,8 +428,8 @@ def main():
     failed = 0
     for check in CHECKS:
         try:
-            check()
-            print(f"{check.__name__}: as it should be", flush=True)
+            said = check() or ""
+            print(f"{check.__name__}: as it should be{said}", flush=True)
         except (AssertionError, subprocess.SubprocessError, OSError, ValueError) as error:
             failed += 1
             print(f"{check.__name__}: FAILED: {error!r}"[:2000], flush=True)
