@@ -5,16 +5,11 @@ use Rattle.map_core.specs.declared.op.Op.{Op}
 use Rattle.map_core.specs.declared.reply.Reply.{Reply}
 use Rattle.map_core.specs.declared.reply.AskError.{AskError}
 use Rattle.frame_front.specs.declared.error.FrontError.{FrontError}
-use Rattle.frame_front.specs.declared.request.Request.{Request}
-use Rattle.frame_front.specs.declared.request.Request.TheVariants.{Ask, SetVersion}
-use Rattle.frame_front.specs.declared.refusal.Refusal.{Refusal}
-use Rattle.frame_front.specs.Request.{request_of}
-use Rattle.frame_front.specs.Session.{SessionState, AnswersRequest, Answers, AnswersAll}
-use Rattle.workers.specs.declared.sessions.SessionFault.{SessionFault}
-use Rattle.frame_front.specs.Transcript.{Transcript}
+use Rattle.workers.specs.declared.ended.SessionFault.{SessionFault}
 use Rattle.frame_front.specs.Live.{LiveView}
 use Rattle.frame_front.specs.LiveCalls.{LiveCall, Does, DoesAll, Feed, Answer, Send}
 use Rattle.workers.specs.Gate.{AnsweredBehind}
+use Rattle.workers.proofs.KeptAlong.{all_keep}
 use Rattle.workers.specs.ReadOnly.{is_read}
 use Rattle.live_workers.specs.AtPort.{PortAnswer}
 use Rattle.connections.specs.Connection.{ConnectionView, Turn, turn_rounds, last_rounds}
@@ -27,30 +22,10 @@ module _ {S : Type 0} (answers : S → Op → Result Reply AskError → S → Ty
   kept_where_same : (old new : S) → new ≡ old → Keeps old new
   kept_where_same old new e = subst (λ (s : S). Keeps old s) (sym e) (same old)
 
-  request_keeps : (r : Result Request Refusal) (old : SessionState S) (text : List ℕ) (new : SessionState S) → AnswersRequest answers r old text new → Keeps old.1 new.1
-  request_keeps (Err refusal) old text new a = kept_where_same old.1 new.1 (ap (λ (s : SessionState S). s.1) a.1)
-  request_keeps (Ok (SetVersion version)) old text new a = kept_where_same old.1 new.1 (ap (λ (s : SessionState S). s.1) a.1)
-  request_keeps (Ok (Ask op)) old text new a = each old.1 op a.0 new.1 a.1
-
-  answer_keeps : (old : SessionState S) (payload text : List ℕ) (new : SessionState S) → Answers answers old payload text new → Keeps old.1 new.1
-  answer_keeps old payload text new (inl a) = request_keeps (request_of old.0 payload) old text new a
-  answer_keeps old payload text new (inr a) = kept_where_same old.1 new.1 (ap (λ (s : SessionState S). s.1) a.1)
-
-  all_keep : (old : SessionState S) (payloads texts : List (List ℕ)) (new : SessionState S) → AnswersAll answers old payloads texts new → Keeps old.1 new.1
-  all_keep old [] [] new a = kept_where_same old.1 new.1 (ap (λ (s : SessionState S). s.1) a)
-  all_keep old (payload ∷ payloads) (text ∷ texts) new a =
-      further old.1 a.0.1 new.1 (answer_keeps old payload text a.0 a.1) (all_keep a.0 payloads texts new a.2)
-  all_keep old [] (text ∷ texts) new a = absurd a
-  all_keep old (payload ∷ payloads) [] new a = absurd a
-
-  -- what each answer keeps, a session over two ends keeps
-  pub served_keeps : (result : Result ℕ FrontError) (turns : ℕ) (a b c d : Option (List ℕ)) (old new : S) → Transcript answers result turns a b c d old new → Keeps old new
-  served_keeps result turns a b c d old new t = all_keep _ t.session.payloads t.session.texts _ t.session.serves.answered
-
   does_keeps : (call : LiveCall) (old new : LiveView × S) → Does answers call old new → Keeps old.1 new.1
   does_keeps (Feed piece) old new d = kept_where_same old.1 new.1 d.1
   does_keeps (Send bytes) old new d = kept_where_same old.1 new.1 d.1
-  does_keeps (Answer result) old new d = all_keep _ d.payloads d.texts _ d.serves.answered
+  does_keeps (Answer result) old new d = all_keep answers Keeps same further each _ d.payloads d.texts _ d.serves.answered
 
   pub does_all_keep : (calls : List LiveCall) (old new : LiveView × S) → DoesAll answers calls old new → Keeps old.1 new.1
   does_all_keep [] old new d = kept_where_same old.1 new.1 (ap (λ (s : LiveView × S). s.1) d)

@@ -13,7 +13,7 @@ use Rattle.connections.specs.Connection.{ConnectionView, Turn, told, turn_rounds
 use Rattle.connections.specs.declared.after.After.{After}
 use Rattle.live_workers.specs.AtPort.{PortAnswer}
 use Rattle.live_workers.specs.Arrivals.{News, NewClient}
-use Rattle.workers.specs.declared.sessions.SessionFault.{SessionFault}
+use Rattle.workers.specs.declared.ended.SessionFault.{SessionFault}
 use Rattle.live_workers.specs.Sessions.{Place, Places, Step, Opens, Turns, Misses, Closes, Ends, Fails, AllStay, EndsSo, OthersStay, TakesAll, told_by, closing_of, front_end, news_of, all_news}
 use Rattle.live_workers.specs.Private.Serving.{AreEnds, Asks, HadTurn, HadLastTurn, Leaves, NobodyThere, Serves, turn_news}
 use Rattle.live_workers.proofs.StepLemmas.{all_stay, notes_then, serves_ending, serves_none, serves_quietly, stay_then, steps_then}

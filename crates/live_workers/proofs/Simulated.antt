@@ -9,7 +9,7 @@ use Rattle.frame_front.specs.declared.request.Request.TheVariants.{Ask, SetVersi
 use Rattle.frame_front.specs.declared.refusal.Refusal.{Refusal}
 use Rattle.frame_front.specs.Request.{request_of}
 use Rattle.frame_front.specs.Session.{SessionState, AnswersRequest, Answers, AnswersAll}
-use Rattle.workers.specs.declared.sessions.SessionFault.{SessionFault}
+use Rattle.workers.specs.declared.ended.SessionFault.{SessionFault}
 use Rattle.frame_front.specs.Live.{LiveView}
 use Rattle.frame_front.specs.LiveCalls.{LiveCall, Does, DoesAll, Feed, Answer, Send}
 use Rattle.workers.specs.Gate.{AnsweredBehind}

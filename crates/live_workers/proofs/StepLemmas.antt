@@ -7,7 +7,7 @@ use Rattle.map_core.specs.declared.reply.AskError.{AskError}
 use Rattle.live_workers.specs.Arrivals.{News}
 use Rattle.live_workers.specs.Sessions.{Places, Step, Opens, Turns, Misses, Closes, Ends, Fails, OthersStay, AllStay, Takes, TakesAll, told_all, told_by, all_news, news_of}
 use Rattle.live_workers.specs.Private.Serving.{Serves}
-use Rattle.workers.specs.declared.sessions.SessionFault.{SessionFault}
+use Rattle.workers.specs.declared.ended.SessionFault.{SessionFault}
 
 pub all_stay : (p : Places) → AllStay p p
 all_stay p place = refl

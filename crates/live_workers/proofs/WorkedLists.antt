@@ -11,21 +11,11 @@ use Rattle.live_workers.specs.Workers.{HasServed, HasFollowed, AllServed, AllFol
 use Rattle.live_workers.specs.Private.Numbers.{AreNumbered}
 use Rattle.shard_store.specs.Pass.{StoreView, PassView, IsOf}
 use Rattle.live_workers.specs.declared.run.Worker.{Worker}
-use Rattle.workers.specs.declared.run.Worked.{Worked}
+use Rattle.workers.specs.declared.ended.Worked.{Worked}
 
 pub nil_if : {X : Type 0} (xs : List X) → length xs ≡ 0 → xs ≡ []
 nil_if [] e = refl
 nil_if (x ∷ xs) e = absurd (omega (arith, e))
-
-pub first_of_all : {X : Type 0} (P : X → Type 0) (x : X) (xs : List X) → All P (x ∷ xs) → P x
-first_of_all P x xs h = h 0 x (omega arith)
-
-pub rest_of_all : {X : Type 0} (P : X → Type 0) (x : X) (xs : List X) → All P (x ∷ xs) → All P xs
-rest_of_all P x xs h = λ k d l. h (suc k) d (omega arith)
-
-pub all_push : {X : Type 0} (P : X → Type 0) (xs : List X) (x : X) → All P xs → P x → All P (xs ++ x ∷ [])
-all_push P [] x h p = All-cons P x [] p (λ k d l. absurd (omega arith))
-all_push P (y ∷ ys) x h p = All-cons P y (ys ++ x ∷ []) (first_of_all P y ys h) (all_push P ys x (rest_of_all P y ys h) p)
 
 -- one number more
 pub numbered_more : (first : ℕ) (numbers : List ℕ) (n : ℕ) → AreNumbered first numbers → n ≡ first + length numbers → AreNumbered first (numbers ++ n ∷ [])

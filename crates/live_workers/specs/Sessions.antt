@@ -11,8 +11,8 @@ use Rattle.connections.specs.declared.after.After.TheVariants.{Over}
 use Rattle.live_workers.specs.Arrivals.{News, NewClient, IsReady, HasFailed, IsToStop, ComesAll, news_in}
 use Rattle.live_workers.specs.AtPort.{PortAnswer}
 use Rattle.live_workers.specs.declared.arrivals.Arrival.{Arrival}
-use Rattle.workers.specs.declared.sessions.SessionFault.{SessionFault}
-use Rattle.workers.specs.declared.sessions.SessionFault.TheVariants.{Front, Listen}
+use Rattle.workers.specs.declared.ended.SessionFault.{SessionFault}
+use Rattle.workers.specs.declared.ended.SessionFault.TheVariants.{Front, Listen}
 
 -- one connection of a worker, and whether it may only read
 pub record Place : Type 0 where

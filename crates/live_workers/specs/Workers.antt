@@ -3,7 +3,7 @@ use Rattle.std.specs.Prelude.{ℕ, suc, ◌<◌, List, [], ◌∷◌, Bool, leng
 use Rattle.connections.specs.Connection.{ConnectionView}
 use Rattle.shard_store.specs.Pass.{StoreView, PassView, IsOf}
 use Rattle.workers.specs.Workers.{IsFurther, WorkerAnswer, at_work}
-use Rattle.workers.specs.declared.run.Worked.{Worked}
+use Rattle.workers.specs.declared.ended.Worked.{Worked}
 use Rattle.live_workers.specs.Sessions.{Follows, ServedAll}
 use Rattle.live_workers.specs.declared.arrivals.Arrival.{Arrival}
 

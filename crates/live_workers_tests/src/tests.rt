@@ -1,5 +1,8 @@
 //! Connections in memory, which come in pieces and wait between them.
 mod ends;
+mod gates;
+mod logs;
+mod memory;
 mod ports;
 mod stops;
 mod threads;

@@ -6,9 +6,9 @@ use Rattle.std.proofs.lemmas.Grind.{flat_map-append}
 use Rattle.commands.specs.Fault.{fault_line}
 use Rattle.commands.specs.declared.fault.Fault.TheVariants as faults
 use Rattle.server.specs.Serve.{session_count, all_came, session_lines, results_of}
-use Rattle.workers.specs.declared.sessions.SessionFault.{SessionFault}
-use Rattle.workers.specs.declared.sessions.SessionFault.TheVariants.{Front, Listen}
-use Rattle.workers.specs.declared.run.Worked.{Worked}
+use Rattle.workers.specs.declared.ended.SessionFault.{SessionFault}
+use Rattle.workers.specs.declared.ended.SessionFault.TheVariants.{Front, Listen}
+use Rattle.workers.specs.declared.ended.Worked.{Worked}
 
 pub begun_append : (results more : List (Result ℕ SessionFault)) → session_count (results ++ more) ≡ session_count results + session_count more
 begun_append [] more = omega arith

@@ -17,9 +17,9 @@ use Rattle.commands.specs.declared.fault.Fault.{Fault}
 use Rattle.commands.specs.declared.fault.Fault.TheVariants.{Front, Dump, Listen as ListenFault, Close}
 use Rattle.server.specs.declared.lines.Said.{Said}
 use Rattle.server.specs.declared.lines.Said.TheVariants.{Listening, Served, Domains}
-use Rattle.workers.specs.declared.sessions.SessionFault.{SessionFault}
-use Rattle.workers.specs.declared.sessions.SessionFault.TheVariants as session
-use Rattle.workers.specs.declared.run.Worked.{Worked}
+use Rattle.workers.specs.declared.ended.SessionFault.{SessionFault}
+use Rattle.workers.specs.declared.ended.SessionFault.TheVariants as session
+use Rattle.workers.specs.declared.ended.Worked.{Worked}
 use Rattle.commands.specs.Fault.{fault_line}
 use Rattle.commands.specs.Input.{InputFault}
 use Rattle.commands.specs.Streams.{End, Tells, TellsUnlessFailed}

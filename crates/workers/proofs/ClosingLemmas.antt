@@ -10,7 +10,7 @@ use Rattle.shard_store.specs.Changes.{Extends}
 use Rattle.shard_store.specs.Pass.{StoreView}
 use Rattle.shard_store.specs.Close.{CloseAnswer}
 use Rattle.workers.specs.Closing.{AreAll, BeginsWith, ClosesAs}
-use Rattle.workers.specs.declared.run.Worked.{Worked}
+use Rattle.workers.specs.declared.ended.Worked.{Worked}
 
 abbrev pub ranges_of_all : List Worked → List (ℕ × ℕ)
 ranges_of_all worked = flat_map (λ (w : Worked). w.pass.seen.ranges) worked

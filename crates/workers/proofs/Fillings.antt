@@ -41,8 +41,7 @@ pub not_fills_by : (error : FillError) (result : Result ℕ FrontError) (request
     → a ≡ Some requests → c ≡ Some [] → d ≡ Some replies → s ≡ seated_view store old → IsNotFilled result replies error
     → Transcript SeatedAnswer result most_reads a b c d s t → NotFills requests store old error
 not_fills_by error result requests replies store old a b c d s t from none to begun why session =
-    let stays = served_keeps SeatedAnswer StaysSeated seated_same seated_then seated_answer result s t
-    (record { turns = _; left_old = _; left_new = _; held_old = _; held_new = _; transcript = session }) in
+    let stays = served_keeps SeatedAnswer StaysSeated seated_same seated_then seated_answer result most_reads a b c d s t session in
     let done : t ≡ seated_view store t.seen = ap (λ (x : StoreView). seated_view x t.seen) (stays.0 ∙ ap (λ (x : SeatedView). x.store) begun) in
     record {
       result = result;

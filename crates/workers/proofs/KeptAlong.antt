@@ -1,6 +1,6 @@
 -- What every answer keeps is kept along sessions.
 use Rattle.std.proofs.Common.{◌≡◌, List, [], ◌∷◌, sym, ap, subst, inl, inr}
-use Rattle.std.specs.Prelude.{ℕ, Result, Ok, Err}
+use Rattle.std.specs.Prelude.{ℕ, Option, Result, Ok, Err}
 use Rattle.map_core.specs.declared.op.Op.{Op}
 use Rattle.map_core.specs.declared.reply.Reply.{Reply}
 use Rattle.map_core.specs.declared.reply.AskError.{AskError}
@@ -10,9 +10,7 @@ use Rattle.frame_front.specs.declared.request.Request.TheVariants.{Ask, SetVersi
 use Rattle.frame_front.specs.declared.refusal.Refusal.{Refusal}
 use Rattle.frame_front.specs.Request.{request_of}
 use Rattle.frame_front.specs.Session.{SessionState, AnswersRequest, Answers, AnswersAll}
-use Rattle.workers.specs.declared.sessions.SessionFault.{SessionFault}
-use Rattle.workers.specs.declared.sessions.SessionFault.TheVariants.{Front, Listen}
-use Rattle.workers.specs.Sessions.{Served, ServedAll}
+use Rattle.frame_front.specs.Transcript.{Transcript}
 
 module _ {S : Type 0} (answers : S → Op → Result Reply AskError → S → Type 0) (Keeps : S → S → Type 0)
     (same : (s : S) → Keeps s s) (further : (s t u : S) → Keeps s t → Keeps t u → Keeps s u)
@@ -29,21 +27,13 @@ module _ {S : Type 0} (answers : S → Op → Result Reply AskError → S → Ty
   answer_keeps old payload text new (inl a) = request_keeps (request_of old.0 payload) old text new a
   answer_keeps old payload text new (inr a) = kept_where_same old.1 new.1 (ap (λ (s : SessionState S). s.1) a.1)
 
-  all_keep : (old : SessionState S) (payloads texts : List (List ℕ)) (new : SessionState S) → AnswersAll answers old payloads texts new → Keeps old.1 new.1
+  pub all_keep : (old : SessionState S) (payloads texts : List (List ℕ)) (new : SessionState S) → AnswersAll answers old payloads texts new → Keeps old.1 new.1
   all_keep old [] [] new a = kept_where_same old.1 new.1 (ap (λ (s : SessionState S). s.1) a)
   all_keep old (payload ∷ payloads) (text ∷ texts) new a =
       further old.1 a.0.1 new.1 (answer_keeps old payload text a.0 a.1) (all_keep a.0 payloads texts new a.2)
   all_keep old [] (text ∷ texts) new a = absurd a
   all_keep old (payload ∷ payloads) [] new a = absurd a
 
-  pub served_keeps : (result : Result ℕ FrontError) (old new : S) → Served answers result old new → Keeps old new
-  served_keeps result old new s =
-      let session = s.transcript.session in
-      all_keep _ session.payloads session.texts _ session.serves.answered
-
-  -- what each answer keeps, sessions keep
-  pub sessions_keep : (results : List (Result ℕ SessionFault)) (old new : S) → ServedAll answers results old new → Keeps old new
-  sessions_keep [] old new a = kept_where_same old new a
-  sessions_keep (Ok count ∷ results) old new a = further old a.0 new (served_keeps (Ok count) old a.0 a.1) (sessions_keep results a.0 new a.2)
-  sessions_keep (Err (Front error) ∷ results) old new a = further old a.0 new (served_keeps (Err error) old a.0 a.1) (sessions_keep results a.0 new a.2)
-  sessions_keep (Err Listen ∷ results) old new a = kept_where_same old new a.1
+  -- what each answer keeps, a session over two ends keeps
+  pub served_keeps : (result : Result ℕ FrontError) (turns : ℕ) (a b c d : Option (List ℕ)) (old new : S) → Transcript answers result turns a b c d old new → Keeps old new
+  served_keeps result turns a b c d old new t = all_keep _ t.session.payloads t.session.texts _ t.session.serves.answered

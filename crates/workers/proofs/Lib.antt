@@ -1,11 +1,9 @@
-pub mod WorkedLists
+mod PassLists
 mod ClosingLemmas
-mod KeptAlong
+pub mod KeptAlong
 mod NumberLemmas
 pub mod PassLaws
 mod Retries
-mod ServedLists
-mod Simulated
 mod Fillings
 mod LoggedLaws
 mod ReadLaws

@@ -7,7 +7,7 @@ use Rattle.shard_store.specs.declared.close.CloseError.{CloseError}
 use Rattle.shard_store.specs.declared.close.CloseError.TheVariants.{Memory, HeldAtEnd}
 use Rattle.shard_store.specs.Changes.{after, HasNumber}
 use Rattle.shard_store.specs.Pass.{PassView}
-use Rattle.workers.specs.declared.run.Worked.{Worked}
+use Rattle.workers.specs.declared.ended.Worked.{Worked}
 
 -- the ranges of numbers that the passes have
 abbrev pub ranges_of : List PassView → List (ℕ × ℕ)

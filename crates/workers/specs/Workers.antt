@@ -1,16 +1,14 @@
--- What workers give back.
-use Rattle.std.specs.Prelude.{◌≡◌, ℕ, suc, List, [], ◌∷◌, ◌++◌, Bool, Result}
+-- Workers that ask a store through a gate.
+use Rattle.std.specs.Prelude.{◌≡◌, ℕ, List, ◌++◌, Bool, Result}
 use Rattle.map_core.specs.declared.op.Op.{Op}
 use Rattle.map_core.specs.declared.reply.Reply.{Reply}
 use Rattle.map_core.specs.declared.reply.AskError.{AskError}
 use Rattle.frame_front.specs.Counted.{next_count}
 use Rattle.shard_store.specs.declared.change.Change.{Change}
 use Rattle.shard_store.specs.declared.change.Seen.{Seen}
-use Rattle.shard_store.specs.Pass.{StoreView, PassView, SeatedView, IsOf}
+use Rattle.shard_store.specs.Pass.{StoreView, SeatedView}
 use Rattle.shard_store.specs.Seated.{SeatedAnswer}
 use Rattle.workers.specs.Gate.{GatedAnswer}
-use Rattle.workers.specs.Sessions.{ServedAll}
-use Rattle.workers.specs.declared.run.Worked.{Worked}
 
 -- t has the numbers that s had, and a log that begins with the one of s
 abbrev pub IsFurther : Seen → Seen → Type 0
@@ -28,18 +26,3 @@ module _ (opens : ℕ → ℕ → Bool → Type 0) where
   abbrev pub WorkerAnswer : ℕ → AtWork → Op → Result Reply AskError → AtWork → Type 0
   WorkerAnswer worker old op answer new =
       (new.1 ≡ next_count old.1) × GatedAnswer SeatedAnswer (opens worker new.1) old.0 op answer new.0
-
-  -- The pass comes from the store still, has its numbers, and has seen what it had seen. The sessions were served over it, one
-  -- after the other, and ended so.
-  pub record HasWorked (store : StoreView) (worker : ℕ) (pass : PassView) (worked : Worked) : Type 0 where
-    pub own : IsOf worked.pass store
-    pub further : IsFurther worked.pass.seen pass.seen
-    pub calls : ℕ
-    pub served : ServedAll (WorkerAnswer worker) worked.results.items (at_work store pass.seen 0) (at_work store worked.pass.seen calls)
-
-  -- each worker in its place; the first has this number
-  abbrev pub AllWorked : StoreView → ℕ → List PassView → List Worked → Type 0
-  AllWorked store first [] [] = Unit {0}
-  AllWorked store first (pass ∷ passes) (worked ∷ all) = HasWorked store first pass worked × AllWorked store (suc first) passes all
-  AllWorked store first [] (worked ∷ all) = ⊥
-  AllWorked store first (pass ∷ passes) [] = ⊥

@@ -4,7 +4,7 @@ ghost use Rattle.std.specs.List.{All, flat_map};
 ghost use Rattle.shard_store.specs.Pass.{IsOf};
 ghost use Rattle.workers.specs.Closing.{AreAll, ClosesAs};
 
-use crate::run::Worked;
+use crate::ended::Worked;
 use map_core::Contents;
 use shard_store::{CloseError, Store};
 

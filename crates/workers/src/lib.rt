@@ -1,11 +1,11 @@
-//! Workers: threads that serve sessions over the store that they share, each call through a gate.
-//!
-//! `run_workers` gives each pass of a store a thread and the sessions of a `Sessions`, which may be a list in memory or
-//! a listener: no word of this crate speaks of sockets. `passes_of` makes the passes, and `close_store` joins them
-//! again, when no worker is left, and gives the map at the end. A `ReadOnly` map may be read and not changed. A `Log` is told of changes and of the ends of sessions.
+//! What workers need beside the store that they share: a `Gate` before each call, a `Log` of changes and of the ends of
+//! sessions, and the ask that is tried again while others are in the way (`Retrying`). `passes_of` makes the passes of
+//! the workers, `fill_store` fills the store before they begin, and `close_store` joins the passes again, when no worker
+//! is left, and gives the map at the end. A `ReadOnly` map may be read and not changed.
 #![tactic(auto)]
 
 mod closing;
+mod ended;
 mod filling;
 mod gate;
 mod gated;
@@ -15,10 +15,9 @@ mod logged;
 mod passes;
 mod read_only;
 mod retrying;
-mod run;
-mod sessions;
 
 pub use closing::close_store;
+pub use ended::{SessionFault, Worked};
 pub use filling::{FillError, fill_store};
 pub use gate::{Gate, Open};
 pub use gated::Gated;
@@ -27,5 +26,3 @@ pub use logged::Logged;
 pub use passes::passes_of;
 pub use read_only::ReadOnly;
 pub use retrying::Retrying;
-pub use run::{Worked, run_workers};
-pub use sessions::{ListenFault, Session, SessionFault, Sessions};

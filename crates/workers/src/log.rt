@@ -1,5 +1,5 @@
 //! What is told of the workers while they serve.
-use crate::sessions::SessionFault;
+use crate::ended::SessionFault;
 use map_core::Expect;
 
 /// How a bundle was changed.

@@ -11,7 +11,7 @@ use Rattle.live_workers.specs.Arrivals.{News, IsReady, ComesAll, news_in}
 use Rattle.live_workers.specs.AtPort.{PortAnswer}
 use Rattle.live_workers.specs.Sessions.{Place, Places, OthersStay, AllStay, Step, Closes, TakesAll, told_all, all_news}
 use Rattle.live_workers.specs.declared.arrivals.Arrival.{Arrival}
-use Rattle.workers.specs.declared.sessions.SessionFault.{SessionFault}
+use Rattle.workers.specs.declared.ended.SessionFault.{SessionFault}
 
 -- the news that a turn follows
 abbrev pub turn_news : ℕ → Option Bool → List News

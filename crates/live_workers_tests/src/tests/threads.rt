@@ -90,7 +90,7 @@ impl<'a> Arrivals for Queue<'a> {
 }
 
 /// A store, and a pass for each of two workers.
-fn store_for_two(alloc: Global) -> Result<(Store, Vec<Pass>), AllocError>
+pub(super) fn store_for_two(alloc: Global) -> Result<(Store, Vec<Pass>), AllocError>
     ensures count { IfOk result (λ made. vec_len made.1 ≡ 2) }
     ensures own { IfOk result (λ made. All (λ pass. IsOf pass made.0) made.1.items) }
 {

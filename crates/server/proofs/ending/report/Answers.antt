@@ -1,7 +1,7 @@
 use Rattle.std.proofs.Common.{◌≡◌, ℕ, List, ◌++◌, ◌&&◌, Bool, false, Ok, Err, refl, ap, subst, ◌∙◌}
 use Rattle.std.specs.Prelude.{min, if◌then◌else◌}
 use Rattle.server.specs.declared.lines.Said.TheVariants.{Served, Domains}
-use Rattle.workers.specs.declared.run.Worked.{Worked}
+use Rattle.workers.specs.declared.ended.Worked.{Worked}
 use Rattle.server.specs.Serve.{IsOffered, said_line, write_fault, session_count, all_came, session_lines, results_of}
 use Rattle.commands.specs.Streams.{TellsUnlessFailed, end_of}
 use Rattle.commands.proofs.Telling.{told_more}

@@ -1,8 +1,8 @@
 use Rattle.std.proofs.Common.{◌≡◌, List, [], ◌∷◌, All, sym, subst, ◌∙◌, ap, append-nil, length, arith}
 use Rattle.std.specs.Vec.Iter.{into_iter_items, into_iter_len}
 use Rattle.shard_store.specs.Pass.{IsOf}
-use Rattle.workers.specs.declared.run.Worked.{Worked}
-use Rattle.workers.proofs.WorkedLists.{first_of_all, rest_of_all}
+use Rattle.workers.specs.declared.ended.Worked.{Worked}
+use Rattle.workers.proofs.PassLists.{first_of_all, rest_of_all}
 use Rattle.workers.proofs.ClosingLemmas.{IsJoined, joined_first, joined_more, none_left, closes_all}
 use Rattle.workers.proofs.closing.close_store.Goals as goal
 

@@ -1,4 +1,4 @@
-use Rattle.std.proofs.Common.{◌≡◌, [], ◌∷◌, sym, ap, subst, refl, ◌∙◌, arith}
+use Rattle.std.proofs.Common.{◌≡◌, sym, ap, subst, refl, ◌∙◌, arith}
 use Rattle.std.specs.Prelude.{ℕ, suc, Ok, Err, Some}
 use Rattle.shard_store.specs.declared.change.Seen.{Seen}
 use Rattle.shard_store.specs.Pass.{StoreView}
@@ -7,18 +7,14 @@ use Rattle.workers.specs.declared.filling.FillError.TheVariants.{Front, NotStore
 use Rattle.workers.specs.Filling.{IsNotFilled, seated_view, stored_replies}
 use Rattle.workers.specs.Workers.{IsFurther}
 use Rattle.workers.proofs.Fillings.{fills_by, not_fills_by, session_by}
-use Rattle.workers.proofs.KeptAlong.{sessions_keep}
+use Rattle.workers.proofs.KeptAlong.{served_keeps}
 use Rattle.workers.proofs.PassLaws.{StaysSeated, seated_same, seated_then, seated_answer}
 use Rattle.workers.proofs.filling.fill_store.Goals as goal
 
 -- the pass stays at its store
 stays : (c : goal.After-drop-writer-2) → StaysSeated c.new-seated.result c.serve.new.ask
 stays c =
-    sessions_keep SeatedAnswer StaysSeated seated_same seated_then seated_answer (Ok c.in-Ok.answered ∷ []) c.new-seated.result c.serve.new.ask (
-      c.serve.new.ask,
-      record { turns = _; left_old = _; left_new = _; held_old = _; held_new = _; transcript = c.in-Ok.ensures.transcript },
-      refl,
-    )
+    served_keeps SeatedAnswer StaysSeated seated_same seated_then seated_answer (Ok c.in-Ok.answered) _ _ _ _ _ c.new-seated.result c.serve.new.ask c.in-Ok.ensures.transcript
 
 pub returns-clause-own : goal.returns-clause-own
 returns-clause-own c = c.into_pass.ensures.own ∙ ap (λ (s : StoreView). s.id) ((stays c).0 ∙ c.new-seated.ensures.store)

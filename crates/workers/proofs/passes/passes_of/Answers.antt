@@ -2,7 +2,7 @@ use Rattle.std.proofs.Common.{◌≡◌, ℕ, ◌+◌, ◌-◌, List, [], ◌∷
 use Rattle.shard_store.specs.Changes.{without_last, just_last}
 use Rattle.shard_store.specs.Pass.{PassView, IsOf}
 use Rattle.workers.proofs.NumberLemmas.{HaveFrom, have_before, have_all}
-use Rattle.workers.proofs.WorkedLists.{all_push}
+use Rattle.workers.proofs.PassLists.{all_push}
 use Rattle.workers.proofs.passes.passes_of.Goals as goal
 
 pub loop-preserved : goal.loop-preserved

@@ -1,0 +1,134 @@
+//! Two workers that have one client each, over memory.
+use super::threads::store_for_two;
+use connections::Stream;
+use live_workers::{Arrival, Arrivals, run_arrivals};
+use std::alloc::{AllocError, Global};
+use std::io;
+use std::io::{Read, Write};
+use std::thread::Threads;
+use std::time::Clock;
+use workers::{Gate, Log, Quiet, SessionFault};
+
+/// A client in memory that gives all that it has, and then its end, and takes all.
+#[derive(Drop)]
+struct Memory<'i, 'o> {
+    input: &'i [u8],
+    output: &'o mut Vec<u8>,
+}
+
+impl<'i, 'o> Stream for Memory<'i, 'o> {
+    ghost use Rattle.std.specs.Prelude.{None, true};
+
+    ghost left = { λ _. None };
+
+    ghost held = { λ _. None };
+
+    ghost may = { λ _. record { block = true; leave_room = true; fail = true } };
+
+    fn read(&mut self, buf: &mut [u8]) -> io::Result<usize> {
+        self.input.read(buf)
+    }
+
+    fn write(&mut self, buf: &[u8]) -> io::Result<usize> {
+        self.output.write(buf)
+    }
+}
+
+/// One client over memory, which is ready until it has left; then the listener fails so often.
+#[derive(Drop)]
+struct Once<'i, 'o> {
+    client: Option<Memory<'i, 'o>>,
+    failures: u64,
+    left: u64,
+}
+
+impl<'i, 'o> Arrivals for Once<'i, 'o> {
+    type End = Memory<'i, 'o>;
+
+    ghost use Rattle.std.specs.Prelude.{⊤};
+
+    ghost left = { λ once. once.left };
+
+    ghost comes = { λ _ _ _. ⊤ };
+
+    fn next(&mut self, _free: usize, open: usize, _is_busy: bool) -> Arrival<Memory<'i, 'o>> {
+        if self.left == 0 {
+            return Arrival::Stops;
+        }
+        self.left -= 1;
+        if let Some(end) = self.client.take() {
+            return Arrival::Opens {
+                end,
+                reads_only: false,
+            };
+        }
+        if open > 0 {
+            return Arrival::Ready {
+                place: 0,
+                is_closing: true,
+            };
+        }
+        if self.failures == 0 {
+            return Arrival::Stops;
+        }
+        self.failures -= 1;
+        Arrival::Fails
+    }
+}
+
+/// What two workers wrote, and how each of their sessions ended.
+#[derive(Drop)]
+pub(super) struct Ended {
+    pub first: Vec<u8>,
+    pub second: Vec<u8>,
+    pub results: Vec<Result<u64, SessionFault>>,
+}
+
+/// One client, and so many failures of the listener after it.
+fn one_client<'i, 'o>(input: &'i [u8], output: &'o mut Vec<u8>, failures: u64) -> Once<'i, 'o> {
+    Once {
+        client: Some(Memory { input, output }),
+        failures,
+        left: 1_000,
+    }
+}
+
+/// What two workers write and how their sessions end, if each has one client, and so many failures of the listener.
+pub(super) fn run_two<R: Threads + Clock + Sync, G: Gate + Sync>(
+    rt: &R,
+    alloc: Global,
+    inputs: (&[u8], &[u8]),
+    failures: u64,
+    gate: &G,
+) -> Result<Ended, AllocError> {
+    run_two_noted(rt, alloc, inputs, failures, gate, &Quiet)
+}
+
+/// And if a log is told of them.
+pub(super) fn run_two_noted<R: Threads + Clock + Sync, G: Gate + Sync, L: Log + Sync>(
+    rt: &R,
+    alloc: Global,
+    inputs: (&[u8], &[u8]),
+    failures: u64,
+    gate: &G,
+    log: &L,
+) -> Result<Ended, AllocError> {
+    let (store, passes) = store_for_two(alloc)?;
+    let mut first = Vec::new(alloc);
+    let mut second = Vec::new(alloc);
+    let mut arrivals = Vec::new(alloc);
+    arrivals.push(one_client(inputs.0, &mut first, failures))?;
+    arrivals.push(one_client(inputs.1, &mut second, failures))?;
+    let worked = run_arrivals(rt, alloc, &store, passes, arrivals, gate, 1_000_000, 3, log)?;
+    let mut results = Vec::new(alloc);
+    for worker in worked.as_slice() {
+        for result in worker.results.as_slice() {
+            results.push(*result)?;
+        }
+    }
+    Ok(Ended {
+        first,
+        second,
+        results,
+    })
+}
