@@ -34,6 +34,7 @@ reads_nothing c left ended result consumes until = record {
   held = refl;
   answered = refl;
   stays = (refl, refl);
+  quiet = λ e. refl;
   until = until;
 }
 

@@ -52,7 +52,7 @@ module _ {S : Type 0} (answers : S → Op → Result Reply AskError → S → Ty
   does_then (x ∷ xs) ys a b c p q = (p.0, p.1, does_then xs ys p.0 b c p.2 q)
 
   module _ (most more total : ℕ) (lost : List ℕ) (a b c : ConnectionView) (m n o : S) (p : Goes answers most [] a b m n) (q : Goes answers more lost b c n o)
-      (enough : most + more ≤ total) where
+      (enough : most + more ≤ total) (unended : b.has_ended ≡ a.has_ended) where
     pub fed_both : (fed p.calls ++ []) ++ (fed q.calls ++ lost) ≡ fed (p.calls ++ q.calls) ++ lost
     fed_both =
         ap (λ (l : List ℕ). l ++ (fed q.calls ++ lost)) (append-nil (fed p.calls))
@@ -70,6 +70,7 @@ module _ {S : Type 0} (answers : S → Op → Result Reply AskError → S → Ty
       answered = omega (arith, p.answered, q.answered, frames_append p.calls q.calls);
       share = omega (arith, p.share, q.share, frames_append p.calls q.calls, enough);
       stays = stays_then a b c p.stays q.stays;
+      quiet = λ e. sym fed_both ∙ (ap (λ (l : List ℕ). l ++ (fed q.calls ++ lost)) (p.quiet e) ∙ q.quiet (unended ∙ e));
     }
 
   -- What is known of a turn after some rounds and its next part.
@@ -78,8 +79,8 @@ module _ {S : Type 0} (answers : S → Op → Result Reply AskError → S → Ty
 
   -- a turn after some rounds, and the next part of it
   pub goes_on : (rounds : ℕ) (lost : List ℕ) (a b c : ConnectionView) (m n o : S) → GoesOn answers rounds a b m n → (q : Goes answers most_frames lost b c n o)
-      → Further rounds lost q.calls a c m o
-  goes_on rounds lost a b c m n o (inl none) q =
+      → b.has_ended ≡ a.has_ended → Further rounds lost q.calls a c m o
+  goes_on rounds lost a b c m n o (inl none) q unended =
       subst (λ s. Further rounds lost q.calls s c m o) none.1 (subst (λ s. Further rounds lost q.calls b c s o) none.2 (first, λ h. (h.0, h.1, omega (arith, none.0, h.2), h.3, h.4)))
     where
       first : Goes answers ((rounds + 1) * most_frames) lost b c n o
@@ -91,16 +92,17 @@ module _ {S : Type 0} (answers : S → Op → Result Reply AskError → S → Ty
         answered = q.answered;
         share = omega (arith, q.share);
         stays = q.stays;
+        quiet = q.quiet;
       }
-  goes_on rounds lost a b c m n o (inr p) q = (
-    goes_then (rounds * most_frames) most_frames ((rounds + 1) * most_frames) lost a b c m n o p.0 q (omega arith),
+  goes_on rounds lost a b c m n o (inr p) q unended = (
+    goes_then (rounds * most_frames) most_frames ((rounds + 1) * most_frames) lost a b c m n o p.0 q (omega arith) unended,
     λ h. share_then rounds p.0.calls q.calls p.1 h,
   )
 
   -- frames are answered, and replies written
   pub round_sent : (result : Result Bool Broken) (a b c : ConnectionView) (m n : S) → Goes answers most_frames [] a b m n → (q : SendsAs result b c)
-      → (goes : Goes answers most_frames [] a c m n) × (length q.bytes ≤ length (sent goes.calls))
-  round_sent result a b c m n p q =
+      → b.has_ended ≡ a.has_ended → (goes : Goes answers most_frames [] a c m n) × (length q.bytes ≤ length (sent goes.calls))
+  round_sent result a b c m n p q unended =
       let sends : Goes answers 0 [] b c n n = record {
         calls = Send q.bytes ∷ [];
         does = ((c.live, n), (q.sends, refl), refl);
@@ -109,13 +111,14 @@ module _ {S : Type 0} (answers : S → Op → Result Reply AskError → S → Ty
         answered = omega (arith, p.answered, q.answered);
         share = omega arith;
         stays = q.stays;
+        quiet = λ e. refl;
       } in
-      (goes_then most_frames 0 most_frames [] a b c m n n p sends (omega arith), omega (arith, sent_append p.calls (Send q.bytes ∷ []), length-append q.bytes []))
+      (goes_then most_frames 0 most_frames [] a b c m n n p sends (omega arith) unended, omega (arith, sent_append p.calls (Send q.bytes ∷ []), length-append q.bytes []))
 
   -- and then a piece is read
   pub round_read : (result : Result Bool After) (a b c : ConnectionView) (m n : S) → Goes answers most_frames [] a b m n → (q : ReadsAs result b c)
-      → (goes : Goes answers most_frames q.lost a c m n) × (length q.piece ≤ length (fed goes.calls))
-  round_read result a b c m n p q =
+      → b.has_ended ≡ a.has_ended → (goes : Goes answers most_frames q.lost a c m n) × (length q.piece ≤ length (fed goes.calls))
+  round_read result a b c m n p q unended =
       let reads : Goes answers 0 q.lost b c n n = record {
         calls = Feed q.piece ∷ [];
         does = ((c.live, n), (q.feeds, refl), refl);
@@ -124,8 +127,9 @@ module _ {S : Type 0} (answers : S → Op → Result Reply AskError → S → Ty
         answered = omega (arith, p.answered, q.answered);
         share = omega arith;
         stays = q.stays;
+        quiet = λ e. ap (λ (l : List ℕ). l ++ q.lost) (append-nil q.piece) ∙ q.quiet e;
       } in
-      (goes_then most_frames 0 most_frames q.lost a b c m n n p reads (omega arith), omega (arith, fed_append p.calls (Feed q.piece ∷ []), length-append q.piece []))
+      (goes_then most_frames 0 most_frames q.lost a b c m n n p reads (omega arith) unended, omega (arith, fed_append p.calls (Feed q.piece ∷ []), length-append q.piece []))
 
   -- what ends the read ends the round
   pub round_ends : (result : Result Bool After) (a b c : ConnectionView) (m n : S) (q : ReadsAs result b c)
@@ -139,7 +143,7 @@ module _ {S : Type 0} (answers : S → Op → Result Reply AskError → S → Ty
   pub turn_ends : (most rounds : ℕ) (after : After) (a b c : ConnectionView) (m n o : S) → rounds < most → GoesOn answers rounds a b m n → b.has_ended ≡ a.has_ended
       → Round answers (Err after) b c n o → Turn most answers after a c m o
   turn_ends most rounds after a b c m n o few before same e =
-      let goes = (goes_on rounds e.0 a b c m n o before e.1).0 in
+      let goes = (goes_on rounds e.0 a b c m n o before e.1 same).0 in
       record {
         calls = goes.calls;
         lost = e.0;
@@ -152,6 +156,7 @@ module _ {S : Type 0} (answers : S → Op → Result Reply AskError → S → Ty
         closing = goes.stays.1;
         loses = e.2;
         ends = ends_then a b c same e.3;
+        quiet = goes.quiet;
         why = why after goes.calls e.4;
       }
     where
@@ -178,6 +183,7 @@ module _ {S : Type 0} (answers : S → Op → Result Reply AskError → S → Ty
         closing = goes.stays.1;
         loses = refl;
         ends = inl same;
+        quiet = goes.quiet;
         why = subst (λ r. HadShare r goes.calls) all p.1;
       }
 

@@ -101,6 +101,7 @@ IsLost (Over (Err Memory)) lost = ⊤
 IsLost result lost = lost ≡ []
 
 -- One turn of a connection: calls of its session, one after the other, fed with what was read and whose replies were written.
+-- An input that has ended is read no more.
 pub record Turn (rounds : ℕ) {S : Type 0} (answers : S → Op → Result Reply AskError → S → Type 0) (result : After)
     (old new : ConnectionView) (map_old map_new : S) : Type 0 where
   pub calls : List LiveCall
@@ -114,6 +115,7 @@ pub record Turn (rounds : ℕ) {S : Type 0} (answers : S → Op → Result Reply
   pub closing : new.is_closing ≡ old.is_closing
   pub loses : IsLost result lost
   pub ends : EndsHere old new
+  pub quiet : old.has_ended ≡ true → fed calls ++ lost ≡ []
   pub why : EndsFor rounds result calls new
 
 -- how a session ends after its last turn: if it would wait, its client takes no more

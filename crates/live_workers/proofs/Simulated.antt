@@ -93,6 +93,7 @@ module _ {S T : Type 0} (answers : S → Op → Result Reply AskError → S → 
           closing = t.closing;
           loses = t.loses;
           ends = t.ends;
+          quiet = t.quiet;
           why = t.why;
         },
       )

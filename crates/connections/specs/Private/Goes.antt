@@ -1,5 +1,5 @@
 -- What a connection does in a part of its turn.
-use Rattle.std.specs.Prelude.{◌≡◌, ◌⊎◌, ℕ, ◌+◌, ◌*◌, ◌≤◌, ◌<◌, List, [], ◌++◌, length, Result, Ok, Err, Bool}
+use Rattle.std.specs.Prelude.{◌≡◌, ◌⊎◌, ℕ, ◌+◌, ◌*◌, ◌≤◌, ◌<◌, List, [], ◌++◌, length, Result, Ok, Err, Bool, true}
 use Rattle.std.specs.Io.KnownBytes.{Appends, Consumes}
 use Rattle.map_core.specs.declared.op.Op.{Op}
 use Rattle.map_core.specs.declared.reply.Reply.{Reply}
@@ -39,6 +39,7 @@ pub record ReadsAs (result : Result Bool After) (old new : ConnectionView) : Typ
   pub held : new.held ≡ old.held
   pub answered : new.answered ≡ old.answered
   pub stays : StaysSo old new
+  pub quiet : old.has_ended ≡ true → piece ++ lost ≡ []
   pub until : ReadsUntil result piece lost old new
 
 module _ {S : Type 0} (answers : S → Op → Result Reply AskError → S → Type 0) where
@@ -52,6 +53,7 @@ module _ {S : Type 0} (answers : S → Op → Result Reply AskError → S → Ty
     pub answered : new.answered ≡ counted (old.answered + frames_of calls)
     pub share : frames_of calls ≤ most
     pub stays : StaysSo old new
+    pub quiet : old.has_ended ≡ true → fed calls ++ lost ≡ []
 
   -- frames were answered, and nothing was read or written
   abbrev pub Answers : ConnectionView → ConnectionView → S → S → Type 0

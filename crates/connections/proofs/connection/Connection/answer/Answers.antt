@@ -13,6 +13,7 @@ returns-clause-answers g c = rw (sym c.self.view_is) (
     answered = omega (arith, c.saturating_add-self-inside.ensures);
     share = omega (arith, c.answer-answered.ensures.share);
     stays = (refl, refl);
+    quiet = λ e. refl;
   },
   refl,
 )

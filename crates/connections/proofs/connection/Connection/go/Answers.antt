@@ -13,7 +13,7 @@ loop-rounds-preserved g c =
     let inv = c.loop-rounds.invariant in
     let round = c.in-Ok.ensures in
     let goes =
-    goes_on g.A.Ask.answers c.loop-rounds.rounds [] c.args.self.now c.loop-rounds.self c.go_round.new.self c.args.ask.now c.loop-rounds.ask c.go_round.new.ask inv.0 round.0 in
+    goes_on g.A.Ask.answers c.loop-rounds.rounds [] c.args.self.now c.loop-rounds.self c.go_round.new.self c.args.ask.now c.loop-rounds.ask c.go_round.new.ask inv.0 round.0 inv.1 in
     (inr (goes.0, goes.1 round.2), round.1 ∙ inv.1, omega (arith, c.loop-rounds-test.true), round.3)
 
 pub returns : goal.returns

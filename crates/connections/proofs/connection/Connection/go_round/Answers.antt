@@ -7,20 +7,20 @@ use Rattle.frame_front.specs.Live.{StopsAt, reply_limit}
 pub returns-in-Ok-false : goal.returns-in-Ok-false
 returns-in-Ok-false g c =
     let p = c.answer-wants.ensures.answers in
-    let goes = round_sent g.A.Ask.answers c.send.result c.args.self.now c.answer-wants.new.self c.send.new.self c.args.ask.now c.answer-wants.new.ask p.0 c.send.ensures in
+    let goes = round_sent g.A.Ask.answers c.send.result c.args.self.now c.answer-wants.new.self c.send.new.self c.args.ask.now c.answer-wants.new.ask p.0 c.send.ensures p.1 in
     let blocked = subst (λ b. IsSentAs (Ok b) c.send.new.self.may c.send.new.self.live.ready) c.in-Ok-false.field-0-test c.in-Ok-false.ensures.until in
     ([], goes.0, refl, inl (c.send.ensures.has_ended ∙ p.1), inl blocked)
 
 pub returns-in-Err : goal.returns-in-Err
 returns-in-Err g c =
     let p = c.answer-wants.ensures.answers in
-    let goes = round_sent g.A.Ask.answers c.send.result c.args.self.now c.answer-wants.new.self c.send.new.self c.args.ask.now c.answer-wants.new.ask p.0 c.send.ensures in
+    let goes = round_sent g.A.Ask.answers c.send.result c.args.self.now c.answer-wants.new.self c.send.new.self c.args.ask.now c.answer-wants.new.ask p.0 c.send.ensures p.1 in
     ([], goes.0, refl, inl (c.send.ensures.has_ended ∙ p.1), c.in-Err.ensures.until)
 
 pub returns-in-Write : goal.returns-in-Write
 returns-in-Write g c =
     let p = c.answer-wants.ensures.answers in
-    let goes = round_sent g.A.Ask.answers c.send.result c.args.self.now c.answer-wants.new.self c.send.new.self c.args.ask.now c.answer-wants.new.ask p.0 c.send.ensures in
+    let goes = round_sent g.A.Ask.answers c.send.result c.args.self.now c.answer-wants.new.self c.send.new.self c.args.ask.now c.answer-wants.new.ask p.0 c.send.ensures p.1 in
     let sent = subst (λ b. IsSentAs (Ok b) c.send.new.self.may c.send.new.self.live.ready) c.in-Ok-true.field-0-test c.in-Ok-true.ensures.until in
     let all : c.answer-wants.new.self.live.ready ≡ c.send.ensures.bytes =
     c.send.ensures.sends.0 ∙ (ap (λ (l : List ℕ). c.send.ensures.bytes ++ l) sent ∙ append-nil c.send.ensures.bytes) in
@@ -30,14 +30,14 @@ returns-in-Write g c =
 pub returns-in-Read : goal.returns-in-Read
 returns-in-Read g c =
     let p = c.answer-wants.ensures.answers in
-    let goes = round_sent g.A.Ask.answers c.send.result c.args.self.now c.answer-wants.new.self c.send.new.self c.args.ask.now c.answer-wants.new.ask p.0 c.send.ensures in
-    let read = round_read g.A.Ask.answers c.read.result c.args.self.now c.send.new.self c.read.new.self c.args.ask.now c.answer-wants.new.ask goes.0 c.read.ensures in
+    let goes = round_sent g.A.Ask.answers c.send.result c.args.self.now c.answer-wants.new.self c.send.new.self c.args.ask.now c.answer-wants.new.ask p.0 c.send.ensures p.1 in
+    let read = round_read g.A.Ask.answers c.read.result c.args.self.now c.send.new.self c.read.new.self c.args.ask.now c.answer-wants.new.ask goes.0 c.read.ensures (c.send.ensures.has_ended ∙ p.1) in
     round_ends g.A.Ask.answers c.read.result c.args.self.now c.send.new.self c.read.new.self c.args.ask.now c.answer-wants.new.ask c.read.ensures read (c.send.ensures.has_ended ∙ p.1)
 
 pub returns-in-Err-wants : goal.returns-in-Err-wants
 returns-in-Err-wants g c =
     let p = c.answer-wants.ensures.answers in
-    let goes = round_sent g.A.Ask.answers c.send.result c.args.self.now c.answer-wants.new.self c.send.new.self c.args.ask.now c.answer-wants.new.ask p.0 c.send.ensures in
+    let goes = round_sent g.A.Ask.answers c.send.result c.args.self.now c.answer-wants.new.self c.send.new.self c.args.ask.now c.answer-wants.new.ask p.0 c.send.ensures p.1 in
     let sent = subst (λ b. IsSentAs (Ok b) c.send.new.self.may c.send.new.self.live.ready) c.in-Ok-true.field-0-test c.in-Ok-true.ensures.until in (
       [],
       goes.0,
