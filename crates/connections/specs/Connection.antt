@@ -51,7 +51,7 @@ turn_rounds = 8
 abbrev pub last_rounds : ℕ
 last_rounds = 64
 
--- the input ends now: it had ended before, or the stream has no byte left
+-- whether the input has ended is as before, or it ends now, as the stream has no byte left
 abbrev pub EndsHere : ConnectionView → ConnectionView → Type 0
 EndsHere old new = (new.has_ended ≡ old.has_ended) ⊎ ((new.has_ended ≡ true) × IsAtEnd new.left)
 

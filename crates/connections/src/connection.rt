@@ -210,8 +210,8 @@ impl<E: Stream + Drop> Connection<E> {
     }
 
     /// The last turn: nothing is read any more, and what has come is answered, as far as the stream takes it at once. If it
-    /// takes no more, the session ends with `WriteFault`; and with `TurnsUsed` after 64 rounds, if more would be owed than
-    /// those 4,194,304 bytes of replies.
+    /// takes no more, the session ends with `WriteFault`; and after 64 rounds, in which at least 4,194,304 bytes of replies
+    /// were sent, with `TurnsUsed`.
     pub fn last_turn<A: Ask>(
         &mut self,
         documents: &mut DocumentReader,
