@@ -1,5 +1,5 @@
 -- What comes of one read.
-use Rattle.std.proofs.Common.{ℕ, List, [], Bool, refl, sym, ap, append-nil, Result}
+use Rattle.std.proofs.Common.{ℕ, List, [], Bool, refl, inl, sym, ap, append-nil, Result}
 use Rattle.std.specs.Prelude.{Option}
 use Rattle.std.specs.Io.KnownBytes.{Consumes, Keeps}
 use Rattle.std.proofs.KnownBytes.{Consumes-nil, Consumes-kept}
@@ -17,6 +17,7 @@ after_read c left ended = record {
   live = c.live;
   answered = c.answered;
   has_ended = ended;
+  has_lost = c.has_lost;
   is_closing = c.is_closing;
   may = c.may;
   left = left;
@@ -35,6 +36,7 @@ reads_nothing c left ended result consumes until = record {
   answered = refl;
   stays = (refl, refl);
   quiet = λ e. refl;
+  loses_only = λ e. inl e;
   until = until;
 }
 

@@ -1,6 +1,6 @@
 -- The parts of a turn, one after the other.
 use Rattle.std.proofs.Common.{◌≡◌, ℕ, ◌+◌, ◌*◌, ◌≤◌, List, [], ◌∷◌, ◌++◌, length, refl, sym, ap, ◌∙◌, arith, append_assoc, append-nil, length-append, subst, inl, inr, Result, Ok, Err}
-use Rattle.std.specs.Prelude.{◌<◌, Option, Bool}
+use Rattle.std.specs.Prelude.{◌<◌, ◌⊎◌, Option, Bool, true}
 use Rattle.std.specs.Io.KnownBytes.{Appends, Consumes}
 use Rattle.std.proofs.KnownBytes.{Appends-nil, Appends-trans, Consumes-nil, Consumes-trans}
 use Rattle.std.proofs.lemmas.Grind.{flat_map-append}
@@ -15,7 +15,7 @@ use Rattle.frame_front.specs.LiveCalls.{LiveCall, DoesAll, piece_of, bytes_of, F
 use Rattle.connections.specs.declared.after.After.{After}
 use Rattle.connections.specs.declared.ends.Broken.{Broken}
 use Rattle.connections.specs.declared.after.After.TheVariants.{Waits, Again, Over}
-use Rattle.connections.specs.Connection.{ConnectionView, EndsFor, EndsHere, HadShare, IsLost, StopsFor, Turn}
+use Rattle.connections.specs.Connection.{ConnectionView, EndsFor, EndsHere, HadShare, IsLost, LosesOnly, StopsFor, Turn}
 use Rattle.connections.specs.Private.Goes.{Goes, GoesOn, ReadsAs, Round, SendsAs, StaysSo}
 
 pub frames_append : (xs ys : List LiveCall) → frames_of (xs ++ ys) ≡ frames_of xs + frames_of ys
@@ -40,6 +40,17 @@ share_then rounds xs ys h k = (
 
 pub stays_then : (a b c : ConnectionView) → StaysSo a b → StaysSo b c → StaysSo a c
 stays_then a b c p q = (q.0 ∙ p.0, q.1 ∙ p.1)
+
+pub loses_then : (lost : List ℕ) (a b c : ConnectionView) → LosesOnly [] a b → LosesOnly lost b c → LosesOnly lost a c
+loses_then lost a b c p q e = now (q e)
+  where
+    before : (a.has_lost ≡ true) ⊎ (0 < length {A = ℕ} []) → (a.has_lost ≡ true) ⊎ (0 < length lost)
+    before (inl older) = inl older
+    before (inr none) = absurd (omega (arith, none))
+
+    now : (b.has_lost ≡ true) ⊎ (0 < length lost) → (a.has_lost ≡ true) ⊎ (0 < length lost)
+    now (inl earlier) = before (p earlier)
+    now (inr some) = inr some
 
 -- the input ends where it has not ended before
 pub ends_then : (a b c : ConnectionView) → b.has_ended ≡ a.has_ended → EndsHere b c → EndsHere a c
@@ -71,6 +82,7 @@ module _ {S : Type 0} (answers : S → Op → Result Reply AskError → S → Ty
       share = omega (arith, p.share, q.share, frames_append p.calls q.calls, enough);
       stays = stays_then a b c p.stays q.stays;
       quiet = λ e. sym fed_both ∙ (ap (λ (l : List ℕ). l ++ (fed q.calls ++ lost)) (p.quiet e) ∙ q.quiet (unended ∙ e));
+      loses_only = loses_then lost a b c p.loses_only q.loses_only;
     }
 
   -- What is known of a turn after some rounds and its next part.
@@ -93,6 +105,7 @@ module _ {S : Type 0} (answers : S → Op → Result Reply AskError → S → Ty
         share = omega (arith, q.share);
         stays = q.stays;
         quiet = q.quiet;
+        loses_only = q.loses_only;
       }
   goes_on rounds lost a b c m n o (inr p) q unended = (
     goes_then (rounds * most_frames) most_frames ((rounds + 1) * most_frames) lost a b c m n o p.0 q (omega arith) unended,
@@ -112,6 +125,7 @@ module _ {S : Type 0} (answers : S → Op → Result Reply AskError → S → Ty
         share = omega arith;
         stays = q.stays;
         quiet = λ e. refl;
+        loses_only = λ e. inl (sym q.has_lost ∙ e);
       } in
       (goes_then most_frames 0 most_frames [] a b c m n n p sends (omega arith) unended, omega (arith, sent_append p.calls (Send q.bytes ∷ []), length-append q.bytes []))
 
@@ -128,6 +142,7 @@ module _ {S : Type 0} (answers : S → Op → Result Reply AskError → S → Ty
         share = omega arith;
         stays = q.stays;
         quiet = λ e. ap (λ (l : List ℕ). l ++ q.lost) (append-nil q.piece) ∙ q.quiet e;
+        loses_only = q.loses_only;
       } in
       (goes_then most_frames 0 most_frames q.lost a b c m n n p reads (omega arith) unended, omega (arith, fed_append p.calls (Feed q.piece ∷ []), length-append q.piece []))
 
@@ -157,6 +172,7 @@ module _ {S : Type 0} (answers : S → Op → Result Reply AskError → S → Ty
         loses = e.2;
         ends = ends_then a b c same e.3;
         quiet = goes.quiet;
+        loses_only = goes.loses_only;
         why = why after goes.calls e.4;
       }
     where
@@ -184,6 +200,7 @@ module _ {S : Type 0} (answers : S → Op → Result Reply AskError → S → Ty
         loses = refl;
         ends = inl same;
         quiet = goes.quiet;
+        loses_only = goes.loses_only;
         why = subst (λ r. HadShare r goes.calls) all p.1;
       }
 
@@ -207,4 +224,4 @@ stops_for Truncated bytes b c stops sends none = absurd stops
 stops_for ReadFault bytes b c stops sends none = absurd stops
 stops_for WriteFault bytes b c stops sends none = absurd stops
 stops_for TurnsUsed bytes b c stops sends none = absurd stops
-stops_for Memory bytes b c stops sends none = tt
+stops_for Memory bytes b c stops sends none = inl (λ empty. stops (sym sends.3 ∙ empty))

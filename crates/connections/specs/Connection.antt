@@ -1,5 +1,5 @@
 -- A connection, and what one turn of it does.
-use Rattle.std.specs.Prelude.{◌≡◌, ◌≢◌, ℕ, ◌+◌, ◌-◌, ◌*◌, ◌^◌, ◌≤◌, ◌⊎◌, min, ⊤, List, [], ◌++◌, length, Option, Some, None, Result, Ok, Err, Bool, true, false}
+use Rattle.std.specs.Prelude.{◌≡◌, ◌≢◌, ℕ, ◌+◌, ◌-◌, ◌*◌, ◌^◌, ◌<◌, ◌≤◌, ◌⊎◌, min, ⊤, List, [], ◌++◌, length, Option, Some, None, Result, Ok, Err, Bool, true, false}
 use Rattle.std.specs.Io.KnownBytes.{Appends, Consumes, IsAtEnd}
 use Rattle.map_core.specs.declared.op.Op.{Op}
 use Rattle.map_core.specs.declared.reply.Reply.{Reply}
@@ -14,13 +14,14 @@ use Rattle.connections.specs.Stream.{May}
 use Rattle.connections.specs.declared.after.After.{After}
 use Rattle.connections.specs.declared.after.After.TheVariants.{Waits, Again, Over}
 
--- A connection between two turns: its session, how many frames were answered, whether its input has ended, whether its client
--- is known to have closed its side, and of its stream what its calls may come to and, where they are known, the bytes that it
+-- A connection between two turns: its session, how many frames were answered, whether its input has ended, whether bytes that
+-- were read are lost, whether its client is known to have closed its side, and of its stream what its calls may come to and, where they are known, the bytes that it
 -- has left to read, and those that were written to it.
 pub record ConnectionView : Type 0 where
   pub live : LiveView
   pub answered : ℕ
   pub has_ended : Bool
+  pub has_lost : Bool
   pub is_closing : Bool
   pub may : May
   pub left : Option (List ℕ)
@@ -28,7 +29,7 @@ pub record ConnectionView : Type 0 where
 
 -- a new connection over a stream
 abbrev pub opened : May → Option (List ℕ) → Option (List ℕ) → ConnectionView
-opened may left held = record { live = live_start; answered = 0; has_ended = false; is_closing = false; may = may; left = left; held = held }
+opened may left held = record { live = live_start; answered = 0; has_ended = false; has_lost = false; is_closing = false; may = may; left = left; held = held }
 
 -- its input has ended
 abbrev pub ended : ConnectionView → ConnectionView
@@ -69,7 +70,8 @@ abbrev pub HasNoMore : ConnectionView → Type 0
 HasNoMore new = (new.may.block ≡ true) ⊎ ((new.may.leave_room ≡ true) × (new.is_closing ≡ false))
 
 -- Why a turn stops before it has had its share. A connection waits only while its stream takes no more replies, or no whole
--- frame is left, its input has not ended, and there is no more to read now.
+-- frame is left, its input has not ended, and there is no more to read now. Out of memory, a part of a reply waits that could
+-- not be stored, or bytes are lost.
 abbrev pub StopsFor : After → ConnectionView → Type 0
 StopsFor Waits new = ((new.live.ready ≢ []) × (new.may.block ≡ true))
     ⊎ (IsUnfinished new.live.kept × AllSent new × (new.has_ended ≡ false) × HasNoMore new)
@@ -79,7 +81,7 @@ StopsFor (Over (Err BadLength)) new = IsBadLength new.live.kept × AllSent new
 StopsFor (Over (Err Truncated)) new = IsUnfinished new.live.kept × (new.live.kept ≢ []) × AllSent new × (new.has_ended ≡ true)
 StopsFor (Over (Err ReadFault)) new = IsUnfinished new.live.kept × AllSent new × (new.has_ended ≡ false) × (new.may.fail ≡ true)
 StopsFor (Over (Err WriteFault)) new = (new.live.ready ≢ []) × (new.may.fail ≡ true)
-StopsFor (Over (Err Memory)) new = ⊤
+StopsFor (Over (Err Memory)) new = (new.live.later ≢ []) ⊎ (new.has_lost ≡ true)
 StopsFor (Over (Err error)) new = ⊥
 
 -- why a turn of so many rounds ends, in which these calls were made
@@ -94,6 +96,10 @@ Owes None c = (c.live.ready ≡ []) × ((c.live.kept ≡ []) ⊎ BeginsWithFrame
 Owes (Some ReadFault) c = (c.live.ready ≡ []) × ((IsUnfinished c.live.kept × (c.live.kept ≢ [])) ⊎ IsBadLength c.live.kept)
 Owes (Some WriteFault) c = c.live.ready ≢ []
 Owes (Some error) c = ⊥
+
+-- bytes are lost only if some were read that reached no session
+abbrev pub LosesOnly : List ℕ → ConnectionView → ConnectionView → Type 0
+LosesOnly lost old new = new.has_lost ≡ true → (old.has_lost ≡ true) ⊎ (0 < length lost)
 
 -- only if memory is refused, bytes are read that reach no session
 abbrev pub IsLost : After → List ℕ → Type 0
@@ -114,6 +120,7 @@ pub record Turn (rounds : ℕ) {S : Type 0} (answers : S → Op → Result Reply
   pub may : new.may ≡ old.may
   pub closing : new.is_closing ≡ old.is_closing
   pub loses : IsLost result lost
+  pub loses_only : LosesOnly lost old new
   pub ends : EndsHere old new
   pub quiet : old.has_ended ≡ true → fed calls ++ lost ≡ []
   pub why : EndsFor rounds result calls new

@@ -30,6 +30,8 @@ pub struct Connection<E: Stream + Drop> {
     answered: u64,
     /// Whether no more input comes, or none is taken any more.
     has_ended: bool,
+    /// Whether bytes that were read are lost, since memory for them was refused.
+    has_lost: bool,
     /// Whether the client is known to have closed its side: then reads are to go on to the end.
     is_closing: bool,
 }
@@ -43,6 +45,7 @@ impl<E: Stream + Drop> Model for Connection<E> {
       live = c.live;
       answered = c.answered;
       has_ended = c.has_ended;
+      has_lost = c.has_lost;
       is_closing = c.is_closing;
       may = E.may c.end;
       left = E.left c.end;
@@ -60,6 +63,7 @@ impl<E: Stream + Drop> Connection<E> {
             live: LiveSession::new(alloc)?,
             answered: 0,
             has_ended: false,
+            has_lost: false,
             is_closing: false,
         })
     }
@@ -134,7 +138,10 @@ impl<E: Stream + Drop> Connection<E> {
                 self.has_ended = true;
                 Err(self.finish())
             }
-            Came::NoMemory => Err(After::Over(Err(FrontError::Memory))),
+            Came::NoMemory => {
+                self.has_lost = true;
+                Err(After::Over(Err(FrontError::Memory)))
+            }
             Came::Broken => Err(After::Over(Err(FrontError::ReadFault))),
         }
     }

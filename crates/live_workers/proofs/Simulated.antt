@@ -92,6 +92,7 @@ module _ {S T : Type 0} (answers : S → Op → Result Reply AskError → S → 
           may = t.may;
           closing = t.closing;
           loses = t.loses;
+          loses_only = t.loses_only;
           ends = t.ends;
           quiet = t.quiet;
           why = t.why;

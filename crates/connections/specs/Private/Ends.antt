@@ -22,7 +22,7 @@ abbrev pub TakesUntil : Came → List ℕ → List ℕ → May → Option (List 
 TakesUntil (Piece has_left) piece lost may left old new = (lost ≡ []) × (0 < length piece) × LeavesAs has_left may
 TakesUntil Nothing piece lost may left old new = (lost ≡ []) × (new ≡ old) × (may.block ≡ true)
 TakesUntil End piece lost may left old new = (lost ≡ []) × (new ≡ old) × IsAtEnd left
-TakesUntil NoMemory piece lost may left old new = new ≡ old
+TakesUntil NoMemory piece lost may left old new = (new ≡ old) × (0 < length lost)
 TakesUntil Fails piece lost may left old new = (lost ≡ []) × (new ≡ old) × (may.fail ≡ true)
 
 -- a piece was read, and fed to the session, and these bytes were lost

@@ -8,7 +8,7 @@ use Rattle.frame_front.specs.Live.{Feeds, Sends, most_frames}
 use Rattle.frame_front.specs.LiveCalls.{LiveCall, DoesAll, fed, sent, frames_of}
 use Rattle.connections.specs.declared.after.After.{After}
 use Rattle.connections.specs.declared.ends.Broken.{Broken}
-use Rattle.connections.specs.Connection.{ConnectionView, counted, EndsHere, HadShare, IsLost, StopsFor}
+use Rattle.connections.specs.Connection.{ConnectionView, counted, EndsHere, HadShare, IsLost, LosesOnly, StopsFor}
 use Rattle.connections.specs.Private.Ends.{IsSentAs, LeavesAs}
 
 -- Its stream may come to the same, and its client is known to have closed its side, or not, as before.
@@ -23,6 +23,7 @@ pub record SendsAs (result : Result Bool Broken) (old new : ConnectionView) : Ty
   pub left : new.left ≡ old.left
   pub answered : new.answered ≡ old.answered
   pub has_ended : new.has_ended ≡ old.has_ended
+  pub has_lost : new.has_lost ≡ old.has_lost
   pub stays : StaysSo old new
   pub until : IsSentAs result new.may new.live.ready
 
@@ -40,6 +41,7 @@ pub record ReadsAs (result : Result Bool After) (old new : ConnectionView) : Typ
   pub answered : new.answered ≡ old.answered
   pub stays : StaysSo old new
   pub quiet : old.has_ended ≡ true → piece ++ lost ≡ []
+  pub loses_only : LosesOnly lost old new
   pub until : ReadsUntil result piece lost old new
 
 module _ {S : Type 0} (answers : S → Op → Result Reply AskError → S → Type 0) where
@@ -54,6 +56,7 @@ module _ {S : Type 0} (answers : S → Op → Result Reply AskError → S → Ty
     pub share : frames_of calls ≤ most
     pub stays : StaysSo old new
     pub quiet : old.has_ended ≡ true → fed calls ++ lost ≡ []
+    pub loses_only : LosesOnly lost old new
 
   -- frames were answered, and nothing was read or written
   abbrev pub Answers : ConnectionView → ConnectionView → S → S → Type 0

@@ -1,4 +1,4 @@
-use Rattle.std.proofs.Common.{[], ◌∙◌, refl, take}
+use Rattle.std.proofs.Common.{[], ◌∙◌, refl, arith, take, length-take}
 use Rattle.connections.proofs.ReadLemmas.{feeds_nothing, nothing_taken}
 use Rattle.connections.proofs.ends.read_piece.Goals as goal
 
@@ -8,7 +8,7 @@ returns-in-Err-feed-clause-takes g c = record {
   lost = take c.in-Ok.count c.read.new.buf;
   feeds = c.in-Err-feed.ensures.err ∙ feeds_nothing c.args.live.now;
   consumes = c.in-Ok.ensures.bytes.0;
-  until = c.in-Err-feed.ensures.err;
+  until = (c.in-Err-feed.ensures.err, omega (arith, length-take c.in-Ok.count c.read.new.buf, c.in-Ok.ensures.bound, c.in-Ok.count-test));
 }
 
 pub returns-else-would_wait-clause-takes : goal.returns-else-would_wait-clause-takes

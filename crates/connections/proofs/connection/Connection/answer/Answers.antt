@@ -1,4 +1,4 @@
-use Rattle.std.proofs.Common.{[], ◌∷◌, sym, refl, arith}
+use Rattle.std.proofs.Common.{[], ◌∷◌, sym, refl, arith, inl}
 use Rattle.std.proofs.KnownBytes.{Appends-nil, Consumes-nil}
 use Rattle.frame_front.specs.LiveCalls.{Answer}
 use Rattle.connections.proofs.connection.Connection.answer.Goals as goal
@@ -14,6 +14,7 @@ returns-clause-answers g c = rw (sym c.self.view_is) (
     share = omega (arith, c.answer-answered.ensures.share);
     stays = (refl, refl);
     quiet = λ e. refl;
+    loses_only = λ e. inl e;
   },
   refl,
 )
