@@ -169,12 +169,11 @@ module _ (Z : Type 0) where
         (r.list, sees_list Z s r id v at, subst (λ (z : ℕ). count z r.list i ≡ count z v.seen.log i) deep (sym total ∙ sym own), refl),
       )
 
-  -- the same, once the new version is in hand
-  pub publishes_new : (slots n id i x : ℕ) (m m' : M Z) (version : Arc PlainMap Z) (change change' : Change) → slots ≡ n → m' ≡ (m.0, (i, Some version) ∷ rest m.1) → change ≡ change' → m.0.held ≡ Some i
-      → IsPart n i (m.0.seen.log ++ change' ∷ []) (arc_value version) → home n change'.name ≡ i → HasNumber (numbers m.0) change'.number → count n m.0.seen.log i < 2 ^ 62
-      → x ≡ 2 * count n m.0.seen.log i + 2 → Allows MeetsRule slots id m' i (λ _. x) (λ _. PublishesChange change (step slots i x 0 none) m' x)
-  publishes_new slots n id i x m m' version change change' same in_hand is holds shows at_home own room word =
-      subst (λ (k : ℕ). Allows MeetsRule k id m' i (λ _. x) (λ _. PublishesChange change (step k i x 0 none) m' x)) (sym same)
-      (subst (λ (c : Change). Allows MeetsRule n id m' i (λ _. x) (λ _. PublishesChange c (step n i x 0 none) m' x)) (sym is)
-      (subst (λ (k : M Z). Allows MeetsRule n id k i (λ _. x) (λ _. PublishesChange change' (step n i x 0 none) k x)) (sym in_hand)
-      (publishes n id i x (m.0, (i, Some version) ∷ rest m.1) version change' holds refl shows at_home own room word)))
+  -- the same for the slots and the change that a call names
+  pub publishes_changed : (slots n id i x : ℕ) (me : M Z) (version : Arc PlainMap Z) (change change' : Change) → slots ≡ n → me.1 ≡ (i, Some version) ∷ rest me.1 → change ≡ change' → me.0.held ≡ Some i
+      → IsPart n i (me.0.seen.log ++ change' ∷ []) (arc_value version) → home n change'.name ≡ i → HasNumber (numbers me.0) change'.number → count n me.0.seen.log i < 2 ^ 62
+      → x ≡ 2 * count n me.0.seen.log i + 2 → Allows MeetsRule slots id me i (λ _. x) (λ _. PublishesChange change (step slots i x 0 none) me x)
+  publishes_changed slots n id i x me version change change' same hand is holds shows at_home own room word =
+      subst (λ (k : ℕ). Allows MeetsRule k id me i (λ _. x) (λ _. PublishesChange change (step k i x 0 none) me x)) (sym same)
+      (subst (λ (c : Change). Allows MeetsRule n id me i (λ _. x) (λ _. PublishesChange c (step n i x 0 none) me x)) (sym is)
+      (publishes n id i x me version change' holds hand shows at_home own room word))

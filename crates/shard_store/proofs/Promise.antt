@@ -26,7 +26,7 @@ use Rattle.shard_store.specs.Private.Rule.{numbers_of_joined, numbers, SlotValue
 use Rattle.shard_store.specs.Private.Steps.{view_after, Sees, HasAllNumbers}
 use Rattle.shard_store.specs.Promise.{IsLater, IsAlone, Concerns, IsReply, IsRefusedAt, IsRefused}
 use Rattle.shard_store.specs.Pass.{StoreView}
-use Rattle.shard_store.specs.Private.Seat.{IsIdle, IsHolding, Missed, Writes, change_by}
+use Rattle.shard_store.specs.Private.Seat.{IsIdle, HasInHand, IsHolding, Missed, Writes, change_by}
 use Rattle.shard_store.proofs.Changes.{count_append, none_by_others, others_append, has_number_left, not_some, is_part_stays, is_part_of_change, same_change, part_written, home_named}
 
 pub own_ranges : (v : View) → v.joined ≡ [] → numbers v ≡ v.seen.ranges
@@ -70,6 +70,12 @@ later_then s t u p q = (extends_since s t u.log p q.0, q.1 ∙ p.1)
 
 pub later_same : (s t u : Seen) → IsLater t s → u ≡ t → IsLater u s
 later_same s t u l same = subst (λ (x : Seen). IsLater x s) (sym same) l
+
+pub later_self : (s : Seen) → IsLater s s
+later_self s = (([], sym (append-nil s.log), tt), refl)
+
+pub seen_as : (s t : Seen) → t ≡ s → IsLater t s
+seen_as s t e = later_same s s t (later_self s) e
 
 pub alone_later : (s t : Seen) → IsLater t s → IsAlone s → IsAlone t
 alone_later s t l alone k h = subst (λ (r : List (ℕ × ℕ)). HasNumber r k) (sym l.1) (alone k h)
@@ -139,7 +145,7 @@ change_since n i op s t contents at l e p = subst (λ (c : Change). IsPart n i (
 pub writes_since : (n i : ℕ) (op : Op) (s t u : Seen) → shard_of n op ≡ Some i → IsLater t s → count n t.log i ≡ count n s.log i → Writes n i op t u → Writes n i op s u
 writes_since n i op s t u at l e w = (w.0, extends_since s t w.0 l w.1, w.2 ∙ e, w.3 ∙ ap (λ (c : Change). w.0 ++ c ∷ []) (change_later n i op s t at l e), w.4 ∙ l.1)
 
-reply_of_part : (n i : ℕ) (op : Op) (log : List Change) (contents : PlainMap) → shard_of n op ≡ Some i → IsPart n i log contents → (ask contents op).reply ≡ (ask (after log) op).reply
+pub reply_of_part : (n i : ℕ) (op : Op) (log : List Change) (contents : PlainMap) → shard_of n op ≡ Some i → IsPart n i log contents → (ask contents op).reply ≡ (ask (after log) op).reply
 reply_of_part n i op log contents at p = ap (λ (m : PlainMap). (ask m op).reply) p ∙ part_reply n (after log) op i at
 
 pub answered_by_write : (n i : ℕ) (op : Op) (s t u : Seen) (old : PlainMap) (reply : Reply) → shard_of n op ≡ Some i → IsLater t s → IsPart n i t.log old → reply ≡ (ask old op).reply
@@ -248,12 +254,27 @@ pub taken_count : {Z : Type 0} (n i word found : ℕ) (m m' : Me (SlotValue Z) V
     → word ≡ 2 * count n m.0.seen.log i → found ≡ word → count n m'.0.seen.log i ≡ count n m.0.seen.log i
 taken_count {Z} n i word found m m' list hand held e counted is hit = let now : count n m'.0.seen.log i ≡ count n list i = ap (λ (x : Me (SlotValue Z) View). count n x.0.seen.log i) e in omega arith
 
+-- a version that was put in place of the one in hand
+pub put_in_hand : {Z : Type 0} (n i : ℕ) (f : Seen → List Change) (m m' : Me (SlotValue Z) View) (version : Arc PlainMap Z) → IsHolding n i m → m' ≡ (m.0, (i, Some version) ∷ rest m.1)
+    → IsPart n i (f m.0.seen) (arc_value version) → (m'.0 ≡ m.0) × HasInHand n i (f m'.0.seen) m'
+put_in_hand {Z} n i f m m' version h e p = let again : m' ≡ (m.0, (i, Some version) ∷ []) = e ∙ ap (λ (c : List (ℕ × SlotValue Z)). (m.0, (i, Some version) ∷ c)) (bare m.1 (i, Some h.0) h.1) in
+    (ap (λ (x : Me (SlotValue Z) View). x.0) again, subst (λ (x : Me (SlotValue Z) View). HasInHand n i (f x.0.seen) x) (sym again) (version, refl, p, h.3, h.4, h.5))
+
+-- a version that was put back in place of the one that was taken out of the slot in hand
+pub returned : {Z : Type 0} (n i : ℕ) (log : List Change) (m m' m'' : Me (SlotValue Z) View) (out : SlotValue Z) (version : Arc PlainMap Z) → IsHolding n i m → m' ≡ (m.0, (i, out) ∷ rest m.1) → m'' ≡ (m'.0, (i, Some version) ∷ rest m'.1)
+    → IsPart n i log (arc_value version) → (m''.0 ≡ m.0) × HasInHand n i log m''
+returned {Z} n i log m m' m'' out version h e f p = let again : m'' ≡ (m.0, (i, Some version) ∷ []) =
+    f ∙ (ap (λ (x : Me (SlotValue Z) View). (x.0, (i, Some version) ∷ rest x.1)) e ∙ ap (λ (c : List (ℕ × SlotValue Z)). (m.0, (i, Some version) ∷ c)) (bare m.1 (i, Some h.0) h.1)) in
+    (ap (λ (x : Me (SlotValue Z) View). x.0) again, subst (λ (x : Me (SlotValue Z) View). HasInHand n i log x) (sym again) (version, refl, p, h.3, h.4, h.5))
+
+-- what is in hand after the changes that were seen is the shard's version
+pub holds_seen : {Z : Type 0} (n i : ℕ) (s : Seen) (m : Me (SlotValue Z) View) → m.0.seen ≡ s → HasInHand n i s.log m → IsHolding n i m
+holds_seen {Z} n i s m e h = subst (λ (x : Seen). HasInHand n i x.log m) (sym e) h
+
 -- the version that was taken out of its slot and put back is still in hand
 pub copied_holds : {Z : Type 0} (n i : ℕ) (m m' m'' : Me (SlotValue Z) View) (out : SlotValue Z) (version : Arc PlainMap Z) → IsHolding n i m → m' ≡ (m.0, (i, out) ∷ rest m.1) → m'' ≡ (m'.0, (i, Some version) ∷ rest m'.1)
     → IsPart n i m.0.seen.log (arc_value version) → (m''.0 ≡ m.0) × IsHolding n i m''
-copied_holds {Z} n i m m' m'' out version h e f p = let again : m'' ≡ (m.0, (i, Some version) ∷ []) =
-    f ∙ (ap (λ (x : Me (SlotValue Z) View). (x.0, (i, Some version) ∷ rest x.1)) e ∙ ap (λ (c : List (ℕ × SlotValue Z)). (m.0, (i, Some version) ∷ c)) (bare m.1 (i, Some h.0) h.1)) in
-    (ap (λ (x : Me (SlotValue Z) View). x.0) again, subst (λ (x : Me (SlotValue Z) View). IsHolding n i x) (sym again) (version, refl, p, h.3, h.4, h.5))
+copied_holds {Z} n i m m' m'' out version h e f p = let r = returned n i m.0.seen.log m m' m'' out version h e f p in (r.0, holds_seen n i m.0.seen m'' (ap (λ (v : View). v.seen) r.0) r.1)
 
 pub part_after : (n i : ℕ) (op : Op) (s : Seen) (old new : PlainMap) → shard_of n op ≡ Some i → IsPart n i s.log old → new ≡ (ask old op).map → IsPart n i (s.log ++ change_by op s ∷ []) new
 part_after n i op s old new at p e = part_written n i op s.log (own_number s.ranges) old new at p e

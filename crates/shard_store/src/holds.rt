@@ -5,7 +5,7 @@ ghost use Rattle.map_core.specs.PlainMap.{shard_of};
 ghost use Rattle.shard_store.specs.Changes.{count};
 ghost use Rattle.shard_store.specs.Private.Numbers.{IsPart};
 ghost use Rattle.shard_store.specs.Promise.{IsLater, IsAlone};
-ghost use Rattle.shard_store.specs.Private.Seat.{IsAt, IsSameSeat, IsIdle, IsHolding, Missed, Writes, change_by};
+ghost use Rattle.shard_store.specs.Private.Seat.{IsAt, IsSameSeat, IsIdle, HasInHand, IsHolding, Missed, Writes, change_by};
 
 use crate::plays::{Look, NamesChange, Publish, Release, Take};
 use crate::rule::{ShardTable, StoreSeat};
@@ -117,6 +117,25 @@ pub(crate) fn read_version(
     copy
 }
 
+/// Lets the shard go with the version in hand, which the operation has left.
+pub(crate) fn let_go_changed<W: NamesChange>(
+    shards: &ShardTable,
+    seat: &mut StoreSeat,
+    shard: usize,
+    word: u64,
+    op: &Op,
+)
+    requires own { IsAt seat.old shards.now.shared.table_id }
+    requires shard { shard < seat.old.table_id.slots }
+    requires holds { HasInHand seat.old.table_id.slots shard (seat.old.me.0.seen.log ++ change_by op.now seat.old.me.0.seen ∷ []) seat.old.me }
+    requires word { (word ≡ 2 * count seat.old.table_id.slots seat.old.me.0.seen.log shard) × (word < 2 ^ 63) }
+    requires change { (W.change ≡ change_by op.now seat.old.me.0.seen) × (shard_of seat.old.table_id.slots op.now ≡ Some shard) }
+    ensures seat { IsSameSeat seat.old seat.new × IsIdle seat.new.me }
+    ensures written { Writes seat.old.table_id.slots shard op.now seat.old.me.0.seen seat.new.me.0.seen }
+{
+    shards.shared.store::<Publish<W>>(seat, shard, word + 2);
+}
+
 /// Lets the shard go with a new version.
 pub(crate) fn publish<W: NamesChange>(
     shards: &ShardTable,
@@ -136,5 +155,5 @@ pub(crate) fn publish<W: NamesChange>(
     ensures written { Writes seat.old.table_id.slots shard op.now seat.old.me.0.seen seat.new.me.0.seen }
 {
     let _old = shards.shared.exchange(seat, shard, Some(version));
-    shards.shared.store::<Publish<W>>(seat, shard, word + 2);
+    let_go_changed::<W>(shards, seat, shard, word, op);
 }

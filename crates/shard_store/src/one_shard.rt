@@ -1,5 +1,5 @@
 //! One operation on one name, at the shard where the name is at home.
-ghost use Rattle.std.specs.Prelude.{◌≡◌, ◌*◌, ◌/◌, ◌^◌, ◌<◌, [], ◌∷◌, ◌++◌, Some, IfOk, MatchResult};
+ghost use Rattle.std.specs.Prelude.{◌≡◌, ◌*◌, ◌/◌, ◌^◌, ◌<◌, ◌≤◌, [], ◌∷◌, ◌++◌, Some, IfOk, MatchResult};
 ghost use Rattle.std.specs.Arc.{arc_value};
 ghost use Rattle.map_core.specs.PlainMap.{shard_of};
 ghost use Rattle.shard_store.specs.Changes.{count};
@@ -8,6 +8,7 @@ ghost use Rattle.shard_store.specs.Promise.{IsLater, IsRefusedAt};
 ghost use Rattle.shard_store.specs.Private.Seat.{IsAt, IsSameSeat, IsIdle, IsHolding, IsReplyRead, Missed, Writes, Tried, change_by};
 
 use crate::holds::{hold_from, publish, read_version, try_hold};
+use crate::in_hand::change_held;
 use crate::last_reads::LastRead;
 use crate::rule::{ShardTable, StoreSeat};
 use map_core::{AskError, Contents, Op, Reply};
@@ -17,7 +18,7 @@ use std::sync::Arc;
 use std::thread;
 
 /// A shard takes no more changes than this.
-const LAST_REVISION: u64 = 1 << 62;
+pub(crate) const LAST_REVISION: u64 = 1 << 62;
 
 /// What one try gave: a reply, with what was read for it if nothing was written, or the word that was found in place
 /// of the one expected.
@@ -79,7 +80,7 @@ pub(crate) fn given_up(tries: u64, failed: u64, shard: usize, word: u64) -> AskE
     }
 }
 
-// One try: the version is read, and the one after it made while nothing is held.
+// One try. A change is made where the version is, if nobody else owns it.
 fn try_once(
     alloc: Global,
     shards: &ShardTable,
@@ -100,6 +101,31 @@ fn try_once(
         Ok(word) => word,
         Err(found) => return Ok(Attempt::Blocked(found)),
     };
+    if let Some(reply) = change_held(shards, seat, shard, word, op)? {
+        return Ok(Attempt::Replied(reply, None));
+    }
+    try_held(alloc, shards, seat, shard, word, op)
+}
+
+// One try at a shard that is held: its version is read, and the one after it made while nothing is held.
+fn try_held(
+    alloc: Global,
+    shards: &ShardTable,
+    seat: &mut StoreSeat,
+    shard: usize,
+    word: u64,
+    op: &Op,
+) -> Result<Attempt, AskError>
+    requires own { IsAt seat.old shards.now.shared.table_id }
+    requires shard { shard < seat.old.table_id.slots }
+    requires holds { IsHolding seat.old.table_id.slots shard seat.old.me }
+    requires word { (word ≡ 2 * count seat.old.table_id.slots seat.old.me.0.seen.log shard) × (word ≤ 2 ^ 63) }
+    requires home { shard_of seat.old.table_id.slots op.now ≡ Some shard }
+    ensures seat { IsSameSeat seat.old seat.new × IsIdle seat.new.me }
+    ensures tried { MatchResult result
+        (Tried seat.old.table_id.slots shard op.now seat.old.me.0.seen seat.new.me.0.seen)
+        (IsRefusedAt seat.old.table_id.slots op.now seat.old.me.0.seen seat.new.me.0.seen) }
+{
     let version = read_version(shards, seat, shard, word)?;
     let (reply, next) = version.asked(op)?;
     let Some(next) = next else {

@@ -1,16 +1,15 @@
-use Rattle.std.proofs.Common.{rules, sym, ap, arith}
-use Rattle.map_core.proofs.MapLaws.{home_of}
-use Rattle.shard_store.proofs.KeptSteps.{publishes_new}
-use Rattle.shard_store.proofs.Promise.{hand_rest, has_own_number}
+use Rattle.std.proofs.Common.{◌≡◌, ◌*◌, ◌<◌, ◌^◌, ◌++◌, ◌∷◌, [], rules, sym, ap, ◌∙◌, subst}
+use Rattle.shard_store.specs.declared.change.View.{View}
+use Rattle.shard_store.specs.declared.change.Seen.{Seen}
+use Rattle.shard_store.specs.Changes.{count}
+use Rattle.shard_store.specs.Private.Seat.{HasInHand, Writes, change_by}
+use Rattle.shard_store.proofs.Promise.{hand_rest, put_in_hand, at_slots}
 use Rattle.shard_store.proofs.holds.publish.Goals as goal
 
 pub exchange-old-requires : goal.exchange-old-requires
 exchange-old-requires g c = let h = c.requires.holds in (search rules, (_, hand_rest _ _ h.1))
 
-pub store-requires : goal.store-requires
-store-requires g c = let x = c.exchange-old.ensures in let h = c.requires.holds in let v = c.args.seat.now.me.0 in (
-  search rules,
-  search rules,
-  publishes_new _ _ _ _ _ _ c.args.seat.now.me _ c.args.version _ _ (ap (λ z. z.slots) (sym c.requires.own.0)) x.3 c.requires.change.0 h.4 c.requires.version (home_of _ _ c.args.op.now c.requires.change.1) (has_own_number v h.5)
-      (omega (arith, c.requires.word)) (omega (arith, c.requires.word)),
-)
+pub let_go_changed-requires-clause-holds : goal.let_go_changed-requires-clause-holds
+let_go_changed-requires-clause-holds g c = let x = c.exchange-old.ensures in let op = c.args.op.now in
+    at_slots (λ z. HasInHand z.slots c.args.shard (c.exchange-old.new.seat.me.0.seen.log ++ change_by op c.exchange-old.new.seat.me.0.seen ∷ []) c.exchange-old.new.seat.me) _ _ x.0
+    (put_in_hand _ _ (λ (s : Seen). s.log ++ change_by op s ∷ []) c.args.seat.now.me c.exchange-old.new.seat.me c.args.version c.requires.holds x.3 c.requires.version).1
