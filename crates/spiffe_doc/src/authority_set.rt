@@ -28,13 +28,15 @@ pub(crate) struct AuthoritySet<'a> {
 impl<'a> AuthoritySet<'a> {
     ghost use Rattle.spiffe_doc.specs.Private.WholeSet.{IsWhole};
 
-    /// No authorities.
-    pub(crate) fn new(alloc: Global) -> Result<AuthoritySet<'a>, AllocError>
+    /// No authorities. There is room for a text of so many bytes, which then need not grow.
+    pub(crate) fn new(alloc: Global, room: usize) -> Result<AuthoritySet<'a>, AllocError>
         ensures { IfOk result (λ set. IsWhole set × (set.authorities.items ≡ [])) }
     {
+        let mut text = Vec::with_capacity(alloc, room)?;
+        text.extend_from_slice(b"{\"keys\":[")?;
         Ok(AuthoritySet {
             authorities: Vec::new(alloc),
-            text: b"{\"keys\":[".as_slice().to_vec(alloc)?,
+            text,
             texts: BTreeSet::new(alloc),
             kids: BTreeMap::new(alloc),
         })

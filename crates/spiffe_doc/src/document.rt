@@ -22,6 +22,9 @@ use std::alloc::Global;
 /// The longest document whose strings a `DocumentReader` keeps room for.
 const KEPT_ROOM: usize = 65536;
 
+/// The most room that a canonical text begins with: most of them have the length of their document.
+const MOST_ROOM: usize = 4096;
+
 /// Reads a bundle document, or reports its first fault.
 ///
 /// A document is a JWK set (RFC 7517, section 5) with the members `spiffe_sequence` and `spiffe_refresh_hint` (SPIFFE
@@ -72,7 +75,8 @@ fn read_with(alloc: Global, bytes: &[u8], scratch: &mut Scratch) -> Result<Bundl
         return Err(DocError::TooLong);
     }
     let tree = read_tree(alloc, bytes, scratch)?;
-    let (sequence, refresh_hint, set) = read_parts(alloc, &tree)?;
+    let room = bytes.len().min(MOST_ROOM);
+    let (sequence, refresh_hint, set) = read_parts(alloc, room, &tree)?;
     match bundle_from(alloc, sequence, refresh_hint, set.authorities, set.text)? {
         Some(bundle) => Ok(bundle),
         None => Err(DocError::TooLong),
@@ -102,13 +106,17 @@ fn keys<'v, 'a>(tree: &'v Value<'a>) -> Option<&'v Vec<Value<'a>>>
 }
 
 /// The authorities that the entries give, each once.
-fn authorities<'a>(alloc: Global, entries: &Vec<Value<'a>>) -> Result<AuthoritySet<'a>, DocError>
+fn authorities<'a>(
+    alloc: Global,
+    room: usize,
+    entries: &Vec<Value<'a>>,
+) -> Result<AuthoritySet<'a>, DocError>
     ensures whole { IfOk result IsWhole }
     ensures exact { MatchResult result
         (λ set. authorities_of (elements (list_data entries.now.items)) ≡ Ok set.authorities.items)
         (λ e. (e ≡ DocError.Memory) ⊎ (authorities_of (elements (list_data entries.now.items)) ≡ Err e)) }
 {
-    let mut set = AuthoritySet::new(alloc)?;
+    let mut set = AuthoritySet::new(alloc, room)?;
     for (place, entry) in entries.iter().enumerate() {
         take_entry(alloc, &mut set, place, entry)?;
     }
@@ -142,6 +150,7 @@ fn take_entry<'a>(
 #[tactic(auto, unfolding(crate::specs::Document::bundle_of))]
 fn read_parts<'a>(
     alloc: Global,
+    room: usize,
     tree: &Value<'a>,
 ) -> Result<(Option<u64>, Option<u64>, AuthoritySet<'a>), DocError>
     ensures whole { IfOk result (λ parts. IsWhole parts.2) }
@@ -161,6 +170,6 @@ fn read_parts<'a>(
     let Some(refresh_hint) = number_of(member(tree, "spiffe_refresh_hint")) else {
         return Err(DocError::BadHint);
     };
-    let authorities = authorities(alloc, keys)?;
+    let authorities = authorities(alloc, room, keys)?;
     Ok((sequence, refresh_hint, authorities))
 }

@@ -8,7 +8,7 @@ returns c = (
   record {
     valid = rw c.new.ensures.items authorities_none;
     indexed = rw c.new.ensures.items (record { texts_are = λ text. search rules; kids_are = λ kid. search rules });
-    written = rw c.new.ensures.items (c.in_ok-to_vec.ensures.items_if_clones_equal (λ x y same. same) ∙ c.as_slice.ensures ∙ sym front_text-nil);
+    written = rw c.new.ensures.items (search (rules, front_text-nil));
   },
   c.new.ensures.items,
 )
