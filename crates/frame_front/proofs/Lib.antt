@@ -13,3 +13,4 @@ pub mod PlaceLemmas
 pub mod MigrationLemmas
 pub mod LiveLemmas
 pub mod LiveTables
+pub mod ShownLemmas

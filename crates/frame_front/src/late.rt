@@ -132,11 +132,16 @@ fn store_pair(ready: &mut BytesMut, item: &(TrustDomain, Bundle)) -> Result<(), 
 
 /// Stores two parts together.
 #[inline(always)]
-fn store_both(ready: &mut BytesMut, first: &[u8], others: &[u8]) -> Result<(), AllocError>
+pub(crate) fn store_both(
+    ready: &mut BytesMut,
+    first: &[u8],
+    others: &[u8],
+) -> Result<(), AllocError>
     requires few { length first.now + length others.now ≤ most_part }
     ensures ok { OnOk result (ready.new.items ≡ ready.old.items ++ (first.now ++ others.now)) }
     ensures err { OnErr result (ready.new.items ≡ ready.old.items) }
     ensures some { OnErr result (0 < length (first.now ++ others.now)) }
+    ensures few { length ready.new.items ≤ length ready.old.items + most_part }
 {
     ready.reserve(first.len() + others.len())?;
     ready.extend_reserved(first);

@@ -23,6 +23,7 @@ mod refusal;
 mod reply;
 mod request;
 mod session;
+mod shown;
 pub mod wire;
 
 pub use answered::{Answered, Wants};

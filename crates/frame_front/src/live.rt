@@ -7,7 +7,7 @@ use crate::answered::{Answered, Wants};
 use crate::frame::{LENGTH_BYTES, MAX_PAYLOAD};
 use crate::late::{Late, REPLY_LIMIT};
 use crate::request::Version;
-use crate::session::answer;
+use crate::shown::{Ready, answer_late};
 use crate::{Decoder, FrontError};
 use bytes::BytesMut;
 use map_core::Ask;
@@ -33,7 +33,7 @@ pub struct LiveSession {
     alloc: Global,
     decoder: Decoder,
     version: Version,
-    ready: BytesMut,
+    ready: Ready,
     late: Late,
 }
 
@@ -45,9 +45,9 @@ impl Model for LiveSession {
 
     ghost use Rattle.frame_front.specs.Private.Late.{late_left};
 
-    ghost view = { λ s. record { kept = s.decoder; version = s.version; ready = s.ready.items; later = late_left s.late } };
+    ghost view = { λ s. record { kept = s.decoder; version = s.version; ready = s.ready.bytes.items; later = late_left s.late } };
 
-    ghost invariant = { λ s. (length s.decoder ≤ most_kept) × (length s.ready.items ≤ most_ready) };
+    ghost invariant = { λ s. (length s.decoder ≤ most_kept) × (length s.ready.bytes.items ≤ most_ready) };
 }
 
 impl LiveSession {
@@ -59,7 +59,9 @@ impl LiveSession {
             alloc,
             decoder: Decoder::new(alloc)?,
             version: Version::One,
-            ready: BytesMut::new(alloc),
+            ready: Ready {
+                bytes: BytesMut::new(alloc),
+            },
             late: Late::nothing(),
         })
     }
@@ -111,7 +113,7 @@ impl LiveSession {
         ensures ready { result.now ≡ self.now.ready }
         ensures few { length result.now ≤ most_ready }
     {
-        self.ready.as_slice()
+        self.ready.bytes.as_slice()
     }
 
     /// So many bytes of the replies are sent.
@@ -119,14 +121,14 @@ impl LiveSession {
         requires { count ≤ length self.old.ready }
         ensures { Sends (take count self.old.ready) self.old self.new }
     {
-        self.ready.advance(count);
-        if !self.ready.is_empty() {
+        self.ready.bytes.advance(count);
+        if !self.ready.bytes.is_empty() {
             return;
         }
-        if self.ready.capacity() > MOST_HELD {
-            self.ready = BytesMut::new(self.alloc);
+        if self.ready.bytes.capacity() > MOST_HELD {
+            self.ready.bytes = BytesMut::new(self.alloc);
         } else {
-            self.ready.clear();
+            self.ready.bytes.clear();
         }
     }
 
@@ -151,33 +153,32 @@ fn answer_kept<A: Ask>(
     documents: &mut DocumentReader,
     version: &mut Version,
     late: &mut Late,
-    ready: &mut BytesMut,
+    ready: &mut Ready,
     ask: &mut A,
 ) -> Answered
     requires few_kept { length decoder.old ≤ most_kept }
     ensures answers { LiveAnswers A.answers result
-        (live_view decoder.old version.old ready.old.items (late_left late.old))
-        (live_view decoder.new version.new ready.new.items (late_left late.new)) ask.old ask.new }
+        (live_view decoder.old version.old ready.old.bytes.items (late_left late.old))
+        (live_view decoder.new version.new ready.new.bytes.items (late_left late.new)) ask.old ask.new }
     ensures share { result.frames ≤ most_frames }
-    ensures few_ready { length ready.old.items ≤ most_ready → length ready.new.items ≤ most_ready }
+    ensures few_ready { length ready.old.bytes.items ≤ most_ready → length ready.new.bytes.items ≤ most_ready }
     ensures fewer_kept { length decoder.new ≤ length decoder.old }
 {
     let mut frames = 0;
     loop {
-        if let Err(_) = late.store(ready) {
+        if let Err(_) = late.store(&mut ready.bytes) {
             let next = Err(FrontError::Memory);
             return Answered { frames, next };
         }
-        if ready.len() >= REPLY_LIMIT {
+        if ready.bytes.len() >= REPLY_LIMIT {
             let next = Ok(Wants::Write);
             return Answered { frames, next };
         }
         match decoder.payload() {
             Ok(Some(payload)) => {
                 let size = payload.len();
-                let reply = answer(alloc, documents, version, ask, payload);
+                *late = answer_late(alloc, documents, version, ask, ready, payload);
                 decoder.pass(size);
-                *late = Late::of(reply);
                 frames += 1;
             }
             Ok(None) => {

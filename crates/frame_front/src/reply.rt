@@ -104,10 +104,7 @@ impl ReplyBytes {
     fn found(bundle: Bundle) -> ReplyBytes
         ensures { result ≡ frame (102 ∷ text_of bundle) }
     {
-        let mut head = ArrayVec::new();
-        let size = (canonical_text(&bundle).len() + 1) as u32;
-        put(&mut head, &size.to_be_bytes());
-        put(&mut head, b"f");
+        let head = found_head(canonical_text(&bundle));
         ReplyBytes {
             head,
             body: Body::Canonical(bundle),
@@ -127,6 +124,19 @@ impl ReplyBytes {
             body: Body::All(snapshot),
         }
     }
+}
+
+/// What stands before the text of a bundle that was found: the length, and the code.
+pub(crate) fn found_head(text: &[u8]) -> ArrayVec<u8, HEAD_BYTES>
+    requires short { length text.now ≤ 1048576 }
+    ensures whole { result.items ++ text.now ≡ frame (102 ∷ text.now) }
+    ensures long { length result.items ≡ 5 }
+{
+    let mut head = ArrayVec::new();
+    let size = (text.len() + 1) as u32;
+    put(&mut head, &size.to_be_bytes());
+    put(&mut head, b"f");
+    head
 }
 
 fn put(bytes: &mut ArrayVec<u8, HEAD_BYTES>, more: &[u8])

@@ -53,7 +53,7 @@ fn answer_get<A: Ask>(alloc: Global, ask: &mut A, bytes: &[u8]) -> ReplyBytes
 
 /// Answers a payload of any letter.
 #[inline(never)]
-fn answer_any<A: Ask>(
+pub(crate) fn answer_any<A: Ask>(
     alloc: Global,
     documents: &mut DocumentReader,
     version: &mut Version,

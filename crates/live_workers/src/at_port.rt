@@ -2,7 +2,7 @@
 ghost use Rattle.std.specs.Prelude.{◌≡◌};
 ghost use Rattle.workers.specs.ReadOnly.{is_read as reads};
 
-use map_core::{Ask, AskError, Op, Reply};
+use map_core::{Ask, AskError, Op, Reply, Viewer};
 use spiffe_doc::TrustDomain;
 
 /// A map that is asked at a port. At a port for reads only, gets and fetch-alls are answered by the map behind it; to each
@@ -48,5 +48,13 @@ impl<A: Ask> Ask for AtPort<A> {
 
     fn ask_get(&mut self, domain: TrustDomain) -> Result<Reply, AskError> {
         self.ask.ask_get(domain)
+    }
+
+    fn show_get<V: Viewer>(
+        &mut self,
+        domain: TrustDomain,
+        viewer: &mut V,
+    ) -> Result<Option<Reply>, AskError> {
+        self.ask.show_get(domain, viewer)
     }
 }

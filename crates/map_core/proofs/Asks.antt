@@ -1,12 +1,13 @@
 -- What an operation answers and leaves, by the row of the table that it means.
 use Rattle.std.proofs.Common.{◌≡◌, false, Option, Some, None, Result, Ok, Err, IfOk, refl, sym, ap, subst, ◌∙◌}
 use Rattle.std.specs.FinMap as finite
+use Rattle.spiffe_doc.specs.Authority.{BundleValue}
 use Rattle.map_core.specs.declared.op.Op.{Op}
 use Rattle.map_core.specs.declared.op.Op.TheVariants.{Get, FetchAll}
 use Rattle.map_core.specs.declared.held.Holding.{Holding}
 use Rattle.map_core.specs.declared.held.Holding.TheVariants.{Published, Mark}
 use Rattle.map_core.specs.declared.reply.Reply.{Reply}
-use Rattle.map_core.specs.declared.reply.Reply.TheVariants.{All}
+use Rattle.map_core.specs.declared.reply.Reply.TheVariants.{All, Found}
 use Rattle.map_core.specs.declared.table.RowEffect as program
 use Rattle.map_core.specs.declared.table.RowEffect.TheVariants.{Kept, Put, Cleared}
 use Rattle.map_core.specs.Name.{Name}
@@ -74,6 +75,11 @@ fetch_all_changes_nothing m op is = ap (λ (x : Op). is_change (ask m x).reply) 
 pub get_reply : {E : Type 0} (m : PlainMap) (d : Name) (r : Result Reply E) (held : Option Holding) → held ≡ finite.get m d → IfOk r (λ reply. reply ≡ (get held).reply) → IfOk r (λ reply. reply ≡ (ask m (Get d)).reply)
 unfolding ask meaning
 get_reply m d r held is h = subst (λ (x : Option Holding). IfOk r (λ reply. reply ≡ (get x).reply)) is h
+
+-- the same where a bundle was found
+pub found_reply : (m : PlainMap) (d : Name) (held : Option Holding) (b : BundleValue) → held ≡ finite.get m d → held ≡ Some (Published b) → Found b ≡ (ask m (Get d)).reply
+unfolding ask meaning
+found_reply m d held b is found = ap (λ (x : Option Holding). (get x).reply) (sym found ∙ is)
 
 -- a reply that is kept leaves the map
 pub kept_left : (m : PlainMap) (op : Op) (d : Name) (reply : Reply) → op ≡ Get d → left_by m (domain_of op) (Kept reply) ≡ (ask m op).map

@@ -1,7 +1,9 @@
 -- What may be answered by whoever is asked.
-use Rattle.std.specs.Prelude.{◌≡◌, Option, Some, Result, Ok, Err}
+use Rattle.std.specs.Prelude.{◌≡◌, Option, Some, None, Result, Ok, Err}
+use Rattle.spiffe_doc.specs.Authority.{BundleValue}
 use Rattle.map_core.specs.declared.op.Op.{Op}
 use Rattle.map_core.specs.declared.reply.Reply.{Reply}
+use Rattle.map_core.specs.declared.reply.Reply.TheVariants.{Found}
 use Rattle.map_core.specs.declared.reply.AskError.{AskError}
 use Rattle.map_core.specs.declared.reply.AskError.TheVariants.{Memory}
 use Rattle.map_core.specs.PlainMap.{PlainMap, ask}
@@ -15,3 +17,10 @@ PlainAnswer m op (Err e) shown = shown ≡ Some m
 abbrev pub ContentsAnswer : PlainMap → Op → Result Reply AskError → PlainMap → Type 0
 ContentsAnswer m op (Ok reply) new = (reply ≡ (ask m op).reply) × (new ≡ (ask m op).map)
 ContentsAnswer m op (Err e) new = (e ≡ Memory) × (new ≡ m)
+
+-- How a get is answered to a viewer, which had noted something before and has noted something then. It may have such an answer; or it may be
+-- answered with the bundle that the viewer has looked at, and there is no reply.
+abbrev pub ShowsGet : {V E : Type 0} → (V → BundleValue → V → Type 0) → (Result Reply E → Type 0) → V → Result (Option Reply) E → V → Type 0
+ShowsGet notes answered old (Ok (Some reply)) new = answered (Ok reply) × (new ≡ old)
+ShowsGet notes answered old (Ok None) new = (b : BundleValue) × answered (Ok (Found b)) × notes old b new
+ShowsGet notes answered old (Err e) new = answered (Err e) × (new ≡ old)

@@ -4,7 +4,25 @@ ghost use Rattle.map_core.specs.declared.op.Op.TheVariants.{Get};
 use crate::contents::Contents;
 use crate::op::Op;
 use crate::reply::{AskError, Reply};
-use spiffe_doc::TrustDomain;
+use spiffe_doc::{Bundle, TrustDomain};
+use std::alloc::AllocError;
+
+/// Whoever is shown the bundle that a get has found, where it is kept, in place of being given it.
+pub trait Viewer {
+    ghost use Rattle.std.specs.Prelude.{◌≡◌, ℕ, List, OnOk, OnErr};
+    ghost use Rattle.spiffe_doc.specs.Authority.{BundleValue};
+
+    // The bytes that it has noted.
+    ghost noted: { Self → List ℕ };
+
+    // With the first bytes noted, it may have noted the others after a look at the bundle.
+    ghost notes: { List ℕ → BundleValue → List ℕ → Type 0 };
+
+    /// Looks at the bundle, and notes what it wants of it. Errors only if memory runs out, and then nothing was noted.
+    fn see(&mut self, bundle: &Bundle) -> Result<(), AllocError>
+        ensures ok { OnOk result (notes (noted self.old) bundle.now (noted self.new)) }
+        ensures err { OnErr result (noted self.new ≡ noted self.old) };
+}
 
 /// A map of trust bundles that can be asked. A front is written once for all of them.
 pub trait Ask {
@@ -13,7 +31,7 @@ pub trait Ask {
     ghost use Rattle.map_core.specs.declared.reply.Reply.{Reply};
     ghost use Rattle.map_core.specs.declared.reply.AskError.{AskError};
     ghost use Rattle.map_core.specs.PlainMap.{PlainMap};
-    ghost use Rattle.map_core.specs.Ask.{PlainAnswer};
+    ghost use Rattle.map_core.specs.Ask.{PlainAnswer, ShowsGet};
 
     // In the state before, the operation may be answered so and leave the state after.
     ghost answers: { Self → Op → Result Reply AskError → Self → Type 0 };
@@ -31,6 +49,18 @@ pub trait Ask {
         ensures answered { answers self.old (Get domain) result self.new }
     {
         self.ask(Op::Get(domain))
+    }
+
+    /// Answers a `Get` of the name, with the same answers and errors as `ask`. A bundle that was found may be shown to the
+    /// viewer where it is kept: then there is no reply, and nobody has counted its owners.
+    fn show_get<V: Viewer>(
+        &mut self,
+        domain: TrustDomain,
+        viewer: &mut V,
+    ) -> Result<Option<Reply>, AskError>
+        ensures shown { ShowsGet V.notes (λ answer. answers self.old (Get domain) answer self.new) (V.noted viewer.old) result (V.noted viewer.new) }
+    {
+        Ok(Some(self.ask_get(domain)?))
     }
 
     // If a map is shown, the answers are the plain map's.

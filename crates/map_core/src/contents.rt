@@ -6,10 +6,12 @@ ghost use Rattle.map_core.specs.declared.held.Holding.{Holding};
 ghost use Rattle.map_core.specs.declared.op.Op.TheVariants.{Set, Get};
 ghost use Rattle.map_core.specs.Private.Outcome.{reply_of, left_by};
 ghost use Rattle.map_core.specs.PlainMap.{ask, union, bundles};
+ghost use Rattle.map_core.specs.Ask.{ShowsGet};
 ghost use Rattle.map_core.specs.Reply.{is_change};
 ghost use Rattle.map_core.specs.Private.Held.{HaveSameBundles};
 ghost use Rattle.map_core.specs.Private.Turns.{put_in_turn};
 
+use crate::ask::Viewer;
 use crate::held::Holding;
 use crate::op::Op;
 use crate::reply::{AskError, Reply, Snapshot};
@@ -122,6 +124,23 @@ impl Contents {
         ensures { IfOk result (λ reply. reply ≡ (ask self.now (Get domain.now)).reply) }
     {
         table::get(self.at(domain))
+    }
+
+    /// The same, but the bundle that was found is shown to the viewer where it is kept, and there is no reply. If the viewer
+    /// has no room for what it sees, the reply has the bundle, shared.
+    pub fn show<V: Viewer>(
+        &self,
+        domain: &TrustDomain,
+        viewer: &mut V,
+    ) -> Result<Option<Reply>, AllocError>
+        ensures { ShowsGet V.notes (λ answer. IfOk answer (λ reply. reply ≡ (ask self.now (Get domain.now)).reply)) (V.noted viewer.old) result (V.noted viewer.new) }
+    {
+        if let Some(Holding::Published(bundle)) = self.at(domain) {
+            if let Ok(()) = viewer.see(bundle) {
+                return Ok(None);
+            }
+        }
+        Ok(Some(self.get(domain)?))
     }
 
     /// How many bundles there are. Marks don't count.

@@ -13,7 +13,7 @@ mod reply;
 mod table;
 mod union;
 
-pub use ask::Ask;
+pub use ask::{Ask, Viewer};
 pub use contents::Contents;
 pub use held::Holding;
 pub use op::{Expect, Op};

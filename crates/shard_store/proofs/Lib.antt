@@ -11,3 +11,4 @@ pub mod LastReads
 pub mod Continue
 pub mod Together
 pub mod Closed
+pub mod Shown

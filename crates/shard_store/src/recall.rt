@@ -1,18 +1,20 @@
 //! Reads that hold nothing: what a pass read of a shard last is still the shard's, if its revision is.
-ghost use Rattle.std.specs.Prelude.{◌≡◌, ◌<◌, Some, IfSome, MatchOption, MatchResult};
+ghost use Rattle.std.specs.Prelude.{◌≡◌, ◌<◌, Some, Ok, IfSome, MatchOption, MatchResult};
 ghost use Rattle.std.specs.Arc.{arc_value};
+ghost use Rattle.map_core.specs.Ask.{ShowsGet};
 ghost use Rattle.map_core.specs.PlainMap.{shard_of};
 ghost use Rattle.shard_store.specs.Changes.{count};
 ghost use Rattle.shard_store.specs.Private.Numbers.{IsPart};
 ghost use Rattle.shard_store.specs.Promise.{IsLater, IsReply, IsRefusedAt};
 ghost use Rattle.shard_store.specs.Private.Seat.{IsAt, IsSameSeat, IsIdle};
 ghost use Rattle.shard_store.specs.Private.LastReads.{AreLastReads};
+ghost use Rattle.shard_store.specs.Private.Seat.{ShardAnswer};
 
 use crate::holds::look;
 use crate::last_reads::{LastRead, LastReads};
 use crate::one_shard::ask_shard;
 use crate::rule::{ShardTable, StoreSeat};
-use map_core::{AskError, Op, Reply};
+use map_core::{AskError, Op, Reply, Viewer};
 use std::alloc::Global;
 
 /// What was read of the shard last, if the shard is as it was then. One load tells, whether the shard is held or not.
@@ -111,6 +113,65 @@ fn get_recalled(
     };
     match recall(shards, seat, last_reads, shard) {
         Some(last) => Ok(Some(last.version.get(domain)?)),
+        None => Ok(None),
+    }
+}
+
+/// The same, but the bundle that a get finds by what was read last is shown to the viewer where it is kept, and there is no
+/// reply.
+pub(crate) fn show_name<V: Viewer>(
+    alloc: Global,
+    shards: &ShardTable,
+    seat: &mut StoreSeat,
+    last_reads: &mut LastReads,
+    tries: u64,
+    shard: usize,
+    op: &Op,
+    viewer: &mut V,
+) -> Result<Option<Reply>, AskError>
+    requires own { IsAt seat.old shards.now.shared.table_id }
+    requires shard { shard < seat.old.table_id.slots }
+    requires idle { IsIdle seat.old.me }
+    requires tries { 0 < tries }
+    requires home { shard_of seat.old.table_id.slots op.now ≡ Some shard }
+    requires told { AreLastReads seat.old.table_id.slots seat.old.me.0.seen.log last_reads.old.by_shard.items }
+    ensures seat { IsSameSeat seat.old seat.new × IsIdle seat.new.me }
+    ensures told { AreLastReads seat.old.table_id.slots seat.new.me.0.seen.log last_reads.new.by_shard.items }
+    ensures shown { ShowsGet V.notes (λ answer. ShardAnswer seat.old.table_id.slots op.now seat.old.me.0.seen answer seat.new.me.0.seen) (V.noted viewer.old) result (V.noted viewer.new) }
+{
+    if let Some(shown) = show_recalled(shards, seat, last_reads, shard, op, viewer)? {
+        return Ok(shown);
+    }
+    let reply = ask_name(alloc, shards, seat, last_reads, tries, shard, op)?;
+    Ok(Some(reply))
+}
+
+// Answers a get to a viewer by what was read of the shard last, if that is still the shard's part.
+fn show_recalled<V: Viewer>(
+    shards: &ShardTable,
+    seat: &mut StoreSeat,
+    last_reads: &LastReads,
+    shard: usize,
+    op: &Op,
+    viewer: &mut V,
+) -> Result<Option<Option<Reply>>, AskError>
+    requires own { IsAt seat.old shards.now.shared.table_id }
+    requires shard { shard < seat.old.table_id.slots }
+    requires idle { IsIdle seat.old.me }
+    requires home { shard_of seat.old.table_id.slots op.now ≡ Some shard }
+    requires told { AreLastReads seat.old.table_id.slots seat.old.me.0.seen.log last_reads.now.by_shard.items }
+    ensures seat { IsSameSeat seat.old seat.new × IsIdle seat.new.me }
+    ensures answer { MatchResult result
+        (λ found. MatchOption found
+        (IsLater seat.new.me.0.seen seat.old.me.0.seen × (V.noted viewer.new ≡ V.noted viewer.old))
+        (λ shown. ShowsGet V.notes (λ answer. ShardAnswer seat.old.table_id.slots op.now seat.old.me.0.seen answer seat.new.me.0.seen) (V.noted viewer.old) (Ok shown) (V.noted viewer.new)))
+        (λ e. IsRefusedAt seat.old.table_id.slots op.now seat.old.me.0.seen seat.new.me.0.seen e × (V.noted viewer.new ≡ V.noted viewer.old)) }
+{
+    let Op::Get(domain) = op else {
+        return Ok(None);
+    };
+    match recall(shards, seat, last_reads, shard) {
+        Some(last) => Ok(Some(last.version.show(domain, viewer)?)),
         None => Ok(None),
     }
 }

@@ -4,7 +4,8 @@ ghost use Rattle.shard_store.specs.Pass.{IsOf};
 
 use crate::pass::Pass;
 use crate::store::Store;
-use map_core::{Ask, AskError, Op, Reply};
+use map_core::{Ask, AskError, Op, Reply, Viewer};
+use spiffe_doc::TrustDomain;
 use std::marker::Model;
 
 /// A pass at its store.
@@ -56,5 +57,13 @@ impl<'a> Ask for Seated<'a> {
 
     fn ask(&mut self, op: Op) -> Result<Reply, AskError> {
         self.store.ask(&mut self.pass, op)
+    }
+
+    fn show_get<V: Viewer>(
+        &mut self,
+        domain: TrustDomain,
+        viewer: &mut V,
+    ) -> Result<Option<Reply>, AskError> {
+        self.store.show(&mut self.pass, Op::Get(domain), viewer)
     }
 }

@@ -1,6 +1,7 @@
 //! The store: what threads do with it, each with a pass of its own.
 ghost use Rattle.std.specs.Prelude.{◌≡◌, ◌<◌, ◌≤◌, ◌++◌, [], ◌∷◌, length, replicate, IfOk};
 ghost use Rattle.std.specs.List.{All};
+ghost use Rattle.map_core.specs.Ask.{ShowsGet};
 ghost use Rattle.map_core.specs.declared.op.Op.{Op};
 ghost use Rattle.shard_store.specs.Changes.{Extends, own_count, without_last, just_last};
 ghost use Rattle.shard_store.specs.Close.{CloseAnswer};
@@ -14,10 +15,10 @@ use crate::held_pass::HeldPass;
 use crate::holds::try_hold;
 use crate::last_reads::LastReads;
 use crate::pass::{Pass, join_seats, split_off};
-use crate::recall::ask_name;
+use crate::recall::{ask_name, show_name};
 use crate::rule::{ShardTable, Slot};
 use atomic_table::Table;
-use map_core::{AskError, Contents, Expect, Op, Reply};
+use map_core::{AskError, Contents, Expect, Op, Reply, Viewer};
 use spiffe_doc::{Authority, Bundle, TrustDomain};
 use std::alloc::{AllocError, Global};
 use std::marker::{Brand, Model};
@@ -142,6 +143,32 @@ impl Store {
             Some(shard) => ask_name(alloc, shards, seat, last_reads, self.tries, shard, &op),
             None => ask_all(alloc, shards, seat, last_reads, self.tries, self.rounds),
         }
+    }
+
+    /// The same, but the bundle that a get has found may be shown to the viewer where it is kept: then there is no reply.
+    pub(crate) fn show<V: Viewer>(
+        &self,
+        pass: &mut Pass,
+        op: Op,
+        viewer: &mut V,
+    ) -> Result<Option<Reply>, AskError>
+        requires own { IsOf pass.old self.now }
+        ensures own { IsOf pass.new self.now }
+        ensures shown { ShowsGet V.notes (λ answer. StoreAnswer self.now op pass.old.seen answer pass.new.seen) (V.noted viewer.old) result (V.noted viewer.new) }
+    {
+        let Some(shard) = shard_of(&op, self.shards.slot_count()) else {
+            let reply = self.ask(pass, op)?;
+            return Ok(Some(reply));
+        };
+        let Pass {
+            seat,
+            numbers: _,
+            last_reads,
+        } = pass;
+        let (alloc, shards) = (self.alloc, &self.shards);
+        show_name(
+            alloc, shards, seat, last_reads, self.tries, shard, &op, viewer,
+        )
     }
 
     /// Puts a bundle under the name.

@@ -7,3 +7,4 @@ mod Retries
 mod Fillings
 mod LoggedLaws
 mod ReadLaws
+pub mod ShownAgain

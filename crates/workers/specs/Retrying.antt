@@ -14,6 +14,11 @@ is_transient (Err (Moved shard first second)) = true
 is_transient (Err (Held shard revision)) = true
 is_transient answer = false
 
+-- the same of an answer to a viewer
+abbrev pub is_passing : Result (Option Reply) AskError → Bool
+is_passing (Err e) = is_transient (Err e)
+is_passing (Ok shown) = false
+
 module _ {S : Type 0} (answers : S → Op → Result Reply AskError → S → Type 0) where
   -- If there is room for a copy of the operation, it is asked; else nothing is, and nothing is done.
   abbrev pub LastAnswer : Bool → S → Op → Result Reply AskError → S → Type 0

@@ -3,7 +3,7 @@ ghost use Rattle.std.specs.Prelude.{◌≡◌};
 ghost use Rattle.frame_front.specs.Counted.{next_count};
 
 use crate::gate::Gate;
-use map_core::{Ask, AskError, Op, Reply};
+use map_core::{Ask, AskError, Op, Reply, Viewer};
 use spiffe_doc::TrustDomain;
 
 /// A map that one worker asks through a gate. Its calls are counted from 1; the count stays at 2^64 - 1 once there.
@@ -71,6 +71,20 @@ impl<'a, A: Ask, G: Gate> Ask for Gated<'a, A, G> {
             return Err(AskError::GateShut);
         }
         let answer = self.ask.ask_get(domain);
+        self.gate.after(self.worker, self.calls);
+        answer
+    }
+
+    /// The same for a get that is answered to a viewer.
+    fn show_get<V: Viewer>(
+        &mut self,
+        domain: TrustDomain,
+        viewer: &mut V,
+    ) -> Result<Option<Reply>, AskError> {
+        if !self.enters() {
+            return Err(AskError::GateShut);
+        }
+        let answer = self.ask.show_get(domain, viewer);
         self.gate.after(self.worker, self.calls);
         answer
     }

@@ -5,7 +5,7 @@ ghost use Rattle.shard_store.specs.Promise.{IsLater};
 
 use crate::log::{Changed, How, Log};
 use crate::retrying::Retrying;
-use map_core::{Ask, AskError, Expect, Op, Reply};
+use map_core::{Ask, AskError, Expect, Op, Reply, Viewer};
 use shard_store::{Pass, Seated, Store};
 use spiffe_doc::TrustDomain;
 use std::marker::Model;
@@ -172,5 +172,13 @@ impl<'a, C: Clock, L: Log> Ask for Logged<'a, C, L> {
 
     fn ask_get(&mut self, domain: TrustDomain) -> Result<Reply, AskError> {
         self.patient.ask_get(domain)
+    }
+
+    fn show_get<V: Viewer>(
+        &mut self,
+        domain: TrustDomain,
+        viewer: &mut V,
+    ) -> Result<Option<Reply>, AskError> {
+        self.patient.show_get(domain, viewer)
     }
 }

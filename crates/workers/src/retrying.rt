@@ -1,8 +1,8 @@
 //! A map that is asked again while others are in the way.
 ghost use Rattle.std.specs.Prelude.{◌≡◌};
-ghost use Rattle.workers.specs.Retrying.{is_transient};
+ghost use Rattle.workers.specs.Retrying.{is_transient, is_passing};
 
-use map_core::{Ask, AskError, Op, Reply};
+use map_core::{Ask, AskError, Op, Reply, Viewer};
 use spiffe_doc::TrustDomain;
 use std::thread;
 use std::time::{Clock, Duration};
@@ -38,6 +38,13 @@ fn may_change(answer: &Result<Reply, AskError>) -> bool
     ensures { result ≡ is_transient answer.now }
 {
     matches!(answer, Err(AskError::Held { .. } | AskError::Moved { .. }))
+}
+
+/// The same of an answer to a viewer.
+fn may_pass(shown: &Result<Option<Reply>, AskError>) -> bool
+    ensures { result ≡ is_passing shown.now }
+{
+    matches!(shown, Err(AskError::Moved { .. } | AskError::Held { .. }))
 }
 
 impl<'a, A: Ask, C: Clock> Ask for Retrying<'a, A, C> {
@@ -78,5 +85,24 @@ impl<'a, A: Ask, C: Clock> Ask for Retrying<'a, A, C> {
             thread::sleep(self.clock, Duration::from_micros(PAUSE));
         }
         self.ask.ask_get(domain)
+    }
+
+    /// The same for a get that is answered to a viewer, which sees nothing before the last answer.
+    fn show_get<V: Viewer>(
+        &mut self,
+        domain: TrustDomain,
+        viewer: &mut V,
+    ) -> Result<Option<Reply>, AskError> {
+        for _turn in 0..self.retries {
+            let Ok(copy) = domain.copy() else {
+                return Err(AskError::Memory);
+            };
+            let shown = self.ask.show_get(copy, viewer);
+            if !may_pass(&shown) {
+                return shown;
+            }
+            thread::sleep(self.clock, Duration::from_micros(PAUSE));
+        }
+        self.ask.show_get(domain, viewer)
     }
 }

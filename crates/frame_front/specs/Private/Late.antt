@@ -1,10 +1,15 @@
 -- What is left to store of a reply.
-use Rattle.std.specs.Prelude.{ℕ, List, [], ◌++◌, drop}
+use Rattle.std.specs.Prelude.{◌≡◌, ℕ, ◌≤◌, List, [], ◌++◌, drop, length, Result}
 use Rattle.std.specs.List.{flat_map}
 use Rattle.spiffe_doc.specs.Authority.{BundleValue}
 use Rattle.map_core.specs.Name.{Name}
+use Rattle.map_core.specs.declared.op.Op.{Op}
+use Rattle.map_core.specs.declared.reply.Reply.{Reply}
+use Rattle.map_core.specs.declared.reply.Reply.TheVariants.{Found}
+use Rattle.map_core.specs.declared.reply.AskError.{AskError}
 use Rattle.spiffe_doc.specs.Text.{text_of}
-use Rattle.frame_front.specs.Reply.{item_frame}
+use Rattle.frame_front.specs.Reply.{item_frame, reply_frames}
+use Rattle.frame_front.specs.Session.{SessionState, Answers}
 use Rattle.frame_front.specs.declared.late.Late.{Late}
 use Rattle.frame_front.specs.declared.reply.Body.{Body}
 use Rattle.frame_front.specs.declared.reply.Body.TheVariants.{Empty, Canonical, All}
@@ -28,3 +33,12 @@ HasNoText (All items) = Unit {0}
 -- what is left to store of a reply
 abbrev pub late_left : Late → List ℕ
 late_left late = late.head.items ++ body_left late.body late.stored
+
+-- the reply to a get that found the bundle stands after what was ready
+abbrev pub stores_found : List ℕ → BundleValue → List ℕ → Type 0
+stores_found ready bundle new = (new ≡ ready ++ reply_frames (Found bundle)) × (length (text_of bundle) ≤ 1048576)
+
+-- The payload is answered, and the text of the answer waits: what is left of it, after what is ready
+abbrev pub AnswersLate : {S : Type 0} → (S → Op → Result Reply AskError → S → Type 0) → SessionState S → List ℕ → SessionState S → List ℕ → List ℕ → List ℕ → Type 0
+AnswersLate answers old payload new ready_old ready_new left =
+    (text : List ℕ) × Answers answers old payload text new × (5 ≤ length text) × (ready_new ++ left ≡ ready_old ++ text)

@@ -67,6 +67,11 @@ Writes n shard op s t = (list : List Change) × Extends list s × (count n list 
 abbrev pub IsReplyRead : ℕ → ℕ → Op → Seen → Reply → Option LastRead → Seen → Type 0
 IsReplyRead n shard op s reply read t = IsReply op s reply t × IsLastRead n shard t.log read
 
+-- what a shard's answer says, of n
+abbrev pub ShardAnswer : ℕ → Op → Seen → Result Reply AskError → Seen → Type 0
+ShardAnswer n op s (Ok reply) t = IsReply op s reply t
+ShardAnswer n op s (Err e) t = IsRefusedAt n op s t e
+
 -- what one try of an operation gave
 abbrev pub Tried : ℕ → ℕ → Op → Seen → Seen → Attempt → Type 0
 Tried n shard op s t (Replied reply read) = IsReplyRead n shard op s reply read t

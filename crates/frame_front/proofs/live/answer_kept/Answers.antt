@@ -8,7 +8,7 @@ use Rattle.frame_front.proofs.live.answer_kept.Goals as goal
 
 pub loop-next-init : goal.loop-next-init
 loop-next-init g c =
-    (Answering-none g.A.Ask.answers c.args.decoder.now (c.args.version.now, c.args.ask.now) (c.args.ready.now.items ++ late_left c.args.late.now), λ few. few, omega arith, omega arith)
+    (Answering-none g.A.Ask.answers c.args.decoder.now (c.args.version.now, c.args.ask.now) (c.args.ready.now.bytes.items ++ late_left c.args.late.now), λ few. few, omega arith, omega arith)
 
 pub pass-requires-clause-stands : goal.pass-requires-clause-stands
 pass-requires-clause-stands g c =
@@ -35,13 +35,14 @@ loop-next-preserved g c =
     let found = rw c.in-Ok-Some.field-0-is at c.in-Ok-Some.ensures.found in
     let few : length c.store.new.ready.items < reply_limit = omega arith in
     let none : late_left c.store.new.self ≡ [] = stored_whole (late_left c.store.new.self) c.in_default.ensures.ok few in
+    let told = c.answer_late.ensures.answers in
     let next =
-    Answering-then g.A.Ask.answers _ _ _ _ _ _ _ c.loop-next.invariant.0 payload c.answer-reply.result c.pass.new.self c.store.new.ready.items (late_left c.store.new.self) _
-    (found.1 ∙ ap (λ r. frame payload ++ r) (sym c.pass.ensures)) found.0 c.answer-reply.ensures c.in_default.ensures.moved none few in
-    let all : length c.store.new.ready.items ≡ length (c.loop-next.ready.items ++ late_left c.loop-next.late) =
+    Answering-then g.A.Ask.answers _ _ _ _ _ _ _ c.loop-next.invariant.0 payload told.0 c.pass.new.self c.store.new.ready.items (late_left c.store.new.self) _
+    (found.1 ∙ ap (λ r. frame payload ++ r) (sym c.pass.ensures)) found.0 told.1 c.in_default.ensures.moved none few in
+    let all : length c.store.new.ready.items ≡ length (c.loop-next.ready.bytes.items ++ late_left c.loop-next.late) =
     ap length (sym (append-nil c.store.new.ready.items) ∙ ap (λ l. c.store.new.ready.items ++ l) (sym none) ∙ c.in_default.ensures.moved) in (
-      rw c.of.ensures.whole next,
-      λ few_old. c.in_default.ensures.few (c.loop-next.invariant.1 few_old),
-      omega (arith, all, c.loop-next.invariant.2, c.of.ensures.long, length-append c.store.new.ready.items (late_left c.of.result)),
+      rw told.3 next,
+      λ few_old. omega (arith, few, c.answer_late.ensures.few),
+      omega (arith, all, c.loop-next.invariant.2, told.2, ap length told.3, length-append c.store.new.ready.items told.0),
       omega (arith, all, c.loop-next.invariant.2, few),
     )

@@ -7,9 +7,9 @@ use Rattle.frame_front.proofs.live.answer_kept.Given as goal
 abbrev pub invariant-loop-next : goal.invariant-loop-next
 invariant-loop-next g l =
     Answering g.A.Ask.answers l.fn.decoder l.decoder (l.fn.version, l.fn.ask) (l.version, l.ask)
-    (l.fn.ready.items ++ late_left l.fn.late) (l.ready.items ++ late_left l.late) l.frames
-    × (length l.fn.ready.items ≤ most_ready → length l.ready.items ≤ most_ready)
-    × (5 * l.frames ≤ length (l.ready.items ++ late_left l.late))
+    (l.fn.ready.bytes.items ++ late_left l.fn.late) (l.ready.bytes.items ++ late_left l.late) l.frames
+    × (length l.fn.ready.bytes.items ≤ most_ready → length l.ready.bytes.items ≤ most_ready)
+    × (5 * l.frames ≤ length (l.ready.bytes.items ++ late_left l.late))
     × (l.frames ≤ most_frames)
 
 abbrev pub decreases-loop-next : goal.decreases-loop-next

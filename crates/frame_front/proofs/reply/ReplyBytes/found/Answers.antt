@@ -1,16 +1,6 @@
-use Rattle.std.proofs.Common.{◌≡◌, ◌+◌, [], ◌∷◌, ◌∙◌, ap, length, ◌++◌, arith, rules}
-use Rattle.std.specs.Int.{w32, to_be_bytes}
-use Rattle.spiffe_doc.specs.Text.{text_of}
-use Rattle.frame_front.proofs.FrameLemmas.{frame_in_parts}
+use Rattle.std.proofs.Common.{◌∷◌, ◌∙◌, ◌++◌, sym, ap}
+use Rattle.frame_front.specs.Frame.{frame}
 use Rattle.frame_front.proofs.reply.ReplyBytes.found.Goals as goal
 
 pub returns : goal.returns
-returns c =
-    let text = text_of c.args.bundle in
-    let empty : c.new-head.result.items ≡ [] = search rules in
-    let field : c.to_be_bytes.result ≡ to_be_bytes w32 (length text + 1) = search (rules, c.canonical_text.ensures.value) in
-    ap (λ b. b ++ text)
-    (c.put-2.ensures ∙ ap (λ b. b ++ 102 ∷ []) c.put.ensures
-    ∙ ap (λ b. (b ++ c.to_be_bytes.result) ++ 102 ∷ []) empty
-    ∙ ap (λ f. f ++ 102 ∷ []) field)
-    ∙ frame_in_parts [] (102 ∷ []) text (length text + 1) (omega arith)
+returns c = ap (λ t. c.found_head-head.result.items ++ t) (sym c.canonical_text.ensures.value) ∙ c.found_head-head.ensures.whole ∙ ap (λ t. frame (102 ∷ t)) c.canonical_text.ensures.value
