@@ -5,7 +5,8 @@ ghost use Rattle.frame_front.specs.Reply.{item_frame};
 ghost use Rattle.frame_front.specs.Private.Late.{HasNoText, late_left, items_left};
 ghost use Rattle.frame_front.specs.Live.{most_part, most_ready, reply_limit};
 
-use crate::reply::{Body, HEAD_BYTES, ReplyBytes, canonical_text, item_front};
+use crate::frame::LENGTH_BYTES;
+use crate::reply::{Body, HEAD_BYTES, ReplyBytes, canonical_text};
 use arrayvec::ArrayVec;
 use bytes::BytesMut;
 use spiffe_doc::{Bundle, TrustDomain};
@@ -126,8 +127,15 @@ fn store_pair(ready: &mut BytesMut, item: &(TrustDomain, Bundle)) -> Result<(), 
     ensures few { length ready.new.items ≤ length ready.old.items + most_part }
 {
     let (domain, bundle) = item;
-    let front = item_front(domain, bundle);
-    store_both(ready, front.as_slice(), canonical_text(bundle))
+    let name = domain.as_str().as_bytes();
+    let text = canonical_text(bundle);
+    let size = 2 + name.len() + text.len();
+    ready.reserve(LENGTH_BYTES + size)?;
+    ready.extend_reserved(&(size as u32).to_be_bytes());
+    ready.extend_reserved(&[b'i', name.len() as u8]);
+    ready.extend_reserved(name);
+    ready.extend_reserved(text);
+    Ok(())
 }
 
 /// Stores two parts together.
