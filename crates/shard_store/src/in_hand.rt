@@ -49,7 +49,7 @@ fn ask_in_hand(
 
 /// Whether the operation may change the map. The version that another operation reads is remembered, so that the next
 /// one holds nothing.
-fn may_write(op: &Op) -> bool {
+pub(crate) fn may_write(op: &Op) -> bool {
     !matches!(op, Op::Get(_) | Op::FetchAll)
 }
 

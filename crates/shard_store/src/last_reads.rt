@@ -4,7 +4,8 @@ ghost use Rattle.std.specs.Arc.{arc_value};
 ghost use Rattle.shard_store.specs.declared.change.Change.{Change};
 ghost use Rattle.shard_store.specs.Private.LastReads.{AreLastReads, IsLastRead};
 
-use map_core::Contents;
+use crate::in_hand::may_write;
+use map_core::{Contents, Op};
 use std::alloc::{AllocError, Global};
 use std::sync::Arc;
 
@@ -66,6 +67,16 @@ impl LastReads {
             return;
         }
         self.by_shard[shard] = read;
+    }
+
+    /// Forgets the shard, of this many, if the operation may change it: then nobody else may own its version, which is
+    /// changed where it is.
+    pub(crate) fn make_way(&mut self, shards: usize, shard: usize, op: &Op)
+        ensures { (n : ℕ) (log : List Change) → AreLastReads n log self.old.by_shard.items → AreLastReads n log self.new.by_shard.items }
+    {
+        if may_write(op) {
+            self.keep(shards, shard, None);
+        }
     }
 
     // Room for so many shards.
