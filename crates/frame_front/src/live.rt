@@ -27,7 +27,7 @@ const MOST_HELD: usize = 131_072;
 /// fetch-all. What comes after that part is not copied before it is its turn.
 ///
 /// `serve` is not made of it: it has its writer at hand, so it writes a long text from where it is kept, and needs no
-/// memory for it. Both answer a payload by the same function, and carry the same table.
+/// memory for it. Both read a payload by the same functions and carry the same table; here a get is shown its bundle.
 #[derive(Drop)]
 pub struct LiveSession {
     alloc: Global,
