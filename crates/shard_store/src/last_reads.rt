@@ -71,7 +71,7 @@ impl LastReads {
 
     /// Forgets the shard, of this many, if the operation may change it: then nobody else may own its version, which is
     /// changed where it is.
-    pub(crate) fn make_way(&mut self, shards: usize, shard: usize, op: &Op)
+    pub(crate) fn forget_before(&mut self, shards: usize, shard: usize, op: &Op)
         ensures { (n : ℕ) (log : List Change) → AreLastReads n log self.old.by_shard.items → AreLastReads n log self.new.by_shard.items }
     {
         if may_write(op) {

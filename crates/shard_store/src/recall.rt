@@ -85,7 +85,7 @@ pub(crate) fn ask_name(
     if let Some(reply) = get_recalled(shards, seat, last_reads, shard, op)? {
         return Ok(reply);
     }
-    last_reads.make_way(shards.slot_count(), shard, op);
+    last_reads.forget_before(shards.slot_count(), shard, op);
     let (reply, read) = ask_shard(alloc, shards, seat, tries, shard, op)?;
     last_reads.keep(shards.slot_count(), shard, read);
     Ok(reply)
