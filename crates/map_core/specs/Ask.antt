@@ -18,8 +18,8 @@ abbrev pub ContentsAnswer : PlainMap → Op → Result Reply AskError → PlainM
 ContentsAnswer m op (Ok reply) new = (reply ≡ (ask m op).reply) × (new ≡ (ask m op).map)
 ContentsAnswer m op (Err e) new = (e ≡ Memory) × (new ≡ m)
 
--- How a get is answered to a viewer, which had noted something before and has noted something then. It may have such an answer; or it may be
--- answered with the bundle that the viewer has looked at, and there is no reply.
+-- How a get is answered to a viewer, by what it had noted before and has noted then: by an answer that may be given, and nothing is noted; or
+-- by a look at the bundle of such an answer, and there is no reply.
 abbrev pub ShowsGet : {V E : Type 0} → (V → BundleValue → V → Type 0) → (Result Reply E → Type 0) → V → Result (Option Reply) E → V → Type 0
 ShowsGet notes answered old (Ok (Some reply)) new = answered (Ok reply) × (new ≡ old)
 ShowsGet notes answered old (Ok None) new = (b : BundleValue) × answered (Ok (Found b)) × notes old b new

@@ -9,15 +9,10 @@ use Rattle.map_core.specs.PlainMap.{PlainMap}
 use Rattle.map_core.specs.Ask.{PlainAnswer}
 
 -- nothing was done, and the answer may be another soon: another caller held or changed a shard
-abbrev pub is_transient : Result Reply AskError → Bool
+abbrev pub is_transient : {R : Type 0} → Result R AskError → Bool
 is_transient (Err (Moved shard first second)) = true
 is_transient (Err (Held shard revision)) = true
 is_transient answer = false
-
--- the same of an answer to a viewer
-abbrev pub is_passing : Result (Option Reply) AskError → Bool
-is_passing (Err e) = is_transient (Err e)
-is_passing (Ok shown) = false
 
 module _ {S : Type 0} (answers : S → Op → Result Reply AskError → S → Type 0) where
   -- If there is room for a copy of the operation, it is asked; else nothing is, and nothing is done.

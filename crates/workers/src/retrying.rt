@@ -1,6 +1,6 @@
 //! A map that is asked again while others are in the way.
 ghost use Rattle.std.specs.Prelude.{◌≡◌};
-ghost use Rattle.workers.specs.Retrying.{is_transient, is_passing};
+ghost use Rattle.workers.specs.Retrying.{is_transient};
 
 use map_core::{Ask, AskError, Op, Reply, Viewer};
 use spiffe_doc::TrustDomain;
@@ -34,17 +34,10 @@ impl<'a, A, C> Retrying<'a, A, C> {
 }
 
 /// Whether the same operation may be answered otherwise soon.
-fn may_change(answer: &Result<Reply, AskError>) -> bool
+fn may_change<T>(answer: &Result<T, AskError>) -> bool
     ensures { result ≡ is_transient answer.now }
 {
     matches!(answer, Err(AskError::Held { .. } | AskError::Moved { .. }))
-}
-
-/// The same of an answer to a viewer.
-fn may_pass(shown: &Result<Option<Reply>, AskError>) -> bool
-    ensures { result ≡ is_passing shown.now }
-{
-    matches!(shown, Err(AskError::Moved { .. } | AskError::Held { .. }))
 }
 
 impl<'a, A: Ask, C: Clock> Ask for Retrying<'a, A, C> {
@@ -98,7 +91,7 @@ impl<'a, A: Ask, C: Clock> Ask for Retrying<'a, A, C> {
                 return Err(AskError::Memory);
             };
             let shown = self.ask.show_get(copy, viewer);
-            if !may_pass(&shown) {
+            if !may_change(&shown) {
                 return shown;
             }
             thread::sleep(self.clock, Duration::from_micros(PAUSE));

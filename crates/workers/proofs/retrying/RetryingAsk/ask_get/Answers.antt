@@ -1,6 +1,7 @@
 use Rattle.std.proofs.Common.{◌≡◌, suc, ◌+◌, true, false, true≢false, Err, refl, sym, subst, arith}
 use Rattle.map_core.specs.Name.{Name}
 use Rattle.map_core.specs.declared.op.Op.TheVariants.{Get}
+use Rattle.map_core.specs.declared.reply.Reply.{Reply}
 use Rattle.map_core.specs.declared.reply.AskError.TheVariants.{Memory}
 use Rattle.workers.specs.Retrying.{is_transient, AskedAgain}
 use Rattle.workers.proofs.retrying.RetryingAsk.ask_get.Goals as goal
@@ -33,5 +34,5 @@ returns g c =
 pub returns-in_default : goal.returns-in_default
 returns-in_default g c =
     let kept = c.loop-try.invariant in
-    let not_again : is_transient (Err Memory) ≡ true → c.loop-try._try + 0 ≡ c.args.self.now.retries = λ transient. absurd (true≢false (sym transient)) in
+    let not_again : is_transient {R = Reply} (Err Memory) ≡ true → c.loop-try._try + 0 ≡ c.args.self.now.retries = λ transient. absurd (true≢false (sym transient)) in
     record { answered = (kept.0, (c.loop-try._try + 0, omega (arith, c.loop-try.auto._try-end), not_again, false, kept.2 0 false _ _ (refl, refl))) }
