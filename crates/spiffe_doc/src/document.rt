@@ -22,7 +22,7 @@ use std::alloc::Global;
 /// The longest document whose strings a `DocumentReader` keeps room for.
 const KEPT_ROOM: usize = 65536;
 
-/// The most room that a canonical text begins with: most of them have the length of their document.
+/// The most room that a canonical text begins with. That of a canonical document has the document's length.
 const MOST_ROOM: usize = 4096;
 
 /// Reads a bundle document, or reports its first fault.
