@@ -3,6 +3,7 @@
 //! Maps and operations are dropped by a call of `drop`, before anything may fail: where a scope drops one, the prover follows
 //! all its parts on each way out.
 mod appends;
+mod shown;
 mod snapshots;
 
 use map_core::{Ask, AskError, Contents, Expect, MapRefusal, Op, Reply, Snapshot};
