@@ -41,7 +41,7 @@ pub fn choose(
     ensures err { IfErr result (λ fault. FaultOfChoice fault names.now domains) }
 {
     let wanted = set_of(alloc, names)?;
-    let some = keep(alloc, domains, &wanted)?;
+    let some = keep(alloc, domains.pairs(), &wanted)?;
     match first_missing(alloc, some.pairs(), names)? {
         Some(place) => Err(ChoiceError::NoDomain(place)),
         None => Ok(some),
@@ -51,28 +51,28 @@ pub fn choose(
 /// The domains whose names are in the set.
 fn keep(
     alloc: Global,
-    domains: Snapshot,
+    domains: &[(TrustDomain, Bundle)],
     wanted: &BTreeSet<TrustDomain>,
 ) -> Result<Snapshot, AllocError>
-    ensures { IfOk result (λ some. some ≡ filter (λ item. has wanted.now item.0) domains) }
+    ensures { IfOk result (λ some. some ≡ filter (λ item. has wanted.now item.0) domains.now) }
 {
     let mut some = Vec::new(alloc);
-    for item in domains.into_pairs() {
+    for item in domains {
         push_wanted(&mut some, wanted, item)?;
     }
-    Ok(Snapshot::from_pairs(some))
+    Snapshot::from_pairs(alloc, some)
 }
 
 /// Adds a domain whose name is in the set.
 fn push_wanted(
     some: &mut Vec<(TrustDomain, Bundle)>,
     wanted: &BTreeSet<TrustDomain>,
-    item: (TrustDomain, Bundle),
+    item: &(TrustDomain, Bundle),
 ) -> Result<(), AllocError>
-    ensures { OnOk result (some.new.items ≡ some.old.items ++ cond (has wanted.now item.0) (item ∷ []) []) }
+    ensures { OnOk result (some.new.items ≡ some.old.items ++ cond (has wanted.now item.now.0) (item.now ∷ []) []) }
 {
     if wanted.contains(&item.0) {
-        some.push(item)?;
+        some.push((item.0.copy()?, item.1.copy()?))?;
     }
     Ok(())
 }

@@ -259,7 +259,7 @@ impl Contents {
                 pairs.push((domain.copy()?, bundle.copy()?))?;
             }
         }
-        Ok(Snapshot::from_pairs(pairs))
+        Snapshot::from_pairs(self.alloc, pairs)
     }
 
     /// What is held under the name.

@@ -1,44 +1,53 @@
 //! What a map of trust bundles answers.
-ghost use Rattle.std.specs.Prelude.{◌≡◌, length};
+ghost use Rattle.std.specs.Prelude.{◌≡◌, length, IfOk};
 ghost use Rattle.map_core.specs.Reply.{is_change, refusal_number, error_number};
 
 use crate::op::Expect;
 use spiffe_doc::{Bundle, TrustDomain};
-use std::alloc::AllocError;
+use std::alloc::{AllocError, Global};
 use std::marker::Model;
+use std::sync::Arc;
 use thiserror::Error;
 
 /// Trust domains with their bundles. In a reply they stand in byte order of the names, as they were held
-/// together at one moment.
+/// together at one moment. Copies share them.
 #[derive(Drop)]
 pub struct Snapshot {
-    pairs: Vec<(TrustDomain, Bundle)>,
+    pairs: Arc<Vec<(TrustDomain, Bundle)>>,
 }
 
 impl Model for Snapshot {
     ghost use Rattle.std.specs.Prelude.{List};
+    ghost use Rattle.std.specs.Arc.{arc_value};
     ghost use Rattle.map_core.specs.Name.{Name};
     ghost use Rattle.spiffe_doc.specs.Authority.{BundleValue};
 
     ghost Value = { List (Name × BundleValue) };
 
-    ghost view = { λ snapshot. snapshot.pairs.items };
+    ghost view = { λ snapshot. (arc_value snapshot.pairs).items };
 }
 
 impl Snapshot {
     /// Takes the pairs as they are.
-    pub fn from_pairs(pairs: Vec<(TrustDomain, Bundle)>) -> Snapshot
-        ensures { result ≡ pairs.items }
+    pub fn from_pairs(
+        alloc: Global,
+        pairs: Vec<(TrustDomain, Bundle)>,
+    ) -> Result<Snapshot, AllocError>
+        ensures { IfOk result (λ all. all ≡ pairs.items) }
     {
-        Snapshot { pairs }
+        match Arc::new(alloc, pairs) {
+            Ok(pairs) => Ok(Snapshot { pairs }),
+            Err(_) => Err(AllocError),
+        }
     }
 
-    /// Gives the pairs back.
-    pub fn into_pairs(self) -> Vec<(TrustDomain, Bundle)>
-        ensures { result.items ≡ self }
+    /// The same pairs, shared. Errors only if as many copies share them as can be counted.
+    pub fn copy(&self) -> Result<Snapshot, AllocError>
+        ensures { IfOk result (λ copy. copy ≡ self.now) }
     {
-        let Snapshot { pairs } = self;
-        pairs
+        Ok(Snapshot {
+            pairs: Arc::try_clone(&self.pairs)?,
+        })
     }
 
     /// Lends the pairs.

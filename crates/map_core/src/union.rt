@@ -120,5 +120,5 @@ fn take_bundles(
             taken.push((domain, bundle))?;
         }
     }
-    Ok(Snapshot::from_pairs(taken))
+    Snapshot::from_pairs(alloc, taken)
 }

@@ -387,7 +387,7 @@ fn pair(alloc: Global, name: &str, word: &str) -> Result<(TrustDomain, Bundle), 
 fn snapshot_of(alloc: Global, name: &str, word: &str) -> Result<Snapshot, Fail> {
     let mut pairs = Vec::new(alloc);
     pairs.push(pair(alloc, name, word)?)?;
-    Ok(Snapshot::from_pairs(pairs))
+    Ok(Snapshot::from_pairs(alloc, pairs)?)
 }
 
 #[test]
@@ -395,7 +395,7 @@ fn a_snapshot_is_of_its_pairs(rt: HostRuntime) -> Result<(), Fail> {
     let all = snapshot_of(rt.alloc(), "a", "5")?;
     let text = snapshot_text(rt.alloc(), &all)?;
     is_equal(&rt, &text.as_str(), &"all 1 a 5/0");
-    is_equal(&rt, &all.into_pairs().len(), &1);
+    is_equal(&rt, &all.pairs().len(), &1);
     Ok(())
 }
 

@@ -43,7 +43,7 @@ fn all_of_two(alloc: Global) -> Result<Reply, Fail> {
         TrustDomain::parse(alloc, "b.example")?,
         read_document(alloc, DOCUMENT)?,
     ))?;
-    Ok(Reply::All(Snapshot::from_pairs(pairs)))
+    Ok(Reply::All(Snapshot::from_pairs(alloc, pairs)?))
 }
 
 /// The output of a trace.
@@ -92,7 +92,7 @@ fn replies_are_told(rt: HostRuntime) -> Result<(), Fail> {
     is_told(
         &rt,
         alloc,
-        Some(Ok(Reply::All(Snapshot::from_pairs(Vec::new(alloc))))),
+        Some(Ok(Reply::All(Snapshot::from_pairs(alloc, Vec::new(alloc))?))),
         "all 0",
     )?;
     is_told(
