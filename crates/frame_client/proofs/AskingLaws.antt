@@ -1,5 +1,5 @@
 -- A request that is written is read as its operation.
-use Rattle.std.proofs.Common.{◌≡◌, ℕ, List, [], ◌∷◌, ◌++◌, length, take, drop, append-nil, length-append, arith, refl, sym, ap, ◌∙◌, Result, Ok, Err, Bool, true, false}
+use Rattle.std.proofs.Common.{◌≡◌, ℕ, List, [], ◌∷◌, ◌++◌, length, take, drop, append-nil, length-append, arith, refl, sym, ap, ◌∙◌, Result, Ok, Err, Bool, true}
 use Rattle.std.specs.Prelude.{nat_le, if◌then◌else◌}
 use Rattle.std.specs.List.{concat}
 use Rattle.std.specs.Int.{w64, to_be_bytes, from_be_bytes}

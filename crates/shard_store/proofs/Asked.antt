@@ -44,10 +44,10 @@ any_refused store op s t (Held i k) none r = (r.0, r.1, at_each store.id.slots i
 any_refused store op s t (Moved i k m) none r = (r.0, r.1, none, r.3, r.4, r.5)
 any_refused store op s t GateShut none r = absurd r
 
-by_all : (r : Result Reply AskError) (store : StoreView) (op : Op) (s t : Seen) → shard_of store.id.slots op ≡ None
-    → MatchResult r (λ reply. IsReply FetchAll s reply t) (IsRefused store FetchAll s t) → StoreAnswer store op s r t
-by_all (Ok reply) store op s t none a = any_fetch store.id.slots op s t reply none a
-by_all (Err e) store op s t none a = any_refused store op s t e none a
+-- so an operation that is for no shard is answered as a fetch-all is
+pub by_all : (r : Result Reply AskError) (n : ℕ) (store : StoreView) (op : Op) (s t : Seen) → shard_of n op ≡ None → n ≡ store.id.slots → StoreAnswer store FetchAll s r t → StoreAnswer store op s r t
+by_all (Ok reply) n store op s t none size a = any_fetch n op s t reply none a
+by_all (Err e) n store op s t none size a = any_refused store op s t e (ap (λ (k : ℕ). shard_of k op) (sym size) ∙ none) a
 
 -- the answer of one shard, at the store's own names
 pub shard_answers : (r : Result Reply AskError) (store : StoreView) (op : Op) (z : TableId) (s s' t : Seen) → z ≡ store.id → s ≡ s'
@@ -55,8 +55,12 @@ pub shard_answers : (r : Result Reply AskError) (store : StoreView) (op : Op) (z
 shard_answers r store op z s s' t e f a = by_shard r store op s' t
     (subst (λ (x : TableId × Seen). MatchResult r (λ reply. IsReply op x.1 reply t) (IsRefusedAt x.0.slots op x.1 t)) (λ i. (e i, f i)) a)
 
+all_at : (r : Result Reply AskError) (store : StoreView) (s t : Seen) → MatchResult r (λ reply. IsReply FetchAll s reply t) (IsRefused store FetchAll s t) → StoreAnswer store FetchAll s r t
+all_at (Ok reply) store s t a = a
+all_at (Err e) store s t a = a
+
 -- the answer of all shards, at the store's own names
-pub all_answer : (r : Result Reply AskError) (n : ℕ) (store here : StoreView) (op : Op) (s s' t : Seen) → shard_of n op ≡ None → n ≡ store.id.slots → here ≡ store → s ≡ s'
-    → MatchResult r (λ reply. IsReply FetchAll s reply t) (IsRefused here FetchAll s t) → StoreAnswer store op s' r t
-all_answer r n store here op s s' t none size e f a = by_all r store op s' t (ap (λ (k : ℕ). shard_of k op) (sym size) ∙ none)
+pub all_answers : (r : Result Reply AskError) (store here : StoreView) (s s' t : Seen) → here ≡ store → s ≡ s'
+    → MatchResult r (λ reply. IsReply FetchAll s reply t) (IsRefused here FetchAll s t) → StoreAnswer store FetchAll s' r t
+all_answers r store here s s' t e f a = all_at r store s' t
     (subst (λ (x : StoreView × Seen). MatchResult r (λ reply. IsReply FetchAll x.1 reply t) (IsRefused x.0 FetchAll x.1 t)) (λ i. (e i, f i)) a)

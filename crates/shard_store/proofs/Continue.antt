@@ -1,5 +1,5 @@
 -- Answers of a pass, one after another.
-use Rattle.std.proofs.Common.{◌≡◌, ℕ, ◌+◌, ◌≤◌, Bool, true, false, if◌then◌else◌, List, [], ◌∷◌, ◌++◌, length, Result, Ok, Err, length-append, sym, refl, ap, ◌∙◌, subst, arith}
+use Rattle.std.proofs.Common.{◌≡◌, ℕ, ◌+◌, ◌≤◌, Bool, true, false, if◌then◌else◌, List, [], ◌∷◌, ◌++◌, length, Ok, Err, length-append, sym, refl, ap, ◌∙◌, subst, arith}
 use Rattle.std.proofs.lemmas.List.{append-nil}
 use Rattle.map_core.specs.declared.op.Op.{Op}
 use Rattle.map_core.specs.declared.reply.Reply.{Reply}
@@ -10,8 +10,8 @@ use Rattle.shard_store.specs.declared.change.Change.{Change}
 use Rattle.shard_store.specs.declared.change.Seen.{Seen}
 use Rattle.shard_store.specs.Changes.{change_of, Extends, own_number}
 use Rattle.shard_store.specs.Pass.{StoreView}
-use Rattle.shard_store.specs.Promise.{IsLater, IsReply, IsRefused, StoreAnswer}
-use Rattle.shard_store.specs.Laws.{TellsNoChange, UnchangedIsLater, AnswersContinue, RepliesFollow}
+use Rattle.shard_store.specs.Promise.{IsLater, IsReply, IsRefused}
+use Rattle.shard_store.specs.Laws.{UnchangedIsLater, AnswersContinue, RepliesFollow}
 use Rattle.shard_store.proofs.Promise.{later_then, alone_later, extends_then, answered_since}
 use Rattle.shard_store.proofs.Readings.{moved_since}
 

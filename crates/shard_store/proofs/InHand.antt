@@ -1,5 +1,5 @@
 -- What an operation on the version in hand gives.
-use Rattle.std.proofs.Common.{◌≡◌, ℕ, true, false, List, [], ◌∷◌, ◌++◌, Option, Some, None, sym, refl, ap, ◌∙◌, subst}
+use Rattle.std.proofs.Common.{◌≡◌, ℕ, true, false, [], ◌∷◌, ◌++◌, Option, Some, None, sym, refl, ap, ◌∙◌, subst}
 use Rattle.std.specs.Prelude.{Result, Ok, Err}
 use Rattle.std.specs.Arc.{arc_value}
 use Rattle.std.specs.declared.alloc.AllocError.{AllocError}
@@ -10,7 +10,6 @@ use Rattle.map_core.specs.declared.reply.Reply.{Reply}
 use Rattle.map_core.specs.Reply.{is_change}
 use Rattle.map_core.specs.PlainMap.{PlainMap, ask, shard_of, partition}
 use Rattle.map_core.proofs.MapLaws.{ask_keeps}
-use Rattle.shard_store.specs.declared.change.Change.{Change}
 use Rattle.shard_store.specs.declared.change.Seen.{Seen}
 use Rattle.shard_store.specs.declared.change.View.{View}
 use Rattle.shard_store.specs.Changes.{after}

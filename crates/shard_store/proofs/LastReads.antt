@@ -72,7 +72,7 @@ reads_longer n log more reads b told shard = read_longer n shard log more (get_o
 pub reads_later : (n : ℕ) (s t : Seen) (reads : List (Option LastRead)) → IsLater t s → AreLastReads n s.log reads → AreLastReads n t.log reads
 reads_later n s t reads l told = reads_longer n s.log t.log reads (l.0.0, l.0.1) told
 
-begins_answered : (op : Op) (s t : Seen) (reply : Reply) → IsReply op s reply t → Begins s.log t.log
+pub begins_answered : (op : Op) (s t : Seen) (reply : Reply) → IsReply op s reply t → Begins s.log t.log
 begins_answered op s t reply a = by_kind (is_change reply) refl
   where
     by_kind : (b : Bool) → is_change reply ≡ b → Begins s.log t.log

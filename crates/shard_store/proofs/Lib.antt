@@ -8,6 +8,7 @@ pub mod InHand
 pub mod Asked
 pub mod Readings
 pub mod LastReads
+pub mod LastAll
 pub mod Continue
 pub mod Together
 pub mod Closed

@@ -5,21 +5,18 @@ use native.Mathlib.Decide.{ℕ_discrete}
 use Rattle.std.proofs.lemmas.List.{append-nil}
 use Rattle.std.specs.Arc.{arc_value}
 use Rattle.std.specs.declared.sync.Arc.{Arc}
+use Rattle.spiffe_doc.specs.Authority.{BundleValue}
 use Rattle.map_core.specs.declared.op.Op.TheVariants.{FetchAll}
-use Rattle.std.specs.Prelude.{IfOk, IfErr, MatchResult, Result, Ok, Err}
-use Rattle.map_core.specs.declared.reply.AskError.{AskError}
-use Rattle.map_core.specs.declared.reply.AskError.TheVariants.{Memory}
-use Rattle.map_core.specs.declared.reply.Reply.{Reply}
-use Rattle.map_core.specs.Reply.{is_change}
-use Rattle.map_core.specs.PlainMap.{PlainMap, ask, partition}
+use Rattle.map_core.specs.declared.reply.Reply.TheVariants.{All}
+use Rattle.map_core.specs.Name.{Name}
+use Rattle.map_core.specs.PlainMap.{PlainMap, bundles, partition}
 use Rattle.map_core.proofs.Asks.{fetch_all}
 use Rattle.shard_store.specs.declared.change.Change.{Change}
 use Rattle.shard_store.specs.declared.change.Seen.{Seen}
 use Rattle.shard_store.specs.declared.fetch.Movement.{Movement}
 use Rattle.shard_store.specs.Changes.{after, count, Extends}
 use Rattle.shard_store.specs.Private.Numbers.{IsPart}
-use Rattle.shard_store.specs.Pass.{StoreView}
-use Rattle.shard_store.specs.Promise.{IsLater, IsAlone, HasMoved, IsReply, IsRefused}
+use Rattle.shard_store.specs.Promise.{IsLater, IsAlone, HasMoved, IsReply}
 use Rattle.shard_store.specs.Private.Readings.{WasRead, WereRead, AreConfirmed, IsMovement, IsSnapshot}
 use Rattle.shard_store.proofs.Changes.{count_append, is_part_stays}
 use Rattle.shard_store.proofs.Promise.{counts_more, later_then, extends_then, extends_since, alone_same}
@@ -53,7 +50,17 @@ pub part_confirmed : {Z : Type 0} (n i : ℕ) (from log : List Change) (r : ℕ)
 part_confirmed n i from log r v was most = let first : count n was.0 i ≡ r = was.3 in let total : count n log i ≡ count n was.0 i + count n was.1 i = ap (λ (x : List Change). count n x i) was.2 ∙ count_append n was.0 was.1 i in
     subst (λ (x : List Change). IsPart n i x (arc_value v)) (sym was.2) (is_part_stays n i was.0 was.1 (arc_value v) (omega arith) was.4)
 
-pub snapshot : {Z : Type 0} (n : ℕ) (s t u : Seen) (rs : List ℕ) (vs : List (Arc PlainMap Z)) → IsLater t s → IsLater u t → length vs ≡ n → WereRead n s.log t.log rs vs → AreConfirmed n t.log rs → IsSnapshot n s u vs
+-- a reading of one shard, if there is one
+read_at : {Z : Type 0} (n : ℕ) (from log : List Change) (rs : List ℕ) (vs : List (Arc PlainMap Z)) (i : ℕ) → WereRead n from log rs vs → i < length vs → (v : Arc PlainMap Z) × WasRead n i from log (get_or rs i 0) v
+read_at n from log rs [] i were inside = absurd (omega arith)
+read_at n from log rs (v ∷ vs) i were inside = (get_or (v ∷ vs) i v, were.1 i v inside)
+
+-- no shard has had fewer changes than its revision says, either
+same_revision : {Z : Type 0} (n i : ℕ) (from log : List Change) (r : ℕ) (v : Arc PlainMap Z) → WasRead n i from log r v → count n log i ≤ r → count n log i ≡ r
+same_revision n i from log r v was most = let first : count n was.0 i ≡ r = was.3 in let total : count n log i ≡ count n was.0 i + count n was.1 i = ap (λ (x : List Change). count n x i) was.2 ∙ count_append n was.0 was.1 i in
+    omega arith
+
+pub snapshot : {Z : Type 0} (n : ℕ) (s t u : Seen) (rs : List ℕ) (vs : List (Arc PlainMap Z)) → IsLater t s → IsLater u t → length vs ≡ n → WereRead n s.log t.log rs vs → AreConfirmed n t.log rs → IsSnapshot n s u rs vs
 snapshot {Z} n s t u rs vs l m size were still = (
   t.log,
   l.0,
@@ -62,12 +69,9 @@ snapshot {Z} n s t u rs vs l m size were still = (
   size,
   λ k d inside. let long : length rs ≡ length vs = were.0 in
       part_confirmed n k s.log t.log (get_or rs k 0) (get_or vs k d) (were.1 k d inside) (still k (omega arith)) ∙ ap (λ (j : ℕ). partition j (after t.log) k) (sym size),
+  (were.0 ∙ size, λ k inside. let long : length rs ≡ length vs = were.0 in let within : k < length vs = omega arith in let was = read_at n s.log t.log rs vs k were within in
+      same_revision n k s.log t.log (get_or rs k 0) was.0 was.1 (still k (omega arith))),
 )
-
--- a reading of one shard, if there is one
-read_at : {Z : Type 0} (n : ℕ) (from log : List Change) (rs : List ℕ) (vs : List (Arc PlainMap Z)) (i : ℕ) → WereRead n from log rs vs → i < length vs → (v : Arc PlainMap Z) × WasRead n i from log (get_or rs i 0) v
-read_at n from log rs [] i were inside = absurd (omega arith)
-read_at n from log rs (v ∷ vs) i were inside = (get_or (v ∷ vs) i v, were.1 i v inside)
 
 -- the shard that was found with another revision has moved
 pub moved : {Z : Type 0} (n : ℕ) (s t u : Seen) (rs : List ℕ) (vs : List (Arc PlainMap Z)) (movement : Movement) → IsLater t s → IsLater u t → length vs ≡ n → WereRead n s.log t.log rs vs → IsMovement n t.log u.log rs movement
@@ -99,27 +103,22 @@ pub moved_not_alone : (n i a b : ℕ) (s t : Seen) → IsLater t s → HasMoved 
 moved_not_alone n i a b s t l m alone = let same : count n t.log i ≡ count n s.log i = ap (λ (x : List Change). count n x i) (alone_same s t.log alone l.0) in
     let p = m.0 in let q = m.1 in let r = m.2 in let never : ⊥ = omega arith in never
 
-pub later_snapshot : {Z : Type 0} (n : ℕ) (s t : Seen) (vs : List (Arc PlainMap Z)) → IsSnapshot n s t vs → IsLater t s
-later_snapshot n s t vs x = (extends_then s x.0 t.log x.1 x.2, x.3)
+pub later_snapshot : {Z : Type 0} (n : ℕ) (s t : Seen) (rs : List ℕ) (vs : List (Arc PlainMap Z)) → IsSnapshot n s t rs vs → IsLater t s
+later_snapshot n s t rs vs x = (extends_then s x.0 t.log x.1 x.2, x.3)
 
-pub snapshot_since : {Z : Type 0} (n : ℕ) (s t u : Seen) (vs : List (Arc PlainMap Z)) → IsLater t s → IsSnapshot n t u vs → IsSnapshot n s u vs
-snapshot_since n s t u vs l x = (x.0, extends_since s t x.0 l x.1, subst (λ (r : List (ℕ × ℕ)). Extends u.log (record { log = x.0; ranges = r })) l.1 x.2, x.3 ∙ l.1, x.4, x.5)
+pub snapshot_since : {Z : Type 0} (n : ℕ) (s t u : Seen) (rs : List ℕ) (vs : List (Arc PlainMap Z)) → IsLater t s → IsSnapshot n t u rs vs → IsSnapshot n s u rs vs
+snapshot_since n s t u rs vs l x = (x.0, extends_since s t x.0 l x.1, subst (λ (r : List (ℕ × ℕ)). Extends u.log (record { log = x.0; ranges = r })) l.1 x.2, x.3 ∙ l.1, x.4, x.5, x.6)
 
-pub answered_all : {Z : Type 0} (n : ℕ) (s t : Seen) (vs : List (Arc PlainMap Z)) (all : PlainMap) (reply : Reply) (x : IsSnapshot n s t vs) → all ≡ after x.0 → reply ≡ (ask all FetchAll).reply → IsReply FetchAll s reply t
-answered_all n s t vs all reply x e is = (
-  x.0,
-  x.1,
-  is ∙ ap (λ (m : PlainMap). (ask m FetchAll).reply) e,
-  x.3,
-  (λ write. absurd (true≢false (sym write ∙ ap (λ (r : Reply). is_change r) (is ∙ fetch_all all)))),
-  λ _. x.2,
+-- all bundles of the map after a list are the answer to a fetch-all
+pub all_answered : (s t : Seen) (list : List Change) (all : List (Name × BundleValue)) → Extends list s → Extends t.log (record { log = list; ranges = s.ranges }) → t.ranges ≡ s.ranges → all ≡ bundles (after list) → IsReply FetchAll s (All all) t
+all_answered s t list all before since ranges is = (
+  list,
+  before,
+  ap All is ∙ sym (fetch_all (after list)),
+  ranges,
+  (λ write. absurd (true≢false (sym write))),
+  λ _. since,
 )
-
--- what the map of a snapshot answers to a fetch-all
-pub snapshot_answers : {Z : Type 0} (n : ℕ) (store : StoreView) (s t : Seen) (vs : List (Arc PlainMap Z)) (all : PlainMap) (r : Result Reply AskError) (x : IsSnapshot n s t vs) → all ≡ after x.0
-    → IfOk r (λ reply. reply ≡ (ask all FetchAll).reply) → IfErr r (λ e. e ≡ Memory) → MatchResult r (λ reply. IsReply FetchAll s reply t) (IsRefused store FetchAll s t)
-snapshot_answers n store s t vs all (Ok reply) x e is memory = answered_all n s t vs all reply x e is
-snapshot_answers n store s t vs all (Err error) x e is memory = subst (λ (w : AskError). IsRefused store FetchAll s t w) (sym memory) (later_snapshot n s t vs x)
 
 -- one shard more has no more changes than its revision says
 pub still_more : (n i : ℕ) (s u : Seen) (rs : List ℕ) → IsLater u s → count n u.log i ≡ get_or rs i 0 → ((k : ℕ) → k < i → count n s.log k ≤ get_or rs k 0) → (k : ℕ) → k < i + 1 → count n s.log k ≤ get_or rs k 0

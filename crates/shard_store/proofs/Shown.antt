@@ -20,7 +20,10 @@ use Rattle.shard_store.specs.Promise.{IsLater, IsReply, IsRefusedAt}
 use Rattle.shard_store.specs.Private.LastReads.{AreLastReads}
 use Rattle.shard_store.specs.Private.Seat.{ShardAnswer}
 use Rattle.shard_store.specs.declared.last_reads.LastRead.{LastRead}
+use Rattle.shard_store.specs.declared.last_all.LastAll.{LastAll}
+use Rattle.shard_store.specs.Private.LastAll.{IsLastAll}
 use Rattle.shard_store.proofs.LastReads.{reads_answered, refused_at_later}
+use Rattle.shard_store.proofs.LastAll.{all_answered_at}
 use Rattle.shard_store.proofs.Promise.{answered_by_read, answered_since, refused_since}
 
 module _ (n shard : ℕ) (op : Op) (d : Name) (s t : Seen) (part : PlainMap) (is_get : op ≡ Get d) (at : shard_of n op ≡ Some shard) (later : IsLater t s) (shows_part : IsPart n shard t.log part) where
@@ -62,3 +65,10 @@ shown_ranges notes n op s t old (Err e) new shows = answer_ranges n op s t (Err 
 pub as_matched : (n : ℕ) (op : Op) (s t : Seen) (answer : Result Reply AskError) → ShardAnswer n op s answer t → MatchResult answer (λ reply. IsReply op s reply t) (IsRefusedAt n op s t)
 as_matched n op s t (Ok reply) a = a
 as_matched n op s t (Err e) a = a
+
+-- what is remembered of the last fetch-all stays so
+pub shown_all : {V : Type 0} (notes : V → BundleValue → V → Type 0) (n : ℕ) (op : Op) (s t : Seen) (remembered : Option LastAll) (old : V) (shown : Result (Option Reply) AskError) (new : V)
+    → ShowsGet notes (λ (answer : Result Reply AskError). ShardAnswer n op s answer t) old shown new → IsLastAll n s.log remembered → IsLastAll n t.log remembered
+shown_all notes n op s t remembered old (Ok (Some reply)) new shows told = all_answered_at n op s t (Ok reply) remembered shows.0 told
+shown_all notes n op s t remembered old (Ok None) new shows told = all_answered_at n op s t (Ok (Found shows.0)) remembered shows.1 told
+shown_all notes n op s t remembered old (Err e) new shows told = all_answered_at n op s t (Err e) remembered shows.0 told

@@ -5,3 +5,4 @@ pub mod Steps
 pub mod Seat
 pub mod Numbers
 pub mod LastReads
+pub mod LastAll

@@ -7,12 +7,14 @@ ghost use Rattle.shard_store.specs.Private.Numbers.{IsPart};
 ghost use Rattle.shard_store.specs.Promise.{IsLater, IsRefusedAt, IsRefused, IsReply};
 ghost use Rattle.shard_store.specs.Private.Seat.{IsAt, IsSameSeat, IsIdle};
 ghost use Rattle.shard_store.specs.Private.LastReads.{AreLastReads};
+ghost use Rattle.shard_store.specs.Private.LastAll.{IsFetched, IsLastAll};
 ghost use Rattle.shard_store.specs.Private.Readings.{WereRead, AreConfirmed, IsMovement, IsSnapshot, IsRound};
 
 use crate::holds::{look, read_version, try_hold};
+use crate::last_all::{LastAll, recall_all};
 use crate::last_reads::{LastRead, LastReads};
 use crate::one_shard::{given_up, make_way};
-use crate::parts::{all_of, join_parts};
+use crate::parts::all_of;
 use crate::recall::recall_copy;
 use crate::rule::{ShardTable, StoreSeat};
 use map_core::{AskError, Contents, Op, Reply};
@@ -68,19 +70,51 @@ impl Movement {
 
 /// What one round gave.
 pub(crate) enum Round {
-    Confirmed(Vec<Arc<Contents>>),
+    Confirmed(Readings),
     Moved(Movement),
 }
 
-/// All bundles, as they stood together at one moment.
+/// All bundles, as they stood together at one moment. What the last fetch-all was answered is answered again if no shard
+/// has changed since.
 pub(crate) fn ask_all(
+    alloc: Global,
+    shards: &ShardTable,
+    seat: &mut StoreSeat,
+    last_reads: &mut LastReads,
+    last_all: &mut Option<LastAll>,
+    tries: u64,
+    rounds: u64,
+) -> Result<Reply, AskError>
+    requires own { IsAt seat.old shards.now.shared.table_id }
+    requires idle { IsIdle seat.old.me }
+    requires told { AreLastReads seat.old.table_id.slots seat.old.me.0.seen.log last_reads.old.by_shard.items }
+    requires all { IsLastAll seat.old.table_id.slots seat.old.me.0.seen.log last_all.old }
+    requires tries { (0 < tries) × (0 < rounds) }
+    ensures seat { IsSameSeat seat.old seat.new × IsIdle seat.new.me }
+    ensures told { AreLastReads seat.old.table_id.slots seat.new.me.0.seen.log last_reads.new.by_shard.items }
+    ensures all { IsLastAll seat.old.table_id.slots seat.new.me.0.seen.log last_all.new }
+    ensures answer { MatchResult result
+        (λ reply. IsReply Op.FetchAll seat.old.me.0.seen reply seat.new.me.0.seen)
+        (IsRefused (record { id = seat.old.table_id; rounds = rounds; tries = tries }) Op.FetchAll seat.old.me.0.seen seat.new.me.0.seen) }
+{
+    if let Some(all) = recall_all(shards, seat, last_all) {
+        return Ok(Reply::All(all));
+    }
+    *last_all = None;
+    let LastAll { revisions, all } = fetch_all(alloc, shards, seat, last_reads, tries, rounds)?;
+    *last_all = LastAll::of(revisions, &all);
+    Ok(Reply::All(all))
+}
+
+// All bundles, from the shards.
+fn fetch_all(
     alloc: Global,
     shards: &ShardTable,
     seat: &mut StoreSeat,
     last_reads: &mut LastReads,
     tries: u64,
     rounds: u64,
-) -> Result<Reply, AskError>
+) -> Result<LastAll, AskError>
     requires own { IsAt seat.old shards.now.shared.table_id }
     requires idle { IsIdle seat.old.me }
     requires told { AreLastReads seat.old.table_id.slots seat.old.me.0.seen.log last_reads.old.by_shard.items }
@@ -88,12 +122,15 @@ pub(crate) fn ask_all(
     ensures seat { IsSameSeat seat.old seat.new × IsIdle seat.new.me }
     ensures told { AreLastReads seat.old.table_id.slots seat.new.me.0.seen.log last_reads.new.by_shard.items }
     ensures answer { MatchResult result
-        (λ reply. IsReply Op.FetchAll seat.old.me.0.seen reply seat.new.me.0.seen)
+        (λ fetched. IsFetched seat.old.table_id.slots seat.old.me.0.seen seat.new.me.0.seen fetched)
         (IsRefused (record { id = seat.old.table_id; rounds = rounds; tries = tries }) Op.FetchAll seat.old.me.0.seen seat.new.me.0.seen) }
 {
-    let parts = fetch_parts(alloc, shards, seat, last_reads, tries, rounds)?;
-    let all = join_parts(alloc, parts.as_slice())?;
-    all_of(all)
+    let Readings {
+        revisions,
+        versions,
+    } = fetch_parts(alloc, shards, seat, last_reads, tries, rounds)?;
+    let all = all_of(alloc, versions.as_slice())?;
+    Ok(LastAll { revisions, all })
 }
 
 // Rounds until no shard has moved in one.
@@ -104,7 +141,7 @@ fn fetch_parts(
     last_reads: &mut LastReads,
     tries: u64,
     rounds: u64,
-) -> Result<Vec<Arc<Contents>>, AskError>
+) -> Result<Readings, AskError>
     requires own { IsAt seat.old shards.now.shared.table_id }
     requires idle { IsIdle seat.old.me }
     requires told { AreLastReads seat.old.table_id.slots seat.old.me.0.seen.log last_reads.old.by_shard.items }
@@ -112,7 +149,7 @@ fn fetch_parts(
     ensures seat { IsSameSeat seat.old seat.new × IsIdle seat.new.me }
     ensures told { AreLastReads seat.old.table_id.slots seat.new.me.0.seen.log last_reads.new.by_shard.items }
     ensures parts { MatchResult result
-        (λ parts. IsSnapshot seat.old.table_id.slots seat.old.me.0.seen seat.new.me.0.seen parts.items)
+        (λ read. IsSnapshot seat.old.table_id.slots seat.old.me.0.seen seat.new.me.0.seen read.revisions.items read.versions.items)
         (IsRefused (record { id = seat.old.table_id; rounds = rounds; tries = tries }) Op.FetchAll seat.old.me.0.seen seat.new.me.0.seen) }
 {
     let mut last = Movement {
@@ -122,7 +159,7 @@ fn fetch_parts(
     };
     for _ in 0..rounds {
         match read_round(alloc, shards, seat, last_reads, tries)? {
-            Round::Confirmed(parts) => return Ok(parts),
+            Round::Confirmed(read) => return Ok(read),
             Round::Moved(movement) => last = movement,
         }
     }
@@ -147,12 +184,9 @@ fn read_round(
         (IsRound seat.old.table_id.slots seat.old.me.0.seen seat.new.me.0.seen)
         (IsRefusedAt seat.old.table_id.slots Op.FetchAll seat.old.me.0.seen seat.new.me.0.seen) }
 {
-    let Readings {
-        revisions,
-        versions,
-    } = collect_all(alloc, shards, seat, last_reads, tries)?;
-    match confirm_all(shards, seat, revisions.as_slice()) {
-        None => Ok(Round::Confirmed(versions)),
+    let read = collect_all(alloc, shards, seat, last_reads, tries)?;
+    match confirm_all(shards, seat, read.revisions.as_slice()) {
+        None => Ok(Round::Confirmed(read)),
         Some(movement) => Ok(Round::Moved(movement)),
     }
 }

@@ -67,6 +67,7 @@ impl HeldPass {
             seat,
             numbers,
             last_reads,
+            last_all: None,
         }
     }
 }

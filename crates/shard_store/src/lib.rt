@@ -10,6 +10,7 @@ mod fetch;
 mod held_pass;
 mod holds;
 mod in_hand;
+mod last_all;
 mod last_reads;
 pub mod laws;
 mod one_shard;

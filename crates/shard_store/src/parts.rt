@@ -1,15 +1,14 @@
 //! The parts of a map, together.
-ghost use Rattle.std.specs.Prelude.{◌≡◌, ◌<◌, length, IfOk, IfErr};
-ghost use Rattle.map_core.specs.declared.op.Op.TheVariants.{FetchAll};
-ghost use Rattle.map_core.specs.PlainMap.{PlainMap, ask};
+ghost use Rattle.std.specs.Prelude.{◌≡◌, ◌<◌, length, IfOk};
+ghost use Rattle.map_core.specs.PlainMap.{PlainMap, bundles};
 ghost use Rattle.shard_store.specs.Private.Readings.{ArePartsOf};
 
-use map_core::{AskError, Contents, Reply, Union};
+use map_core::{Contents, Snapshot, Union};
 use std::alloc::{AllocError, Global};
 use std::sync::Arc;
 
 /// The map of which these are the parts.
-pub(crate) fn join_parts(alloc: Global, parts: &[Arc<Contents>]) -> Result<Union, AllocError>
+fn join_parts(alloc: Global, parts: &[Arc<Contents>]) -> Result<Union, AllocError>
     requires { 0 < length parts.now }
     ensures { (m : PlainMap) → ArePartsOf m parts.now → IfOk result (λ all. all ≡ m) }
 {
@@ -20,10 +19,10 @@ pub(crate) fn join_parts(alloc: Global, parts: &[Arc<Contents>]) -> Result<Union
     Ok(all)
 }
 
-/// What a fetch-all of the map answers.
-pub(crate) fn all_of(map: Union) -> Result<Reply, AskError>
-    ensures reply { IfOk result (λ reply. reply ≡ (ask map FetchAll).reply) }
-    ensures refused { IfErr result (λ e. e ≡ AskError.Memory) }
+/// All bundles of the map of which these are the parts.
+pub(crate) fn all_of(alloc: Global, parts: &[Arc<Contents>]) -> Result<Snapshot, AllocError>
+    requires { 0 < length parts.now }
+    ensures { (m : PlainMap) → ArePartsOf m parts.now → IfOk result (λ all. all ≡ bundles m) }
 {
-    Ok(Reply::All(map.into_snapshot()?))
+    join_parts(alloc, parts)?.into_snapshot()
 }

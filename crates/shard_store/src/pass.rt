@@ -3,6 +3,7 @@ ghost use Rattle.std.specs.Prelude.{◌≡◌, ℕ, ◌+◌, ◌-◌, ◌<◌, �
 ghost use Rattle.shard_store.specs.Changes.{Extends, own_count, without_last, just_last};
 ghost use Rattle.shard_store.specs.Private.Seat.{IsAt, IsSameSeat, IsIdle};
 
+use crate::last_all::LastAll;
 use crate::last_reads::LastReads;
 use crate::plays::{Look, NamesShare, SplitOff, TakeIn};
 use crate::rule::{ShardTable, StoreSeat};
@@ -15,6 +16,7 @@ pub struct Pass {
     pub(crate) seat: StoreSeat,
     pub(crate) numbers: u64,
     pub(crate) last_reads: LastReads,
+    pub(crate) last_all: Option<LastAll>,
 }
 
 impl Model for Pass {
@@ -23,12 +25,13 @@ impl Model for Pass {
     ghost use Rattle.shard_store.specs.Changes.{own_count};
     ghost use Rattle.shard_store.specs.Private.Seat.{IsIdle};
     ghost use Rattle.shard_store.specs.Private.LastReads.{AreLastReads};
+    ghost use Rattle.shard_store.specs.Private.LastAll.{IsLastAll};
 
     ghost Value = { PassView };
 
     ghost view = { λ p. record { store = p.seat.table_id; seen = p.seat.me.0.seen } };
 
-    ghost invariant = { λ p. IsIdle p.seat.me × (own_count p.seat.me.0.seen.ranges ≡ p.numbers) × AreLastReads p.seat.table_id.slots p.seat.me.0.seen.log p.last_reads.by_shard.items };
+    ghost invariant = { λ p. IsIdle p.seat.me × (own_count p.seat.me.0.seen.ranges ≡ p.numbers) × AreLastReads p.seat.table_id.slots p.seat.me.0.seen.log p.last_reads.by_shard.items × IsLastAll p.seat.table_id.slots p.seat.me.0.seen.log p.last_all };
 }
 
 impl Pass {

@@ -1,8 +1,9 @@
 //! The store: what threads do with it, each with a pass of its own.
-ghost use Rattle.std.specs.Prelude.{◌≡◌, ◌<◌, ◌≤◌, ◌++◌, [], ◌∷◌, length, replicate, IfOk};
+ghost use Rattle.std.specs.Prelude.{◌≡◌, ◌<◌, ◌≤◌, ◌++◌, [], ◌∷◌, length, replicate, IfOk, Some};
 ghost use Rattle.std.specs.List.{All};
 ghost use Rattle.map_core.specs.Ask.{ShowsGet};
 ghost use Rattle.map_core.specs.declared.op.Op.{Op};
+ghost use Rattle.map_core.specs.PlainMap.{shard_of as home_of};
 ghost use Rattle.shard_store.specs.Changes.{Extends, own_count, without_last, just_last};
 ghost use Rattle.shard_store.specs.Close.{CloseAnswer};
 ghost use Rattle.shard_store.specs.Pass.{IsOf};
@@ -71,6 +72,7 @@ impl Store {
             seat,
             numbers: 1 << 32,
             last_reads: LastReads::new(alloc),
+            last_all: None,
         };
         Ok((
             Store {
@@ -97,6 +99,7 @@ impl Store {
             seat,
             numbers: share,
             last_reads: LastReads::new(self.alloc),
+            last_all: None,
         }
     }
 
@@ -112,17 +115,20 @@ impl Store {
             mut seat,
             numbers,
             last_reads,
+            last_all,
         } = pass;
         let Pass {
             seat: other,
             numbers: _,
             last_reads: _,
+            last_all: _,
         } = other;
         join_seats(&self.shards, &mut seat, other);
         Pass {
             seat,
             numbers,
             last_reads,
+            last_all,
         }
     }
 
@@ -133,16 +139,46 @@ impl Store {
         ensures own { IsOf pass.new self.now }
         ensures answer { StoreAnswer self.now op pass.old.seen result pass.new.seen }
     {
+        match shard_of(&op, self.shards.slot_count()) {
+            Some(shard) => self.ask_shard(pass, shard, &op),
+            None => self.ask_shards(pass),
+        }
+    }
+
+    // Answers an operation on one name, at the shard where it is at home.
+    fn ask_shard(&self, pass: &mut Pass, shard: usize, op: &Op) -> Result<Reply, AskError>
+        requires own { IsOf pass.old self.now }
+        requires home { home_of self.now.id.slots op.now ≡ Some shard }
+        requires shard { shard < self.now.id.slots }
+        ensures own { IsOf pass.new self.now }
+        ensures answer { StoreAnswer self.now op.now pass.old.seen result pass.new.seen }
+    {
         let Pass {
             seat,
             numbers: _,
             last_reads,
+            last_all: _,
         } = pass;
         let (alloc, shards) = (self.alloc, &self.shards);
-        match shard_of(&op, shards.slot_count()) {
-            Some(shard) => ask_name(alloc, shards, seat, last_reads, self.tries, shard, &op),
-            None => ask_all(alloc, shards, seat, last_reads, self.tries, self.rounds),
-        }
+        ask_name(alloc, shards, seat, last_reads, self.tries, shard, op)
+    }
+
+    // Answers a fetch-all.
+    fn ask_shards(&self, pass: &mut Pass) -> Result<Reply, AskError>
+        requires own { IsOf pass.old self.now }
+        ensures own { IsOf pass.new self.now }
+        ensures answer { StoreAnswer self.now Op.FetchAll pass.old.seen result pass.new.seen }
+    {
+        let Pass {
+            seat,
+            numbers: _,
+            last_reads,
+            last_all,
+        } = pass;
+        let (alloc, shards) = (self.alloc, &self.shards);
+        ask_all(
+            alloc, shards, seat, last_reads, last_all, self.tries, self.rounds,
+        )
     }
 
     /// The same, but the bundle that a get has found may be shown to the viewer where it is kept: then there is no reply.
@@ -164,6 +200,7 @@ impl Store {
             seat,
             numbers: _,
             last_reads,
+            last_all: _,
         } = pass;
         let (alloc, shards) = (self.alloc, &self.shards);
         show_name(
@@ -252,6 +289,7 @@ impl Store {
             mut seat,
             numbers,
             last_reads,
+            last_all,
         } = pass;
         match try_hold(&self.shards, &mut seat, shard) {
             Ok(word) => Ok(HeldPass {
@@ -270,6 +308,7 @@ impl Store {
                     seat,
                     numbers,
                     last_reads,
+                    last_all,
                 };
                 Err((pass, error))
             }
@@ -291,6 +330,7 @@ impl Store {
             seat,
             numbers: _,
             last_reads: _,
+            last_all: _,
         } = pass;
         let closed = shards.close_with(seat);
         if let Some(shard) = first_held(&closed) {

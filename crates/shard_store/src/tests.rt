@@ -3,6 +3,7 @@ ghost use Rattle.std.specs.Prelude.{◌<◌, ◌≤◌};
 ghost use Rattle.shard_store.specs.Pass.{IsOf};
 
 use crate::fetch::{collect_all, confirm_all};
+use crate::last_all::recall_all;
 use crate::{Pass, Store};
 use map_core::{AskError, Reply};
 use spiffe_doc::{TrustDomain, read_document};
@@ -76,5 +77,35 @@ fn a_write_between_reading_and_confirming_is_seen(rt: HostRuntime) -> Result<(),
     // The name `a` is at home in shard 1, and `b` in shard 0.
     assert!(rt; write_between(alloc, 2, &other, &one)? == moved_error(1, 0, 1));
     assert!(rt; write_between(alloc, 2, &two, &[])? == None);
+    Ok(())
+}
+
+/// Whether the pass can answer a fetch-all by its last one.
+fn remembers(store: &Store, mut pass: Pass) -> bool
+    requires { IsOf pass store.now }
+{
+    recall_all(&store.shards, &mut pass.seat, &pass.last_all).is_some()
+}
+
+/// Whether a pass that has fetched all remembers it after the other pass has set these domains.
+fn remembers_after(alloc: Global, sets: &[(&str, &[u8])]) -> Result<bool, Fail> {
+    let (store, mut p) = Store::new(alloc, 4, 1, 1)?;
+    let mut q = store.split(&mut p, 1000);
+    set_each(alloc, &store, &mut p, &[("a", FIRST), ("b", FIRST)])?;
+    let Ok(Reply::All(_)) = store.fetch_all(&mut q) else {
+        return Err(Fail::from("a free store was not fetched"));
+    };
+    set_each(alloc, &store, &mut p, sets)?;
+    Ok(remembers(&store, q))
+}
+
+#[test]
+fn a_fetch_all_is_remembered_until_a_shard_changes(rt: HostRuntime) -> Result<(), Fail> {
+    let alloc = rt.alloc();
+    assert!(rt; remembers_after(alloc, &[])?);
+    assert!(rt; !remembers_after(alloc, &[("a", SECOND)])?);
+    assert!(rt; !remembers_after(alloc, &[("c", FIRST)])?);
+    let (store, pass) = Store::new(alloc, 4, 1, 1)?;
+    assert!(rt; !remembers(&store, pass));
     Ok(())
 }

@@ -40,12 +40,17 @@ abbrev pub IsMovement : ℕ → List Change → List Change → List ℕ → Mov
 IsMovement n from log revisions movement = (movement.shard < length revisions) × (movement.first ≡ slice_index_or revisions movement.shard 0) × (movement.first ≢ movement.second)
     × (count n from movement.shard ≤ movement.second) × (movement.second ≡ count n log movement.shard)
 
--- these are the parts of the map after a list that begins with what the pass had seen, and that it has seen now
-abbrev pub IsSnapshot : {Z : Type 0} → ℕ → Seen → Seen → List (Arc PlainMap Z) → Type 0
-IsSnapshot n s t parts = (list : List Change) × Extends list s × Extends t.log (record { log = list; ranges = s.ranges }) × (t.ranges ≡ s.ranges)
-    × (length parts ≡ n) × ArePartsOf (after list) parts
+-- the shards, n of them, have these revisions after the changes
+abbrev pub AreRevisions : ℕ → List Change → List ℕ → Type 0
+AreRevisions n log revisions = (length revisions ≡ n) × ((k : ℕ) → k < n → count n log k ≡ slice_index_or revisions k 0)
+
+-- these are the parts of the map and their revisions after a list that begins with what the pass had seen, and that it has
+-- seen now
+abbrev pub IsSnapshot : {Z : Type 0} → ℕ → Seen → Seen → List ℕ → List (Arc PlainMap Z) → Type 0
+IsSnapshot n s t revisions parts = (list : List Change) × Extends list s × Extends t.log (record { log = list; ranges = s.ranges }) × (t.ranges ≡ s.ranges)
+    × (length parts ≡ n) × ArePartsOf (after list) parts × AreRevisions n list revisions
 
 -- what one round of a fetch-all says
 abbrev pub IsRound : ℕ → Seen → Seen → Round → Type 0
-IsRound n s t (Confirmed parts) = IsSnapshot n s t parts.items
+IsRound n s t (Confirmed read) = IsSnapshot n s t read.revisions.items read.versions.items
 IsRound n s t (Moved movement) = IsLater t s × (movement.shard < n) × HasMoved n s t movement.shard movement.first movement.second

@@ -1,8 +1,6 @@
-use Rattle.std.proofs.Common.{◌≡◌, ◌*◌, ◌<◌, ◌^◌, ◌++◌, ◌∷◌, [], rules, sym, ap, ◌∙◌, subst}
-use Rattle.shard_store.specs.declared.change.View.{View}
+use Rattle.std.proofs.Common.{◌++◌, ◌∷◌, [], rules}
 use Rattle.shard_store.specs.declared.change.Seen.{Seen}
-use Rattle.shard_store.specs.Changes.{count}
-use Rattle.shard_store.specs.Private.Seat.{HasInHand, Writes, change_by}
+use Rattle.shard_store.specs.Private.Seat.{HasInHand, change_by}
 use Rattle.shard_store.proofs.Promise.{hand_rest, put_in_hand, at_slots}
 use Rattle.shard_store.proofs.holds.publish.Goals as goal
 

@@ -7,8 +7,8 @@ use Rattle.shard_store.specs.declared.change.Seen.{Seen}
 use Rattle.shard_store.specs.declared.change.View.{View}
 use Rattle.shard_store.specs.Private.Rule.{SlotValue}
 use Rattle.shard_store.specs.Private.Seat.{HasInHand, IsHolding, Writes, AsksInHand, change_by}
-use Rattle.shard_store.proofs.Promise.{at_slots, seen_as, holds_seen}
-use Rattle.shard_store.proofs.InHand.{changed_holds, answered_by_change, answered_unchanged}
+use Rattle.shard_store.proofs.Promise.{at_slots, holds_seen}
+use Rattle.shard_store.proofs.InHand.{changed_holds, answered_by_change}
 use Rattle.shard_store.proofs.in_hand.change_held.Goals as goal
 
 -- the result of a call, by its parts

@@ -1,7 +1,7 @@
-use Rattle.std.proofs.Common.{sym, ap, ◌∙◌}
-use Rattle.map_core.specs.declared.reply.Reply.TheVariants.{All}
-use Rattle.map_core.proofs.Asks.{fetch_all}
+use Rattle.std.proofs.Common.{ap, ◌∙◌}
+use Rattle.map_core.specs.PlainMap.{bundles}
+use Rattle.map_core.proofs.Apart.{if_ok}
 use Rattle.shard_store.proofs.parts.all_of.Goals as goal
 
-pub returns-clause-reply : goal.returns-clause-reply
-returns-clause-reply c = ap All c.in_ok-into_snapshot.ensures ∙ sym (fetch_all c.args.map)
+pub returns : goal.returns
+returns c = λ m p. if_ok c.into_snapshot.result (λ all e. e ∙ ap bundles (c.in_ok-join_parts.ensures m p)) c.into_snapshot.ensures

@@ -3,9 +3,11 @@ use Rattle.atomic_table.specs.Seated.{TableId}
 use Rattle.map_core.specs.declared.reply.AskError.TheVariants.{Held}
 use Rattle.shard_store.specs.Promise.{IsLater, IsAlone}
 use Rattle.shard_store.specs.Changes.{count}
+use Rattle.shard_store.specs.Private.LastAll.{IsLastAll}
 use Rattle.shard_store.specs.Private.LastReads.{AreLastReads}
 use Rattle.shard_store.specs.Private.Seat.{IsHolding}
 use Rattle.shard_store.proofs.Promise.{at_slots}
+use Rattle.shard_store.proofs.LastAll.{all_later}
 use Rattle.shard_store.proofs.LastReads.{reads_later}
 use Rattle.shard_store.proofs.store.Store.hold.Goals as goal
 
@@ -26,6 +28,8 @@ invariant_of-pass c = (
   search rules,
   at_slots (λ k. AreLastReads k.slots c.try_hold.new.seat.me.0.seen.log c.pass.inside.last_reads.by_shard.items) _ _ c.try_hold.ensures.seat.0
       (reads_later c.pass.inside.seat.table_id.slots c.pass.inside.seat.me.0.seen c.try_hold.new.seat.me.0.seen c.pass.inside.last_reads.by_shard.items c.try_hold.ensures.later c.pass.invariant.2),
+  at_slots (λ k. IsLastAll k.slots c.try_hold.new.seat.me.0.seen.log c.pass.inside.last_all) _ _ c.try_hold.ensures.seat.0
+      (all_later c.pass.inside.seat.table_id.slots c.pass.inside.seat.me.0.seen c.try_hold.new.seat.me.0.seen c.pass.inside.last_all c.try_hold.ensures.later c.pass.invariant.3),
 )
 
 pub returns-in-Err : goal.returns-in-Err

@@ -5,11 +5,12 @@ use Rattle.map_core.specs.declared.reply.AskError.{AskError}
 use Rattle.map_core.proofs.Shows.{shows_as}
 use Rattle.shard_store.specs.Changes.{own_count}
 use Rattle.shard_store.specs.Promise.{StoreAnswer}
+use Rattle.shard_store.specs.Private.LastAll.{IsLastAll}
 use Rattle.shard_store.specs.Private.LastReads.{AreLastReads}
 use Rattle.shard_store.specs.Private.Seat.{ShardAnswer}
 use Rattle.shard_store.proofs.Asked.{shard_answers}
 use Rattle.shard_store.proofs.Promise.{at_slots}
-use Rattle.shard_store.proofs.Shown.{shown_ranges, as_matched}
+use Rattle.shard_store.proofs.Shown.{shown_all, shown_ranges, as_matched}
 use Rattle.shard_store.proofs.store.Store.show.Goals as goal
 
 pub invariant_of-pass : goal.invariant_of-pass
@@ -17,6 +18,8 @@ invariant_of-pass g c = let u = c.show_name.new.seat.me.0.seen in (
   c.show_name.ensures.seat.1,
   ap own_count (shown_ranges g.V.Viewer.notes _ _ _ _ _ _ _ c.show_name.ensures.shown) ∙ c.pass.invariant.1,
   at_slots (λ z. AreLastReads z.slots u.log c.show_name.new.last_reads.by_shard.items) _ _ c.show_name.ensures.seat.0.0 c.show_name.ensures.told,
+  at_slots (λ z. IsLastAll z.slots u.log c.pass.inside.last_all) _ _ c.show_name.ensures.seat.0.0
+      (shown_all g.V.Viewer.notes _ c.args.op _ _ _ _ _ _ c.show_name.ensures.shown c.pass.invariant.3),
 )
 
 pub returns-clause-shown : goal.returns-clause-shown
