@@ -12,7 +12,7 @@ use Rattle.map_core.specs.declared.reply.Reply.TheVariants.{Found}
 use Rattle.map_core.specs.declared.reply.AskError.{AskError}
 use Rattle.map_core.specs.Ask.{ShowsGet}
 use Rattle.map_core.specs.Reply.{is_change}
-use Rattle.map_core.specs.PlainMap.{PlainMap, ask, shard_of}
+use Rattle.map_core.specs.PlainMap.{PlainMap, ask, home, shard_of}
 use Rattle.map_core.proofs.Asks.{get_changes_nothing}
 use Rattle.shard_store.specs.declared.change.Seen.{Seen}
 use Rattle.shard_store.specs.Private.Numbers.{IsPart}
@@ -24,7 +24,7 @@ use Rattle.shard_store.specs.declared.last_all.LastAll.{LastAll}
 use Rattle.shard_store.specs.Private.LastAll.{IsLastAll}
 use Rattle.shard_store.proofs.LastReads.{reads_answered, refused_at_later}
 use Rattle.shard_store.proofs.LastAll.{all_answered_at}
-use Rattle.shard_store.proofs.Promise.{answered_by_read, answered_since, refused_since}
+use Rattle.shard_store.proofs.Promise.{answered_by_read, answered_since}
 
 module _ (n shard : ℕ) (op : Op) (d : Name) (s t : Seen) (part : PlainMap) (is_get : op ≡ Get d) (at : shard_of n op ≡ Some shard) (later : IsLater t s) (shows_part : IsPart n shard t.log part) where
   one : (reply : Reply) → reply ≡ (ask part (Get d)).reply → IsReply op s reply t
@@ -72,3 +72,8 @@ pub shown_all : {V : Type 0} (notes : V → BundleValue → V → Type 0) (n : �
 shown_all notes n op s t remembered old (Ok (Some reply)) new shows told = all_answered_at n op s t (Ok reply) remembered shows.0 told
 shown_all notes n op s t remembered old (Ok None) new shows told = all_answered_at n op s t (Ok (Found shows.0)) remembered shows.1 told
 shown_all notes n op s t remembered old (Err e) new shows told = all_answered_at n op s t (Err e) remembered shows.0 told
+
+-- the shard of a get
+pub get_at : (n k : ℕ) (d : Name) (shard : ℕ) → k ≡ n → shard ≡ home k d → shard_of n (Get d) ≡ Some shard
+unfolding shard_of
+get_at n k d shard size is = ap Some (sym (is ∙ ap (λ j. home j d) size))

@@ -2,6 +2,7 @@
 ghost use Rattle.std.specs.Prelude.{◌≡◌, ◌<◌, Some, Ok, IfSome, MatchOption, MatchResult};
 ghost use Rattle.std.specs.Arc.{arc_value};
 ghost use Rattle.map_core.specs.Ask.{ShowsGet};
+ghost use Rattle.map_core.specs.declared.op.Op.TheVariants.{Get};
 ghost use Rattle.map_core.specs.PlainMap.{shard_of};
 ghost use Rattle.shard_store.specs.Changes.{count};
 ghost use Rattle.shard_store.specs.Private.Numbers.{IsPart};
@@ -15,6 +16,7 @@ use crate::last_reads::{LastRead, LastReads};
 use crate::one_shard::ask_shard;
 use crate::rule::{ShardTable, StoreSeat};
 use map_core::{AskError, Op, Reply, Viewer};
+use spiffe_doc::TrustDomain;
 use std::alloc::Global;
 
 /// What was read of the shard last, if the shard is as it was then. One load tells, whether the shard is held or not.
@@ -118,7 +120,7 @@ fn get_recalled(
     }
 }
 
-/// The same, but the bundle that a get finds by what was read last is shown to the viewer where it is kept, and there is no
+/// A get to a viewer, to which the bundle that is found by what was read last is shown where it is kept. Then there is no
 /// reply.
 pub(crate) fn show_name<V: Viewer>(
     alloc: Global,
@@ -127,24 +129,51 @@ pub(crate) fn show_name<V: Viewer>(
     last_reads: &mut LastReads,
     tries: u64,
     shard: usize,
-    op: &Op,
+    domain: TrustDomain,
     viewer: &mut V,
 ) -> Result<Option<Reply>, AskError>
     requires own { IsAt seat.old shards.now.shared.table_id }
     requires shard { shard < seat.old.table_id.slots }
     requires idle { IsIdle seat.old.me }
     requires tries { 0 < tries }
-    requires home { shard_of seat.old.table_id.slots op.now ≡ Some shard }
+    requires home { shard_of seat.old.table_id.slots (Get domain) ≡ Some shard }
     requires told { AreLastReads seat.old.table_id.slots seat.old.me.0.seen.log last_reads.old.by_shard.items }
     ensures seat { IsSameSeat seat.old seat.new × IsIdle seat.new.me }
     ensures told { AreLastReads seat.old.table_id.slots seat.new.me.0.seen.log last_reads.new.by_shard.items }
-    ensures shown { ShowsGet V.notes (λ answer. ShardAnswer seat.old.table_id.slots op.now seat.old.me.0.seen answer seat.new.me.0.seen) (V.noted viewer.old) result (V.noted viewer.new) }
+    ensures shown { ShowsGet V.notes (λ answer. ShardAnswer seat.old.table_id.slots (Get domain) seat.old.me.0.seen answer seat.new.me.0.seen) (V.noted viewer.old) result (V.noted viewer.new) }
 {
-    if let Some(shown) = show_recalled(shards, seat, last_reads, shard, op, viewer)? {
+    if let Some(shown) = show_recalled(shards, seat, last_reads, shard, &domain, viewer)? {
         return Ok(shown);
     }
-    let reply = ask_name(alloc, shards, seat, last_reads, tries, shard, op)?;
+    let reply = get_name(alloc, shards, seat, last_reads, tries, shard, domain)?;
     Ok(Some(reply))
+}
+
+// A get whose name an operation is made of, which most gets do not need: it has room for any operation.
+#[inline(never)]
+fn get_name(
+    alloc: Global,
+    shards: &ShardTable,
+    seat: &mut StoreSeat,
+    last_reads: &mut LastReads,
+    tries: u64,
+    shard: usize,
+    domain: TrustDomain,
+) -> Result<Reply, AskError>
+    requires own { IsAt seat.old shards.now.shared.table_id }
+    requires shard { shard < seat.old.table_id.slots }
+    requires idle { IsIdle seat.old.me }
+    requires tries { 0 < tries }
+    requires home { shard_of seat.old.table_id.slots (Get domain) ≡ Some shard }
+    requires told { AreLastReads seat.old.table_id.slots seat.old.me.0.seen.log last_reads.old.by_shard.items }
+    ensures seat { IsSameSeat seat.old seat.new × IsIdle seat.new.me }
+    ensures told { AreLastReads seat.old.table_id.slots seat.new.me.0.seen.log last_reads.new.by_shard.items }
+    ensures answer { MatchResult result
+        (λ reply. IsReply (Get domain) seat.old.me.0.seen reply seat.new.me.0.seen)
+        (IsRefusedAt seat.old.table_id.slots (Get domain) seat.old.me.0.seen seat.new.me.0.seen) }
+{
+    let op = Op::Get(domain);
+    ask_name(alloc, shards, seat, last_reads, tries, shard, &op)
 }
 
 // Answers a get to a viewer by what was read of the shard last, if that is still the shard's part.
@@ -153,24 +182,21 @@ fn show_recalled<V: Viewer>(
     seat: &mut StoreSeat,
     last_reads: &LastReads,
     shard: usize,
-    op: &Op,
+    domain: &TrustDomain,
     viewer: &mut V,
 ) -> Result<Option<Option<Reply>>, AskError>
     requires own { IsAt seat.old shards.now.shared.table_id }
     requires shard { shard < seat.old.table_id.slots }
     requires idle { IsIdle seat.old.me }
-    requires home { shard_of seat.old.table_id.slots op.now ≡ Some shard }
+    requires home { shard_of seat.old.table_id.slots (Get domain.now) ≡ Some shard }
     requires told { AreLastReads seat.old.table_id.slots seat.old.me.0.seen.log last_reads.now.by_shard.items }
     ensures seat { IsSameSeat seat.old seat.new × IsIdle seat.new.me }
     ensures answer { MatchResult result
         (λ found. MatchOption found
         (IsLater seat.new.me.0.seen seat.old.me.0.seen × (V.noted viewer.new ≡ V.noted viewer.old))
-        (λ shown. ShowsGet V.notes (λ answer. ShardAnswer seat.old.table_id.slots op.now seat.old.me.0.seen answer seat.new.me.0.seen) (V.noted viewer.old) (Ok shown) (V.noted viewer.new)))
-        (λ e. IsRefusedAt seat.old.table_id.slots op.now seat.old.me.0.seen seat.new.me.0.seen e × (V.noted viewer.new ≡ V.noted viewer.old)) }
+        (λ shown. ShowsGet V.notes (λ answer. ShardAnswer seat.old.table_id.slots (Get domain.now) seat.old.me.0.seen answer seat.new.me.0.seen) (V.noted viewer.old) (Ok shown) (V.noted viewer.new)))
+        (λ e. IsRefusedAt seat.old.table_id.slots (Get domain.now) seat.old.me.0.seen seat.new.me.0.seen e × (V.noted viewer.new ≡ V.noted viewer.old)) }
 {
-    let Op::Get(domain) = op else {
-        return Ok(None);
-    };
     match recall(shards, seat, last_reads, shard) {
         Some(last) => Ok(Some(last.version.show(domain, viewer)?)),
         None => Ok(None),

@@ -24,7 +24,7 @@ use spiffe_doc::{Authority, Bundle, TrustDomain};
 use std::alloc::{AllocError, Global};
 use std::marker::{Brand, Model};
 use std::sync::Arc;
-use step_core::home::shard_of;
+use step_core::home::{home, shard_of};
 
 /// A map of trust bundles in shards, for threads that each have a pass.
 #[derive(Drop)]
@@ -181,21 +181,18 @@ impl Store {
         )
     }
 
-    /// The same, but the bundle that a get has found may be shown to the viewer where it is kept: then there is no reply.
+    /// Answers a get of the name. The bundle that was found may be shown to the viewer where it is kept: then there is no
+    /// reply.
     pub(crate) fn show<V: Viewer>(
         &self,
         pass: &mut Pass,
-        op: Op,
+        domain: TrustDomain,
         viewer: &mut V,
     ) -> Result<Option<Reply>, AskError>
         requires own { IsOf pass.old self.now }
         ensures own { IsOf pass.new self.now }
-        ensures shown { ShowsGet V.notes (λ answer. StoreAnswer self.now op pass.old.seen answer pass.new.seen) (V.noted viewer.old) result (V.noted viewer.new) }
+        ensures shown { ShowsGet V.notes (λ answer. StoreAnswer self.now (Op.Get domain) pass.old.seen answer pass.new.seen) (V.noted viewer.old) result (V.noted viewer.new) }
     {
-        let Some(shard) = shard_of(&op, self.shards.slot_count()) else {
-            let reply = self.ask(pass, op)?;
-            return Ok(Some(reply));
-        };
         let Pass {
             seat,
             numbers: _,
@@ -203,8 +200,9 @@ impl Store {
             last_all: _,
         } = pass;
         let (alloc, shards) = (self.alloc, &self.shards);
+        let shard = home(&domain, shards.slot_count());
         show_name(
-            alloc, shards, seat, last_reads, self.tries, shard, &op, viewer,
+            alloc, shards, seat, last_reads, self.tries, shard, domain, viewer,
         )
     }
 

@@ -1,4 +1,5 @@
-use Rattle.std.proofs.Common.{sym, subst}
+use Rattle.std.proofs.Common.{refl, sym, subst}
+use Rattle.map_core.specs.declared.op.Op.TheVariants.{Get}
 use Rattle.map_core.specs.PlainMap.{PlainMap}
 use Rattle.shard_store.specs.Private.Numbers.{IsPart}
 use Rattle.shard_store.proofs.Shown.{shown_by_part}
@@ -8,5 +9,5 @@ pub returns-in_ok-show-in-Some-clause-answer : goal.returns-in_ok-show-in-Some-c
 returns-in_ok-show-in-Some-clause-answer g c =
     let n = c.args.seat.now.table_id.slots in let t = c.recall.new.seat.me.0.seen in
     let shows_part : IsPart n c.args.shard t.log c.deref.result.now = subst (λ (m : PlainMap). IsPart n c.args.shard t.log m) (sym c.deref.ensures) c.in-Some.ensures.read.1 in
-    shown_by_part n c.args.shard c.args.op.now c.in-Get.domain c.args.seat.now.me.0.seen t c.deref.result.now c.in-Get.is c.requires.home c.recall.ensures.later shows_part
+    shown_by_part n c.args.shard (Get c.args.domain.now) c.args.domain.now c.args.seat.now.me.0.seen t c.deref.result.now refl c.requires.home c.recall.ensures.later shows_part
     g.V.Viewer.notes (g.V.Viewer.noted c.args.viewer.now) c.in_ok-show-in-Some.field-0 (g.V.Viewer.noted c.show.new.viewer) c.in_ok-show-in-Some.ensures
