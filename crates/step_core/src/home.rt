@@ -1,5 +1,5 @@
 //! The shard that a name belongs to.
-ghost use Rattle.std.specs.Prelude.{◌≡◌, ◌<◌, IfSome};
+ghost use Rattle.std.specs.Prelude.{◌≡◌, ◌<◌, ◌%◌, IfSome};
 ghost use Rattle.map_core.specs.PlainMap.{home, shard_of};
 
 use map_core::Op;
@@ -17,7 +17,22 @@ pub fn home(domain: &TrustDomain, shards: usize) -> usize
     for byte in bytes {
         total += u32::from(*byte);
     }
-    total as usize % shards
+    modulo(total as usize, shards)
+}
+
+/// A division by a number that is known is a mask, where the number is a power of two. These are the usual ones.
+fn modulo(total: usize, shards: usize) -> usize
+    requires { 0 < shards }
+    ensures { result ≡ total % shards }
+{
+    match shards {
+        4 => total % 4,
+        8 => total % 8,
+        16 => total % 16,
+        32 => total % 32,
+        64 => total % 64,
+        _ => total % shards,
+    }
 }
 
 /// The shard that an operation on one name is for; none for a fetch-all.

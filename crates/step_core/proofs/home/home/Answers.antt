@@ -10,4 +10,4 @@ pub returns-clause-shard : goal.returns-clause-shard
 unfolding home
 returns-clause-shard c =
     let all : c.loop-byte.total ≡ sum c.args.domain.now = c.loop-byte.invariant.0 ∙ ap sum (all_taken _ _ c.loop-byte-test.false ∙ c.as_bytes-bytes.ensures.value ∙ c.as_str.ensures.value) in
-    ap (λ (x : ℕ). x % c.args.shards) all
+    c.modulo.ensures ∙ ap (λ (x : ℕ). x % c.args.shards) all
