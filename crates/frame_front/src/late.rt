@@ -1,5 +1,5 @@
 //! Storing a reply for sending, part by part.
-ghost use Rattle.std.specs.Prelude.{◌≡◌, ◌≢◌, ◌⊎◌, ◌+◌, ◌<◌, ◌≤◌, ◌++◌, [], length, OnOk, OnErr};
+ghost use Rattle.std.specs.Prelude.{◌≡◌, ◌≢◌, ◌⊎◌, ◌+◌, ◌<◌, ◌≤◌, ◌++◌, [], length, true, OnOk, OnErr};
 ghost use Rattle.spiffe_doc.specs.Text.{text_of};
 ghost use Rattle.frame_front.specs.Reply.{item_frame};
 ghost use Rattle.frame_front.specs.Private.Late.{HasNoText, late_left, items_left};
@@ -48,6 +48,13 @@ impl Late {
         }
     }
 
+    /// Whether nothing is left, as after most gets.
+    fn is_nothing(&self) -> bool
+        ensures { result ≡ true → late_left self.now ≡ [] }
+    {
+        self.head.is_empty() && matches!(&self.body, Body::Empty)
+    }
+
     /// Stores part after part until all are stored or as many bytes are ready as may wait. If memory is refused,
     /// the rest is still left.
     pub(crate) fn store(&mut self, ready: &mut BytesMut) -> Result<(), AllocError>
@@ -56,7 +63,7 @@ impl Late {
         ensures err { OnErr result (late_left self.new ≢ []) }
         ensures few { length ready.old.items ≤ most_ready → length ready.new.items ≤ most_ready }
     {
-        if ready.len() >= REPLY_LIMIT {
+        if self.is_nothing() || ready.len() >= REPLY_LIMIT {
             return Ok(());
         }
         self.store_front(ready)?;

@@ -177,7 +177,7 @@ fn answer_kept<A: Ask>(
         match decoder.payload() {
             Ok(Some(payload)) => {
                 let size = payload.len();
-                *late = answer_late(alloc, documents, version, ask, ready, payload);
+                answer_late(alloc, documents, version, ask, ready, late, payload);
                 decoder.pass(size);
                 frames += 1;
             }

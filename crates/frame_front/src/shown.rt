@@ -1,5 +1,5 @@
 //! Replies of a session without ends: the bundle that a get finds is stored for sending from where it is kept.
-ghost use Rattle.std.specs.Prelude.{◌≡◌, ◌+◌, ◌≤◌, ◌∷◌, length, IfSome};
+ghost use Rattle.std.specs.Prelude.{◌≡◌, ◌+◌, ◌≤◌, ◌∷◌, [], length, IfSome};
 ghost use Rattle.frame_front.specs.Live.{most_part};
 ghost use Rattle.frame_front.specs.declared.request.Version.{Version as Spoken};
 ghost use Rattle.frame_front.specs.Private.Late.{AnswersLate, late_left};
@@ -33,7 +33,7 @@ impl Viewer for Ready {
     }
 }
 
-/// Answers a payload. The answer is what is left to store of the reply; the rest stands after what was ready.
+/// Answers a payload. What is left to store of the reply waits; the rest stands after what was ready.
 #[inline(always)]
 pub(crate) fn answer_late<A: Ask>(
     alloc: Global,
@@ -41,14 +41,16 @@ pub(crate) fn answer_late<A: Ask>(
     version: &mut Version,
     ask: &mut A,
     ready: &mut Ready,
+    late: &mut Late,
     payload: &[u8],
-) -> Late
-    ensures answers { AnswersLate A.answers (version.old, ask.old) payload.now (version.new, ask.new) ready.old.bytes.items ready.new.bytes.items (late_left result) }
+)
+    requires { late_left late.old ≡ [] }
+    ensures answers { AnswersLate A.answers (version.old, ask.old) payload.now (version.new, ask.new) ready.old.bytes.items ready.new.bytes.items (late_left late.new) }
     ensures few { length ready.new.bytes.items ≤ length ready.old.bytes.items + most_part }
 {
     match after_get(payload) {
-        Some(bytes) => show_get(alloc, ask, ready, bytes),
-        None => Late::of(answer_any(alloc, documents, version, ask, payload)),
+        Some(bytes) => show_get(alloc, ask, ready, late, bytes),
+        None => *late = Late::of(answer_any(alloc, documents, version, ask, payload)),
     }
 }
 
@@ -62,19 +64,29 @@ fn after_get(payload: &[u8]) -> Option<&[u8]>
     }
 }
 
-/// Answers a get, whose name follows its letter.
+/// Answers a get, whose name follows its letter. Of a bundle that was shown nothing is left, so what waits is not touched.
 #[tactic(auto, unfolding(crate::specs::Request::request_of, crate::specs::Request::get_of))]
-fn show_get<A: Ask>(alloc: Global, ask: &mut A, ready: &mut Ready, bytes: &[u8]) -> Late
-    ensures answers { (version : Spoken) → AnswersLate A.answers (version, ask.old) (71 ∷ bytes.now) (version, ask.new) ready.old.bytes.items ready.new.bytes.items (late_left result) }
+fn show_get<A: Ask>(
+    alloc: Global,
+    ask: &mut A,
+    ready: &mut Ready,
+    late: &mut Late,
+    bytes: &[u8],
+)
+    requires { late_left late.old ≡ [] }
+    ensures answers { (version : Spoken) → AnswersLate A.answers (version, ask.old) (71 ∷ bytes.now) (version, ask.new) ready.old.bytes.items ready.new.bytes.items (late_left late.new) }
     ensures few { length ready.new.bytes.items ≤ length ready.old.bytes.items + most_part }
 {
     let domain = match read_only_name(alloc, bytes) {
         Ok(domain) => domain,
-        Err(refusal) => return Late::of(refusal_reply(refusal)),
+        Err(refusal) => {
+            *late = Late::of(refusal_reply(refusal));
+            return;
+        }
     };
     match ask.show_get(domain, ready) {
-        Ok(None) => Late::nothing(),
-        Ok(Some(reply)) => Late::of(answer_reply(Ok(reply))),
-        Err(error) => Late::of(answer_reply(Err(error))),
+        Ok(None) => {}
+        Ok(Some(reply)) => *late = Late::of(answer_reply(Ok(reply))),
+        Err(error) => *late = Late::of(answer_reply(Err(error))),
     }
 }

@@ -46,3 +46,6 @@ loop-next-preserved g c =
       omega (arith, all, c.loop-next.invariant.2, told.2, ap length told.3, length-append c.store.new.ready.items told.0),
       omega (arith, all, c.loop-next.invariant.2, few),
     )
+
+pub answer_late-requires : goal.answer_late-requires
+answer_late-requires g c = stored_whole (late_left c.store.new.self) c.in_default.ensures.ok (omega arith)
