@@ -129,20 +129,20 @@ pub(crate) fn show_name<V: Viewer>(
     last_reads: &mut LastReads,
     tries: u64,
     shard: usize,
-    domain: TrustDomain,
+    domain: &TrustDomain,
     viewer: &mut V,
 ) -> Result<Option<Reply>, AskError>
     requires own { IsAt seat.old shards.now.shared.table_id }
     requires shard { shard < seat.old.table_id.slots }
     requires idle { IsIdle seat.old.me }
     requires tries { 0 < tries }
-    requires home { shard_of seat.old.table_id.slots (Get domain) ≡ Some shard }
+    requires home { shard_of seat.old.table_id.slots (Get domain.now) ≡ Some shard }
     requires told { AreLastReads seat.old.table_id.slots seat.old.me.0.seen.log last_reads.old.by_shard.items }
     ensures seat { IsSameSeat seat.old seat.new × IsIdle seat.new.me }
     ensures told { AreLastReads seat.old.table_id.slots seat.new.me.0.seen.log last_reads.new.by_shard.items }
-    ensures shown { ShowsGet V.notes (λ answer. ShardAnswer seat.old.table_id.slots (Get domain) seat.old.me.0.seen answer seat.new.me.0.seen) (V.noted viewer.old) result (V.noted viewer.new) }
+    ensures shown { ShowsGet V.notes (λ answer. ShardAnswer seat.old.table_id.slots (Get domain.now) seat.old.me.0.seen answer seat.new.me.0.seen) (V.noted viewer.old) result (V.noted viewer.new) }
 {
-    if let Some(shown) = show_recalled(shards, seat, last_reads, shard, &domain, viewer)? {
+    if let Some(shown) = show_recalled(shards, seat, last_reads, shard, domain, viewer)? {
         return Ok(shown);
     }
     let reply = get_name(alloc, shards, seat, last_reads, tries, shard, domain)?;
@@ -158,21 +158,21 @@ fn get_name(
     last_reads: &mut LastReads,
     tries: u64,
     shard: usize,
-    domain: TrustDomain,
+    domain: &TrustDomain,
 ) -> Result<Reply, AskError>
     requires own { IsAt seat.old shards.now.shared.table_id }
     requires shard { shard < seat.old.table_id.slots }
     requires idle { IsIdle seat.old.me }
     requires tries { 0 < tries }
-    requires home { shard_of seat.old.table_id.slots (Get domain) ≡ Some shard }
+    requires home { shard_of seat.old.table_id.slots (Get domain.now) ≡ Some shard }
     requires told { AreLastReads seat.old.table_id.slots seat.old.me.0.seen.log last_reads.old.by_shard.items }
     ensures seat { IsSameSeat seat.old seat.new × IsIdle seat.new.me }
     ensures told { AreLastReads seat.old.table_id.slots seat.new.me.0.seen.log last_reads.new.by_shard.items }
     ensures answer { MatchResult result
-        (λ reply. IsReply (Get domain) seat.old.me.0.seen reply seat.new.me.0.seen)
-        (IsRefusedAt seat.old.table_id.slots (Get domain) seat.old.me.0.seen seat.new.me.0.seen) }
+        (λ reply. IsReply (Get domain.now) seat.old.me.0.seen reply seat.new.me.0.seen)
+        (IsRefusedAt seat.old.table_id.slots (Get domain.now) seat.old.me.0.seen seat.new.me.0.seen) }
 {
-    let op = Op::Get(domain);
+    let op = Op::Get(domain.copy()?);
     ask_name(alloc, shards, seat, last_reads, tries, shard, &op)
 }
 

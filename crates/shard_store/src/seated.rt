@@ -64,6 +64,6 @@ impl<'a> Ask for Seated<'a> {
         domain: TrustDomain,
         viewer: &mut V,
     ) -> Result<Option<Reply>, AskError> {
-        self.store.show(&mut self.pass, domain, viewer)
+        self.store.show(&mut self.pass, &domain, viewer)
     }
 }

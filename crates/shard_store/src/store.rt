@@ -186,12 +186,12 @@ impl Store {
     pub(crate) fn show<V: Viewer>(
         &self,
         pass: &mut Pass,
-        domain: TrustDomain,
+        domain: &TrustDomain,
         viewer: &mut V,
     ) -> Result<Option<Reply>, AskError>
         requires own { IsOf pass.old self.now }
         ensures own { IsOf pass.new self.now }
-        ensures shown { ShowsGet V.notes (λ answer. StoreAnswer self.now (Op.Get domain) pass.old.seen answer pass.new.seen) (V.noted viewer.old) result (V.noted viewer.new) }
+        ensures shown { ShowsGet V.notes (λ answer. StoreAnswer self.now (Op.Get domain.now) pass.old.seen answer pass.new.seen) (V.noted viewer.old) result (V.noted viewer.new) }
     {
         let Pass {
             seat,
@@ -200,7 +200,7 @@ impl Store {
             last_all: _,
         } = pass;
         let (alloc, shards) = (self.alloc, &self.shards);
-        let shard = home(&domain, shards.slot_count());
+        let shard = home(domain, shards.slot_count());
         show_name(
             alloc, shards, seat, last_reads, self.tries, shard, domain, viewer,
         )
