@@ -1,0 +1,103 @@
+#!/usr/bin/env python3
+"""How many requests a second a server answers over loopback, beside another program. No part of the gate.
+
+usage: gate/loopback.py PROGRAM PEER [--runs N] [--workers N,N] [--loads NAME,NAME]
+
+Both programs run `serve --port 0 --workers N --connections 1000 --shards 16` and say `listening PORT` first. Each load is asked
+of the two in turns, by as many clients as the server has workers; the clients are load.c, which needs a C compiler. A line of a
+table is a load: for each number of workers the median of the program's runs and of the peer's, and after it the least and the
+greatest of each. The program's is in bold where it is at least the peer's.
+"""
+import argparse
+import os
+import re
+import statistics
+import subprocess
+import sys
+import tempfile
+
+HERE = os.path.dirname(os.path.abspath(__file__))
+
+# Each load: its name, the requests of a write, the writes ahead, the authorities of a document, the kind, and the requests of one
+# client where each worker has one.
+LOADS = {
+    "get-1": ("gets, 1 a write", 1, 1, 1, "g", 60_000),
+    "get-100": ("gets, 100 a write", 100, 1, 1, "g", 2_000_000),
+    "get-100-8": ("gets, 100 a write, 8 writes ahead", 100, 8, 1, "g", 4_000_000),
+    "long-1": ("gets of 1.8 kB, 1 a write", 1, 1, 11, "g", 60_000),
+    "long-100": ("gets of 1.8 kB, 100 a write", 100, 1, 11, "g", 1_000_000),
+    "set-1": ("sets, 1 a write", 1, 1, 1, "s", 50_000),
+    "set-100": ("sets, 100 a write", 100, 1, 1, "s", 250_000),
+    "mixed-1": ("9 gets and a set, 1 a write", 1, 1, 1, "m", 60_000),
+    "mixed-100": ("9 gets and a set, 100 a write", 100, 1, 1, "m", 1_000_000),
+    "fetch": ("fetch-alls", 1, 1, 1, "f", 2_000),
+}
+DOMAINS = 1000
+
+
+class Server:
+    """A program that listens."""
+
+    def __init__(self, program, workers):
+        command = [os.path.abspath(program), "serve", "--port", "0", "--workers", str(workers), "--connections", "1000"]
+        how = {"stdout": subprocess.PIPE, "stderr": subprocess.DEVNULL}
+        self.running = subprocess.Popen(command + ["--shards", "16"], **how)
+        self.port = self.running.stdout.readline().split()[1].decode()
+
+    def ask(self, load, clients, writes, batch, window, keys, kind):
+        """Requests a second, and the microseconds of the slowest write."""
+        words = [self.port, clients, writes, batch, window, DOMAINS, keys, kind]
+        said = subprocess.run([load, *map(str, words)], stdout=subprocess.PIPE, check=True, text=True).stdout
+        return int(said.split()[0]), int(re.search(r"worst (\d+)", said).group(1))
+
+    def end(self):
+        self.running.kill()
+        self.running.wait()
+
+
+def measure(load, programs, workers, name, runs):
+    """For each program, what each of its runs gave."""
+    _, batch, window, keys, kind, requests = LOADS[name]
+    servers = [Server(program, workers) for program in programs]
+    for server in servers:
+        server.ask(load, 1, DOMAINS // 100, 100, 1, keys, "p")
+    given = [[] for _ in servers]
+    for _ in range(runs):
+        for server, rates in zip(servers, given):
+            rates.append(server.ask(load, workers, requests // batch, batch, window, keys, kind))
+    for server in servers:
+        server.end()
+    return given
+
+
+def cell(given):
+    """The medians of the two, and the range of each, and the median of the slowest writes."""
+    rates = [[rate for rate, _ in runs] for runs in given]
+    ours, theirs = map(statistics.median, rates)
+    medians = f"{ours:,.0f}, {theirs:,.0f}"
+    ranges = "; ".join(f"{min(some):,} to {max(some):,}" for some in rates)
+    worst = ", ".join(f"{statistics.median(us for _, us in runs) / 1000:.1f}" for runs in given)
+    return (f"**{medians}**" if ours >= theirs else medians), f"{ranges}; slowest {worst} ms"
+
+
+def main(words):
+    ask = argparse.ArgumentParser(description=__doc__, formatter_class=argparse.RawDescriptionHelpFormatter)
+    ask.add_argument("programs", nargs=2, metavar="PROGRAM")
+    ask.add_argument("--runs", type=int, default=5)
+    ask.add_argument("--workers", default="1,2,4")
+    ask.add_argument("--loads", default=",".join(LOADS))
+    wanted = ask.parse_args(words)
+    workers = [int(number) for number in wanted.workers.split(",")]
+    with tempfile.TemporaryDirectory() as folder:
+        load = os.path.join(folder, "load")
+        subprocess.run(["cc", "-O2", "-pthread", "-o", load, os.path.join(HERE, "load.c")], check=True)
+        for name in wanted.loads.split(","):
+            cells = [cell(measure(load, wanted.programs, number, name, wanted.runs)) for number in workers]
+            print("| " + " | ".join([LOADS[name][0], *(medians for medians, _ in cells)]) + " |")
+            for number, (_, ranges) in zip(workers, cells):
+                print(f"    {number} workers: {ranges}", flush=True)
+    return 0
+
+
+if __name__ == "__main__":
+    sys.exit(main(sys.argv[1:]))
