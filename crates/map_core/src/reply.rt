@@ -28,7 +28,7 @@ impl Model for Snapshot {
 }
 
 impl Snapshot {
-    /// Takes the pairs as they are.
+    /// Takes the pairs as they are. If memory runs out, they are gone.
     pub fn from_pairs(
         alloc: Global,
         pairs: Vec<(TrustDomain, Bundle)>,
