@@ -66,13 +66,7 @@ fn after_get(payload: &[u8]) -> Option<&[u8]>
 
 /// Answers a get, whose name follows its letter. Of a bundle that was shown nothing is left, so what waits is not touched.
 #[tactic(auto, unfolding(crate::specs::Request::request_of, crate::specs::Request::get_of))]
-fn show_get<A: Ask>(
-    alloc: Global,
-    ask: &mut A,
-    ready: &mut Ready,
-    late: &mut Late,
-    bytes: &[u8],
-)
+fn show_get<A: Ask>(alloc: Global, ask: &mut A, ready: &mut Ready, late: &mut Late, bytes: &[u8])
     requires { late_left late.old ≡ [] }
     ensures answers { (version : Spoken) → AnswersLate A.answers (version, ask.old) (71 ∷ bytes.now) (version, ask.new) ready.old.bytes.items ready.new.bytes.items (late_left late.new) }
     ensures few { length ready.new.bytes.items ≤ length ready.old.bytes.items + most_part }

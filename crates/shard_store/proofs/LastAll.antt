@@ -60,11 +60,11 @@ no_change n (c ∷ cs) some none = let here = home n c.name in
 pub still_all : (n : ℕ) (log : List Change) (last : LastAll) → 0 < n → WasAll n log last → AreConfirmed n log last.revisions.items → last.all ≡ bundles (after log)
 still_all n log last some was still = let seen = was.0 in let new = was.1 in
     let none : new ≡ [] = no_change n new some (λ k inside.
-        let total : count n log k ≡ count n seen k + count n new k = ap (λ (x : List Change). count n x k) was.2 ∙ count_append n seen new k in
-        let before : count n seen k ≡ get_or last.revisions.items k 0 = was.3.1 k inside in
-        let size : length last.revisions.items ≡ n = was.3.0 in
-        let most : count n log k ≤ get_or last.revisions.items k 0 = still k (omega arith) in
-        omega arith) in
+    let total : count n log k ≡ count n seen k + count n new k = ap (λ (x : List Change). count n x k) was.2 ∙ count_append n seen new k in
+    let before : count n seen k ≡ get_or last.revisions.items k 0 = was.3.1 k inside in
+    let size : length last.revisions.items ≡ n = was.3.0 in
+    let most : count n log k ≤ get_or last.revisions.items k 0 = still k (omega arith) in
+    omega arith) in
     was.4 ∙ ap (λ (x : List Change). bundles (after x)) (sym (was.2 ∙ (ap (λ (x : List Change). seen ++ x) none ∙ append-nil seen)))
 
 -- what was fetched may be answered, and remembered

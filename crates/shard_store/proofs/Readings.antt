@@ -69,8 +69,11 @@ snapshot {Z} n s t u rs vs l m size were still = (
   size,
   λ k d inside. let long : length rs ≡ length vs = were.0 in
       part_confirmed n k s.log t.log (get_or rs k 0) (get_or vs k d) (were.1 k d inside) (still k (omega arith)) ∙ ap (λ (j : ℕ). partition j (after t.log) k) (sym size),
-  (were.0 ∙ size, λ k inside. let long : length rs ≡ length vs = were.0 in let within : k < length vs = omega arith in let was = read_at n s.log t.log rs vs k were within in
-      same_revision n k s.log t.log (get_or rs k 0) was.0 was.1 (still k (omega arith))),
+  (
+    were.0 ∙ size,
+    λ k inside. let long : length rs ≡ length vs = were.0 in let within : k < length vs = omega arith in let was = read_at n s.log t.log rs vs k were within in
+        same_revision n k s.log t.log (get_or rs k 0) was.0 was.1 (still k (omega arith)),
+  ),
 )
 
 -- the shard that was found with another revision has moved

@@ -177,7 +177,13 @@ impl Store {
         } = pass;
         let (alloc, shards) = (self.alloc, &self.shards);
         ask_all(
-            alloc, shards, seat, last_reads, last_all, self.tries, self.rounds,
+            alloc,
+            shards,
+            seat,
+            last_reads,
+            last_all,
+            self.tries,
+            self.rounds,
         )
     }
 
