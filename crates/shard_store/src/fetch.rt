@@ -101,13 +101,13 @@ pub(crate) fn ask_all(
         return Ok(Reply::All(all));
     }
     *last_all = None;
-    let LastAll { revisions, all } = fetch_all(alloc, shards, seat, last_reads, tries, rounds)?;
+    let LastAll { revisions, all } = fetch_anew(alloc, shards, seat, last_reads, tries, rounds)?;
     *last_all = LastAll::of(revisions, &all);
     Ok(Reply::All(all))
 }
 
-// All bundles, from the shards.
-fn fetch_all(
+// All bundles, read from the shards.
+fn fetch_anew(
     alloc: Global,
     shards: &ShardTable,
     seat: &mut StoreSeat,

@@ -149,7 +149,7 @@ pub(crate) fn show_name<V: Viewer>(
     Ok(Some(reply))
 }
 
-// A get whose name an operation is made of, which most gets do not need: it has room for any operation.
+// A get that has to hold its shard. It becomes an operation, which takes the room of any; most gets never come here.
 #[inline(never)]
 fn get_name(
     alloc: Global,

@@ -140,13 +140,13 @@ impl Store {
         ensures answer { StoreAnswer self.now op pass.old.seen result pass.new.seen }
     {
         match shard_of(&op, self.shards.slot_count()) {
-            Some(shard) => self.ask_shard(pass, shard, &op),
-            None => self.ask_shards(pass),
+            Some(shard) => self.ask_on_name(pass, shard, &op),
+            None => self.ask_on_all(pass),
         }
     }
 
     // Answers an operation on one name, at the shard where it is at home.
-    fn ask_shard(&self, pass: &mut Pass, shard: usize, op: &Op) -> Result<Reply, AskError>
+    fn ask_on_name(&self, pass: &mut Pass, shard: usize, op: &Op) -> Result<Reply, AskError>
         requires own { IsOf pass.old self.now }
         requires home { home_of self.now.id.slots op.now ≡ Some shard }
         requires shard { shard < self.now.id.slots }
@@ -164,7 +164,7 @@ impl Store {
     }
 
     // Answers a fetch-all.
-    fn ask_shards(&self, pass: &mut Pass) -> Result<Reply, AskError>
+    fn ask_on_all(&self, pass: &mut Pass) -> Result<Reply, AskError>
         requires own { IsOf pass.old self.now }
         ensures own { IsOf pass.new self.now }
         ensures answer { StoreAnswer self.now Op.FetchAll pass.old.seen result pass.new.seen }

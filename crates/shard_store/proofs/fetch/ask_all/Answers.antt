@@ -22,30 +22,30 @@ pub returns-in-Some-clause-answer : goal.returns-in-Some-clause-answer
 returns-in-Some-clause-answer c = let s = c.args.seat.now.me.0.seen in let l = c.recall_all.ensures.later in
     all_answered s c.recall_all.new.seat.me.0.seen s.log c.in-Some.all (extends_none s) l.0 l.1 c.in-Some.ensures.all
 
-pub fetch_all-requires-clause-told : goal.fetch_all-requires-clause-told
-fetch_all-requires-clause-told c = let s = c.args.seat.now.me.0.seen in let t = c.recall_all.new.seat.me.0.seen in
+pub fetch_anew-requires-clause-told : goal.fetch_anew-requires-clause-told
+fetch_anew-requires-clause-told c = let s = c.args.seat.now.me.0.seen in let t = c.recall_all.new.seat.me.0.seen in
     at_slots (λ z. AreLastReads z.slots t.log c.args.last_reads.now.by_shard.items) _ _ c.recall_all.ensures.seat.0.0 (reads_later _ s t _ c.recall_all.ensures.later c.requires.told)
 
 pub returns-in_err-revisions-clause-told : goal.returns-in_err-revisions-clause-told
-returns-in_err-revisions-clause-told c = let u = c.fetch_all.new.seat.me.0.seen in
-    at_slots (λ z. AreLastReads z.slots u.log c.fetch_all.new.last_reads.by_shard.items) _ _ (sym c.recall_all.ensures.seat.0.0) c.fetch_all.ensures.told
+returns-in_err-revisions-clause-told c = let u = c.fetch_anew.new.seat.me.0.seen in
+    at_slots (λ z. AreLastReads z.slots u.log c.fetch_anew.new.last_reads.by_shard.items) _ _ (sym c.recall_all.ensures.seat.0.0) c.fetch_anew.ensures.told
 
 pub returns-in_err-revisions-clause-answer : goal.returns-in_err-revisions-clause-answer
-returns-in_err-revisions-clause-answer c = let s = c.args.seat.now.me.0.seen in let t = c.recall_all.new.seat.me.0.seen in let u = c.fetch_all.new.seat.me.0.seen in
+returns-in_err-revisions-clause-answer c = let s = c.args.seat.now.me.0.seen in let t = c.recall_all.new.seat.me.0.seen in let u = c.fetch_anew.new.seat.me.0.seen in
     let e = c.in_err-revisions.field-0.0 in let here : StoreView = record { id = c.args.seat.now.table_id; rounds = c.args.rounds; tries = c.args.tries } in
     error_passed c.from_residual.result e _ _ c.from_residual.ensures.1
     (refused_all_since here s t u e c.recall_all.ensures.later
     (at_slots (λ z. IsRefused (record { id = z; rounds = c.args.rounds; tries = c.args.tries }) FetchAll t u e) _ _ (sym c.recall_all.ensures.seat.0.0) c.in_err-revisions.ensures.answer))
 
 pub returns-clause-told : goal.returns-clause-told
-returns-clause-told c = let u = c.fetch_all.new.seat.me.0.seen in
-    at_slots (λ z. AreLastReads z.slots u.log c.fetch_all.new.last_reads.by_shard.items) _ _ (sym c.recall_all.ensures.seat.0.0) c.fetch_all.ensures.told
+returns-clause-told c = let u = c.fetch_anew.new.seat.me.0.seen in
+    at_slots (λ z. AreLastReads z.slots u.log c.fetch_anew.new.last_reads.by_shard.items) _ _ (sym c.recall_all.ensures.seat.0.0) c.fetch_anew.ensures.told
 
 pub returns-clause-all : goal.returns-clause-all
-returns-clause-all c = let u = c.fetch_all.new.seat.me.0.seen in let last = c.in_ok-revisions.field-0 in
+returns-clause-all c = let u = c.fetch_anew.new.seat.me.0.seen in let last = c.in_ok-revisions.field-0 in
     at_slots (λ z. IsLastAll z.slots u.log c.of.result) _ _ (sym c.recall_all.ensures.seat.0.0)
     (kept_all _ u.log c.of.result last c.of.ensures c.in_ok-revisions.ensures.answer.1)
 
 pub returns-clause-answer : goal.returns-clause-answer
 returns-clause-answer c = let last = c.in_ok-revisions.field-0 in
-    answered_since FetchAll c.args.seat.now.me.0.seen c.recall_all.new.seat.me.0.seen c.fetch_all.new.seat.me.0.seen (All last.all) c.recall_all.ensures.later c.in_ok-revisions.ensures.answer.0
+    answered_since FetchAll c.args.seat.now.me.0.seen c.recall_all.new.seat.me.0.seen c.fetch_anew.new.seat.me.0.seen (All last.all) c.recall_all.ensures.later c.in_ok-revisions.ensures.answer.0

@@ -3,4 +3,4 @@ use Rattle.shard_store.proofs.Asked.{by_all}
 use Rattle.shard_store.proofs.store.Store.ask.Goals as goal
 
 pub returns-clause-answer : goal.returns-clause-answer
-returns-clause-answer c = by_all c.ask_shards.result c.slot_count.result c.args.self.now c.args.op _ c.ask_shards.new.pass.seen (sym c.in-None.ensures.shard) (search rules) c.ask_shards.ensures.answer
+returns-clause-answer c = by_all c.ask_on_all.result c.slot_count.result c.args.self.now c.args.op _ c.ask_on_all.new.pass.seen (sym c.in-None.ensures.shard) (search rules) c.ask_on_all.ensures.answer

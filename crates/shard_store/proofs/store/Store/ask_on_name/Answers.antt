@@ -3,7 +3,7 @@ use Rattle.shard_store.specs.Private.LastAll.{IsLastAll}
 use Rattle.shard_store.proofs.Asked.{shard_answers}
 use Rattle.shard_store.proofs.LastAll.{all_answered_at}
 use Rattle.shard_store.proofs.Promise.{at_slots}
-use Rattle.shard_store.proofs.store.Store.ask_shard.Goals as goal
+use Rattle.shard_store.proofs.store.Store.ask_on_name.Goals as goal
 
 pub invariant_of-pass : goal.invariant_of-pass
 invariant_of-pass c = let u = c.ask_name.new.seat.me.0.seen in (

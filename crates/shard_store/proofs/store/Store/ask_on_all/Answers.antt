@@ -1,7 +1,7 @@
 use Rattle.std.proofs.Common.{◌≡◌, ap, ◌∙◌}
 use Rattle.shard_store.specs.Pass.{StoreView}
 use Rattle.shard_store.proofs.Asked.{all_answers}
-use Rattle.shard_store.proofs.store.Store.ask_shards.Goals as goal
+use Rattle.shard_store.proofs.store.Store.ask_on_all.Goals as goal
 
 pub returns-clause-answer : goal.returns-clause-answer
 returns-clause-answer c = let here : StoreView = record { id = c.pass.inside.seat.table_id; rounds = c.self.inside.rounds; tries = c.self.inside.tries } in

@@ -7,7 +7,7 @@ use Rattle.shard_store.specs.Private.Readings.{ArePartsOf}
 use Rattle.shard_store.proofs.Promise.{error_passed}
 use Rattle.shard_store.proofs.Readings.{later_snapshot}
 use Rattle.shard_store.proofs.LastAll.{fetched}
-use Rattle.shard_store.proofs.fetch.fetch_all.Goals as goal
+use Rattle.shard_store.proofs.fetch.fetch_anew.Goals as goal
 
 pub returns-in_err-all-clause-answer : goal.returns-in_err-all-clause-answer
 returns-in_err-all-clause-answer c = let read = c.in_ok-revisions.field-0 in
