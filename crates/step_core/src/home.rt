@@ -20,7 +20,7 @@ pub fn home(domain: &TrustDomain, shards: usize) -> usize
     modulo(total as usize, shards)
 }
 
-/// A division by a number that is known is a mask, where the number is a power of two. These are the usual ones.
+/// The remainder of a division by the number of shards. By a power of two that is written out it costs no division.
 fn modulo(total: usize, shards: usize) -> usize
     requires { 0 < shards }
     ensures { result ≡ total % shards }
