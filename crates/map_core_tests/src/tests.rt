@@ -399,6 +399,17 @@ fn a_snapshot_is_of_its_pairs(rt: HostRuntime) -> Result<(), Fail> {
     Ok(())
 }
 
+#[test]
+fn a_copy_of_a_snapshot_outlives_it(rt: HostRuntime) -> Result<(), Fail> {
+    let all = snapshot_of(rt.alloc(), "a", "5")?;
+    let copy = all.copy()?;
+    drop(all);
+    let text = snapshot_text(rt.alloc(), &copy)?;
+    is_equal(&rt, &text.as_str(), &"all 1 a 5/0");
+    is_equal(&rt, &copy.len(), &1);
+    Ok(())
+}
+
 /// Each refusal has its number and its text.
 fn refuse_so(
     rt: &impl Abort,
