@@ -42,7 +42,11 @@ class Server:
         command = [os.path.abspath(program), "serve", "--port", "0", "--workers", str(workers), "--connections", "1000"]
         how = {"stdout": subprocess.PIPE, "stderr": subprocess.DEVNULL}
         self.running = subprocess.Popen(command + ["--shards", "16"], **how)
-        self.port = self.running.stdout.readline().split()[1].decode()
+        said = re.match(r"listening (\d+)", self.running.stdout.readline().decode())
+        if not said:
+            self.end()
+            sys.exit(f"{program} does not say that it is listening")
+        self.port = said.group(1)
 
     def ask(self, load, clients, writes, batch, window, keys, kind):
         """Requests a second, and the microseconds of the slowest write."""
@@ -58,15 +62,18 @@ class Server:
 def measure(load, programs, workers, name, runs):
     """For each program, what each of its runs gave."""
     _, batch, window, keys, kind, requests = LOADS[name]
-    servers = [Server(program, workers) for program in programs]
-    for server in servers:
-        server.ask(load, 1, DOMAINS // 100, 100, 1, keys, "p")
-    given = [[] for _ in servers]
-    for _ in range(runs):
-        for server, rates in zip(servers, given):
-            rates.append(server.ask(load, workers, requests // batch, batch, window, keys, kind))
-    for server in servers:
-        server.end()
+    given = [[] for _ in programs]
+    servers = []
+    try:
+        for program in programs:
+            servers.append(Server(program, workers))
+            servers[-1].ask(load, 1, DOMAINS // 100, 100, 1, keys, "p")
+        for _ in range(runs):
+            for server, rates in zip(servers, given):
+                rates.append(server.ask(load, workers, requests // batch, batch, window, keys, kind))
+    finally:
+        for server in servers:
+            server.end()
     return given
 
 
@@ -88,6 +95,9 @@ def main(words):
     ask.add_argument("--loads", default=",".join(LOADS))
     wanted = ask.parse_args(words)
     workers = [int(number) for number in wanted.workers.split(",")]
+    unknown = [name for name in wanted.loads.split(",") if name not in LOADS]
+    if unknown:
+        ask.error(f"there is no load {unknown[0]}; there are {', '.join(LOADS)}")
     with tempfile.TemporaryDirectory() as folder:
         load = os.path.join(folder, "load")
         subprocess.run(["cc", "-O2", "-pthread", "-o", load, os.path.join(HERE, "load.c")], check=True)
