@@ -16,11 +16,15 @@ use crate::entry_text::{kid_from_entry, text_from_entry};
 use crate::error::DocError;
 use crate::octets::Octets;
 use crate::tree::{array, is_object, member, number_of, read_tree};
+use bumpalo::Bump;
 use json::{Scratch, Value};
-use std::alloc::Global;
+use std::alloc::{Allocator, Global};
 
 /// The longest document whose strings a `DocumentReader` keeps room for.
 const KEPT_ROOM: usize = 65536;
+
+/// The most memory for trees that a `DocumentReader` keeps.
+const KEPT_TREES: usize = 65536;
 
 /// The most room that a canonical text begins with. That of a canonical document has the document's length.
 const MOST_ROOM: usize = 4096;
@@ -38,11 +42,15 @@ pub fn read_document(alloc: Global, bytes: &[u8]) -> Result<Bundle, DocError>
     DocumentReader::new(alloc).read(alloc, bytes)
 }
 
-/// Reads bundle documents one after another, in memory that it keeps from one to the next: about 20 KiB, and room for
-/// the strings of a document of up to 64 KiB. It keeps nothing of what it has read.
+/// Reads bundle documents one after another, in memory that it keeps from one to the next: about 20 KiB, room for the
+/// strings of a document of up to 64 KiB, and up to 64 KiB for its tree. It keeps nothing of what it has read.
+///
+/// It stays in the thread that made it.
 #[derive(Drop)]
 pub struct DocumentReader {
     scratch: Scratch,
+    /// Where the trees of JSON texts are made, so that no list of them is allocated, grown and freed by itself.
+    trees: Bump,
 }
 
 impl DocumentReader {
@@ -50,6 +58,7 @@ impl DocumentReader {
     pub fn new(alloc: Global) -> DocumentReader {
         DocumentReader {
             scratch: Scratch::new(alloc),
+            trees: Bump::new(alloc),
         }
     }
 
@@ -60,21 +69,35 @@ impl DocumentReader {
     {
         if bytes.len() > KEPT_ROOM {
             let mut scratch = Scratch::new(alloc);
-            return read_with(alloc, bytes, &mut scratch);
+            return read_with(alloc, alloc, bytes, &mut scratch);
         }
-        read_with(alloc, bytes, &mut self.scratch)
+        let bundle = read_with(alloc, &self.trees, bytes, &mut self.scratch);
+        self.clear_trees(alloc);
+        bundle
+    }
+
+    /// Gives the memory of trees up for the next one, and back if it is much.
+    fn clear_trees(&mut self, alloc: Global) {
+        if self.trees.allocated_bytes() > KEPT_TREES || self.trees.reset().is_err() {
+            self.trees = Bump::new(alloc);
+        }
     }
 }
 
 #[tactic(auto, unfolding(crate::specs::Document::document))]
-fn read_with(alloc: Global, bytes: &[u8], scratch: &mut Scratch) -> Result<Bundle, DocError>
+fn read_with<A: Allocator + Copy>(
+    alloc: Global,
+    trees: A,
+    bytes: &[u8],
+    scratch: &mut Scratch,
+) -> Result<Bundle, DocError>
     ensures value { Gives DocError.Memory result (document bytes.now) }
     ensures memory { result ≡ Err DocError.Memory → length bytes.now ≤ 1048576 }
 {
     if bytes.len() > MAX_TEXT {
         return Err(DocError::TooLong);
     }
-    let tree = read_tree(alloc, bytes, scratch)?;
+    let tree = read_tree(trees, bytes, scratch)?;
     let room = bytes.len().min(MOST_ROOM);
     let (sequence, refresh_hint, set) = read_parts(alloc, room, &tree)?;
     match bundle_from(alloc, sequence, refresh_hint, set.authorities, set.text)? {
@@ -98,7 +121,7 @@ pub fn read_entry(alloc: Global, bytes: &[u8]) -> Result<Option<Authority>, DocE
 }
 
 /// The elements of `keys`.
-fn keys<'v, 'a>(tree: &'v Value<'a>) -> Option<&'v Vec<Value<'a>>>
+fn keys<'v, 'a, A: Allocator>(tree: &'v Value<'a, A>) -> Option<&'v Vec<Value<'a, A>, A>>
     ensures { option_map (λ keys. list_data keys.now.items) result
         ≡ option_and_then as_array (get (codes "keys") (tree_data tree.now)) }
 {
@@ -106,10 +129,10 @@ fn keys<'v, 'a>(tree: &'v Value<'a>) -> Option<&'v Vec<Value<'a>>>
 }
 
 /// The authorities that the entries give, each once.
-fn authorities<'a>(
+fn authorities<'a, A: Allocator>(
     alloc: Global,
     room: usize,
-    entries: &Vec<Value<'a>>,
+    entries: &Vec<Value<'a, A>, A>,
 ) -> Result<AuthoritySet<'a>, DocError>
     ensures whole { IfOk result IsWhole }
     ensures exact { MatchResult result
@@ -124,11 +147,11 @@ fn authorities<'a>(
 }
 
 /// Judges one more entry.
-fn take_entry<'a>(
+fn take_entry<'a, A: Allocator>(
     alloc: Global,
     set: &mut AuthoritySet<'a>,
     place: usize,
-    entry: &Value<'a>,
+    entry: &Value<'a, A>,
 ) -> Result<(), DocError>
     requires whole { IsWhole set.old }
     ensures whole { OnOk result (IsWhole set.new) }
@@ -148,10 +171,10 @@ fn take_entry<'a>(
 
 /// The sequence, the refresh hint and the authorities of a document's tree.
 #[tactic(auto, unfolding(crate::specs::Document::bundle_of))]
-fn read_parts<'a>(
+fn read_parts<'a, A: Allocator>(
     alloc: Global,
     room: usize,
-    tree: &Value<'a>,
+    tree: &Value<'a, A>,
 ) -> Result<(Option<u64>, Option<u64>, AuthoritySet<'a>), DocError>
     ensures whole { IfOk result (λ parts. IsWhole parts.2) }
     ensures exact { MatchResult result

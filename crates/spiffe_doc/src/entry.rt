@@ -16,7 +16,7 @@ use crate::tree::{array, is_object, member, string};
 use base64::DecodeAllocError;
 use base64::engine::general_purpose::{STANDARD, URL_SAFE_NO_PAD};
 use json::Value;
-use std::alloc::Global;
+use std::alloc::{Allocator, Global};
 
 /// The most bytes that a member of an RSA key has.
 const MAX_RSA_MEMBER: usize = 1024;
@@ -39,7 +39,7 @@ pub(crate) enum KeyUse {
 }
 
 /// The text of a member, if it is one.
-pub(crate) fn member_text<'a>(entry: &Value<'a>, name: &str) -> Option<&'a str>
+pub(crate) fn member_text<'a, A: Allocator>(entry: &Value<'a, A>, name: &str) -> Option<&'a str>
     ensures { option_map (λ text. text.now) result ≡ text_of_member name.now (tree_data entry.now) }
 {
     string(member(entry, name)?)
@@ -83,13 +83,13 @@ fn curve_named(text: &str) -> Option<Curve>
     }
 }
 
-fn key_type(entry: &Value<'_>) -> Option<KeyType>
+fn key_type<A: Allocator>(entry: &Value<'_, A>) -> Option<KeyType>
     ensures { result ≡ judged.key_type (tree_data entry.now) }
 {
     key_type_named(member_text(entry, "kty")?)
 }
 
-fn key_use(entry: &Value<'_>) -> Option<KeyUse>
+fn key_use<A: Allocator>(entry: &Value<'_, A>) -> Option<KeyUse>
     ensures { result ≡ judged.key_use (tree_data entry.now) }
 {
     key_use_named(member_text(entry, "use")?)
@@ -119,7 +119,11 @@ fn standard_bytes(alloc: Global, text: &str) -> Result<Option<Octets>, DocError>
 
 /// The bytes of a key's member.
 #[tactic(auto, unfolding(crate::specs::Judgement::key_bytes))]
-fn key_bytes(alloc: Global, entry: &Value<'_>, name: &str) -> Result<Option<Octets>, DocError>
+fn key_bytes<A: Allocator>(
+    alloc: Global,
+    entry: &Value<'_, A>,
+    name: &str,
+) -> Result<Option<Octets>, DocError>
     ensures { Gives DocError.Memory result (Ok (judged.key_bytes name.now (tree_data entry.now))) }
 {
     match member_text(entry, name) {
@@ -129,9 +133,9 @@ fn key_bytes(alloc: Global, entry: &Value<'_>, name: &str) -> Result<Option<Octe
 }
 
 #[tactic(auto, unfolding(crate::specs::Judgement::key_bytes))]
-fn coordinate(
+fn coordinate<A: Allocator>(
     alloc: Global,
-    entry: &Value<'_>,
+    entry: &Value<'_, A>,
     name: &str,
     curve: Curve,
 ) -> Result<Option<Octets>, DocError>
@@ -144,7 +148,11 @@ fn coordinate(
 }
 
 #[tactic(auto, unfolding(crate::specs::Judgement::key_bytes))]
-fn rsa_member(alloc: Global, entry: &Value<'_>, name: &str) -> Result<Option<Octets>, DocError>
+fn rsa_member<A: Allocator>(
+    alloc: Global,
+    entry: &Value<'_, A>,
+    name: &str,
+) -> Result<Option<Octets>, DocError>
     ensures { Gives DocError.Memory result (Ok (judged.rsa_member name.now (tree_data entry.now))) }
 {
     match key_bytes(alloc, entry, name)? {
@@ -154,10 +162,10 @@ fn rsa_member(alloc: Global, entry: &Value<'_>, name: &str) -> Result<Option<Oct
 }
 
 #[tactic(auto, unfolding(crate::specs::Judgement::point_key))]
-fn point_key(
+fn point_key<A: Allocator>(
     alloc: Global,
     place: usize,
-    entry: &Value<'_>,
+    entry: &Value<'_, A>,
     curve: Curve,
 ) -> Result<PublicKey, DocError>
     ensures { Gives DocError.Memory result (judged.point_key place curve (tree_data entry.now)) }
@@ -172,7 +180,11 @@ fn point_key(
 }
 
 #[tactic(auto, unfolding(crate::specs::Judgement::rsa_key))]
-fn rsa_key(alloc: Global, place: usize, entry: &Value<'_>) -> Result<PublicKey, DocError>
+fn rsa_key<A: Allocator>(
+    alloc: Global,
+    place: usize,
+    entry: &Value<'_, A>,
+) -> Result<PublicKey, DocError>
     ensures { Gives DocError.Memory result (judged.rsa_key place (tree_data entry.now)) }
 {
     let Some(n) = rsa_member(alloc, entry, "n")? else {
@@ -192,11 +204,11 @@ fn bad_key(place: usize, member: KeyMember) -> DocError
 
 /// The key of an entry of this type, or `None` if its curve is unknown.
 #[tactic(auto, unfolding(crate::specs::Judgement::key_of))]
-fn key_of(
+fn key_of<A: Allocator>(
     alloc: Global,
     place: usize,
     key_type: KeyType,
-    entry: &Value<'_>,
+    entry: &Value<'_, A>,
 ) -> Result<Option<PublicKey>, DocError>
     ensures { Gives DocError.Memory result (judged.key_of place key_type (tree_data entry.now)) }
 {
@@ -216,7 +228,7 @@ fn key_of(
 
 /// The text of a list of one text.
 #[tactic(auto, using(crate::proofs::MemberLemmas::only_text_none))]
-fn only_text<'a>(list: &Vec<Value<'a>>) -> Option<&'a str>
+fn only_text<'a, A: Allocator>(list: &Vec<Value<'a, A>, A>) -> Option<&'a str>
     ensures { option_map (λ text. text.now) result ≡ judged.only_text (list_data list.now.items) }
 {
     if list.len() == 1 {
@@ -227,7 +239,7 @@ fn only_text<'a>(list: &Vec<Value<'a>>) -> Option<&'a str>
 }
 
 /// The text of an `x5c` that is a list of one text.
-pub(crate) fn x5c_text<'a>(entry: &Value<'a>) -> Option<&'a str>
+pub(crate) fn x5c_text<'a, A: Allocator>(entry: &Value<'a, A>) -> Option<&'a str>
     ensures { option_map (λ text. text.now) result
         ≡ option_and_then judged.only_text (option_and_then as_array (get (codes "x5c") (tree_data entry.now))) }
 {
@@ -235,7 +247,10 @@ pub(crate) fn x5c_text<'a>(entry: &Value<'a>) -> Option<&'a str>
 }
 
 #[tactic(auto, unfolding(crate::specs::Judgement::der_bytes))]
-fn certificate(alloc: Global, entry: &Value<'_>) -> Result<Option<Certificate>, DocError>
+fn certificate<A: Allocator>(
+    alloc: Global,
+    entry: &Value<'_, A>,
+) -> Result<Option<Certificate>, DocError>
     ensures { Gives DocError.Memory result (Ok (judged.certificate (tree_data entry.now))) }
 {
     let Some(text) = x5c_text(entry) else {
@@ -253,7 +268,7 @@ fn is_key_id(text: &str) -> bool
     !text.is_empty() && text.len() <= MAX_KEY_ID
 }
 
-fn key_id(alloc: Global, entry: &Value<'_>) -> Result<Option<KeyId>, DocError>
+fn key_id<A: Allocator>(alloc: Global, entry: &Value<'_, A>) -> Result<Option<KeyId>, DocError>
     ensures { Gives DocError.Memory result (Ok (judged.key_id (tree_data entry.now))) }
 {
     match member_text(entry, "kid") {
@@ -263,12 +278,12 @@ fn key_id(alloc: Global, entry: &Value<'_>) -> Result<Option<KeyId>, DocError>
 }
 
 #[tactic(auto, unfolding(crate::specs::Judgement::authority_for))]
-fn authority_for(
+fn authority_for<A: Allocator>(
     alloc: Global,
     place: usize,
     key_use: KeyUse,
     key: PublicKey,
-    entry: &Value<'_>,
+    entry: &Value<'_, A>,
 ) -> Result<Authority, DocError>
     ensures { Gives DocError.Memory result (judged.authority_for place key_use key (tree_data entry.now)) }
 {
@@ -286,10 +301,10 @@ fn authority_for(
 
 /// The entry at this place of a document: its authority, or `None` if it is ignored.
 #[tactic(auto, unfolding(crate::specs::Judgement::judge))]
-pub(crate) fn judge(
+pub(crate) fn judge<A: Allocator>(
     alloc: Global,
     place: usize,
-    entry: &Value<'_>,
+    entry: &Value<'_, A>,
 ) -> Result<Option<Authority>, DocError>
     ensures { Gives DocError.Memory result (judged.judge place (tree_data entry.now)) }
 {

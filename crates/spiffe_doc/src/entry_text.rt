@@ -11,13 +11,13 @@ use crate::key::PublicKey;
 use crate::kid_key::KidKey;
 use crate::text::{jwt_point, jwt_rsa, write_entry, x509_point, x509_rsa};
 use json::Value;
-use std::alloc::{AllocError, Global};
+use std::alloc::{AllocError, Allocator, Global};
 
 /// The canonical text of the authority that the entry gives. Base64 is strict (RFC 4648, section 3.5): a text that stands
 /// for some bytes is their encoding, so the entry's own texts are taken, and nothing is encoded again.
-pub(crate) fn text_from_entry(
+pub(crate) fn text_from_entry<A: Allocator>(
     alloc: Global,
-    entry: &Value<'_>,
+    entry: &Value<'_, A>,
     authority: &Authority,
 ) -> Result<Vec<u8>, AllocError>
     requires gives { HasMembers (tree_data entry.now) authority.now }
@@ -31,9 +31,9 @@ pub(crate) fn text_from_entry(
 
 /// The same; `None` if a member is missing, which it never is.
 #[tactic(auto, unfolding(crate::specs::Text::entry_text))]
-fn text_of_members(
+fn text_of_members<A: Allocator>(
     alloc: Global,
-    entry: &Value<'_>,
+    entry: &Value<'_, A>,
     authority: &Authority,
 ) -> Option<Result<Vec<u8>, AllocError>>
     requires gives { HasMembers (tree_data entry.now) authority.now }
@@ -71,7 +71,10 @@ fn text_of_members(
 }
 
 /// The key id of the authority that the entry gives, if it has one, as it lies in the entry.
-pub(crate) fn kid_from_entry<'a>(entry: &Value<'a>, authority: &Authority) -> Option<KidKey<'a>>
+pub(crate) fn kid_from_entry<'a, A: Allocator>(
+    entry: &Value<'a, A>,
+    authority: &Authority,
+) -> Option<KidKey<'a>>
     requires gives { HasMembers (tree_data entry.now) authority.now }
     ensures { result ≡ kid_of authority.now }
 {

@@ -8,17 +8,17 @@ ghost use Rattle.spiffe_doc.specs.Private.Borrowed.{tree_data, list_data, in_ran
 use crate::error::DocError;
 use crate::number::whole_number_of;
 use json::{Error, Reader, Scratch, Value};
-use std::alloc::Global;
+use std::alloc::Allocator;
 
 /// How deep arrays and objects may nest: as deep as `serde_json` reads.
 const MAX_DEPTH: usize = 127;
 
-/// The tree of a JSON text. Its strings lie in the text, or unescaped in the scratch.
-pub(crate) fn read_tree<'a>(
-    alloc: Global,
+/// The tree of a JSON text. Its strings lie in the text, or unescaped in the scratch; its lists are the allocator's.
+pub(crate) fn read_tree<'a, A: Allocator + Copy>(
+    alloc: A,
     bytes: &'a [u8],
     scratch: &'a mut Scratch,
-) -> Result<Value<'a>, DocError>
+) -> Result<Value<'a, A>, DocError>
     ensures { MatchResult result
         (λ tree. json_tree bytes.now ≡ Some (tree_data tree))
         (λ e. (e ≡ DocError.Memory) ⊎ ((e ≡ DocError.NotJson) × (json_tree bytes.now ≡ None))) }
@@ -43,7 +43,7 @@ pub(crate) fn read_tree<'a>(
 
 /// Whether no number in the tree is too large for a float.
 #[cycle(in_range)]
-fn is_in_range(tree: &Value<'_>) -> bool
+fn is_in_range<A: Allocator>(tree: &Value<'_, A>) -> bool
     ensures { result ≡ in_range (value_view tree.now) }
 {
     match tree {
@@ -55,7 +55,7 @@ fn is_in_range(tree: &Value<'_>) -> bool
 }
 
 #[cycle(in_range)]
-fn are_items_in_range(items: &Vec<Value<'_>>) -> bool
+fn are_items_in_range<A: Allocator>(items: &Vec<Value<'_, A>, A>) -> bool
     ensures { result ≡ items_in_range (items_view items.now.items) }
 {
     for item in items {
@@ -67,7 +67,7 @@ fn are_items_in_range(items: &Vec<Value<'_>>) -> bool
 }
 
 #[cycle(in_range)]
-fn are_members_in_range(members: &Vec<(&str, Value<'_>)>) -> bool
+fn are_members_in_range<A: Allocator>(members: &Vec<(&str, Value<'_, A>), A>) -> bool
     ensures { result ≡ members_in_range (members_view members.now.items) }
 {
     for member in members {
@@ -78,26 +78,31 @@ fn are_members_in_range(members: &Vec<(&str, Value<'_>)>) -> bool
     true
 }
 
-pub(crate) fn is_object(tree: &Value<'_>) -> bool
+pub(crate) fn is_object<A: Allocator>(tree: &Value<'_, A>) -> bool
     ensures { result ≡ is_some (as_object (tree_data tree.now)) }
 {
     matches!(tree, Value::Object(_))
 }
 
 /// The member of this name, the last one if there are several.
-pub(crate) fn member<'v, 'a>(tree: &'v Value<'a>, name: &str) -> Option<&'v Value<'a>>
+pub(crate) fn member<'v, 'a, A: Allocator>(
+    tree: &'v Value<'a, A>,
+    name: &str,
+) -> Option<&'v Value<'a, A>>
     ensures { option_map (λ found. tree_data found.now) result ≡ get name.now (tree_data tree.now) }
 {
     tree.get(name)
 }
 
-pub(crate) fn string<'a>(tree: &Value<'a>) -> Option<&'a str>
+pub(crate) fn string<'a, A: Allocator>(tree: &Value<'a, A>) -> Option<&'a str>
     ensures { option_map (λ text. text.now) result ≡ as_str (tree_data tree.now) }
 {
     tree.as_str()
 }
 
-pub(crate) fn array<'v, 'a>(tree: &'v Value<'a>) -> Option<&'v Vec<Value<'a>>>
+pub(crate) fn array<'v, 'a, A: Allocator>(
+    tree: &'v Value<'a, A>,
+) -> Option<&'v Vec<Value<'a, A>, A>>
     ensures { option_map (λ items. list_data items.now.items) result ≡ as_array (tree_data tree.now) }
 {
     match tree {
@@ -107,7 +112,7 @@ pub(crate) fn array<'v, 'a>(tree: &'v Value<'a>) -> Option<&'v Vec<Value<'a>>>
 }
 
 /// The whole number of a member, none if it is absent or null; `None` if it is not such a number.
-pub(crate) fn number_of(member: Option<&Value<'_>>) -> Option<Option<u64>>
+pub(crate) fn number_of<A: Allocator>(member: Option<&Value<'_, A>>) -> Option<Option<u64>>
     ensures { result ≡ number_of_member (option_map (λ found. tree_data found.now) member.entry) }
 {
     match member {

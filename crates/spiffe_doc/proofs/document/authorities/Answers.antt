@@ -7,10 +7,10 @@ use Rattle.spiffe_doc.proofs.EntryLists.{read_none, read_one_more, read_to_fault
 use Rattle.spiffe_doc.proofs.document.authorities.Goals as goal
 
 pub loop-place-init : goal.loop-place-init
-loop-place-init c = record { read = rw c.in_ok-set.ensures.1 (read_none _); whole = c.in_ok-set.ensures.0 }
+loop-place-init g c = record { read = rw c.in_ok-set.ensures.1 (read_none _); whole = c.in_ok-set.ensures.0 }
 
 pub returns-in_err-take_entry-clause-exact : goal.returns-in_err-take_entry-clause-exact
-returns-in_err-take_entry-clause-exact c =
+returns-in_err-take_entry-clause-exact g c =
     let p = err_from_is_err_and c.from_residual-in_err-take_entry.result c.from_residual-in_err-take_entry.ensures.1 in
     let inside : c.loop-place.place < length c.args.entries.now.items = omega arith in
     let same = outcome-tree c.args.entries.now.items c.loop-place.place c.entry-item.result inside (rw (c.deref-entry-items.ensures.value) at c.entry-item.is) in
@@ -21,7 +21,7 @@ returns-in_err-take_entry-clause-exact c =
     ])
 
 pub loop-place-preserved : goal.loop-place-preserved
-loop-place-preserved c =
+loop-place-preserved g c =
     let inside : c.loop-place.place < length c.args.entries.now.items = omega arith in
     let same = outcome-tree c.args.entries.now.items c.loop-place.place c.entry-item.result inside (rw (c.deref-entry-items.ensures.value) at c.entry-item.is) in
     record {
@@ -30,6 +30,6 @@ loop-place-preserved c =
     }
 
 pub returns-clause-exact : goal.returns-clause-exact
-returns-clause-exact c =
+returns-clause-exact g c =
     let all : c.loop-place.place ≡ length (map tree_data c.args.entries.now.items) = rw length-map (omega arith) in
     rw elements-list_data (read_all (map tree_data c.args.entries.now.items) c.loop-place.set.authorities.items (rw all at c.loop-place.invariant.read))

@@ -5,7 +5,7 @@ use Rattle.spiffe_doc.proofs.EntryLists.{IsReadTo}
 use Rattle.spiffe_doc.proofs.document.authorities.Given as goal
 
 abbrev pub invariant-loop-place : goal.invariant-loop-place
-invariant-loop-place l = record {
+invariant-loop-place g l = record {
   read : IsReadTo (map tree_data l.entries.items) l.place l.set.authorities.items;
   whole : IsWhole l.set;
 }

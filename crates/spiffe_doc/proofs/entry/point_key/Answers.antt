@@ -15,7 +15,7 @@ passes n None x e = cc
 passes n (Some b) x e = same_length n b x (length b == n) refl e
 
 pub new-requires-clause-x_fits : goal.new-requires-clause-x_fits
-new-requires-clause-x_fits c =
+new-requires-clause-x_fits g c =
     let told = c.in_ok-x.ensures in let some = c.in-Some.is in
     let is : judged.coordinate c.args.curve (codes "x") (tree_data c.args.entry.now) ≡ Some c.in-Some.x = cc in
     passes (coordinate_len c.args.curve) (judged.key_bytes (codes "x") (tree_data c.args.entry.now)) c.in-Some.x is
