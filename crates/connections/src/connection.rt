@@ -81,6 +81,13 @@ impl<E: Stream + Drop> Connection<E> {
         }
     }
 
+    /// Gives back the memory that no byte needs, as of a client that is quiet. Nothing else changes.
+    pub fn rest(&mut self)
+        ensures { self.new ≡ self.old }
+    {
+        self.live.rest();
+    }
+
     /// Answers whole frames that have come.
     fn answer<A: Ask>(
         &mut self,
@@ -217,7 +224,7 @@ impl<E: Stream + Drop> Connection<E> {
     }
 
     /// The last turn: nothing is read any more, and what has come is answered, as far as the stream takes it at once. If it
-    /// takes no more, the session ends with `WriteFault`; and after 64 rounds, in which at least 4,194,304 bytes of replies
+    /// takes no more, the session ends with `WriteFault`; and after 64 rounds, in which at least 12,582,912 bytes of replies
     /// were sent, with `TurnsUsed`.
     pub fn last_turn<A: Ask>(
         &mut self,

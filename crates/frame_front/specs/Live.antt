@@ -45,7 +45,7 @@ room_of live = most_kept - length live.kept
 
 -- with so many bytes ready, no further frame is answered
 abbrev pub reply_limit : ℕ
-reply_limit = 65536
+reply_limit = 196608
 
 -- the most bytes of a reply that are stored at once: a length, i, the longest name and the longest text
 abbrev pub most_part : ℕ
@@ -57,7 +57,7 @@ most_ready = reply_limit + most_part
 
 -- the most frames that one call answers, since each reply has at least 5 bytes
 abbrev pub most_frames : ℕ
-most_frames = 13108
+most_frames = 39322
 
 -- a piece of the input is kept
 abbrev pub Feeds : List ℕ → LiveView → LiveView → Type 0

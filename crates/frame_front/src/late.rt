@@ -13,7 +13,7 @@ use spiffe_doc::{Bundle, TrustDomain};
 use std::alloc::AllocError;
 
 /// With so many bytes ready, no further part of a reply is stored.
-pub(crate) const REPLY_LIMIT: usize = 65_536;
+pub(crate) const REPLY_LIMIT: usize = 196_608;
 
 /// What is left to store of a reply: its first bytes, what follows them, and how many of its domains are stored.
 #[derive(Drop)]

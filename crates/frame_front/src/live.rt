@@ -18,13 +18,17 @@ use std::marker::Model;
 /// The most bytes of input that are kept: a frame, and a piece.
 const MOST_KEPT: usize = LENGTH_BYTES + MAX_PAYLOAD + 4096;
 
-/// The most memory for input, and for replies, that is held while no byte needs it.
-const MOST_HELD: usize = 131_072;
+/// The most memory for input that is held from one frame to the next while no byte needs it.
+const MOST_INPUT_HELD: usize = 131_072;
+
+/// The same for replies. Room that doubles up to the limit of replies stays below it, so it is not made anew each round.
+const MOST_REPLIES_HELD: usize = 2 * REPLY_LIMIT;
 
 /// A session that has no reader and no writer, so that one thread can drive many of them. Pieces of its input are fed
 /// to it, it answers the whole frames among them, and its replies wait until they are sent. It keeps at most 1,053,100
-/// bytes of input, and has at most 65,536 bytes of replies and one more part of a reply ready: a text, or a domain of a
-/// fetch-all. What comes after that part is not copied before it is its turn.
+/// bytes of input, and has at most 196,608 bytes of replies and one more part of a reply ready: a text, or a domain of a
+/// fetch-all. What comes after that part is not copied before it is its turn. While its client is quiet it needs no memory
+/// for either: `rest` gives it back.
 ///
 /// `serve` is not made of it: it has its writer at hand, so it writes a long text from where it is kept, and needs no
 /// memory for it. Both read a payload by the same functions and carry the same table; here a get is shown its bundle.
@@ -88,7 +92,7 @@ impl LiveSession {
         Ok(count)
     }
 
-    /// Answers whole frames that are kept, in order, until none is left, a bad length comes first, or 65,536 bytes of
+    /// Answers whole frames that are kept, in order, until none is left, a bad length comes first, or 196,608 bytes of
     /// replies are ready. If memory for a reply is refused, the rest of that reply waits, and the next call begins with
     /// it. Sessions of one thread can share the reader of documents.
     pub fn answer<A: Ask>(&mut self, documents: &mut DocumentReader, ask: &mut A) -> Answered
@@ -104,7 +108,7 @@ impl LiveSession {
             &mut self.ready,
             ask,
         );
-        self.decoder.shrink(MOST_HELD);
+        self.decoder.shrink(MOST_INPUT_HELD);
         answered
     }
 
@@ -125,10 +129,20 @@ impl LiveSession {
         if !self.ready.bytes.is_empty() {
             return;
         }
-        if self.ready.bytes.capacity() > MOST_HELD {
+        if self.ready.bytes.capacity() > MOST_REPLIES_HELD {
             self.ready.bytes = BytesMut::new(self.alloc);
         } else {
             self.ready.bytes.clear();
+        }
+    }
+
+    /// Gives back the memory that no byte needs. Nothing else changes.
+    pub fn rest(&mut self)
+        ensures { self.new ≡ self.old }
+    {
+        self.decoder.shrink(0);
+        if self.ready.bytes.is_empty() && self.ready.bytes.capacity() > 0 {
+            self.ready.bytes = BytesMut::new(self.alloc);
         }
     }
 

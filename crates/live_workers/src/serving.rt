@@ -156,13 +156,14 @@ impl<E: Stream + Drop> Served<E> {
     }
 
     /// Why the connection at a place is to be left: once its client has owed the rest of a frame, or the room for replies,
-    /// for so many ticks.
+    /// for so many ticks. Its memory that no byte needs is given back.
     fn is_silent(&mut self, place: usize, most: u64) -> Option<FrontError>
         ensures same { AllStay (get self.old.open) (get self.new.open) }
         ensures why { IfSome result (λ error. (p : Place) × (get self.new.open place ≡ Some p) × EndsSo (Err error) p.connection) }
         ensures results { self.new.results ≡ self.old.results }
     {
         let placed = self.open.get_mut(place)?;
+        placed.connection.rest();
         let owed = placed.connection.owes()?;
         placed.silent = placed.silent.saturating_add(1);
         if placed.silent < most {

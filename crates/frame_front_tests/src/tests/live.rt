@@ -206,8 +206,8 @@ fn stops(
     let fed = live.feed(flood)?;
     holds_at(rt, fed == 1_053_100 && live.room() == 0, &fed);
     holds(rt, live.feed(b"F")? == 0);
-    // A reply has parts of 13 and 18 bytes: 2,114 replies and a part are 65,547 bytes, and 18 and 2,114 more are 65,552.
-    for counts in [(2115, 65_547, 10_575), (2114, 65_552, 21_145)] {
+    // A reply has parts of 13 and 18 bytes: 6,342 replies and a part are 196,615 bytes, and 18 and 6,342 more are 196,620.
+    for counts in [(6343, 196_615, 31_715), (6342, 196_620, 63_425)] {
         is_full(rt, live, documents, contents, counts);
         send(live, usize::MAX, sent)?;
     }
@@ -215,7 +215,7 @@ fn stops(
     Ok(())
 }
 
-/// A client sends fetch-alls and reads nothing: replies are stored until 65,536 bytes are ready, and none is answered after.
+/// A client sends fetch-alls and reads nothing: replies are stored until 196,608 bytes are ready, and none is answered after.
 #[test]
 fn a_flood_stops_at_the_limit(rt: HostRuntime) -> Result<(), AllocError> {
     let alloc = rt.alloc();

@@ -100,7 +100,7 @@ fn many_fetches(alloc: Global, fetches: usize) -> Result<Vec<u8>, AllocError> {
 }
 
 /// How many bytes of replies are ready when no further frame is answered in a round.
-const ROUND_BYTES: usize = 65_536;
+const ROUND_BYTES: usize = 196_608;
 
 /// One turn and the last turn of a client that asks for more than they send.
 fn last_turn_of(
@@ -139,5 +139,5 @@ fn is_given_up(rt: &impl Abort, alloc: Global, fetches: usize) -> Result<(), Fai
 // The first round of the turn reads, 7 send, and the last turn has 64 rounds.
 #[test]
 fn a_client_that_asks_for_more_is_left_after_its_last_turn(rt: HostRuntime) -> Result<(), Fail> {
-    is_given_up(&rt, rt.alloc(), 4_000)
+    is_given_up(&rt, rt.alloc(), 12_000)
 }
