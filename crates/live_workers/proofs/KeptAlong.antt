@@ -1,11 +1,10 @@
 -- What every answer keeps is kept along sessions.
-use Rattle.std.proofs.Common.{◌≡◌, List, [], ◌∷◌, sym, ap, subst, inl, inr}
-use Rattle.std.specs.Prelude.{ℕ, Bool, true, false, Option, Result, Ok, Err}
+use Rattle.std.proofs.Common.{◌≡◌, List, [], ◌∷◌, sym, ap, subst}
+use Rattle.std.specs.Prelude.{ℕ, Bool, true, false, Result}
 use Rattle.map_core.specs.declared.op.Op.{Op}
 use Rattle.map_core.specs.declared.reply.Reply.{Reply}
 use Rattle.map_core.specs.declared.reply.AskError.{AskError}
-use Rattle.frame_front.specs.declared.error.FrontError.{FrontError}
-use Rattle.workers.specs.declared.ended.SessionFault.{SessionFault}
+use Rattle.workers.specs.Ended.{EndsView}
 use Rattle.frame_front.specs.Live.{LiveView}
 use Rattle.frame_front.specs.LiveCalls.{LiveCall, Does, DoesAll, Feed, Answer, Send}
 use Rattle.workers.specs.Gate.{AnsweredBehind}
@@ -64,5 +63,5 @@ module _ {S : Type 0} (answers : S → Op → Result Reply AskError → S → Ty
   steps_keep (step ∷ steps) old new a = further old.1 a.0.1 new.1 (step_keeps step old a.0 a.1) (steps_keep steps a.0 new a.2)
 
   -- what each answer keeps, sessions keep
-  pub sessions_keep : (results : List (Result ℕ SessionFault)) (old new : S) → ServedAll answers results old new → Keeps old new
-  sessions_keep results old new a = steps_keep a.steps (nobody, old) (nobody, new) a.takes
+  pub sessions_keep : (kept : EndsView) (old new : S) → ServedAll answers kept old new → Keeps old new
+  sessions_keep kept old new a = steps_keep a.steps (nobody, old) (nobody, new) a.takes

@@ -13,10 +13,10 @@ use Rattle.connections.specs.Connection.{ConnectionView, Turn, told, turn_rounds
 use Rattle.connections.specs.declared.after.After.{After}
 use Rattle.live_workers.specs.AtPort.{PortAnswer}
 use Rattle.live_workers.specs.Arrivals.{News, NewClient}
-use Rattle.workers.specs.declared.ended.SessionFault.{SessionFault}
+use Rattle.workers.specs.Ended.{EndsView, Notes}
 use Rattle.live_workers.specs.Sessions.{Place, Places, Step, Opens, Turns, Misses, Closes, Ends, Fails, AllStay, EndsSo, OthersStay, TakesAll, told_by, closing_of, front_end, news_of, all_news}
 use Rattle.live_workers.specs.Private.Serving.{AreEnds, Asks, HadTurn, HadLastTurn, Leaves, NobodyThere, Serves, turn_news}
-use Rattle.live_workers.proofs.StepLemmas.{all_stay, notes_then, serves_ending, serves_none, serves_quietly, stay_then, steps_then}
+use Rattle.live_workers.proofs.StepLemmas.{all_stay, notes_none, notes_then, serves_ending, serves_none, serves_quietly, stay_then, steps_then}
 
 on_ok : {X E : Type 0} {P Q : Type 0} (r : Result X E) → OnOk r P → (P → Q) → OnOk r Q
 on_ok (Ok x) p f = f p
@@ -38,7 +38,7 @@ beyond s place far = get_or_past s.slots place None far
 
 module _ {S : Type 0} (answers : S → Op → Result Reply AskError → S → Type 0) where
   -- a turn, whatever it follows
-  pub turn_serves : (place : ℕ) (is_closing : Bool) (after : After) (old new : Places) (noted noted_new : List (Result ℕ SessionFault)) (s t : S)
+  pub turn_serves : (place : ℕ) (is_closing : Bool) (after : After) (old new : Places) (noted noted_new : EndsView) (s t : S)
       → HadTurn answers place is_closing (Some after) old new s t → noted_new ≡ noted
       → (ready : Option Bool) → closing_of ready ≡ is_closing → Serves answers (turn_news place ready) old new noted noted_new s t
   turn_serves place is_closing after old new noted noted_new s t h same None closes =
@@ -54,40 +54,40 @@ module _ {S : Type 0} (answers : S → Op → Result Reply AskError → S → Ty
       told_so : Turn turn_rounds (PortAnswer answers h.before.reads_only) after (told b h.before.connection) h.behind s t
       told_so = subst (λ d. Turn turn_rounds (PortAnswer answers h.before.reads_only) after (told d h.before.connection) h.behind s t) (sym closes) h.does
 
-  pub stays_serves : (old new : Places) (noted noted_new : List (Result ℕ SessionFault)) (s t : S)
+  pub stays_serves : (old new : Places) (noted noted_new : EndsView) (s t : S)
       → AllStay old new → noted_new ≡ noted → t ≡ s → Serves answers [] old new noted noted_new s t
   stays_serves old new noted noted_new s t same kept still =
       subst (λ (u : S). Serves answers [] old new noted noted_new s u) (sym still)
-      (subst (λ (n : List (Result ℕ SessionFault)). Serves answers [] old new noted n s s) (sym kept) (serves_none answers old new noted s same))
+      (subst (λ (n : EndsView). Serves answers [] old new noted n s s) (sym kept) (serves_none answers old new noted s same))
 
-  pub by_news : (h k : List News) (old new : Places) (noted noted_new : List (Result ℕ SessionFault)) (s t : S)
+  pub by_news : (h k : List News) (old new : Places) (noted noted_new : EndsView) (s t : S)
       → k ≡ h → Serves answers h old new noted noted_new s t → Serves answers k old new noted noted_new s t
   by_news h k old new noted noted_new s t same a = subst (λ n. Serves answers n old new noted noted_new s t) (sym same) a
 
-  pub unchanged_news : (h : List News) (old new : Places) (noted noted_new : List (Result ℕ SessionFault)) (s t : S)
+  pub unchanged_news : (h : List News) (old new : Places) (noted noted_new : EndsView) (s t : S)
       → Serves answers (h ++ []) old new noted noted_new s t → Serves answers h old new noted noted_new s t
   unchanged_news h old new noted noted_new s t a = subst (λ n. Serves answers n old new noted noted_new s t) (append-nil h) a
 
   -- nobody had a turn
-  pub missed_serves : (place : ℕ) (old new : Places) (noted noted_new : List (Result ℕ SessionFault)) (s t : S)
+  pub missed_serves : (place : ℕ) (old new : Places) (noted noted_new : EndsView) (s t : S)
       → NobodyThere answers place old new s t → noted_new ≡ noted → (ready : Option Bool) → Serves answers (turn_news place ready) old new noted noted_new s t
   missed_serves place old new noted noted_new s t n same None = stays_serves old new noted noted_new s t n.1 same n.2
   missed_serves place old new noted noted_new s t n same (Some b) =
       serves_quietly answers (Misses place b) old new noted noted_new s t (n.0, n.1, n.2) refl same
 
-  pub close_serves : (place : ℕ) (end : Result ℕ FrontError) (old new : Places) (noted noted_new : List (Result ℕ SessionFault)) (s : S) (p : Place) → old place ≡ Some p
-      → EndsSo end p.connection → new place ≡ None → OthersStay place old new → noted_new ≡ noted ++ front_end end ∷ [] → Serves answers [] old new noted noted_new s s
+  pub close_serves : (place : ℕ) (end : Result ℕ FrontError) (old new : Places) (noted noted_new : EndsView) (s : S) (p : Place) → old place ≡ Some p
+      → EndsSo end p.connection → new place ≡ None → OthersStay place old new → Notes (front_end end ∷ []) noted noted_new → Serves answers [] old new noted noted_new s s
   close_serves place end old new noted noted_new s p was ends left others notes =
       serves_ending answers (Closes place end) old new noted noted_new s s (p, was, ends, left, others, refl) notes
 
   -- a last turn, and then the connection is left
-  pub last_serves : (place : ℕ) (end : Result ℕ FrontError) (old mid new : Places) (noted kept noted_new : List (Result ℕ SessionFault)) (s t : S)
-      → HadLastTurn answers place (Some end) old mid s t → kept ≡ noted → new place ≡ None → OthersStay place mid new → noted_new ≡ kept ++ front_end end ∷ []
+  pub last_serves : (place : ℕ) (end : Result ℕ FrontError) (old mid new : Places) (noted kept noted_new : EndsView) (s t : S)
+      → HadLastTurn answers place (Some end) old mid s t → kept ≡ noted → new place ≡ None → OthersStay place mid new → Notes (front_end end ∷ []) kept noted_new
       → Serves answers [] old new noted noted_new s t
   last_serves place end old mid new noted kept noted_new s t h same left others notes =
       serves_ending answers (Ends place end) old new noted noted_new s t
       (h.before, h.behind, h.was, h.does, left, stay_then place old mid new h.others others)
-      (notes ∙ ap (λ (l : List (Result ℕ SessionFault)). l ++ front_end end ∷ []) same)
+      (subst (λ (n : EndsView). Notes (front_end end ∷ []) n noted_new) same notes)
 
   -- ends of sessions may stand in any run
   ends_anywhere : (steps : List Step) (p q : Places) (s : S) → AreEnds steps → TakesAll Asks steps (p, tt) (q, tt) → TakesAll answers steps (p, s) (q, s)
@@ -110,19 +110,19 @@ module _ {S : Type 0} (answers : S → Op → Result Reply AskError → S → Ty
   no_news (Ends place result ∷ steps) ends = absurd ends
   no_news (Fails ∷ steps) ends = absurd ends
 
-  pub leaves_serves : (old new : Places) (n o : List (Result ℕ SessionFault)) (s : S) → Leaves old new n o → Serves answers [] old new n o s s
+  pub leaves_serves : (old new : Places) (n o : EndsView) (s : S) → Leaves old new n o → Serves answers [] old new n o s s
   leaves_serves old new n o s l =
       record { steps = l.steps; takes = ends_anywhere l.steps old new s l.ends l.takes; notes = l.notes; follows = no_news l.steps l.ends }
 
   -- a free place is taken
-  pub take_serves : (place : ℕ) (start : ConnectionView) (reads_only : Bool) (old new : Places) (noted noted_new : List (Result ℕ SessionFault)) (s : S)
+  pub take_serves : (place : ℕ) (start : ConnectionView) (reads_only : Bool) (old new : Places) (noted noted_new : EndsView) (s : S)
       → old place ≡ None → new place ≡ Some (record { connection = start; reads_only = reads_only }) → OthersStay place old new → noted_new ≡ noted
       → Serves answers (NewClient start reads_only ∷ []) old new noted noted_new s s
   take_serves place start reads_only old new noted noted_new s free taken others same =
       serves_quietly answers (Opens place start reads_only) old new noted noted_new s s (free, taken, others, refl) refl same
 
-  pub fails_serves : (old new : Places) (noted noted_new : List (Result ℕ SessionFault)) (s : S)
-      → AllStay old new → noted_new ≡ noted ++ told_by Fails → Serves answers (news_of Fails) old new noted noted_new s s
+  pub fails_serves : (old new : Places) (noted noted_new : EndsView) (s : S)
+      → AllStay old new → Notes (told_by Fails) noted noted_new → Serves answers (news_of Fails) old new noted noted_new s s
   fails_serves old new noted noted_new s same notes = serves_ending answers Fails old new noted noted_new s s (same, refl) notes
 
 ends_then : (xs ys : List Step) → AreEnds xs → AreEnds ys → AreEnds (xs ++ ys)
@@ -134,10 +134,10 @@ ends_then (Misses place is_closing ∷ xs) ys p q = absurd p
 ends_then (Ends place result ∷ xs) ys p q = absurd p
 ends_then (Fails ∷ xs) ys p q = absurd p
 
-pub leaves_none : (old new : Places) (n o : List (Result ℕ SessionFault)) → AllStay old new → o ≡ n → Leaves old new n o
-leaves_none old new n o same e = record { steps = []; ends = tt; takes = (same, refl); notes = e ∙ sym (append-nil n) }
+pub leaves_none : (old new : Places) (n o : EndsView) → AllStay old new → o ≡ n → Leaves old new n o
+leaves_none old new n o same e = record { steps = []; ends = tt; takes = (same, refl); notes = subst (λ (x : EndsView). Notes [] n x) (sym e) (notes_none n) }
 
-pub leaves_then : (a b c : Places) (m n o : List (Result ℕ SessionFault)) → Leaves a b m n → Leaves b c n o → Leaves a c m o
+pub leaves_then : (a b c : Places) (m n o : EndsView) → Leaves a b m n → Leaves b c n o → Leaves a c m o
 leaves_then a b c m n o p q = record {
   steps = p.steps ++ q.steps;
   ends = ends_then p.steps q.steps p.ends q.ends;
@@ -146,18 +146,18 @@ leaves_then a b c m n o p q = record {
 }
 
 -- a connection is left
-leaves_it : (place : ℕ) (end : Result ℕ FrontError) (old new : Places) (m o : List (Result ℕ SessionFault)) (p : Place) → old place ≡ Some p → EndsSo end p.connection
-    → new place ≡ None → OthersStay place old new → o ≡ m ++ front_end end ∷ [] → Leaves old new m o
+leaves_it : (place : ℕ) (end : Result ℕ FrontError) (old new : Places) (m o : EndsView) (p : Place) → old place ≡ Some p → EndsSo end p.connection
+    → new place ≡ None → OthersStay place old new → Notes (front_end end ∷ []) m o → Leaves old new m o
 leaves_it place end old new m o p was ends left others notes = record {
   steps = Closes place end ∷ [];
   ends = tt;
   takes = ((new, tt), (p, was, ends, left, others, refl), (all_stay new, refl));
-  notes = notes ∙ ap (λ (l : List (Result ℕ SessionFault)). m ++ l) (sym (append-nil (front_end end ∷ [])));
+  notes = notes;
 }
 
 -- a connection is left that was as it was
-pub leaves_one : (place : ℕ) (end : Result ℕ FrontError) (old mid new : Places) (n m o : List (Result ℕ SessionFault)) (p : Place) → AllStay old mid → m ≡ n → mid place ≡ Some p → EndsSo end p.connection
-    → new place ≡ None → OthersStay place mid new → o ≡ m ++ front_end end ∷ [] → Leaves old new n o
+pub leaves_one : (place : ℕ) (end : Result ℕ FrontError) (old mid new : Places) (n m o : EndsView) (p : Place) → AllStay old mid → m ≡ n → mid place ≡ Some p → EndsSo end p.connection
+    → new place ≡ None → OthersStay place mid new → Notes (front_end end ∷ []) m o → Leaves old new n o
 leaves_one place end old mid new n m o p same kept was ends left others notes =
     leaves_then old mid new n m o (leaves_none old mid n m same kept) (leaves_it place end mid new m o p was ends left others notes)
 

@@ -9,7 +9,7 @@ use Rattle.frame_front.specs.declared.request.Request.TheVariants.{Ask, SetVersi
 use Rattle.frame_front.specs.declared.refusal.Refusal.{Refusal}
 use Rattle.frame_front.specs.Request.{request_of}
 use Rattle.frame_front.specs.Session.{SessionState, AnswersRequest, Answers, AnswersAll}
-use Rattle.workers.specs.declared.ended.SessionFault.{SessionFault}
+use Rattle.workers.specs.Ended.{EndsView}
 use Rattle.frame_front.specs.Live.{LiveView}
 use Rattle.frame_front.specs.LiveCalls.{LiveCall, Does, DoesAll, Feed, Answer, Send}
 use Rattle.workers.specs.Gate.{AnsweredBehind}
@@ -141,8 +141,8 @@ module _ {S T : Type 0} (answers : S → Op → Result Reply AskError → S → 
       (rest.0, ((a.0.0, seen a.0.1), one.1, rest.1))
 
   -- sessions over one state are sessions over what is seen of it, by the same steps
-  pub sessions_seen : (results : List (Result ℕ SessionFault)) (old new : S) → Stays old → (a : ServedAll answers results old new)
-      → Stays new × ((b : ServedAll answers_seen results (seen old) (seen new)) × (b.steps ≡ a.steps))
-  sessions_seen results old new stays a =
+  pub sessions_seen : (kept : EndsView) (old new : S) → Stays old → (a : ServedAll answers kept old new)
+      → Stays new × ((b : ServedAll answers_seen kept (seen old) (seen new)) × (b.steps ≡ a.steps))
+  sessions_seen kept old new stays a =
       let all = steps_seen a.steps (nobody, old) (nobody, new) stays a.takes in
       (all.0, (record { steps = a.steps; takes = all.1; ends = a.ends }, refl))

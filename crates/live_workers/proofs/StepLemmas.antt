@@ -7,6 +7,7 @@ use Rattle.map_core.specs.declared.reply.AskError.{AskError}
 use Rattle.live_workers.specs.Arrivals.{News}
 use Rattle.live_workers.specs.Sessions.{Places, Step, Opens, Turns, Misses, Closes, Ends, Fails, OthersStay, AllStay, Takes, TakesAll, told_all, told_by, all_news, news_of}
 use Rattle.live_workers.specs.Private.Serving.{Serves}
+use Rattle.workers.specs.Ended.{EndsView, Notes, kept_of}
 use Rattle.workers.specs.declared.ended.SessionFault.{SessionFault}
 
 pub all_stay : (p : Places) → AllStay p p
@@ -15,10 +16,17 @@ all_stay p place = refl
 pub stay_then : (place : ℕ) (a b c : Places) → OthersStay place a b → OthersStay place b c → OthersStay place a c
 stay_then place a b c p q other else = q other else ∙ p other else
 
-pub notes_then : (xs ys : List Step) (m n o : List (Result ℕ SessionFault)) → n ≡ m ++ told_all xs → o ≡ n ++ told_all ys → o ≡ m ++ told_all (xs ++ ys)
-notes_then xs ys m n o p q =
-    q ∙ (ap (λ (l : List (Result ℕ SessionFault)). l ++ told_all ys) p
-    ∙ (append_assoc m (told_all xs) (told_all ys) ∙ ap (λ (l : List (Result ℕ SessionFault)). m ++ l) (sym (flat_map-append told_by xs ys))))
+pub notes_then : (xs ys : List Step) (m n o : EndsView) → Notes (told_all xs) m n → Notes (told_all ys) n o → Notes (told_all (xs ++ ys)) m o
+notes_then xs ys m n o p q before is =
+    q (before ++ told_all xs) (p before is)
+    ∙ ap kept_of (append_assoc before (told_all xs) (told_all ys) ∙ ap (λ (l : List (Result ℕ SessionFault)). before ++ l) (sym (flat_map-append told_by xs ys)))
+
+-- nothing is noted
+pub notes_none : (m : EndsView) → Notes [] m m
+notes_none m before is = is ∙ ap kept_of (sym (append-nil before))
+
+notes_by : (xs ys : List (Result ℕ SessionFault)) (m n : EndsView) → xs ≡ ys → Notes xs m n → Notes ys m n
+notes_by xs ys m n same p = subst (λ (l : List (Result ℕ SessionFault)). Notes l m n) same p
 
 news_then : (xs ys : List Step) (h k : List News) → all_news xs ≡ h → all_news ys ≡ k → all_news (xs ++ ys) ≡ h ++ k
 news_then xs ys h k p q = flat_map-append news_of xs ys ∙ (ap (λ (l : List News). l ++ all_news ys) p ∙ ap (λ (l : List News). h ++ l) q)
@@ -43,35 +51,28 @@ module _ {S : Type 0} (answers : S → Op → Result Reply AskError → S → Ty
   steps_then (x ∷ xs) ys a b c p q = (p.0, p.1, steps_then xs ys p.0 b c p.2 q)
 
   -- nothing is done
-  pub serves_none : (old new : Places) (noted : List (Result ℕ SessionFault)) (s : S) → AllStay old new → Serves answers [] old new noted noted s s
-  serves_none old new noted s same = record { steps = []; takes = (same, refl); notes = sym (append-nil noted); follows = refl }
+  pub serves_none : (old new : Places) (noted : EndsView) (s : S) → AllStay old new → Serves answers [] old new noted noted s s
+  serves_none old new noted s same = record { steps = []; takes = (same, refl); notes = notes_none noted; follows = refl }
 
-  -- one step
-  pub serves_one : (step : Step) (old new : Places) (noted : List (Result ℕ SessionFault)) (s t : S) → Takes answers step (old, s) (new, t)
-      → Serves answers (news_of step) old new noted (noted ++ told_by step) s t
-  serves_one step old new noted s t a = record {
+  -- one step that ends a session
+  pub serves_ending : (step : Step) (old new : Places) (noted noted_new : EndsView) (s t : S) → Takes answers step (old, s) (new, t)
+      → Notes (told_by step) noted noted_new → Serves answers (news_of step) old new noted noted_new s t
+  serves_ending step old new noted noted_new s t a notes = record {
     steps = step ∷ [];
     takes = ((new, t), a, (all_stay new, refl));
-    notes = ap (λ (l : List (Result ℕ SessionFault)). noted ++ l) (sym (append-nil (told_by step)));
+    notes = notes_by (told_by step) (told_all (step ∷ [])) noted noted_new (sym (append-nil (told_by step))) notes;
     follows = append-nil (news_of step);
   }
 
   -- one step that ends no session
-  pub serves_quietly : (step : Step) (old new : Places) (noted noted_new : List (Result ℕ SessionFault)) (s t : S) → Takes answers step (old, s) (new, t)
+  pub serves_quietly : (step : Step) (old new : Places) (noted noted_new : EndsView) (s t : S) → Takes answers step (old, s) (new, t)
       → told_by step ≡ [] → noted_new ≡ noted → Serves answers (news_of step) old new noted noted_new s t
   serves_quietly step old new noted noted_new s t a none same =
-      subst (λ (n : List (Result ℕ SessionFault)). Serves answers (news_of step) old new noted n s t)
-      (ap (λ (l : List (Result ℕ SessionFault)). noted ++ l) none ∙ (append-nil noted ∙ sym same))
-      (serves_one step old new noted s t a)
-
-  -- one step that ends a session
-  pub serves_ending : (step : Step) (old new : Places) (noted noted_new : List (Result ℕ SessionFault)) (s t : S) → Takes answers step (old, s) (new, t)
-      → noted_new ≡ noted ++ told_by step → Serves answers (news_of step) old new noted noted_new s t
-  serves_ending step old new noted noted_new s t a notes =
-      subst (λ (n : List (Result ℕ SessionFault)). Serves answers (news_of step) old new noted n s t) (sym notes) (serves_one step old new noted s t a)
+      serves_ending step old new noted noted_new s t a
+      (subst (λ (n : EndsView). Notes (told_by step) noted n) (sym same) (notes_by [] (told_by step) noted noted (sym none) (notes_none noted)))
 
   -- some steps, and then others
-  pub serves_then : (h k : List News) (a b c : Places) (m n o : List (Result ℕ SessionFault)) (s t u : S) → Serves answers h a b m n s t → Serves answers k b c n o t u
+  pub serves_then : (h k : List News) (a b c : Places) (m n o : EndsView) (s t u : S) → Serves answers h a b m n s t → Serves answers k b c n o t u
       → Serves answers (h ++ k) a c m o s u
   serves_then h k a b c m n o s t u p q = record {
     steps = p.steps ++ q.steps;

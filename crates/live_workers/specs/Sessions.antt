@@ -11,6 +11,7 @@ use Rattle.connections.specs.declared.after.After.TheVariants.{Over}
 use Rattle.live_workers.specs.Arrivals.{News, NewClient, IsReady, HasFailed, IsToStop, ComesAll, news_in}
 use Rattle.live_workers.specs.AtPort.{PortAnswer}
 use Rattle.live_workers.specs.declared.arrivals.Arrival.{Arrival}
+use Rattle.workers.specs.Ended.{EndsView, kept_of}
 use Rattle.workers.specs.declared.ended.SessionFault.{SessionFault}
 use Rattle.workers.specs.declared.ended.SessionFault.TheVariants.{Front, Listen}
 
@@ -105,10 +106,10 @@ module _ {S : Type 0} (answers : S → Op → Result Reply AskError → S → Ty
   TakesAll (step ∷ steps) old new = (mid : Places × S) × Takes step old mid × TakesAll steps mid new
 
   -- Connections were served beside each other, from the first one to the end of the last one, and their sessions ended so.
-  pub record ServedAll (results : List (Result ℕ SessionFault)) (old new : S) : Type 0 where
+  pub record ServedAll (kept : EndsView) (old new : S) : Type 0 where
     pub steps : List Step
     pub takes : TakesAll steps (nobody, old) (nobody, new)
-    pub ends : results ≡ told_all steps
+    pub ends : kept ≡ kept_of (told_all steps)
 
 -- The steps follow all news that came, in order, up to the first stop.
 pub record Follows {E V : Type 0} (start : E → ConnectionView) (comes : V → Arrival E → V → Type 0) (steps : List Step) (old new : V) : Type 0 where

@@ -14,7 +14,7 @@ module _ (opens : ℕ → ℕ → Bool → Type 0) where
     pub own : IsOf worked.pass store
     pub further : IsFurther worked.pass.seen pass.seen
     pub calls : ℕ
-    pub served : ServedAll (WorkerAnswer opens worker) worked.results.items (at_work store pass.seen 0) (at_work store worked.pass.seen calls)
+    pub served : ServedAll (WorkerAnswer opens worker) worked.ends (at_work store pass.seen 0) (at_work store worked.pass.seen calls)
 
   -- each worker in its place; the first has this number
   abbrev pub AllServed : StoreView → ℕ → List PassView → List Worked → Type 0

@@ -45,7 +45,7 @@ fn work<C: Clock, V: Arrivals + Drop, G: Gate, L: Log>(
     } = worker;
     let logged = Logged::new(store, pass, clock, retries, log, number);
     let mut port = AtPort::new(Gated::new(logged, gate, number), false);
-    let results = serve_arrivals(alloc, &mut arrivals, &mut port, most_silent, log, number)?;
+    let ends = serve_arrivals(alloc, &mut arrivals, &mut port, most_silent, log, number)?;
     let AtPort {
         ask: gated,
         reads_only: _,
@@ -58,7 +58,7 @@ fn work<C: Clock, V: Arrivals + Drop, G: Gate, L: Log>(
     } = gated;
     Ok(Worked {
         pass: logged.into_pass(),
-        results,
+        ends,
     })
 }
 

@@ -1,6 +1,7 @@
 //! Serving many connections beside each other.
 ghost use Rattle.std.specs.Prelude.{◌≡◌, ◌++◌, [], ◌∷◌, Bool, Option, None, Some, Err, IfOk, OnOk, IfSome};
 ghost use Rattle.slab.specs.Slab.{get};
+ghost use Rattle.workers.specs.Ended.{kept_of, Notes};
 ghost use Rattle.connections.specs.Connection.{opened};
 ghost use Rattle.live_workers.specs.Arrivals.{IsStop, NewClient, news_in};
 ghost use Rattle.live_workers.specs.Sessions.{Place, AllStay, Fails, EndsSo, Follows, OthersStay, ServedAll, closing_of, front_end, nobody, told_by};
@@ -16,7 +17,7 @@ use spiffe_doc::DocumentReader;
 use std::alloc::{AllocError, Global};
 use std::collections::VecDeque;
 use std::marker::Model;
-use workers::{Log, SessionFault};
+use workers::{Log, SessionEnds, SessionFault};
 
 /// A connection at its place.
 #[derive(Drop)]
@@ -34,7 +35,7 @@ struct Served<E: Stream + Drop> {
     /// The places of connections that have had their share, and may have more to do.
     again: VecDeque<usize>,
     documents: DocumentReader,
-    results: Vec<Result<u64, SessionFault>>,
+    ends: SessionEnds,
 }
 
 impl<E: Stream + Drop> Model for Placed<E> {
@@ -49,13 +50,13 @@ impl<E: Stream + Drop> Served<E> {
     /// No client is connected yet.
     fn new(alloc: Global) -> Served<E>
         ensures open { result.open.slots ≡ [] }
-        ensures results { result.results.items ≡ [] }
+        ensures ends { result.ends ≡ kept_of [] }
     {
         Served {
             open: Slab::new(alloc),
             again: VecDeque::new(alloc),
             documents: DocumentReader::new(alloc),
-            results: Vec::new(alloc),
+            ends: SessionEnds::new(alloc),
         }
     }
 
@@ -64,7 +65,7 @@ impl<E: Stream + Drop> Served<E> {
         ensures free { IfOk result (λ place. get self.old.open place ≡ None) }
         ensures taken { IfOk result (λ place. get self.new.open place ≡ Some (record { connection = opened (E.may end) (E.left end) (E.held end); reads_only = reads_only })) }
         ensures others { IfOk result (λ place. OthersStay place (get self.old.open) (get self.new.open)) }
-        ensures results { self.new.results ≡ self.old.results }
+        ensures ends { self.new.ends ≡ self.old.ends }
     {
         let connection = Connection::new(alloc, end)?;
         let placed = Placed {
@@ -84,7 +85,7 @@ impl<E: Stream + Drop> Served<E> {
         ask: &mut AtPort<A>,
     ) -> Option<After>
         ensures turn { HadTurn A.answers place is_closing result (get self.old.open) (get self.new.open) ask.old.ask ask.new.ask }
-        ensures results { self.new.results ≡ self.old.results }
+        ensures ends { self.new.ends ≡ self.old.ends }
     {
         let placed = self.open.get_mut(place)?;
         placed.silent = 0;
@@ -102,7 +103,7 @@ impl<E: Stream + Drop> Served<E> {
         ask: &mut AtPort<A>,
     ) -> Option<Result<u64, FrontError>>
         ensures turn { HadLastTurn A.answers place result (get self.old.open) (get self.new.open) ask.old.ask ask.new.ask }
-        ensures results { self.new.results ≡ self.old.results }
+        ensures ends { self.new.ends ≡ self.old.ends }
     {
         let placed = self.open.get_mut(place)?;
         ask.reads_only = placed.reads_only;
@@ -120,7 +121,7 @@ impl<E: Stream + Drop> Served<E> {
     ) -> Result<(), AllocError>
         ensures left { get self.new.open place ≡ None }
         ensures others { OthersStay place (get self.old.open) (get self.new.open) }
-        ensures noted { OnOk result (self.new.results.items ≡ self.old.results.items ++ front_end end ∷ []) }
+        ensures noted { OnOk result (Notes (front_end end ∷ []) self.old.ends self.new.ends) }
     {
         let ended = match end {
             Ok(count) => Ok(count),
@@ -128,7 +129,7 @@ impl<E: Stream + Drop> Served<E> {
         };
         log.ended(worker, &ended);
         let _ = self.open.try_remove(place);
-        self.results.push(ended)?;
+        self.ends.note(&ended)?;
         Ok(())
     }
 
@@ -142,7 +143,7 @@ impl<E: Stream + Drop> Served<E> {
         log: &L,
         worker: u64,
     ) -> Result<(), AllocError>
-        ensures { OnOk result ((ready : Option Bool) → closing_of ready ≡ is_closing → Serves A.answers (turn_news place ready) (get self.old.open) (get self.new.open) self.old.results.items self.new.results.items ask.old.ask ask.new.ask) }
+        ensures { OnOk result ((ready : Option Bool) → closing_of ready ≡ is_closing → Serves A.answers (turn_news place ready) (get self.old.open) (get self.new.open) self.old.ends self.new.ends ask.old.ask ask.new.ask) }
     {
         match self.turn(room, place, is_closing, ask) {
             None => Ok(()),
@@ -160,7 +161,7 @@ impl<E: Stream + Drop> Served<E> {
     fn is_silent(&mut self, place: usize, most: u64) -> Option<FrontError>
         ensures same { AllStay (get self.old.open) (get self.new.open) }
         ensures why { IfSome result (λ error. (p : Place) × (get self.new.open place ≡ Some p) × EndsSo (Err error) p.connection) }
-        ensures results { self.new.results ≡ self.old.results }
+        ensures ends { self.new.ends ≡ self.old.ends }
     {
         let placed = self.open.get_mut(place)?;
         placed.connection.rest();
@@ -180,7 +181,7 @@ impl<E: Stream + Drop> Served<E> {
         log: &L,
         worker: u64,
     ) -> Result<(), AllocError>
-        ensures { OnOk result (Leaves (get self.old.open) (get self.new.open) self.old.results.items self.new.results.items) }
+        ensures { OnOk result (Leaves (get self.old.open) (get self.new.open) self.old.ends self.new.ends) }
     {
         match self.is_silent(place, most) {
             Some(error) => self.close(place, Err(error), log, worker),
@@ -190,7 +191,7 @@ impl<E: Stream + Drop> Served<E> {
 
     /// Leaves each connection whose client has been silent for too long.
     fn leave_silent<L: Log>(&mut self, most: u64, log: &L, worker: u64) -> Result<(), AllocError>
-        ensures { OnOk result (Leaves (get self.old.open) (get self.new.open) self.old.results.items self.new.results.items) }
+        ensures { OnOk result (Leaves (get self.old.open) (get self.new.open) self.old.ends self.new.ends) }
     {
         let places = self.open.capacity();
         let mut place = 0;
@@ -210,7 +211,7 @@ impl<E: Stream + Drop> Served<E> {
         log: &L,
         worker: u64,
     ) -> Result<(), AllocError>
-        ensures served { OnOk result (Serves A.answers [] (get self.old.open) (get self.new.open) self.old.results.items self.new.results.items ask.old.ask ask.new.ask) }
+        ensures served { OnOk result (Serves A.answers [] (get self.old.open) (get self.new.open) self.old.ends self.new.ends ask.old.ask ask.new.ask) }
         ensures left { OnOk result (get self.new.open place ≡ None) }
         ensures others { OthersStay place (get self.old.open) (get self.new.open) }
     {
@@ -228,7 +229,7 @@ impl<E: Stream + Drop> Served<E> {
         log: &L,
         worker: u64,
     ) -> Result<(), AllocError>
-        ensures { OnOk result (Serves A.answers [] (get self.old.open) nobody self.old.results.items self.new.results.items ask.old.ask ask.new.ask) }
+        ensures { OnOk result (Serves A.answers [] (get self.old.open) nobody self.old.ends self.new.ends ask.old.ask ask.new.ask) }
     {
         let places = self.open.capacity();
         let mut place = 0;
@@ -250,7 +251,7 @@ impl<E: Stream + Drop> Served<E> {
         log: &L,
         worker: u64,
     ) -> Result<(), AllocError>
-        ensures { OnOk result (Serves A.answers (NewClient (opened (E.may end) (E.left end) (E.held end)) reads_only ∷ []) (get self.old.open) (get self.new.open) self.old.results.items self.new.results.items ask.old.ask ask.new.ask) }
+        ensures { OnOk result (Serves A.answers (NewClient (opened (E.may end) (E.left end) (E.held end)) reads_only ∷ []) (get self.old.open) (get self.new.open) self.old.ends self.new.ends ask.old.ask ask.new.ask) }
     {
         let place = self.take(alloc, end, reads_only)?;
         self.serve(room, place, false, ask, log, worker)
@@ -259,11 +260,11 @@ impl<E: Stream + Drop> Served<E> {
     /// Notes that the listener failed.
     fn note_failure<L: Log>(&mut self, log: &L, worker: u64) -> Result<(), AllocError>
         ensures open { self.new.open ≡ self.old.open }
-        ensures noted { OnOk result (self.new.results.items ≡ self.old.results.items ++ told_by Fails) }
+        ensures noted { OnOk result (Notes (told_by Fails) self.old.ends self.new.ends) }
     {
         let none_came = Err(SessionFault::Listen);
         log.ended(worker, &none_came);
-        self.results.push(none_came)?;
+        self.ends.note(&none_came)?;
         Ok(())
     }
 
@@ -279,7 +280,7 @@ impl<E: Stream + Drop> Served<E> {
         worker: u64,
     ) -> Result<(), AllocError>
         requires { ¬ (IsStop arrival) }
-        ensures { OnOk result (Serves A.answers (news_in (λ end. opened (E.may end) (E.left end) (E.held end)) arrival) (get self.old.open) (get self.new.open) self.old.results.items self.new.results.items ask.old.ask ask.new.ask) }
+        ensures { OnOk result (Serves A.answers (news_in (λ end. opened (E.may end) (E.left end) (E.held end)) arrival) (get self.old.open) (get self.new.open) self.old.ends self.new.ends ask.old.ask ask.new.ask) }
     {
         match arrival {
             Arrival::Opens { end, reads_only } => {
@@ -303,7 +304,7 @@ impl<E: Stream + Drop> Served<E> {
         log: &L,
         worker: u64,
     ) -> Result<(), AllocError>
-        ensures { OnOk result (Serves A.answers [] (get self.old.open) (get self.new.open) self.old.results.items self.new.results.items ask.old.ask ask.new.ask) }
+        ensures { OnOk result (Serves A.answers [] (get self.old.open) (get self.new.open) self.old.ends self.new.ends ask.old.ask ask.new.ask) }
     {
         match self.again.pop_front() {
             Some(place) => self.serve(room, place, false, ask, log, worker),
@@ -315,7 +316,7 @@ impl<E: Stream + Drop> Served<E> {
 /// Serves connections beside each other until no more come: each whose stream is ready has a turn, and one that has had its
 /// share has another after one of the others. A client that owes the rest of a frame, or room for replies, for
 /// `most_silent` ticks is left. Once no more come, what was read is answered, as far as the clients take it at once. The
-/// answer is how each session ended, in this order; the log is told of each end.
+/// answer is what is kept of how the sessions ended, in this order; the log is told of each end.
 pub fn serve_arrivals<V: Arrivals, A: Ask, L: Log>(
     alloc: Global,
     arrivals: &mut V,
@@ -323,8 +324,8 @@ pub fn serve_arrivals<V: Arrivals, A: Ask, L: Log>(
     most_silent: u64,
     log: &L,
     worker: u64,
-) -> Result<Vec<Result<u64, SessionFault>>, AllocError>
-    ensures { IfOk result (λ results. (served : ServedAll A.answers results.items ask.old.ask ask.new.ask)
+) -> Result<SessionEnds, AllocError>
+    ensures { IfOk result (λ ends. (served : ServedAll A.answers ends ask.old.ask ask.new.ask)
         × Follows (λ end. opened (V.End.may end) (V.End.left end) (V.End.held end)) V.comes served.steps arrivals.old arrivals.new) }
 {
     let mut served = Served::new(alloc);
@@ -338,5 +339,5 @@ pub fn serve_arrivals<V: Arrivals, A: Ask, L: Log>(
         served.serve_again(&mut room, ask, log, worker)?;
     }
     served.end_all(&mut room, ask, log, worker)?;
-    Ok(served.results)
+    Ok(served.ends)
 }

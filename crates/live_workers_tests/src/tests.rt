@@ -17,7 +17,7 @@ use std::io;
 use std::io::{ErrorKind, Read, Write};
 use std::process::Abort;
 use std::test::Fail;
-use workers::{Quiet, SessionFault};
+use workers::{Quiet, SessionEnds, SessionFault};
 
 /// What was found is what is wanted.
 fn is_equal<T: PartialEq + Debug>(rt: &impl Abort, found: &T, wanted: &T) {
@@ -134,11 +134,17 @@ impl<'i, 'o> Arrivals for Clients<'i, 'o> {
     }
 }
 
-/// How the sessions of these clients end, in this order, and what the clients have got.
+/// How the sessions of these clients ended, and what the clients have got.
 #[derive(Drop)]
 struct Ended {
-    results: Vec<Result<u64, SessionFault>>,
+    ends: SessionEnds,
     outputs: Vec<Vec<u8>>,
+}
+
+/// So many sessions were begun, and these are the faults of them.
+fn has_ended(rt: &impl Abort, ends: &SessionEnds, begun: u64, faults: &[SessionFault]) {
+    is_equal(rt, &ends.begun(), &begun);
+    is_equal(rt, &ends.faults(), &faults);
 }
 
 /// An output for each client.
@@ -179,13 +185,13 @@ fn clients_of<'i, 'o>(
 }
 
 /// How the sessions of clients of these plans end, over an empty map.
-fn results_of(
+fn ends_of(
     alloc: Global,
     plans: &[Plan<'_>],
     outputs: &mut [Vec<u8>],
     left: u64,
     ticks: u64,
-) -> Result<Vec<Result<u64, SessionFault>>, AllocError> {
+) -> Result<SessionEnds, AllocError> {
     let mut clients = clients_of(alloc, plans, outputs, left, ticks)?;
     let mut port = AtPort::new(Contents::new(alloc), false);
     serve_arrivals(alloc, &mut clients, &mut port, 3, &Quiet, 0)
@@ -194,8 +200,8 @@ fn results_of(
 /// Serves clients of these plans over an empty map.
 fn serve(alloc: Global, plans: &[Plan<'_>], left: u64, ticks: u64) -> Result<Ended, AllocError> {
     let mut outputs = outputs_of(alloc, plans.len())?;
-    let results = results_of(alloc, plans, outputs.as_mut_slice(), left, ticks)?;
-    Ok(Ended { results, outputs })
+    let ends = ends_of(alloc, plans, outputs.as_mut_slice(), left, ticks)?;
+    Ok(Ended { ends, outputs })
 }
 
 const SET_A: &[u8] = b"\x00\x00\x00\x0eS\x01a{\"keys\":[]}";

@@ -1,5 +1,5 @@
 -- What the command `serve` says, and how it ends.
-use Rattle.std.specs.Prelude.{◌≡◌, ◌⊎◌, ℕ, suc, ◌&&◌, min, if◌then◌else◌, List, [], ◌∷◌, ◌++◌, length, codes, decimal, Bool, true, false, Option, Some, None, Result, Ok, Err}
+use Rattle.std.specs.Prelude.{◌≡◌, ◌⊎◌, ℕ, ◌+◌, ◌&&◌, min, if◌then◌else◌, List, [], ◌∷◌, ◌++◌, length, codes, decimal, Bool, true, false, Option, Some, None, Result, Ok, Err}
 use Rattle.std.specs.List.{All, flat_map}
 use Rattle.std.specs.Io.KnownBytes.{Appends}
 use Rattle.frame_front.specs.Counted.{next_count}
@@ -48,28 +48,25 @@ write_fault false = fault_line (Front WriteFault)
 
 -- ---- the sessions
 
--- how many sessions were begun
-abbrev pub session_count : List (Result ℕ SessionFault) → ℕ
-session_count [] = 0
-session_count (Err session.Listen ∷ results) = session_count results
-session_count (result ∷ results) = suc (session_count results)
+-- how many sessions the workers have begun
+abbrev pub begun_by : List Worked → ℕ
+begun_by [] = 0
+begun_by (w ∷ worked) = w.ends.begun + begun_by worked
 
--- a session came each time that a worker waited for one
-abbrev pub all_came : List (Result ℕ SessionFault) → Bool
-all_came [] = true
-all_came (Err session.Listen ∷ results) = false
-all_came (result ∷ results) = all_came results
+-- a session came each time that one of them waited for one
+abbrev pub have_all_come : List Worked → Bool
+have_all_come [] = true
+have_all_come (w ∷ worked) = w.ends.came && have_all_come worked
 
--- the lines of their faults
-abbrev pub session_lines : List (Result ℕ SessionFault) → List ℕ
+-- the faults of their sessions that are kept, in order of the workers
+abbrev pub faults_by : List Worked → List SessionFault
+faults_by worked = flat_map (λ w. w.ends.faults) worked
+
+-- the lines of faults
+abbrev pub session_lines : List SessionFault → List ℕ
 session_lines [] = []
-session_lines (Ok count ∷ results) = session_lines results
-session_lines (Err (session.Front error) ∷ results) = fault_line (Front error) ++ session_lines results
-session_lines (Err session.Listen ∷ results) = fault_line ListenFault ++ session_lines results
-
--- those of all workers, in their order
-abbrev pub results_of : List Worked → List (Result ℕ SessionFault)
-results_of worked = flat_map (λ w. w.results.items) worked
+session_lines (session.Front error ∷ faults) = fault_line (Front error) ++ session_lines faults
+session_lines (session.Listen ∷ faults) = fault_line ListenFault ++ session_lines faults
 
 -- ---- the end
 
@@ -87,14 +84,14 @@ closing_line (Err error) taken = fault_line (Close error)
 pub record Reports (worked : List Worked) (before status : ℕ) (out_old out_new err_old err_new : End) : Type 0 where
   pub served_taken : Bool
   pub between : End
-  pub served : IsOffered served_taken (said_line (Served (min (session_count (results_of worked)) 18446744073709551615))) out_old between
+  pub served : IsOffered served_taken (said_line (Served (min (begun_by worked) 18446744073709551615))) out_old between
   pub closed : Result PlainMap CloseError
   pub closes : ClosesAs worked closed
   pub domains_taken : Bool
   pub domains : OffersDomains closed domains_taken between out_new
   pub tells : TellsUnlessFailed before err_old err_new
-      (write_fault served_taken ++ (session_lines (results_of worked) ++ closing_line closed domains_taken))
-  pub has_status : status ≡ (if served_taken && (all_came (results_of worked) && domains_taken) then 0 else 1)
+      (write_fault served_taken ++ (session_lines (faults_by worked) ++ closing_line closed domains_taken))
+  pub has_status : status ≡ (if served_taken && (have_all_come worked && domains_taken) then 0 else 1)
 
 -- ---- the whole command
 

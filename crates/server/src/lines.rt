@@ -1,7 +1,7 @@
 //! What a server says, on its output and on standard error.
 ghost use Rattle.std.specs.Prelude.{◌≡◌, ◌<◌, ◌≤◌, ◌-◌, ◌+◌, ◌^◌, ◌++◌, ◌∷◌, [], min, length, decimal, Some};
 ghost use Rattle.server.specs.declared.lines.Said.TheVariants.{Listening};
-ghost use Rattle.server.specs.Serve.{IsOffered, said_line, write_fault, session_count, all_came, session_lines, results_of};
+ghost use Rattle.server.specs.Serve.{IsOffered, said_line, write_fault, begun_by, have_all_come, session_lines, faults_by};
 ghost use Rattle.commands.specs.Streams.{TellsUnlessFailed, end_of};
 
 use arrayvec::ArrayVec;
@@ -102,84 +102,49 @@ pub fn say<W: Write, E: Write>(
     }
 }
 
-/// How many sessions of all workers were begun.
+/// How many sessions the workers have begun.
 pub fn count_begun(worked: &[Worked]) -> u64
-    ensures { result ≡ min (session_count (results_of worked.now)) 18446744073709551615 }
+    ensures { result ≡ min (begun_by worked.now) 18446744073709551615 }
 {
-    let mut count = 0;
+    let mut count: u64 = 0;
     for worker in worked {
-        count = begun_after(count, worker.results.as_slice());
+        count = count.saturating_add(worker.ends.begun());
     }
     count
 }
 
-/// The number, and how many of these sessions were begun.
-fn begun_after(before: u64, results: &[Result<u64, SessionFault>]) -> u64
-    ensures { result ≡ min (before + session_count results.now) 18446744073709551615 }
-{
-    let mut count = before;
-    for result in results {
-        count = count.saturating_add(begun_of(result));
-    }
-    count
-}
-
-fn begun_of(ended: &Result<u64, SessionFault>) -> u64
-    ensures { result ≡ session_count (ended.now ∷ []) }
-{
-    match ended {
-        Ok(_) | Err(SessionFault::Front(_)) => 1,
-        Err(SessionFault::Listen) => 0,
-    }
-}
-
-/// Tells the faults of all sessions, in order of the workers; but nothing once a call of the writer has failed since
-/// `before` of them had failed. Answers whether a session came each time that a worker waited for one.
+/// Tells the faults of sessions that are kept, in order of the workers; but nothing once a call of the writer has failed
+/// since `before` of them had failed. Answers whether a session came each time that a worker waited for one.
 pub fn tell_faults<E: Write>(worked: &[Worked], err: &mut Counted<E>, before: u64) -> bool
     requires { before < 2 ^ 64 - 1 }
-    ensures tells { TellsUnlessFailed before (end_of E.contents err.old) (end_of E.contents err.new) (session_lines (results_of worked.now)) }
-    ensures came { result ≡ all_came (results_of worked.now) }
+    ensures tells { TellsUnlessFailed before (end_of E.contents err.old) (end_of E.contents err.new) (session_lines (faults_by worked.now)) }
+    ensures came { result ≡ have_all_come worked.now }
 {
     let mut have_come = true;
     for worker in worked {
-        have_come &= tell_results(worker.results.as_slice(), err, before);
+        tell_each(worker.ends.faults(), err, before);
+        have_come &= worker.ends.have_come();
     }
     have_come
 }
 
 /// And those of one worker.
-fn tell_results<E: Write>(
-    results: &[Result<u64, SessionFault>],
-    err: &mut Counted<E>,
-    before: u64,
-) -> bool
+fn tell_each<E: Write>(faults: &[SessionFault], err: &mut Counted<E>, before: u64)
     requires { before < 2 ^ 64 - 1 }
-    ensures tells { TellsUnlessFailed before (end_of E.contents err.old) (end_of E.contents err.new) (session_lines results.now) }
-    ensures came { result ≡ all_came results.now }
+    ensures { TellsUnlessFailed before (end_of E.contents err.old) (end_of E.contents err.new) (session_lines faults.now) }
 {
-    let mut have_come = true;
-    for result in results {
-        have_come &= tell_end(result, err, before);
+    for fault in faults {
+        tell_fault(fault, err, before);
     }
-    have_come
 }
 
-/// And that of one session, if it has one.
-#[tactic(auto, using(commands::proofs::Telling::told_nothing))]
-fn tell_end<E: Write>(ended: &Result<u64, SessionFault>, err: &mut Counted<E>, before: u64) -> bool
+/// And one fault.
+fn tell_fault<E: Write>(fault: &SessionFault, err: &mut Counted<E>, before: u64)
     requires { before < 2 ^ 64 - 1 }
-    ensures tells { TellsUnlessFailed before (end_of E.contents err.old) (end_of E.contents err.new) (session_lines (ended.now ∷ [])) }
-    ensures came { result ≡ all_came (ended.now ∷ []) }
+    ensures { TellsUnlessFailed before (end_of E.contents err.old) (end_of E.contents err.new) (session_lines (fault.now ∷ [])) }
 {
-    match ended {
-        Ok(_) => true,
-        Err(SessionFault::Front(error)) => {
-            Fault::Front(*error).tell_unless_failed(err, before);
-            true
-        }
-        Err(SessionFault::Listen) => {
-            Fault::Listen.tell_unless_failed(err, before);
-            false
-        }
+    match fault {
+        SessionFault::Front(error) => Fault::Front(*error).tell_unless_failed(err, before),
+        SessionFault::Listen => Fault::Listen.tell_unless_failed(err, before),
     }
 }

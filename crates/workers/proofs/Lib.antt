@@ -1,3 +1,4 @@
+mod EndLemmas
 mod PassLists
 mod ClosingLemmas
 pub mod KeptAlong

@@ -17,7 +17,7 @@ mod read_only;
 mod retrying;
 
 pub use closing::close_store;
-pub use ended::{SessionFault, Worked};
+pub use ended::{SessionEnds, SessionFault, Worked};
 pub use filling::{FillError, fill_store};
 pub use gate::{Gate, Open};
 pub use gated::Gated;

@@ -1,4 +1,5 @@
-//! Asks that are tried again, and maps that may only be read.
+//! Asks that are tried again, maps that may only be read, and what is kept of how sessions end.
+mod ends;
 mod read_only;
 
 use map_core::{Ask, AskError, Op, Reply};

@@ -1,5 +1,5 @@
 -- What a worker does in a part of its work.
-use Rattle.std.specs.Prelude.{◌≡◌, List, [], ◌∷◌, ◌++◌, ℕ, Bool, Option, Some, None, Result}
+use Rattle.std.specs.Prelude.{◌≡◌, List, [], ◌∷◌, ℕ, Bool, Option, Some, None, Result}
 use Rattle.std.specs.List.{flat_map}
 use Rattle.map_core.specs.declared.op.Op.{Op}
 use Rattle.map_core.specs.declared.reply.Reply.{Reply}
@@ -11,7 +11,7 @@ use Rattle.live_workers.specs.Arrivals.{News, IsReady, ComesAll, news_in}
 use Rattle.live_workers.specs.AtPort.{PortAnswer}
 use Rattle.live_workers.specs.Sessions.{Place, Places, OthersStay, AllStay, Step, Closes, TakesAll, told_all, all_news}
 use Rattle.live_workers.specs.declared.arrivals.Arrival.{Arrival}
-use Rattle.workers.specs.declared.ended.SessionFault.{SessionFault}
+use Rattle.workers.specs.Ended.{EndsView, Notes}
 
 -- the news that a turn follows
 abbrev pub turn_news : ℕ → Option Bool → List News
@@ -45,10 +45,10 @@ module _ {S : Type 0} (answers : S → Op → Result Reply AskError → S → Ty
   HadLastTurn place None old new map_old map_new = NobodyThere place old new map_old map_new
 
   -- steps were taken, one after the other, which follow this news, and each end of a session was noted
-  pub record Serves (news : List News) (old new : Places) (noted_old noted_new : List (Result ℕ SessionFault)) (map_old map_new : S) : Type 0 where
+  pub record Serves (news : List News) (old new : Places) (noted_old noted_new : EndsView) (map_old map_new : S) : Type 0 where
     pub steps : List Step
     pub takes : TakesAll answers steps (old, map_old) (new, map_new)
-    pub notes : noted_new ≡ noted_old ++ told_all steps
+    pub notes : Notes (told_all steps) noted_old noted_new
     pub follows : all_news steps ≡ news
 
 -- only connections were left
@@ -62,11 +62,11 @@ abbrev pub Asks : Unit {0} → Op → Result Reply AskError → Unit {0} → Typ
 Asks old op answer new = ⊥
 
 -- connections were left, and nothing was asked
-pub record Leaves (old new : Places) (noted_old noted_new : List (Result ℕ SessionFault)) : Type 0 where
+pub record Leaves (old new : Places) (noted_old noted_new : EndsView) : Type 0 where
   pub steps : List Step
   pub ends : AreEnds steps
   pub takes : TakesAll Asks steps (old, tt) (new, tt)
-  pub notes : noted_new ≡ noted_old ++ told_all steps
+  pub notes : Notes (told_all steps) noted_old noted_new
 
 -- this news came
 pub record Heard {E V : Type 0} (start : E → ConnectionView) (comes : V → Arrival E → V → Type 0) (news : List News) (old new : V) : Type 0 where

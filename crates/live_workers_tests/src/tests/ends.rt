@@ -1,6 +1,7 @@
 //! How sessions end that are served beside each other.
 use super::{
-    ABSENT, FOUND, GET_A, MOST_ARRIVALS, SET_A, STORED, has_got, is_equal, output, sends, serve,
+    ABSENT, FOUND, GET_A, MOST_ARRIVALS, SET_A, STORED, has_ended, has_got, is_equal, output,
+    sends, serve,
 };
 use frame_front::FrontError;
 use std::alloc::Global;
@@ -23,7 +24,7 @@ fn is_answered_in_pieces(
     piece: usize,
 ) -> Result<(), Fail> {
     let ended = serve(alloc, &[sends(input, piece)], MOST_ARRIVALS, 0)?;
-    is_equal(rt, &ended.results.as_slice(), &[Ok(2)].as_slice());
+    has_ended(rt, &ended.ends, 1, &[]);
     has_got(rt, alloc, output(&ended, 0), &[STORED, FOUND])
 }
 
@@ -49,13 +50,12 @@ fn each_ends_its_way(rt: &impl Abort, alloc: Global) -> Result<(), Fail> {
     has_got(rt, alloc, output(&ended, 0), &[FOUND])?;
     has_got(rt, alloc, output(&ended, 1), &[ABSENT])?;
     has_got(rt, alloc, output(&ended, 2), &[STORED])?;
-    is_equal(rt, &ended.results.len(), &3);
-    for result in ended.results.as_slice() {
+    is_equal(rt, &ended.ends.begun(), &3);
+    is_equal(rt, &ended.ends.faults().len(), &2);
+    for fault in ended.ends.faults() {
         let is_one_of_these = matches!(
-            result,
-            Ok(1)
-                | Err(SessionFault::Front(FrontError::BadLength))
-                | Err(SessionFault::Front(FrontError::Truncated))
+            fault,
+            SessionFault::Front(FrontError::BadLength | FrontError::Truncated)
         );
         is_equal(rt, &is_one_of_these, &true);
     }

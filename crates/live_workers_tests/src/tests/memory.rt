@@ -76,12 +76,14 @@ impl<'i, 'o> Arrivals for Once<'i, 'o> {
     }
 }
 
-/// What two workers wrote, and how each of their sessions ended.
+/// What two workers wrote, how many sessions they began, whether one came each time, and their faults.
 #[derive(Drop)]
 pub(super) struct Ended {
     pub first: Vec<u8>,
     pub second: Vec<u8>,
-    pub results: Vec<Result<u64, SessionFault>>,
+    pub begun: u64,
+    pub have_come: bool,
+    pub faults: Vec<SessionFault>,
 }
 
 /// One client, and so many failures of the listener after it.
@@ -120,15 +122,21 @@ pub(super) fn run_two_noted<R: Threads + Clock + Sync, G: Gate + Sync, L: Log + 
     arrivals.push(one_client(inputs.0, &mut first, failures))?;
     arrivals.push(one_client(inputs.1, &mut second, failures))?;
     let worked = run_arrivals(rt, alloc, &store, passes, arrivals, gate, 1_000_000, 3, log)?;
-    let mut results = Vec::new(alloc);
+    let mut begun: u64 = 0;
+    let mut have_come = true;
+    let mut faults = Vec::new(alloc);
     for worker in worked.as_slice() {
-        for result in worker.results.as_slice() {
-            results.push(*result)?;
+        begun = begun.saturating_add(worker.ends.begun());
+        have_come &= worker.ends.have_come();
+        for fault in worker.ends.faults() {
+            faults.push(*fault)?;
         }
     }
     Ok(Ended {
         first,
         second,
-        results,
+        begun,
+        have_come,
+        faults,
     })
 }

@@ -1,5 +1,5 @@
 //! Clients that are left: since they are silent, or since the server stops.
-use super::{FOUND, GET_A, Plan, SET_A, STORED, has_got, is_equal, output, sends, serve};
+use super::{FOUND, GET_A, Plan, SET_A, STORED, has_ended, has_got, output, sends, serve};
 use frame_front::FrontError;
 use std::alloc::Global;
 use std::process::Abort;
@@ -13,11 +13,8 @@ fn one_never_reads(rt: &impl Abort, alloc: Global) -> Result<(), Fail> {
         ..sends(SET_A, 100)
     };
     let ended = serve(alloc, &[sends(GET_A, 100), deaf], 1_000, 500)?;
-    is_equal(
-        rt,
-        &ended.results.as_slice(),
-        &[Ok(1), Err(SessionFault::Front(FrontError::WriteFault))].as_slice(),
-    );
+    let faults = [SessionFault::Front(FrontError::WriteFault)];
+    has_ended(rt, &ended.ends, 2, &faults);
     has_got(rt, alloc, output(&ended, 0), &[FOUND])?;
     has_got(rt, alloc, output(&ended, 1), &[])
 }
@@ -30,11 +27,8 @@ fn a_client_that_never_reads_is_left(rt: HostRuntime) -> Result<(), Fail> {
 /// A stop while clients are connected that give a byte at a time: one has given a whole frame, one is inside another one.
 fn stops_inside(rt: &impl Abort, alloc: Global) -> Result<(), Fail> {
     let ended = serve(alloc, &[sends(SET_A, 1)], 10, 0)?;
-    is_equal(
-        rt,
-        &ended.results.as_slice(),
-        &[Err(SessionFault::Front(FrontError::Truncated))].as_slice(),
-    );
+    let faults = [SessionFault::Front(FrontError::Truncated)];
+    has_ended(rt, &ended.ends, 1, &faults);
     has_got(rt, alloc, output(&ended, 0), &[])
 }
 
@@ -46,6 +40,6 @@ fn a_stop_ends_the_input(rt: HostRuntime) -> Result<(), Fail> {
 #[test]
 fn a_stop_leaves_nothing_unanswered(rt: HostRuntime) -> Result<(), Fail> {
     let ended = serve(rt.alloc(), &[sends(SET_A, 100)], 1, 0)?;
-    is_equal(&rt, &ended.results.as_slice(), &[Ok(1)].as_slice());
+    has_ended(&rt, &ended.ends, 1, &[]);
     has_got(&rt, rt.alloc(), output(&ended, 0), &[STORED])
 }

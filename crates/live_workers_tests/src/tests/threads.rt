@@ -102,17 +102,15 @@ pub(super) fn store_for_two(alloc: Global) -> Result<(Store, Vec<Pass>), AllocEr
     Ok((store, passes))
 }
 
-/// How many sessions answered two requests and ended well.
-fn count_well(worked: &[Worked]) -> u64 {
-    let mut well: u64 = 0;
+/// How many sessions were begun, and how many of them ended by a fault.
+fn count_ends(worked: &[Worked]) -> (u64, usize) {
+    let mut begun: u64 = 0;
+    let mut faults: usize = 0;
     for worker in worked {
-        for result in worker.results.as_slice() {
-            if *result == Ok(2) {
-                well = well.saturating_add(1);
-            }
-        }
+        begun = begun.saturating_add(worker.ends.begun());
+        faults = faults.saturating_add(worker.ends.faults().len());
     }
-    well
+    (begun, faults)
 }
 
 /// Runs two workers, to each of which so many clients come.
@@ -121,7 +119,7 @@ fn run_two<R: Threads + Clock + Sync>(
     alloc: Global,
     clients: u64,
     taken: &AtomicU64,
-) -> Result<u64, AllocError> {
+) -> Result<(u64, usize), AllocError> {
     let (store, passes) = store_for_two(alloc)?;
     let mut arrivals = Vec::new(alloc);
     arrivals.push(queue_of(clients, taken))?;
@@ -129,15 +127,15 @@ fn run_two<R: Threads + Clock + Sync>(
     let worked = run_arrivals(
         rt, alloc, &store, passes, arrivals, &Open, 1_000_000, 3, &Quiet,
     )?;
-    Ok(count_well(worked.as_slice()))
+    Ok(count_ends(worked.as_slice()))
 }
 
 // All clients set and get the same domain, to the same document.
 #[test]
 fn two_workers_serve_many_clients(rt: HostRuntime) -> Result<(), Fail> {
     let taken = AtomicU64::new(0);
-    let well = run_two(&rt, rt.alloc(), 50, &taken)?;
-    is_equal(&rt, &well, &100);
+    let ends = run_two(&rt, rt.alloc(), 50, &taken)?;
+    is_equal(&rt, &ends, &(100, 0));
     is_equal(&rt, &taken.load(Ordering::SeqCst), &(100 * REPLY_BYTES));
     Ok(())
 }

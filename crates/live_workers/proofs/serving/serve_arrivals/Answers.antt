@@ -1,18 +1,21 @@
-use Rattle.std.proofs.Common.{◌++◌, [], List, sym, ap, ◌∙◌, append-nil, rules}
+use Rattle.std.proofs.Common.{◌++◌, [], List, refl, sym, ap, ◌∙◌, append-nil, arith, length}
 use Rattle.slab.specs.Slab.{get}
+use Rattle.workers.specs.Ended.{kept_of}
 use Rattle.connections.specs.Connection.{ConnectionView, opened}
 use Rattle.live_workers.specs.Arrivals.{News, news_in}
 use Rattle.live_workers.specs.Sessions.{all_news, nobody}
 use Rattle.live_workers.specs.Private.Serving.{Serves}
 use Rattle.live_workers.proofs.ArrivalLemmas.{goes_on, heard_more, heard_none}
 use Rattle.live_workers.proofs.StepLemmas.{serves_then}
-use Rattle.live_workers.proofs.ServingLemmas.{unchanged_news}
+use Rattle.live_workers.proofs.ServingLemmas.{beyond, stays_serves, unchanged_news}
 use Rattle.live_workers.proofs.serving.serve_arrivals.Goals as goal
 
 pub loop-arrival-init : goal.loop-arrival-init
 loop-arrival-init g c =
     let start : g.row.V-End.Denot → ConnectionView = λ end. opened (g.V.End.Stream.may end) (g.V.End.Stream.left end) (g.V.End.Stream.held end) in
-    let none : Serves g.A.Ask.answers [] nobody (get c.new-served.result.open) [] c.new-served.result.results.items c.args.ask.now.ask c.args.ask.now.ask = search rules in
+    let none : Serves g.A.Ask.answers [] nobody (get c.new-served.result.open) (kept_of []) c.new-served.result.ends c.args.ask.now.ask c.args.ask.now.ask =
+    stays_serves g.A.Ask.answers nobody (get c.new-served.result.open) (kept_of []) c.new-served.result.ends c.args.ask.now.ask c.args.ask.now.ask
+    (λ place. beyond c.new-served.result.open place (omega (arith, ap length c.new-served.ensures.open))) c.new-served.ensures.ends refl in
     ([], none, heard_none start g.V.Arrivals.comes c.args.arrivals.now)
 
 pub loop-arrival-preserved : goal.loop-arrival-preserved
@@ -22,10 +25,10 @@ loop-arrival-preserved g c =
     let news : List News = news_in start c.next.result in
     let both =
     unchanged_news g.A.Ask.answers news _ _ _ _ _ _
-    (serves_then g.A.Ask.answers news [] (get c.loop-arrival.served.open) (get c.follow.new.self.open) (get c.serve_again.new.self.open) c.loop-arrival.served.results.items c.follow.new.self.results.items
-    c.serve_again.new.self.results.items c.loop-arrival.ask.ask c.follow.new.ask.ask c.serve_again.new.ask.ask c.in_ok-follow-in_default.ensures c.in_ok-serve_again.ensures) in (
+    (serves_then g.A.Ask.answers news [] (get c.loop-arrival.served.open) (get c.follow.new.self.open) (get c.serve_again.new.self.open) c.loop-arrival.served.ends c.follow.new.self.ends
+    c.serve_again.new.self.ends c.loop-arrival.ask.ask c.follow.new.ask.ask c.serve_again.new.ask.ask c.in_ok-follow-in_default.ensures c.in_ok-serve_again.ensures) in (
       inv.0 ++ news,
-      serves_then g.A.Ask.answers inv.0 news nobody (get c.loop-arrival.served.open) (get c.serve_again.new.self.open) [] c.loop-arrival.served.results.items c.serve_again.new.self.results.items
+      serves_then g.A.Ask.answers inv.0 news nobody (get c.loop-arrival.served.open) (get c.serve_again.new.self.open) (kept_of []) c.loop-arrival.served.ends c.serve_again.new.self.ends
           c.args.ask.now.ask c.loop-arrival.ask.ask c.serve_again.new.ask.ask inv.1 both,
       heard_more start g.V.Arrivals.comes inv.0 c.next.result c.args.arrivals.now c.loop-arrival.arrivals c.next.new.self inv.2 c.next.ensures.comes,
     )
@@ -38,10 +41,10 @@ returns g c =
     let start : g.row.V-End.Denot → ConnectionView = λ end. opened (g.V.End.Stream.may end) (g.V.End.Stream.left end) (g.V.End.Stream.held end) in
     let inv = c.loop-arrival.invariant in
     let all =
-    serves_then g.A.Ask.answers inv.0 [] nobody (get c.loop-arrival.served.open) nobody [] c.loop-arrival.served.results.items c.end_all.new.self.results.items c.args.ask.now.ask c.loop-arrival.ask.ask c.end_all.new.ask.ask
+    serves_then g.A.Ask.answers inv.0 [] nobody (get c.loop-arrival.served.open) nobody (kept_of []) c.loop-arrival.served.ends c.end_all.new.self.ends c.args.ask.now.ask c.loop-arrival.ask.ask c.end_all.new.ask.ask
     inv.1 c.in_ok-end_all.ensures in
     let heard = heard_more start g.V.Arrivals.comes inv.0 c.next.result c.args.arrivals.now c.loop-arrival.arrivals c.next.new.self inv.2 c.next.ensures.comes in (
-      record { steps = all.steps; takes = all.takes; ends = all.notes },
+      record { steps = all.steps; takes = all.takes; ends = all.notes [] refl },
       record {
         arrivals = heard.arrivals;
         came = heard.came;

@@ -1,5 +1,6 @@
 use Rattle.std.proofs.Common.{List, []}
 use Rattle.slab.specs.Slab.{get}
+use Rattle.workers.specs.Ended.{kept_of}
 use Rattle.connections.specs.Connection.{opened}
 use Rattle.live_workers.specs.Arrivals.{News}
 use Rattle.live_workers.specs.Sessions.{nobody}
@@ -8,7 +9,7 @@ use Rattle.live_workers.proofs.serving.serve_arrivals.Given as goal
 
 abbrev pub invariant-loop-arrival : goal.invariant-loop-arrival
 invariant-loop-arrival g l =
-    (news : List News) × Serves g.A.Ask.answers news nobody (get l.served.open) [] l.served.results.items l.fn.ask.ask l.ask.ask
+    (news : List News) × Serves g.A.Ask.answers news nobody (get l.served.open) (kept_of []) l.served.ends l.fn.ask.ask l.ask.ask
     × Heard (λ end. opened (g.V.End.Stream.may end) (g.V.End.Stream.left end) (g.V.End.Stream.held end)) g.V.Arrivals.comes news l.fn.arrivals l.arrivals
 
 abbrev pub decreases-loop-arrival : goal.decreases-loop-arrival

@@ -2,7 +2,7 @@ use Rattle.std.proofs.Common.{◌≡◌, ℕ, List, ◌++◌, ◌&&◌, Bool, fa
 use Rattle.std.specs.Prelude.{min, if◌then◌else◌}
 use Rattle.server.specs.declared.lines.Said.TheVariants.{Served, Domains}
 use Rattle.workers.specs.declared.ended.Worked.{Worked}
-use Rattle.server.specs.Serve.{IsOffered, said_line, write_fault, session_count, all_came, session_lines, results_of}
+use Rattle.server.specs.Serve.{IsOffered, said_line, write_fault, begun_by, have_all_come, session_lines, faults_by}
 use Rattle.commands.specs.Streams.{TellsUnlessFailed, end_of}
 use Rattle.commands.proofs.Telling.{told_more}
 use Rattle.server.proofs.ReportLemmas.{all_three, not_all}
@@ -15,11 +15,11 @@ returns-in-Ok g c =
     let said = c.say-domains_taken.result in
     let start = end_of g.W.Write.contents c.args.out.now in
     let between = end_of g.W.Write.contents c.say-served_taken.new.out in
-    let count : c.count_begun.result ≡ min (session_count (results_of worked)) 18446744073709551615 =
-    c.count_begun.ensures ∙ ap (λ (ws : List Worked). min (session_count (results_of ws)) 18446744073709551615) c.as_slice.ensures.value in
-    let tells = subst (λ (ws : List Worked). TellsUnlessFailed c.args.before (end_of g.E.Write.contents c.say-served_taken.new.err) (end_of g.E.Write.contents c.tell_faults-have_come.new.err) (session_lines (results_of ws)))
+    let count : c.count_begun.result ≡ min (begun_by worked) 18446744073709551615 =
+    c.count_begun.ensures ∙ ap (λ (ws : List Worked). min (begun_by ws) 18446744073709551615) c.as_slice.ensures.value in
+    let tells = subst (λ (ws : List Worked). TellsUnlessFailed c.args.before (end_of g.E.Write.contents c.say-served_taken.new.err) (end_of g.E.Write.contents c.tell_faults-have_come.new.err) (session_lines (faults_by ws)))
     c.as_slice-2.ensures.value c.tell_faults-have_come.ensures.tells in
-    let came = c.tell_faults-have_come.ensures.came ∙ ap (λ (ws : List Worked). all_came (results_of ws)) c.as_slice-2.ensures.value in
+    let came = c.tell_faults-have_come.ensures.came ∙ ap (λ (ws : List Worked). have_all_come ws) c.as_slice-2.ensures.value in
     record {
       served_taken = taken;
       between = between;
@@ -28,11 +28,11 @@ returns-in-Ok g c =
       closes = c.in-Ok.ensures;
       domains_taken = said;
       domains = subst (λ (n : ℕ). IsOffered said (said_line (Domains n)) between (end_of g.W.Write.contents c.say-domains_taken.new.out)) c.len.ensures c.say-domains_taken.ensures.offered;
-      tells = told_more c.args.before _ _ _ (write_fault taken) (session_lines (results_of worked) ++ write_fault said) c.say-served_taken.ensures.tells
-          (told_more c.args.before _ _ _ (session_lines (results_of worked)) (write_fault said) tells c.say-domains_taken.ensures.tells);
+      tells = told_more c.args.before _ _ _ (write_fault taken) (session_lines (faults_by worked) ++ write_fault said) c.say-served_taken.ensures.tells
+          (told_more c.args.before _ _ _ (session_lines (faults_by worked)) (write_fault said) tells c.say-domains_taken.ensures.tells);
       has_status = c.status_of.ensures
           ∙ ap (λ (b : Bool). if (taken && b) && said then 0 else 1) came
-          ∙ ap (λ (b : Bool). if b then 0 else 1) (all_three taken (all_came (results_of worked)) said);
+          ∙ ap (λ (b : Bool). if b then 0 else 1) (all_three taken (have_all_come worked) said);
     }
 
 pub returns-in-Err : goal.returns-in-Err
@@ -41,9 +41,9 @@ returns-in-Err g c =
     let taken = c.say-served_taken.result in
     let start = end_of g.W.Write.contents c.args.out.now in
     let between = end_of g.W.Write.contents c.say-served_taken.new.out in
-    let count : c.count_begun.result ≡ min (session_count (results_of worked)) 18446744073709551615 =
-    c.count_begun.ensures ∙ ap (λ (ws : List Worked). min (session_count (results_of ws)) 18446744073709551615) c.as_slice.ensures.value in
-    let tells = subst (λ (ws : List Worked). TellsUnlessFailed c.args.before (end_of g.E.Write.contents c.say-served_taken.new.err) (end_of g.E.Write.contents c.tell_faults-have_come.new.err) (session_lines (results_of ws)))
+    let count : c.count_begun.result ≡ min (begun_by worked) 18446744073709551615 =
+    c.count_begun.ensures ∙ ap (λ (ws : List Worked). min (begun_by ws) 18446744073709551615) c.as_slice.ensures.value in
+    let tells = subst (λ (ws : List Worked). TellsUnlessFailed c.args.before (end_of g.E.Write.contents c.say-served_taken.new.err) (end_of g.E.Write.contents c.tell_faults-have_come.new.err) (session_lines (faults_by ws)))
     c.as_slice-2.ensures.value c.tell_faults-have_come.ensures.tells in
     record {
       served_taken = taken;
@@ -54,6 +54,6 @@ returns-in-Err g c =
       domains_taken = false;
       domains = (refl, refl);
       tells = told_more c.args.before _ _ _ (write_fault taken) _ c.say-served_taken.ensures.tells
-          (told_more c.args.before _ _ _ (session_lines (results_of worked)) _ tells c.tell_unless_failed.ensures);
-      has_status = not_all taken (all_came (results_of worked));
+          (told_more c.args.before _ _ _ (session_lines (faults_by worked)) _ tells c.tell_unless_failed.ensures);
+      has_status = not_all taken (have_all_come worked);
     }

@@ -1,5 +1,5 @@
 use Rattle.std.proofs.Common.{List, ℕ, ◌&&◌, sym, ap, take, subst, ◌∙◌}
-use Rattle.server.specs.Serve.{session_lines, all_came, results_of}
+use Rattle.server.specs.Serve.{session_lines, have_all_come}
 use Rattle.commands.specs.Streams.{TellsUnlessFailed, end_of}
 use Rattle.server.proofs.ReportLemmas.{all_lines_step, all_come_step}
 use Rattle.commands.proofs.Telling.{told_more}
@@ -12,9 +12,8 @@ loop-worker-preserved g c =
     let w = c.worker-item.result in
     let lines = all_lines_step worked i w c.loop-worker-test.true c.worker-item.is in
     let came = all_come_step worked i w c.loop-worker-test.true c.worker-item.is in
-    let tells = subst (λ results. TellsUnlessFailed c.args.before (end_of g.E.Write.contents c.loop-worker.err) (end_of g.E.Write.contents c.tell_results-have_come.new.err) (session_lines results)) c.as_slice.ensures.value c.tell_results-have_come.ensures.tells in (
-      subst (λ (t : List ℕ). TellsUnlessFailed c.args.before (end_of g.E.Write.contents c.args.err.now) (end_of g.E.Write.contents c.tell_results-have_come.new.err) t) (sym lines)
+    let tells = subst (λ faults. TellsUnlessFailed c.args.before (end_of g.E.Write.contents c.loop-worker.err) (end_of g.E.Write.contents c.tell_each.new.err) (session_lines faults)) c.faults.ensures c.tell_each.ensures in (
+      subst (λ (t : List ℕ). TellsUnlessFailed c.args.before (end_of g.E.Write.contents c.args.err.now) (end_of g.E.Write.contents c.tell_each.new.err) t) (sym lines)
           (told_more c.args.before _ _ _ _ _ c.loop-worker.invariant.0 tells),
-      ap (λ b. b && c.tell_results-have_come.result) c.loop-worker.invariant.1
-          ∙ ap (λ b. all_came (results_of (take i worked)) && b) (c.tell_results-have_come.ensures.came ∙ ap all_came c.as_slice.ensures.value) ∙ sym came,
+      ap (λ b. b && c.have_come-have_come.result) c.loop-worker.invariant.1 ∙ ap (λ b. have_all_come (take i worked) && b) c.have_come-have_come.ensures ∙ sym came,
     )

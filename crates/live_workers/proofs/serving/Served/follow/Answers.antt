@@ -11,7 +11,7 @@ returns-in-Tick g c =
     let start : g.row.E.Denot → ConnectionView = λ end. opened (g.E.Stream.may end) (g.E.Stream.left end) (g.E.Stream.held end) in
     on_ok_then c.leave_silent.result (λ left.
     by_news g.A.Ask.answers [] _ _ _ _ _ _ _ (ap (news_in start) c.in-Tick.is)
-    (leaves_serves g.A.Ask.answers (get c.args.self.now.open) (get c.leave_silent.new.self.open) c.args.self.now.results.items c.leave_silent.new.self.results.items c.args.ask.now.ask left)) c.leave_silent.ensures
+    (leaves_serves g.A.Ask.answers (get c.args.self.now.open) (get c.leave_silent.new.self.open) c.args.self.now.ends c.leave_silent.new.self.ends c.args.ask.now.ask left)) c.leave_silent.ensures
 
 pub returns-in-Ready : goal.returns-in-Ready
 returns-in-Ready g c =
@@ -23,5 +23,5 @@ returns-in-Fails g c =
     let start : g.row.E.Denot → ConnectionView = λ end. opened (g.E.Stream.may end) (g.E.Stream.left end) (g.E.Stream.held end) in
     on_ok_then c.note_failure.result (λ noted.
     by_news g.A.Ask.answers _ _ _ _ _ _ _ _ (ap (news_in start) c.in-Fails.is)
-    (fails_serves g.A.Ask.answers (get c.args.self.now.open) (get c.note_failure.new.self.open) c.args.self.now.results.items c.note_failure.new.self.results.items c.args.ask.now.ask
+    (fails_serves g.A.Ask.answers (get c.args.self.now.open) (get c.note_failure.new.self.open) c.args.self.now.ends c.note_failure.new.self.ends c.args.ask.now.ask
     (λ place. ap (λ s. get s place) c.note_failure.ensures.open) noted)) c.note_failure.ensures.noted

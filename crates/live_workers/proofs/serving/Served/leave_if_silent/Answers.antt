@@ -1,4 +1,4 @@
-use Rattle.std.proofs.Common.{ap, Err}
+use Rattle.std.proofs.Common.{Err}
 use Rattle.slab.specs.Slab.{get}
 use Rattle.live_workers.proofs.ServingLemmas.{leaves_none, leaves_one, on_ok_then}
 use Rattle.live_workers.proofs.serving.Served.leave_if_silent.Goals as goal
@@ -7,9 +7,9 @@ pub returns-in-Some : goal.returns-in-Some
 returns-in-Some g c =
     let why = c.in-Some.ensures.why in
     on_ok_then c.close.result (λ noted.
-    leaves_one c.args.place (Err c.in-Some.error) (get c.args.self.now.open) (get c.is_silent.new.self.open) (get c.close.new.self.open) c.args.self.now.results.items c.is_silent.new.self.results.items c.close.new.self.results.items
-    why.0 c.is_silent.ensures.same (ap (λ r. r.items) c.is_silent.ensures.results) why.1 why.2 c.close.ensures.left c.close.ensures.others noted) c.close.ensures.noted
+    leaves_one c.args.place (Err c.in-Some.error) (get c.args.self.now.open) (get c.is_silent.new.self.open) (get c.close.new.self.open) c.args.self.now.ends c.is_silent.new.self.ends c.close.new.self.ends
+    why.0 c.is_silent.ensures.same c.is_silent.ensures.ends why.1 why.2 c.close.ensures.left c.close.ensures.others noted) c.close.ensures.noted
 
 pub returns-in-None : goal.returns-in-None
 returns-in-None g c =
-    leaves_none (get c.args.self.now.open) (get c.is_silent.new.self.open) c.args.self.now.results.items c.is_silent.new.self.results.items c.is_silent.ensures.same (ap (λ r. r.items) c.is_silent.ensures.results)
+    leaves_none (get c.args.self.now.open) (get c.is_silent.new.self.open) c.args.self.now.ends c.is_silent.new.self.ends c.is_silent.ensures.same c.is_silent.ensures.ends
