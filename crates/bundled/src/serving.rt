@@ -2,6 +2,7 @@
 mod incoming;
 mod listening;
 mod shared;
+mod spin;
 mod stream;
 
 pub use listening::serve_over;

@@ -2,6 +2,7 @@
 ghost use Rattle.std.specs.Prelude.{◌≡◌};
 
 use crate::serving::shared::{Seated, Shared};
+use crate::serving::spin::{Spin, is_needed};
 use crate::serving::stream::Stream;
 use commands::Fault;
 use frame_front::FrontError;
@@ -17,6 +18,9 @@ pub const TICK: u64 = 250;
 
 /// How many ticks a second has.
 pub const TICKS_A_SECOND: u64 = 4;
+
+/// How often a worker that spins asks for events at most: for about 50 microseconds.
+const MOST_ASKED: usize = 30;
 
 /// The most events of one wait.
 pub const MOST_EVENTS: usize = 256;
@@ -51,6 +55,7 @@ pub struct Incoming<'a, C> {
     open: usize,
     /// How often the worker may wait still.
     waits: u64,
+    spin: Spin,
     last_tick: Instant,
     /// Whether it was told that a port has failed.
     has_failed: bool,
@@ -114,6 +119,7 @@ impl<'a, C: Clock> Incoming<'a, C> {
             left,
             open: 0,
             waits: u64::MAX,
+            spin: Spin::new(),
             last_tick,
             has_failed: false,
         })
@@ -228,6 +234,45 @@ impl<'a, C: Clock> Incoming<'a, C> {
         true
     }
 
+    /// Asks for what is ready, and waits for so many milliseconds at most until something is.
+    fn ask(&mut self, most: u64)
+        ensures { self.new.waits ≡ self.old.waits }
+    {
+        self.told = 0;
+        let _ = self
+            .poll
+            .poll(&mut self.events, Some(Duration::from_millis(most)));
+    }
+
+    /// Asks until something is ready, but no more than so often, and not while another thread needs the processor. The
+    /// answer is whether something is.
+    fn ask_often(&mut self) -> bool
+        ensures { self.new.waits ≡ self.old.waits }
+    {
+        for _ in 0..MOST_ASKED {
+            self.ask(0);
+            if !self.events.iter().as_slice().is_empty() {
+                return true;
+            }
+            if is_needed(self.clock) {
+                return false;
+            }
+        }
+        false
+    }
+
+    /// Spins, if that is due. The answer is whether something is ready.
+    fn has_spun(&mut self) -> bool
+        ensures { self.new.waits ≡ self.old.waits }
+    {
+        if !self.spin.is_due() {
+            return false;
+        }
+        let has_come = self.ask_often();
+        self.spin.note(has_come);
+        has_come
+    }
+
     /// Waits until something is ready, but not if `is_busy`, and tells of the first.
     fn wait(&mut self, is_busy: bool) -> Arrival<Stream>
         ensures { self.new.waits ≡ self.old.waits }
@@ -238,11 +283,11 @@ impl<'a, C: Clock> Incoming<'a, C> {
             self.sit();
             return Arrival::Tick;
         }
-        let most = if is_busy || self.may_take { 0 } else { TICK };
-        self.told = 0;
-        let _ = self
-            .poll
-            .poll(&mut self.events, Some(Duration::from_millis(most)));
+        if is_busy || self.may_take {
+            self.ask(0);
+        } else if !self.has_spun() {
+            self.ask(TICK);
+        }
         match self.next_ready() {
             Some(arrival) => arrival,
             None => Arrival::Nothing,
