@@ -68,8 +68,7 @@ impl DocumentReader {
         ensures memory { result ≡ Err DocError.Memory → length bytes.now ≤ 1048576 }
     {
         if bytes.len() > KEPT_ROOM {
-            let mut scratch = Scratch::new(alloc);
-            return read_with(alloc, alloc, bytes, &mut scratch);
+            return read_long(alloc, bytes);
         }
         let bundle = read_with(alloc, &self.trees, bytes, &mut self.scratch);
         self.clear_trees(alloc);
@@ -82,6 +81,17 @@ impl DocumentReader {
             self.trees = Bump::new(alloc);
         }
     }
+}
+
+/// Reads a document that is too long for what a reader keeps. It is never a part of its caller: then its scratch, 16 KiB on
+/// the stack, is cleared for short documents too.
+#[inline(never)]
+fn read_long(alloc: Global, bytes: &[u8]) -> Result<Bundle, DocError>
+    ensures value { Gives DocError.Memory result (document bytes.now) }
+    ensures memory { result ≡ Err DocError.Memory → length bytes.now ≤ 1048576 }
+{
+    let mut scratch = Scratch::new(alloc);
+    read_with(alloc, alloc, bytes, &mut scratch)
 }
 
 #[tactic(auto, unfolding(crate::specs::Document::document))]
