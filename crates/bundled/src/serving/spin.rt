@@ -1,5 +1,5 @@
 //! Whether a worker spins before it sleeps.
-ghost use Rattle.std.specs.Prelude.{◌≡◌, ◌≤◌, ◌+◌, true, false};
+ghost use Rattle.std.specs.Prelude.{◌≡◌, ◌+◌, ◌*◌, ◌/◌, min, true, false};
 
 use std::thread;
 use std::time::{Clock, Duration, Instant};
@@ -25,14 +25,18 @@ pub struct Spin {
 
 impl Spin {
     /// The first wait begins with spinning.
-    pub fn new() -> Spin {
+    pub fn new() -> Spin
+        ensures left { result.left ≡ 0 }
+        ensures pause { result.pause ≡ 0 }
+    {
         Spin { left: 0, pause: 0 }
     }
 
     /// Whether this wait begins with spinning.
     pub fn is_due(&mut self) -> bool
-        ensures due { result ≡ true → self.old.left ≡ 0 }
+        ensures due { result ≡ true → (self.old.left ≡ 0) × (self.new.left ≡ 0) }
         ensures goes_by { result ≡ false → self.new.left + 1 ≡ self.old.left }
+        ensures pause { self.new.pause ≡ self.old.pause }
     {
         if self.left == 0 {
             return true;
@@ -43,8 +47,8 @@ impl Spin {
 
     /// Notes whether something came while the worker spun.
     pub fn note(&mut self, has_come: bool)
-        ensures few { has_come ≡ false → self.new.left ≤ 255 }
-        ensures again { has_come ≡ true → self.new.left ≡ self.old.left }
+        ensures vain { has_come ≡ false → (self.new.pause ≡ min (2 * self.old.pause + 1) 255) × (self.new.left ≡ self.new.pause) }
+        ensures paid { has_come ≡ true → (self.new.pause ≡ self.old.pause / 2) × (self.new.left ≡ self.old.left) }
     {
         if has_come {
             self.pause /= 2;
