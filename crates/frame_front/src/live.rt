@@ -21,7 +21,7 @@ const MOST_KEPT: usize = LENGTH_BYTES + MAX_PAYLOAD + 4096;
 /// The most memory for input that is held from one frame to the next while no byte needs it.
 const MOST_INPUT_HELD: usize = 131_072;
 
-/// The same for replies. Room that doubles up to the limit of replies stays below it, so it is not made anew each round.
+/// The same for replies. Room that doubles as it grows seldom passes twice their limit, so it is not made anew each round.
 const MOST_REPLIES_HELD: usize = 2 * REPLY_LIMIT;
 
 /// A session that has no reader and no writer, so that one thread can drive many of them. Pieces of its input are fed
