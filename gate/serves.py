@@ -18,7 +18,7 @@ sys.dont_write_bytecode = True
 
 from program_runs import frame  # noqa: E402
 from refreshes import BUNDLES, DUE, canonical  # noqa: E402
-from refusals import program  # noqa: E402
+from refusals import build_shim, program  # noqa: E402
 
 SECONDS = 60
 EMPTY = b'{"keys":[]}'
@@ -31,9 +31,10 @@ FIRST = frame(b"s") + frame(b"f" + EMPTY)
 class Server:
     """The program behind a port that it has chosen."""
 
-    def __init__(self, *options, port="0", stdin=subprocess.DEVNULL):
+    def __init__(self, *options, port="0", stdin=subprocess.DEVNULL, env=None):
         words = [program("bundled"), "serve", "--port", port, *options]
-        self.started = subprocess.Popen(words, stdin=stdin, stdout=subprocess.PIPE, stderr=subprocess.PIPE)
+        how = {"stdin": stdin, "stdout": subprocess.PIPE, "stderr": subprocess.PIPE, "env": env}
+        self.started = subprocess.Popen(words, **how)
         self.line = self.started.stdout.readline().decode()
         words = self.line.split()
         self.port = int(words[1]) if words[:1] == ["listening"] else None
@@ -52,6 +53,11 @@ class Server:
     def ended(self):
         out, err = self.started.communicate(timeout=SECONDS)
         return self.started.returncode, out.decode(), (err or b"").decode()
+
+    def of_status(self, name):
+        """A number that the system tells of the process."""
+        with open(f"/proc/{self.started.pid}/status", encoding="ascii") as it:
+            return next(int(line.split()[1]) for line in it if line.startswith(f"{name}:"))
 
 
 def two_workers():
@@ -160,12 +166,13 @@ def ports_and_outputs():
     server.started.stderr.close()
 
 
-def silent_clients():
+def silent_clients(env=None, threads=2):
     """A client that is silent inside a frame is given up; between frames it may be silent."""
-    server = Server("--workers", "1", "--connections", "3", "--idle", "1")
+    server = Server("--workers", "1", "--connections", "3", "--idle", "1", env=env)
     with server.connect() as stream:
         stream.sendall(SET_A + b"\0\0\0\3G")
         assert stream.recv(5) == frame(b"s")
+        assert server.of_status("Threads") == threads
         assert stream.recv(5) == b""
     with server.connect() as stream:
         for _ in range(2):
@@ -175,6 +182,12 @@ def silent_clients():
             time.sleep(2.5)
     assert server.ask(GET_A) == frame(b"f" + EMPTY)
     assert server.ended() == (0, "served 3\ndomains 1\n", "fault 53\n"), "ended otherwise"
+
+
+def silent_clients_without_threads():
+    """It is the same where no thread can be made that counts the time: then the worker reads the clock."""
+    with tempfile.TemporaryDirectory() as room:
+        silent_clients({"LD_PRELOAD": build_shim(room), "REFUSE_THREADS": "1"}, threads=1)
 
 
 def client_that_never_reads():
@@ -249,8 +262,7 @@ class Lasting(Server):
 
     def kilobytes(self):
         """How much memory of the machine it has now."""
-        with open(f"/proc/{self.started.pid}/status", encoding="ascii") as it:
-            return next(int(line.split()[1]) for line in it if line.startswith("VmRSS:"))
+        return self.of_status("VmRSS")
 
 
 def name_of(number):
@@ -419,9 +431,10 @@ def set_until_it_ends(server, number, stored):
     stored.append(count)
 
 
-CHECKS = [two_workers, side_by_side, real_bundles, filled_stores, clients_that_fail, many_workers, ports_and_outputs, silent_clients,
-          client_that_never_reads, replies_before_a_bad_length, stops_at_the_end_of_input, told_changes, a_thousand_connections,
-          connections_in_wait, read_only_port, flood_beside_others, stops_while_clients_write]
+CHECKS = [two_workers, side_by_side, real_bundles, filled_stores, clients_that_fail, many_workers, ports_and_outputs,
+          silent_clients, silent_clients_without_threads, client_that_never_reads, replies_before_a_bad_length,
+          stops_at_the_end_of_input, told_changes, a_thousand_connections, connections_in_wait, read_only_port,
+          flood_beside_others, stops_while_clients_write]
 
 
 def main():

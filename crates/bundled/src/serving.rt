@@ -4,5 +4,6 @@ mod listening;
 mod shared;
 mod spin;
 mod stream;
+mod ticks;
 
 pub use listening::serve_over;

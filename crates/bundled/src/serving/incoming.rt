@@ -4,6 +4,7 @@ ghost use Rattle.std.specs.Prelude.{◌≡◌};
 use crate::serving::shared::{Seated, Shared};
 use crate::serving::spin::{Spin, is_needed};
 use crate::serving::stream::Stream;
+use crate::serving::ticks::TICK;
 use commands::Fault;
 use frame_front::FrontError;
 use live_workers::{Arrival, Arrivals};
@@ -12,12 +13,6 @@ use mio::{Events, Interest, Poll, Token};
 use std::alloc::Global;
 use std::io::ErrorKind;
 use std::time::{Clock, Duration, Instant};
-
-/// How many milliseconds a worker waits at most before it looks at what its clients owe: a tick.
-pub const TICK: u64 = 250;
-
-/// How many ticks a second has.
-pub const TICKS_A_SECOND: u64 = 4;
 
 /// How often a worker that spins asks for events at most: for about 50 microseconds.
 const MOST_ASKED: usize = 30;
@@ -56,6 +51,9 @@ pub struct Incoming<'a, C> {
     /// How often the worker may wait still.
     waits: u64,
     spin: Spin,
+    /// How many ticks have been told, where they are counted.
+    ticks: u64,
+    /// When the last one was told, where they are not.
     last_tick: Instant,
     /// Whether it was told that a port has failed.
     has_failed: bool,
@@ -120,6 +118,7 @@ impl<'a, C: Clock> Incoming<'a, C> {
             open: 0,
             waits: u64::MAX,
             spin: Spin::new(),
+            ticks: 0,
             last_tick,
             has_failed: false,
         })
@@ -220,8 +219,24 @@ impl<'a, C: Clock> Incoming<'a, C> {
         None
     }
 
-    /// Whether the time of a tick has passed since the last one.
+    /// Whether a tick has passed since the last one that was told.
     fn is_tick_due(&mut self) -> bool
+        ensures { self.new.waits ≡ self.old.waits }
+    {
+        let ticks = self.seat.ticks();
+        if !ticks.are_counted() {
+            return self.is_time_up();
+        }
+        let passed = ticks.passed();
+        if passed == self.ticks {
+            return false;
+        }
+        self.ticks = passed;
+        true
+    }
+
+    /// The same by the clock, for as long as nobody counts the ticks.
+    fn is_time_up(&mut self) -> bool
         ensures { self.new.waits ≡ self.old.waits }
     {
         let Ok(now) = Instant::now(self.clock) else {
@@ -234,14 +249,21 @@ impl<'a, C: Clock> Incoming<'a, C> {
         true
     }
 
-    /// Asks for what is ready, and waits for so many milliseconds at most until something is.
-    fn ask(&mut self, most: u64)
+    /// Asks for what is ready, and waits until something is, but no longer than that.
+    fn ask(&mut self, most: Option<Duration>)
         ensures { self.new.waits ≡ self.old.waits }
     {
         self.told = 0;
-        let _ = self
-            .poll
-            .poll(&mut self.events, Some(Duration::from_millis(most)));
+        let _ = self.poll.poll(&mut self.events, most);
+    }
+
+    /// How long the worker waits at most: without end where it is woken at each tick, since then the system has no time to
+    /// keep for each of its waits.
+    fn most(&self) -> Option<Duration> {
+        if self.seat.ticks().are_counted() {
+            return None;
+        }
+        Some(Duration::from_millis(TICK))
     }
 
     /// Asks until something is ready, but no more than so often, and not while another thread needs the processor. The
@@ -250,7 +272,7 @@ impl<'a, C: Clock> Incoming<'a, C> {
         ensures { self.new.waits ≡ self.old.waits }
     {
         for _ in 0..MOST_ASKED {
-            self.ask(0);
+            self.ask(Some(Duration::ZERO));
             if !self.events.iter().as_slice().is_empty() {
                 return true;
             }
@@ -284,9 +306,10 @@ impl<'a, C: Clock> Incoming<'a, C> {
             return Arrival::Tick;
         }
         if is_busy || self.may_take {
-            self.ask(0);
+            self.ask(Some(Duration::ZERO));
         } else if !self.has_spun() {
-            self.ask(TICK);
+            let most = self.most();
+            self.ask(most);
         }
         match self.next_ready() {
             Some(arrival) => arrival,

@@ -10,8 +10,9 @@ ghost use Rattle.commands.specs.Streams.{Tells, end_of};
 ghost use Rattle.commands.specs.declared.fault.Fault.TheVariants.{Front, Listen};
 ghost use Rattle.frame_front.specs.declared.error.FrontError.TheVariants.{Memory};
 
-use crate::serving::incoming::{Incoming, PORT, Port, TICKS_A_SECOND};
+use crate::serving::incoming::{Incoming, PORT, Port};
 use crate::serving::shared::{Seat, Shared, Watch};
+use crate::serving::ticks::{TICKS_A_SECOND, Ticker, Ticks};
 use command_line::Settings;
 use commands::Fault;
 use frame_front::{Counted, FrontError};
@@ -102,20 +103,25 @@ fn push_copy(ports: &mut Vec<Port>, listener: &TcpListener, reads_only: bool) ->
     }
 }
 
-/// For each worker, where it waits; and what wakes it.
+/// For each worker, where it waits; what wakes it; and the time.
 #[derive(Drop)]
 struct Waits {
     polls: Vec<Poll>,
     seats: Vec<Seat>,
+    ticker: Ticker,
+    ticks: Ticks,
 }
 
 impl Waits {
     fn new<N: Net>(net: &N, alloc: Global, workers: u64) -> Result<Waits, Fault>
         ensures { IfOk result (λ waits. vec_len waits.polls ≡ workers) }
     {
+        let (ticker, ticks) = Ticker::new(net, alloc)?;
         let mut waits = Waits {
             polls: Vec::new(alloc),
             seats: Vec::new(alloc),
+            ticker,
+            ticks,
         };
         for _ in 0..workers {
             waits.push(net)?;
@@ -168,15 +174,16 @@ fn most_silent_of(settings: Settings) -> u64 {
     settings.idle.saturating_mul(TICKS_A_SECOND)
 }
 
-/// Runs the workers, and beside them waits for the end of the input: then they are to stop.
-fn run_until_end<R: Threads + Clock + Sync, I: Read, L: Log + Sync>(
+/// Runs the workers, and beside them counts the ticks.
+fn run_workers<R: Threads + Clock + Sync, L: Log + Sync>(
     rt: &R,
     alloc: Global,
     store: &Store,
     passes: Vec<Pass>,
     incoming: Vec<Incoming<'_, R>>,
+    shared: &Shared,
+    mut ticker: Ticker,
     settings: Settings,
-    end: &mut Watch<'_, '_, I>,
     log: &L,
 ) -> Result<Vec<Worked>, AllocError>
     requires same { vec_len passes ≡ vec_len incoming }
@@ -190,7 +197,7 @@ fn run_until_end<R: Threads + Clock + Sync, I: Read, L: Log + Sync>(
         requires own { All (λ pass. IsOf pass store.now) passes.items }
         ensures { IfOk result (λ all. AllServed always_open store.entry.now 0 passes.items all.items) }
     {
-        run_arrivals(
+        let worked = run_arrivals(
             rt,
             alloc,
             store,
@@ -200,6 +207,38 @@ fn run_until_end<R: Threads + Clock + Sync, I: Read, L: Log + Sync>(
             retries,
             most_silent,
             log,
+        );
+        shared.ticks().end();
+        worked
+    };
+    let ((), worked) = thread::join(rt, || ticker.count(shared), run);
+    worked
+}
+
+/// Runs the workers, and beside them waits for the end of the input: then they are to stop.
+fn run_until_end<R: Threads + Clock + Sync, I: Read, L: Log + Sync>(
+    rt: &R,
+    alloc: Global,
+    store: &Store,
+    passes: Vec<Pass>,
+    incoming: Vec<Incoming<'_, R>>,
+    shared: &Shared,
+    ticker: Ticker,
+    settings: Settings,
+    end: &mut Watch<'_, '_, I>,
+    log: &L,
+) -> Result<Vec<Worked>, AllocError>
+    requires same { vec_len passes ≡ vec_len incoming }
+    requires own { All (λ pass. IsOf pass store.now) passes.items }
+    ensures { IfOk result (λ all. AllServed always_open store.now 0 passes.items all.items) }
+{
+    let run = || -> Result<Vec<Worked>, AllocError>
+        requires same { vec_len passes ≡ vec_len incoming }
+        requires own { All (λ pass. IsOf pass store.now) passes.items }
+        ensures { IfOk result (λ all. AllServed always_open store.entry.now 0 passes.items all.items) }
+    {
+        run_workers(
+            rt, alloc, store, passes, incoming, shared, ticker, settings, log,
         )
     };
     let (worked, ()) = thread::join(rt, run, || end.stop_at_end());
@@ -214,6 +253,7 @@ fn serve_all<R: Threads + Clock + Sync, I: Read, L: Log + Sync>(
     passes: Vec<Pass>,
     incoming: Vec<Incoming<'_, R>>,
     shared: &Shared,
+    ticker: Ticker,
     settings: Settings,
     input: &mut Counted<I>,
     log: &L,
@@ -224,21 +264,14 @@ fn serve_all<R: Threads + Clock + Sync, I: Read, L: Log + Sync>(
     ensures read { settings.until_eof ≡ false → input.new ≡ input.old }
 {
     if !settings.until_eof {
-        let most_silent = most_silent_of(settings);
-        return run_arrivals(
-            rt,
-            alloc,
-            store,
-            passes,
-            incoming,
-            &Open,
-            settings.retries,
-            most_silent,
-            log,
+        return run_workers(
+            rt, alloc, store, passes, incoming, shared, ticker, settings, log,
         );
     }
     let mut end = Watch { input, shared };
-    run_until_end(rt, alloc, store, passes, incoming, settings, &mut end, log)
+    run_until_end(
+        rt, alloc, store, passes, incoming, shared, ticker, settings, &mut end, log,
+    )
 }
 
 /// Serves at the listeners over a store that is set up, until each worker has had as many connections as it may take, or
@@ -285,8 +318,13 @@ fn serve_on<
         Ok(waits) => waits,
         Err(fault) => return tell_early(fault, err),
     };
-    let Waits { polls, seats } = waits;
-    let shared = Shared::new(seats, settings.most_open);
+    let Waits {
+        polls,
+        seats,
+        ticker,
+        ticks,
+    } = waits;
+    let shared = Shared::new(seats, settings.most_open, ticks);
     let incoming = match incoming_of(alloc, rt, &shared, listeners, polls, settings) {
         Ok(incoming) => incoming,
         Err(fault) => return tell_early(fault, err),
@@ -295,7 +333,7 @@ fn serve_on<
         return 1;
     }
     match serve_all(
-        rt, alloc, &store, passes, incoming, &shared, settings, input, log,
+        rt, alloc, &store, passes, incoming, &shared, ticker, settings, input, log,
     ) {
         Ok(worked) => report(store, worked, out, err, before),
         Err(_) => {

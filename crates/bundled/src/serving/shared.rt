@@ -1,4 +1,5 @@
 //! What the workers of a server share beside the store.
+use crate::serving::ticks::Ticks;
 use frame_front::Counted;
 use mio::Waker;
 use std::io::Read;
@@ -22,8 +23,8 @@ impl Seat {
     }
 }
 
-/// Which worker takes the next client, how many clients are connected, and whether the server is to stop. All workers
-/// look at it, and each can be woken.
+/// Which worker takes the next client, how many clients are connected, how many ticks have passed, and whether the server
+/// is to stop. All workers look at it, and each can be woken.
 ///
 /// Workers take clients in turn, so that none has all of them: a client that connects wakes each worker, and the one whose
 /// turn it is takes it.
@@ -36,17 +37,19 @@ pub struct Shared {
     open: AtomicU64,
     /// How many clients may be connected.
     most_open: u64,
+    ticks: Ticks,
     is_asked: AtomicBool,
 }
 
 impl Shared {
     /// No client is connected yet. There is a seat for each worker.
-    pub fn new(seats: Vec<Seat>, most_open: u64) -> Shared {
+    pub fn new(seats: Vec<Seat>, most_open: u64, ticks: Ticks) -> Shared {
         Shared {
             seats,
             turn: AtomicUsize::new(0),
             open: AtomicU64::new(0),
             most_open,
+            ticks,
             is_asked: AtomicBool::new(false),
         }
     }
@@ -59,9 +62,18 @@ impl Shared {
     /// Tells all workers to stop.
     pub fn stop(&self) {
         self.is_asked.store(true, Ordering::SeqCst);
+        self.wake_all();
+    }
+
+    /// Wakes each worker.
+    pub fn wake_all(&self) {
         for seat in self.seats.as_slice() {
             let _ = seat.waker.wake();
         }
+    }
+
+    pub fn ticks(&self) -> &Ticks {
+        &self.ticks
     }
 
     /// The worker takes clients from now on. It has the turn if nobody else has it.
@@ -175,6 +187,10 @@ impl<'a> Seated<'a> {
     /// So many clients of the worker have been left.
     pub fn leave(&self, count: u64) {
         self.shared.leave(count);
+    }
+
+    pub fn ticks(&self) -> &Ticks {
+        self.shared.ticks()
     }
 
     /// Whether the server is to stop now.

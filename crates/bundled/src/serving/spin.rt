@@ -1,5 +1,5 @@
 //! Whether a worker spins before it sleeps.
-ghost use Rattle.std.specs.Prelude.{◌≡◌, ◌+◌, ◌*◌, ◌/◌, min, true, false};
+ghost use Rattle.std.specs.Prelude.{◌≡◌, ◌+◌, ◌-◌, ◌*◌, ◌/◌, min, true, false};
 
 use std::thread;
 use std::time::{Clock, Duration, Instant};
@@ -14,7 +14,7 @@ const NEEDED: u64 = 4;
 ///
 /// To sleep and to be woken takes longer than a few such calls, so where a client asks again at once it is answered sooner.
 /// Where nothing comes so soon, or another thread needs the processor, to spin is waste. So each time that it was in vain
-/// about twice as many waits go by without it as the time before, up to 255, and each time that it was not, half as many.
+/// about twice as many waits go by without it as the time before, up to 255, and each time that it was not, an eighth fewer.
 #[derive(Drop)]
 pub struct Spin {
     /// How many waits go by without spinning still.
@@ -48,10 +48,10 @@ impl Spin {
     /// Notes whether something came while the worker spun.
     pub fn note(&mut self, has_come: bool)
         ensures vain { has_come ≡ false → (self.new.pause ≡ min (2 * self.old.pause + 1) 255) × (self.new.left ≡ self.new.pause) }
-        ensures paid { has_come ≡ true → (self.new.pause ≡ self.old.pause / 2) × (self.new.left ≡ self.old.left) }
+        ensures paid { has_come ≡ true → (self.new.pause ≡ self.old.pause - (self.old.pause + 7) / 8) × (self.new.left ≡ self.old.left) }
     {
         if has_come {
-            self.pause /= 2;
+            self.pause -= self.pause.div_ceil(8);
             return;
         }
         self.pause = self
