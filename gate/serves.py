@@ -6,6 +6,7 @@ usage: gate/serves.py   (over the program that rt ci or rt run has built in crat
 What is expected of the bundles in gate/bundles is not made by the program: each NAME.canonical was made by another one.
 """
 import os
+import signal
 import socket
 import struct
 import subprocess
@@ -340,6 +341,40 @@ def read_only_port():
     assert server.ended() == (0, "served 4\ndomains 1\n", ""), "ended otherwise"
 
 
+def one_client_that_asks_steadily():
+    """A worker waits in the read of its only client. Meanwhile it is stopped and goes on, and others come and leave."""
+    server = Lasting("--workers", "1")
+    worst = 0
+    with server.connect() as steady:
+        steady.sendall(SET_A)
+        assert steady.recv(5) == frame(b"s")
+        for number in range(600):
+            time.sleep(0.001)
+            if number % 200 == 100:
+                server.started.send_signal(signal.SIGSTOP)
+                server.started.send_signal(signal.SIGCONT)
+            if number % 100 == 50:
+                began = time.monotonic()
+                assert server.ask(GET_A) == frame(b"f" + EMPTY)
+                worst = max(worst, time.monotonic() - began)
+            # In two pieces now and then, so that the worker waits inside a frame too.
+            front = 3 if number % 7 == 0 else 0
+            steady.sendall(GET_A[:front])
+            time.sleep(0.002 * bool(front))
+            steady.sendall(GET_A[front:])
+            assert steady.recv(100) == frame(b"f" + EMPTY)
+        # A client that takes no more keeps nobody waiting.
+        with open(f"{BUNDLES}/many.json", "rb") as it:
+            steady.sendall(frame(b"S\x01b" + it.read()) + 2000 * GET_A.replace(b"a", b"b"))
+        time.sleep(0.1)
+        began = time.monotonic()
+        assert server.ask(GET_A) == frame(b"f" + EMPTY)
+        worst = max(worst, time.monotonic() - began)
+    assert worst < 1, worst
+    assert server.ended()[:2] == (0, "served 8\ndomains 2\n"), "ended otherwise"
+    return f"; others were answered within {1000 * worst:.1f} ms"
+
+
 def flood_beside_others():
     """One client sends without pause, one a byte at a time, one bad lengths; another one has its answers soon."""
     server = Lasting("--workers", "1", "--idle", "60")
@@ -434,7 +469,7 @@ def set_until_it_ends(server, number, stored):
 CHECKS = [two_workers, side_by_side, real_bundles, filled_stores, clients_that_fail, many_workers, ports_and_outputs,
           silent_clients, silent_clients_without_threads, client_that_never_reads, replies_before_a_bad_length,
           stops_at_the_end_of_input, told_changes, a_thousand_connections, connections_in_wait, read_only_port,
-          flood_beside_others, stops_while_clients_write]
+          one_client_that_asks_steadily, flood_beside_others, stops_while_clients_write]
 
 
 def main():

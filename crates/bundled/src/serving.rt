@@ -1,6 +1,7 @@
 //! The command `serve`: workers answer connections, over a store that they share.
 mod incoming;
 mod listening;
+mod lone;
 mod shared;
 mod spin;
 mod stream;

@@ -21,7 +21,7 @@ const TURN_ROUNDS: u64 = 8;
 /// How often replies may be written in the last turn.
 const LAST_ROUNDS: u64 = 64;
 
-/// A stream whose reads and writes return at once, with `WouldBlock` where they would wait, and its session.
+/// A stream whose reads and writes fail with `WouldBlock` where they would wait, and its session.
 #[derive(Drop)]
 pub struct Connection<E: Stream + Drop> {
     end: E,

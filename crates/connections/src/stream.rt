@@ -1,8 +1,9 @@
-//! Streams that never wait.
+//! Streams that never wait for long.
 use std::io;
 
-/// A stream that goes both ways, and whose reads and writes return at once: where they would have to wait they fail with
-/// `WouldBlock`, and have done nothing. What is read leaves what was written as it is, and the other way round.
+/// A stream that goes both ways, and whose reads and writes return at once, or after a moment: where they would have to wait
+/// longer they fail with `WouldBlock`, and have done nothing. What is read leaves what was written as it is, and the other
+/// way round.
 pub trait Stream {
     ghost use Rattle.std.specs.Prelude.{◌≡◌, ℕ, List, Option, length};
     ghost use Rattle.std.specs.Io.{ReadsAtMost, WritesAtMost};

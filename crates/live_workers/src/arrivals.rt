@@ -26,7 +26,7 @@ pub trait Arrivals {
     ghost use Rattle.live_workers.specs.Arrivals.{IsStop};
     ghost use Rattle.live_workers.specs.declared.arrivals.Arrival.{Arrival};
 
-    /// A stream whose reads and writes return at once, with `WouldBlock` where they would wait.
+    /// A stream whose reads and writes fail with `WouldBlock` where they would wait.
     type End: Stream + Drop + Send;
 
     // At most so much more comes.

@@ -1,17 +1,20 @@
 //! What comes to a worker from the ports.
 ghost use Rattle.std.specs.Prelude.{◌≡◌};
 
+use crate::serving::lone::Lone;
 use crate::serving::shared::{Seated, Shared};
 use crate::serving::spin::{Spin, is_needed};
-use crate::serving::stream::Stream;
+use crate::serving::stream::{Patience, Stream};
 use crate::serving::ticks::TICK;
 use commands::Fault;
 use frame_front::FrontError;
 use live_workers::{Arrival, Arrivals};
-use mio::net::{TcpListener, TcpStream};
+use mio::unix::SourceFd;
 use mio::{Events, Interest, Poll, Token};
 use std::alloc::Global;
 use std::io::ErrorKind;
+use std::net::{TcpListener, TcpStream};
+use std::os::fd::AsRawFd;
 use std::time::{Clock, Duration, Instant};
 
 /// How often a worker that spins asks for events at most: for about 50 microseconds.
@@ -51,6 +54,9 @@ pub struct Incoming<'a, C> {
     /// How often the worker may wait still.
     waits: u64,
     spin: Spin,
+    lone: Lone,
+    /// Whether the calls of the worker's streams may wait.
+    patience: &'a Patience,
     /// How many ticks have been told, where they are counted.
     ticks: u64,
     /// When the last one was told, where they are not.
@@ -87,16 +93,20 @@ impl<'a, C: Clock> Incoming<'a, C> {
         shared: &'a Shared,
         worker: usize,
         poll: Poll,
-        mut ports: Vec<Port>,
+        ports: Vec<Port>,
         left: u64,
     ) -> Result<Incoming<'a, C>, Fault> {
         let Ok(events) = Events::with_capacity(alloc, MOST_EVENTS) else {
             return Err(Fault::Front(FrontError::Memory));
         };
-        for port in ports.iter_mut() {
+        let Some(patience) = shared.patience(worker) else {
+            return Err(Fault::Listen);
+        };
+        for port in ports.as_slice() {
+            let mut source = SourceFd(&port.listener.as_raw_fd());
             let registry = poll.registry();
             if registry
-                .register(&mut port.listener, PORT, Interest::READABLE)
+                .register(&mut source, PORT, Interest::READABLE)
                 .is_err()
             {
                 return Err(Fault::Listen);
@@ -118,6 +128,8 @@ impl<'a, C: Clock> Incoming<'a, C> {
             open: 0,
             waits: u64::MAX,
             spin: Spin::new(),
+            lone: Lone::new(),
+            patience,
             ticks: 0,
             last_tick,
             has_failed: false,
@@ -130,12 +142,21 @@ impl<'a, C: Clock> Incoming<'a, C> {
     {
         if open < self.open {
             self.seat.leave((self.open - open) as u64);
+            self.look_around();
         }
         self.open = open;
     }
 
+    /// The worker's connections are others than before, so it waits for all of them.
+    fn look_around(&mut self)
+        ensures { self.new.waits ≡ self.old.waits }
+    {
+        self.lone.forget();
+        self.patience.forbid();
+    }
+
     /// Takes a client that waits at a port, if it is this worker's turn. It is known by the place from then on.
-    fn take(&mut self, place: usize) -> Option<Arrival<Stream>>
+    fn take(&mut self, place: usize) -> Option<Arrival<Stream<'a>>>
         ensures { self.new.waits ≡ self.old.waits }
     {
         self.may_take = false;
@@ -150,20 +171,20 @@ impl<'a, C: Clock> Incoming<'a, C> {
     }
 
     /// Waits for the client from now on.
-    fn watch(&mut self, place: usize, mut stream: TcpStream, reads_only: bool) -> Arrival<Stream>
+    fn watch(&mut self, place: usize, stream: TcpStream, reads_only: bool) -> Arrival<Stream<'a>>
         ensures { self.new.waits ≡ self.old.waits }
     {
         // Replies are gathered into few writes already; none of them is to wait for an answer to the one before.
         let _ = stream.set_nodelay(true);
+        let mut source = SourceFd(&stream.as_raw_fd());
         let both = Interest::READABLE | Interest::WRITABLE;
-        if self
-            .poll
-            .registry()
-            .register(&mut stream, Token(place), both)
-            .is_err()
+        let registry = self.poll.registry();
+        if stream.set_nonblocking(true).is_err()
+            || registry.register(&mut source, Token(place), both).is_err()
         {
             return self.fail();
         }
+        self.look_around();
         self.left = self.left.saturating_sub(1);
         self.open = self.open.saturating_add(1);
         self.seat.take();
@@ -174,7 +195,7 @@ impl<'a, C: Clock> Incoming<'a, C> {
         // Another client may be waiting.
         self.may_take = true;
         Arrival::Opens {
-            end: Stream::new(stream),
+            end: Stream::new(stream, self.patience),
             reads_only,
         }
     }
@@ -189,7 +210,7 @@ impl<'a, C: Clock> Incoming<'a, C> {
     }
 
     /// A port has failed, which is told once.
-    fn fail(&mut self) -> Arrival<Stream>
+    fn fail(&mut self) -> Arrival<Stream<'a>>
         ensures { self.new.waits ≡ self.old.waits }
     {
         if self.has_failed {
@@ -200,7 +221,7 @@ impl<'a, C: Clock> Incoming<'a, C> {
     }
 
     /// The next client whose stream is ready, among the events that are not told yet.
-    fn next_ready(&mut self) -> Option<Arrival<Stream>>
+    fn next_ready(&mut self) -> Option<Arrival<Stream<'a>>>
         ensures { self.new.waits ≡ self.old.waits }
     {
         for _ in 0..MOST_EVENTS {
@@ -295,8 +316,54 @@ impl<'a, C: Clock> Incoming<'a, C> {
         has_come
     }
 
+    /// Sleeps until something is ready. If that is the only connection again and again, and to spin doesn't pay, the next
+    /// wait is in its read.
+    fn sleep(&mut self)
+        ensures { self.new.waits ≡ self.old.waits }
+    {
+        let most = self.most();
+        self.ask(most);
+        match self.events.iter().as_slice() {
+            [event] if event.token() != PORT && self.open == 1 => {
+                self.lone.note(usize::from(event.token()));
+            }
+            _ => self.lone.forget(),
+        }
+        if self.lone.is_steady() && self.spin.has_given_up() {
+            self.patience.allow();
+        }
+    }
+
+    /// What is told if the worker waits in the read of its only connection: that its stream is ready, which is so when
+    /// that read returns, or nothing has come for a few milliseconds. The ports are looked at now and then.
+    fn only_one(&mut self, is_busy: bool) -> Option<Arrival<Stream<'a>>>
+        ensures { self.new.waits ≡ self.old.waits }
+    {
+        if !self.patience.is_allowed() {
+            return None;
+        }
+        let is_over = is_busy || self.may_take || self.open != 1 || self.spin.is_due();
+        if is_over {
+            self.patience.forbid();
+        }
+        if is_over || self.lone.looks_up() {
+            // What was ready while the worker waited in reads is told first.
+            self.ask(Some(Duration::ZERO));
+            if let Some(arrival) = self.next_ready() {
+                return Some(arrival);
+            }
+        }
+        if is_over {
+            return None;
+        }
+        Some(Arrival::Ready {
+            place: self.lone.place(),
+            is_closing: false,
+        })
+    }
+
     /// Waits until something is ready, but not if `is_busy`, and tells of the first.
-    fn wait(&mut self, is_busy: bool) -> Arrival<Stream>
+    fn wait(&mut self, is_busy: bool) -> Arrival<Stream<'a>>
         ensures { self.new.waits ≡ self.old.waits }
     {
         if self.is_tick_due() {
@@ -305,11 +372,13 @@ impl<'a, C: Clock> Incoming<'a, C> {
             self.sit();
             return Arrival::Tick;
         }
+        if let Some(arrival) = self.only_one(is_busy) {
+            return arrival;
+        }
         if is_busy || self.may_take {
             self.ask(Some(Duration::ZERO));
         } else if !self.has_spun() {
-            let most = self.most();
-            self.ask(most);
+            self.sleep();
         }
         match self.next_ready() {
             Some(arrival) => arrival,
@@ -319,7 +388,7 @@ impl<'a, C: Clock> Incoming<'a, C> {
 }
 
 impl<'a, C: Clock> Arrivals for Incoming<'a, C> {
-    type End = Stream;
+    type End = Stream<'a>;
 
     ghost use Rattle.std.specs.Prelude.{⊤};
 
@@ -327,7 +396,7 @@ impl<'a, C: Clock> Arrivals for Incoming<'a, C> {
 
     ghost comes = { λ _ _ _. ⊤ };
 
-    fn next(&mut self, free: usize, open: usize, is_busy: bool) -> Arrival<Stream> {
+    fn next(&mut self, free: usize, open: usize, is_busy: bool) -> Arrival<Stream<'a>> {
         self.count(open);
         if self.waits == 0 || self.seat.is_asked() || (self.left == 0 && open == 0) {
             return Arrival::Stops;

@@ -93,7 +93,6 @@ fn push_copy(ports: &mut Vec<Port>, listener: &TcpListener, reads_only: bool) ->
     let Ok(listener) = listener.try_clone() else {
         return Err(Fault::Listen);
     };
-    let listener = mio::net::TcpListener::from_std(listener);
     match ports.push(Port {
         listener,
         reads_only,

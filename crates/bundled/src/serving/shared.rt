@@ -1,4 +1,5 @@
 //! What the workers of a server share beside the store.
+use crate::serving::stream::Patience;
 use crate::serving::ticks::Ticks;
 use frame_front::Counted;
 use mio::Waker;
@@ -11,6 +12,7 @@ pub struct Seat {
     waker: Waker,
     /// Whether the worker takes clients.
     is_taken: AtomicBool,
+    patience: Patience,
 }
 
 impl Seat {
@@ -19,6 +21,7 @@ impl Seat {
         Seat {
             waker,
             is_taken: AtomicBool::new(false),
+            patience: Patience::new(),
         }
     }
 }
@@ -74,6 +77,11 @@ impl Shared {
 
     pub fn ticks(&self) -> &Ticks {
         &self.ticks
+    }
+
+    /// Whether the calls of the worker's streams may wait, if it has a seat.
+    pub fn patience(&self, worker: usize) -> Option<&Patience> {
+        Some(&self.seats.get(worker)?.patience)
     }
 
     /// The worker takes clients from now on. It has the turn if nobody else has it.
