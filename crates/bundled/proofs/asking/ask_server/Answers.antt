@@ -1,4 +1,4 @@
-use Rattle.std.proofs.Common.{rules, ◌≡◌, ◌≢◌, List, ℕ, [], ◌∷◌, length, map, Bor, refl, ap, inr, arith}
+use Rattle.std.proofs.Common.{rules, ◌≡◌, ◌≢◌, List, ℕ, [], ◌∷◌, length, map, Bor, refl, inr, arith}
 use Rattle.commands.specs.Ask.{Asks, AsksWords, ServerEnds}
 use Rattle.commands.specs.Encode.{of_files}
 use Rattle.commands.specs.Streams.{Streams}
