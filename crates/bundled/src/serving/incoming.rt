@@ -330,6 +330,8 @@ impl<'a, C: Clock> Incoming<'a, C> {
             _ => self.lone.forget(),
         }
         if self.lone.is_steady() && self.spin.has_given_up() {
+            // Once a call has waited in vain, as many sleeps are needed again.
+            self.lone.forget();
             self.patience.allow();
         }
     }
