@@ -73,13 +73,16 @@ impl Decoder {
         first_frame(self.kept.as_slice())
     }
 
-    /// Passes over a frame whose payload has so many bytes.
+    /// Passes over a frame whose payload has so many bytes. If nothing is kept then, the next piece has all the room.
     pub(crate) fn pass(&mut self, size: usize)
         requires stands { 4 + size ≤ length self.old }
         requires few { size ≤ 1049000 }
         ensures { self.new ≡ drop (4 + size) self.old }
     {
         self.kept.advance(LENGTH_BYTES + size);
+        if self.kept.is_empty() {
+            self.kept.clear();
+        }
     }
 
     /// How many bytes are kept.
