@@ -2,6 +2,7 @@
 mod incoming;
 mod listening;
 mod lone;
+mod newest;
 mod shared;
 mod spin;
 mod stream;

@@ -2,6 +2,7 @@
 ghost use Rattle.std.specs.Prelude.{◌≡◌};
 
 use crate::serving::lone::Lone;
+use crate::serving::newest::Newest;
 use crate::serving::shared::{Seated, Shared};
 use crate::serving::spin::{Spin, is_needed};
 use crate::serving::stream::{Patience, Stream};
@@ -55,6 +56,11 @@ pub struct Incoming<'a, C> {
     waits: u64,
     spin: Spin,
     lone: Lone,
+    newest: Newest,
+    /// Whether the worker reads from its only connection without asking what is ready.
+    is_alone: bool,
+    /// How many such reads in a row have found nothing.
+    vain_reads: usize,
     /// Whether the calls of the worker's streams may wait.
     patience: &'a Patience,
     /// How many ticks have been told, where they are counted.
@@ -129,6 +135,9 @@ impl<'a, C: Clock> Incoming<'a, C> {
             waits: u64::MAX,
             spin: Spin::new(),
             lone: Lone::new(),
+            newest: Newest::new(),
+            is_alone: false,
+            vain_reads: 0,
             patience,
             ticks: 0,
             last_tick,
@@ -142,6 +151,7 @@ impl<'a, C: Clock> Incoming<'a, C> {
     {
         if open < self.open {
             self.seat.leave((self.open - open) as u64);
+            self.newest.forget();
             self.look_around();
         }
         self.open = open;
@@ -152,7 +162,9 @@ impl<'a, C: Clock> Incoming<'a, C> {
         ensures { self.new.waits ≡ self.old.waits }
     {
         self.lone.forget();
+        self.is_alone = false;
         self.patience.forbid();
+        self.newest.put_back(&self.poll);
     }
 
     /// Takes a client that waits at a port, if it is this worker's turn. It is known by the place from then on.
@@ -176,7 +188,12 @@ impl<'a, C: Clock> Incoming<'a, C> {
     {
         // Replies are gathered into few writes already; none of them is to wait for an answer to the one before.
         let _ = stream.set_nodelay(true);
-        let mut source = SourceFd(&stream.as_raw_fd());
+        self.look_around();
+        if self.newest.is_out() {
+            return self.fail();
+        }
+        let fd = stream.as_raw_fd();
+        let mut source = SourceFd(&fd);
         let both = Interest::READABLE | Interest::WRITABLE;
         let registry = self.poll.registry();
         if stream.set_nonblocking(true).is_err()
@@ -184,7 +201,7 @@ impl<'a, C: Clock> Incoming<'a, C> {
         {
             return self.fail();
         }
-        self.look_around();
+        self.newest.note(place, fd);
         self.left = self.left.saturating_sub(1);
         self.open = self.open.saturating_add(1);
         self.seat.take();
@@ -316,47 +333,78 @@ impl<'a, C: Clock> Incoming<'a, C> {
         has_come
     }
 
-    /// Sleeps until something is ready. If that is the only connection again and again, and to spin doesn't pay, the next
-    /// wait is in its read.
-    fn sleep(&mut self)
+    /// Notes who has ended the wait. If that is the only connection again and again, the worker reads from it alone from now
+    /// on.
+    fn note_who_came(&mut self)
         ensures { self.new.waits ≡ self.old.waits }
     {
-        let most = self.most();
-        self.ask(most);
         match self.events.iter().as_slice() {
             [event] if event.token() != PORT && self.open == 1 => {
                 self.lone.note(usize::from(event.token()));
             }
             _ => self.lone.forget(),
         }
-        if self.lone.is_steady() && self.spin.has_given_up() {
-            // Once a call has waited in vain, as many sleeps are needed again.
+        if self.lone.is_steady() {
             self.lone.forget();
+            self.newest.take_out(&self.poll, self.lone.place());
+            self.patience.begin();
+            self.patience.allow();
+            self.is_alone = true;
+        }
+    }
+
+    /// The last read has found something. Whether the next one may wait: not if the worker spins instead.
+    fn read_next(&mut self)
+        ensures { self.new.waits ≡ self.old.waits }
+    {
+        if !self.patience.is_allowed() {
+            self.spin.note(true);
+        }
+        self.vain_reads = 0;
+        if self.spin.is_due() {
+            self.patience.forbid();
+        } else {
             self.patience.allow();
         }
     }
 
-    /// What is told if the worker waits in the read of its only connection: that its stream is ready, which is so when
-    /// that read returns, or nothing has come for a few milliseconds. The ports are looked at now and then.
+    /// The worker spins, and its last read has found nothing. Whether the next one may wait.
+    fn read_again(&mut self)
+        ensures { self.new.waits ≡ self.old.waits }
+    {
+        self.vain_reads = self.vain_reads.saturating_add(1);
+        if self.vain_reads < MOST_ASKED && !is_needed(self.clock) {
+            return;
+        }
+        self.spin.note(false);
+        self.patience.allow();
+    }
+
+    /// What is told if the worker reads from its only connection alone: that it is ready. The read finds out whether it is, at
+    /// once or by waiting for it for a few milliseconds. The ports are looked at now and then.
     fn only_one(&mut self, is_busy: bool) -> Option<Arrival<Stream<'a>>>
         ensures { self.new.waits ≡ self.old.waits }
     {
-        if !self.patience.is_allowed() {
+        if !self.is_alone {
+            self.newest.put_back(&self.poll);
             return None;
         }
-        let is_over = is_busy || self.may_take || self.open != 1 || self.spin.is_due();
-        if is_over {
-            self.patience.forbid();
+        let was_vain = self.patience.was_vain();
+        let is_quiet = self.patience.is_stuck() || (was_vain && self.patience.is_allowed());
+        if is_quiet || is_busy || self.may_take || self.open != 1 {
+            self.look_around();
+            return None;
         }
-        if is_over || self.lone.looks_up() {
-            // What was ready while the worker waited in reads is told first.
-            self.ask(Some(Duration::ZERO));
-            if let Some(arrival) = self.next_ready() {
-                return Some(arrival);
+        if was_vain {
+            self.read_again();
+        } else {
+            self.read_next();
+            if self.lone.looks_up() {
+                self.ask(Some(Duration::ZERO));
             }
         }
-        if is_over {
-            return None;
+        if let Some(arrival) = self.next_ready() {
+            return Some(arrival);
         }
         Some(Arrival::Ready {
             place: self.lone.place(),
@@ -379,8 +427,12 @@ impl<'a, C: Clock> Incoming<'a, C> {
         }
         if is_busy || self.may_take {
             self.ask(Some(Duration::ZERO));
-        } else if !self.has_spun() {
-            self.sleep();
+        } else {
+            if !self.has_spun() {
+                let most = self.most();
+                self.ask(most);
+            }
+            self.note_who_came();
         }
         match self.next_ready() {
             Some(arrival) => arrival,

@@ -1,5 +1,5 @@
 //! Whether a worker spins before it sleeps.
-ghost use Rattle.std.specs.Prelude.{◌≡◌, ◌<◌, ◌≤◌, ◌+◌, ◌-◌, ◌*◌, ◌/◌, min, true, false};
+ghost use Rattle.std.specs.Prelude.{◌≡◌, ◌+◌, ◌-◌, ◌*◌, ◌/◌, min, true, false};
 
 use std::thread;
 use std::time::{Clock, Duration, Instant};
@@ -43,14 +43,6 @@ impl Spin {
         }
         self.left -= 1;
         false
-    }
-
-    /// Whether it was in vain so often that as many waits go by as may.
-    pub fn has_given_up(&self) -> bool
-        ensures given_up { result ≡ true → 255 ≤ self.now.pause }
-        ensures not_yet { result ≡ false → self.now.pause < 255 }
-    {
-        self.pause >= MOST_LEFT
     }
 
     /// Notes whether something came while the worker spun.

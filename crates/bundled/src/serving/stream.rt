@@ -13,11 +13,17 @@ const MOST_WAIT: u64 = 4;
 /// How many reads there are of what a client sends that is not answered any more.
 const LAST_READS: usize = 16;
 
-/// Whether the calls of a worker's streams may wait. The worker allows it while it has but one, and whoever has waited in
-/// vain forbids it.
+/// Whether the calls of a worker's streams may wait, which the worker says; and what has come of them, which they say. Only
+/// the thread of that worker looks at it.
 #[derive(Drop)]
 pub struct Patience {
     is_allowed: AtomicBool,
+    /// Whether a read has found nothing since the worker asked.
+    was_vain: AtomicBool,
+    /// Whether a client has not taken all that was written since calls may wait.
+    is_stuck: AtomicBool,
+    /// Keeps those of two workers in two lines of the processors' caches.
+    _room: [u64; 16],
 }
 
 impl Patience {
@@ -25,19 +31,59 @@ impl Patience {
     pub fn new() -> Patience {
         Patience {
             is_allowed: AtomicBool::new(false),
+            was_vain: AtomicBool::new(false),
+            is_stuck: AtomicBool::new(false),
+            _room: [0; 16],
         }
     }
 
     pub fn is_allowed(&self) -> bool {
-        self.is_allowed.load(Ordering::SeqCst)
+        self.is_allowed.load(Ordering::Relaxed)
     }
 
+    /// Calls may wait from now on.
     pub fn allow(&self) {
-        self.is_allowed.store(true, Ordering::SeqCst);
+        if !self.is_allowed() {
+            self.is_allowed.store(true, Ordering::Relaxed);
+        }
     }
 
+    /// No call may wait from now on.
     pub fn forbid(&self) {
-        self.is_allowed.store(false, Ordering::SeqCst);
+        if self.is_allowed() {
+            self.is_allowed.store(false, Ordering::Relaxed);
+        }
+    }
+
+    /// Forgets what has come of calls.
+    pub fn begin(&self) {
+        self.was_vain.store(false, Ordering::Relaxed);
+        self.is_stuck.store(false, Ordering::Relaxed);
+    }
+
+    /// Whether a read has found nothing since this was asked last.
+    pub fn was_vain(&self) -> bool {
+        let was = self.was_vain.load(Ordering::Relaxed);
+        if was {
+            self.was_vain.store(false, Ordering::Relaxed);
+        }
+        was
+    }
+
+    /// Whether a client did not take all that was written.
+    pub fn is_stuck(&self) -> bool {
+        self.is_stuck.load(Ordering::Relaxed)
+    }
+
+    /// A read has found nothing, or has failed.
+    fn note_vain(&self) {
+        self.was_vain.store(true, Ordering::Relaxed);
+    }
+
+    /// A client takes no more now. To wait for it would keep the worker for as long as it likes.
+    fn note_stuck(&self) {
+        self.is_stuck.store(true, Ordering::Relaxed);
+        self.forbid();
     }
 }
 
@@ -50,6 +96,8 @@ pub struct Stream<'a> {
     patience: &'a Patience,
     /// Whether its calls wait now.
     waits: bool,
+    /// Whether the system knows how long they wait at most.
+    is_limited: bool,
 }
 
 impl<'a> Stream<'a> {
@@ -59,34 +107,50 @@ impl<'a> Stream<'a> {
             inner,
             patience,
             waits: false,
+            is_limited: false,
         }
     }
 
     /// Has its calls wait if they may, and only then.
+    #[inline(always)]
     fn settle(&mut self) -> io::Result<()> {
         let may_wait = self.patience.is_allowed();
         if may_wait == self.waits {
             return Ok(());
         }
+        self.change(may_wait)
+    }
+
+    /// Has its calls wait from now on, or no longer.
+    #[inline(never)]
+    fn change(&mut self, may_wait: bool) -> io::Result<()> {
         if may_wait {
-            let most = Some(Duration::from_millis(MOST_WAIT));
-            self.inner.set_read_timeout(most)?;
-            self.inner.set_write_timeout(most)?;
+            self.limit()?;
         }
         self.inner.set_nonblocking(!may_wait)?;
         self.waits = may_wait;
         Ok(())
     }
 
-    /// What a call that has failed is told by. If it may have waited, no call may wait from now on. One that a signal has
-    /// ended has done nothing, like one that would have to wait.
-    fn failed(&self, error: io::Error) -> io::Error {
-        self.patience.forbid();
-        if error.kind() == ErrorKind::Interrupted {
-            return io::Error::from(ErrorKind::WouldBlock);
+    /// Tells the system how long calls that wait do so at most. It keeps that.
+    fn limit(&mut self) -> io::Result<()> {
+        if self.is_limited {
+            return Ok(());
         }
-        error
+        let most = Some(Duration::from_millis(MOST_WAIT));
+        self.inner.set_read_timeout(most)?;
+        self.inner.set_write_timeout(most)?;
+        self.is_limited = true;
+        Ok(())
     }
+}
+
+/// What a call that has failed is told by. One that a signal has ended has done nothing, like one that would have to wait.
+fn failed(error: io::Error) -> io::Error {
+    if error.kind() == ErrorKind::Interrupted {
+        return io::Error::from(ErrorKind::WouldBlock);
+    }
+    error
 }
 
 impl connections::Stream for Stream<'_> {
@@ -102,7 +166,10 @@ impl connections::Stream for Stream<'_> {
         self.settle()?;
         match self.inner.read(buf) {
             Ok(count) => Ok(count),
-            Err(error) => Err(self.failed(error)),
+            Err(error) => {
+                self.patience.note_vain();
+                Err(failed(error))
+            }
         }
     }
 
@@ -111,12 +178,14 @@ impl connections::Stream for Stream<'_> {
         match self.inner.write(buf) {
             Ok(count) => {
                 if count < buf.len() {
-                    // The client takes no more now. To wait for it would keep the worker for as long as it likes.
-                    self.patience.forbid();
+                    self.patience.note_stuck();
                 }
                 Ok(count)
             }
-            Err(error) => Err(self.failed(error)),
+            Err(error) => {
+                self.patience.note_stuck();
+                Err(failed(error))
+            }
         }
     }
 }
@@ -127,6 +196,7 @@ impl Drop for Stream<'_> {
             mut inner,
             patience: _,
             waits,
+            is_limited: _,
         } = self;
         let _ = inner.shutdown(Shutdown::Write);
         if waits && inner.set_nonblocking(true).is_err() {
