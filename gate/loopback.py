@@ -1,14 +1,17 @@
 #!/usr/bin/env python3
 """How many requests a second a server answers over loopback, beside another program. No part of the gate.
 
-usage: gate/loopback.py PROGRAM PEER [--runs N] [--workers N,N] [--loads NAME,NAME]
+usage: gate/loopback.py PROGRAM PEER [--runs N] [--requests N] [--workers N,N] [--loads NAME,NAME]
 
 Both programs run `serve --port 0 --workers N --connections 1000 --shards 16` and say `listening PORT` first. Each load is asked
 of the two in turns, by as many clients as the server has workers; the clients are load.c, which needs a C compiler. A line of a
 table is a load: for each number of workers the median of the program's runs and of the peer's, and after it the least and the
-greatest of each. The program's is in bold where it is at least the peer's.
+greatest of each. The program's is in bold where it is at least the peer's. Behind it stands the ratio of the two, by the
+geometric mean over the runs, with its standard error: where the machine's speed changes from minute to minute, many short runs
+(`--runs 60 --requests 6000`, of each client) tell more than a few long ones.
 """
 import argparse
+import math
 import os
 import re
 import statistics
@@ -59,9 +62,10 @@ class Server:
         self.running.wait()
 
 
-def measure(load, programs, workers, name, runs):
+def measure(load, programs, workers, name, runs, requests):
     """For each program, what each of its runs gave."""
-    _, batch, window, keys, kind, requests = LOADS[name]
+    _, batch, window, keys, kind, usual = LOADS[name]
+    writes = max((requests or usual) // batch, 1)
     given = [[] for _ in programs]
     servers = []
     try:
@@ -70,11 +74,18 @@ def measure(load, programs, workers, name, runs):
             servers[-1].ask(load, 1, DOMAINS // 100, 100, 1, keys, "p")
         for _ in range(runs):
             for server, rates in zip(servers, given):
-                rates.append(server.ask(load, workers, requests // batch, batch, window, keys, kind))
+                rates.append(server.ask(load, workers, writes, batch, window, keys, kind))
     finally:
         for server in servers:
             server.end()
     return given
+
+
+def ratio(ours, theirs):
+    """The geometric mean of the ratios, and its standard error."""
+    logs = [math.log(our / their) for our, their in zip(ours, theirs)]
+    error = statistics.stdev(logs) / math.sqrt(len(logs)) if len(logs) > 1 else 0
+    return f"{math.exp(statistics.mean(logs)):.3f} +- {error:.3f}"
 
 
 def cell(given):
@@ -84,13 +95,14 @@ def cell(given):
     medians = f"{ours:,.0f}, {theirs:,.0f}"
     ranges = "; ".join(f"{min(some):,} to {max(some):,}" for some in rates)
     worst = ", ".join(f"{statistics.median(us for _, us in runs) / 1000:.1f}" for runs in given)
-    return (f"**{medians}**" if ours >= theirs else medians), f"{ranges}; slowest {worst} ms"
+    return (f"**{medians}**" if ours >= theirs else medians), f"{ranges}; {ratio(*rates)}; slowest {worst} ms"
 
 
 def main(words):
     ask = argparse.ArgumentParser(description=__doc__, formatter_class=argparse.RawDescriptionHelpFormatter)
     ask.add_argument("programs", nargs=2, metavar="PROGRAM")
     ask.add_argument("--runs", type=int, default=5)
+    ask.add_argument("--requests", type=int, default=0)
     ask.add_argument("--workers", default="1,2,4")
     ask.add_argument("--loads", default=",".join(LOADS))
     wanted = ask.parse_args(words)
@@ -102,7 +114,7 @@ def main(words):
         load = os.path.join(folder, "load")
         subprocess.run(["cc", "-O2", "-pthread", "-o", load, os.path.join(HERE, "load.c")], check=True)
         for name in wanted.loads.split(","):
-            cells = [cell(measure(load, wanted.programs, number, name, wanted.runs)) for number in workers]
+            cells = [cell(measure(load, wanted.programs, number, name, wanted.runs, wanted.requests)) for number in workers]
             print("| " + " | ".join([LOADS[name][0], *(medians for medians, _ in cells)]) + " |")
             for number, (_, ranges) in zip(workers, cells):
                 print(f"    {number} workers: {ranges}", flush=True)
