@@ -2,7 +2,7 @@
 ghost use Rattle.std.specs.Prelude.{◌≡◌};
 
 use crate::serving::lone::Lone;
-use crate::serving::newest::Newest;
+use crate::serving::newest::{Newest, put_in};
 use crate::serving::shared::{Seated, Shared};
 use crate::serving::spin::{Spin, is_needed};
 use crate::serving::stream::{Patience, Stream};
@@ -193,12 +193,7 @@ impl<'a, C: Clock> Incoming<'a, C> {
             return self.fail();
         }
         let fd = stream.as_raw_fd();
-        let mut source = SourceFd(&fd);
-        let both = Interest::READABLE | Interest::WRITABLE;
-        let registry = self.poll.registry();
-        if stream.set_nonblocking(true).is_err()
-            || registry.register(&mut source, Token(place), both).is_err()
-        {
+        if stream.set_nonblocking(true).is_err() || put_in(&self.poll, place, fd).is_err() {
             return self.fail();
         }
         self.newest.note(place, fd);
@@ -389,7 +384,7 @@ impl<'a, C: Clock> Incoming<'a, C> {
             self.newest.put_back(&self.poll);
             return None;
         }
-        let was_vain = self.patience.was_vain();
+        let was_vain = self.patience.take_vain();
         let is_quiet = self.patience.is_stuck() || (was_vain && self.patience.is_allowed());
         if is_quiet || is_busy || self.may_take || self.open != 1 {
             self.look_around();

@@ -1,8 +1,9 @@
 //! The newest client of a worker, whose stream the poll of the worker need not know at all times.
-ghost use Rattle.std.specs.Prelude.{◌≡◌, ◌-◌, ◌^◌, false};
+ghost use Rattle.std.specs.Prelude.{◌≡◌, ◌≢◌, ◌-◌, ◌^◌, false};
 
 use mio::unix::SourceFd;
 use mio::{Interest, Poll, Token};
+use std::io;
 use std::os::fd::RawFd;
 
 /// The place of nobody.
@@ -22,6 +23,7 @@ pub struct Newest {
 impl Newest {
     /// Nobody has come yet.
     pub fn new() -> Newest
+        ensures place { result.place ≡ 2 ^ 64 - 1 }
         ensures out { result.is_out ≡ false }
     {
         Newest {
@@ -58,7 +60,10 @@ impl Newest {
     }
 
     /// Takes the stream out of the poll, if the client at the place is the newest.
-    pub fn take_out(&mut self, poll: &Poll, place: usize) {
+    pub fn take_out(&mut self, poll: &Poll, place: usize)
+        ensures other { place ≢ self.old.place → self.new ≡ self.old }
+        ensures same { (self.new.place ≡ self.old.place) × (self.new.fd ≡ self.old.fd) }
+    {
         if place == self.place {
             let mut source = SourceFd(&self.fd);
             self.is_out = poll.registry().deregister(&mut source).is_ok();
@@ -67,13 +72,19 @@ impl Newest {
 
     /// Puts the stream back, if it is out. The poll tells of it then if it is ready. If the system has no memory for that now,
     /// it stays out.
-    pub fn put_back(&mut self, poll: &Poll) {
+    pub fn put_back(&mut self, poll: &Poll)
+        ensures known { self.old.is_out ≡ false → self.new ≡ self.old }
+        ensures same { (self.new.place ≡ self.old.place) × (self.new.fd ≡ self.old.fd) }
+    {
         if self.is_out {
-            let mut source = SourceFd(&self.fd);
-            let both = Interest::READABLE | Interest::WRITABLE;
-            let registry = poll.registry();
-            let put = registry.register(&mut source, Token(self.place), both);
-            self.is_out = put.is_err();
+            self.is_out = put_in(poll, self.place, self.fd).is_err();
         }
     }
+}
+
+/// Has the poll tell whenever more has come to the client's stream, or more can be written to it.
+pub fn put_in(poll: &Poll, place: usize, fd: RawFd) -> io::Result<()> {
+    let both = Interest::READABLE | Interest::WRITABLE;
+    let registry = poll.registry();
+    registry.register(&mut SourceFd(&fd), Token(place), both)
 }

@@ -62,7 +62,7 @@ impl Patience {
     }
 
     /// Whether a read has found nothing since this was asked last.
-    pub fn was_vain(&self) -> bool {
+    pub fn take_vain(&self) -> bool {
         let was = self.was_vain.load(Ordering::Relaxed);
         if was {
             self.was_vain.store(false, Ordering::Relaxed);
