@@ -125,7 +125,7 @@ impl<E: Stream + Drop> Connection<E> {
     }
 
     /// Reads once, if no whole frame is left and nothing waits. The turn ends with the answer, or goes on: then the answer
-    /// is whether the read has left some of its room. If the one before has, there is no more to read now.
+    /// is whether the read has left some of its room. If the one before has, there is no more to read now, unless reads wait.
     fn read(&mut self, room: &mut [u8; ROOM_BYTES], has_left: bool) -> Result<bool, After>
         requires unfinished { IsUnfinished self.old.live.kept }
         requires sent { waiting self.old.live ≡ [] }
@@ -135,7 +135,7 @@ impl<E: Stream + Drop> Connection<E> {
         if self.has_ended {
             return Err(self.finish());
         }
-        if has_left && !self.is_closing {
+        if has_left && !self.is_closing && !self.end.reads_wait() {
             return Err(After::Waits);
         }
         match read_piece(&mut self.end, &mut self.live, room) {
@@ -206,8 +206,8 @@ impl<E: Stream + Drop> Connection<E> {
 
     /// Answers what has come and what comes now, in order, until the stream has no more or takes no more, the session is
     /// over, or the connection has had its share: 8 reads. After a read that left some of its room there is no more to
-    /// read, unless the client `is_closing`: then its side is closed, or the stream has failed, and reads go on until they
-    /// say so. The connections of one thread can share the room for reading, and the reader of documents.
+    /// read, unless reads wait for more, or the client `is_closing`: then its side is closed, or the stream has failed, and
+    /// reads go on until they say so. The connections of one thread can share the room for reading, and the reader of documents.
     pub fn turn<A: Ask>(
         &mut self,
         documents: &mut DocumentReader,

@@ -5,7 +5,7 @@ use std::io;
 /// longer they fail with `WouldBlock`, and have done nothing. What is read leaves what was written as it is, and the other
 /// way round.
 pub trait Stream {
-    ghost use Rattle.std.specs.Prelude.{◌≡◌, ℕ, List, Option, length};
+    ghost use Rattle.std.specs.Prelude.{◌≡◌, ℕ, List, Option, length, true};
     ghost use Rattle.std.specs.Io.{ReadsAtMost, WritesAtMost};
     ghost use Rattle.std.specs.Io.KnownBytes.{ReadConsumes, WriteAppends};
     ghost use Rattle.connections.specs.Stream.{May, ReadsAs, WritesAs};
@@ -34,4 +34,12 @@ pub trait Stream {
         ensures left { left self.new ≡ left self.old }
         ensures may { WritesAs (may self.old) result }
         ensures same { may self.new ≡ may self.old };
+
+    /// Whether its reads wait for a moment at present, so that one may find more even if the one before has left some of its
+    /// room. A connection then goes on reading in its turn.
+    fn reads_wait(&self) -> bool
+        ensures { result ≡ true → (may self.now).block ≡ true }
+    {
+        false
+    }
 }

@@ -21,6 +21,9 @@ use std::time::{Clock, Duration, Instant};
 /// How often a worker that spins asks for events at most: for about 50 microseconds.
 const MOST_ASKED: usize = 30;
 
+/// How many reads of its only connection may wait in one turn: one fewer than a turn has, so that it ends with a reply.
+const MOST_IN_TURN: u64 = 7;
+
 /// The most events of one wait.
 pub const MOST_EVENTS: usize = 256;
 
@@ -343,24 +346,27 @@ impl<'a, C: Clock> Incoming<'a, C> {
             self.lone.forget();
             self.newest.take_out(&self.poll, self.lone.place());
             self.patience.begin();
-            self.patience.allow();
+            self.patience.allow(1);
             self.is_alone = true;
         }
     }
 
-    /// The last read has found something. Whether the next one may wait: not if the worker spins instead.
-    fn read_next(&mut self)
+    /// The last read has found something. Says whether those of the next turn may wait: none may if the worker spins instead.
+    /// The answer is how many reads that turn makes of a client that asks for one thing at a time.
+    fn read_next(&mut self) -> u64
         ensures { self.new.waits ≡ self.old.waits }
     {
         if !self.patience.is_allowed() {
             self.spin.note(true);
         }
         self.vain_reads = 0;
-        if self.spin.is_due() {
+        let reads = self.spin.take_waits(MOST_IN_TURN);
+        if reads == 0 {
             self.patience.forbid();
-        } else {
-            self.patience.allow();
+            return 1;
         }
+        self.patience.allow(reads);
+        reads
     }
 
     /// The worker spins, and its last read has found nothing. Whether the next one may wait.
@@ -372,7 +378,7 @@ impl<'a, C: Clock> Incoming<'a, C> {
             return;
         }
         self.spin.note(false);
-        self.patience.allow();
+        self.patience.allow(1);
     }
 
     /// What is told if the worker reads from its only connection alone: that it is ready. The read finds out whether it is, at
@@ -393,8 +399,8 @@ impl<'a, C: Clock> Incoming<'a, C> {
         if was_vain {
             self.read_again();
         } else {
-            self.read_next();
-            if self.lone.looks_up() {
+            let reads = self.read_next();
+            if self.lone.looks_up(reads) {
                 self.ask(Some(Duration::ZERO));
             }
         }

@@ -1,5 +1,5 @@
 //! Whether a worker reads from its only connection alone.
-ghost use Rattle.std.specs.Prelude.{◌≡◌, ◌≢◌, ◌+◌, ◌<◌, ◌≤◌, min, true, false};
+ghost use Rattle.std.specs.Prelude.{◌≡◌, ◌≢◌, ◌+◌, ◌-◌, ◌<◌, ◌≤◌, min, true, false};
 
 /// How many waits in a row the same connection ends before the worker reads from it alone.
 const LEAST_WAITS: u64 = 8;
@@ -73,17 +73,17 @@ impl Lone {
         self.place
     }
 
-    /// Counts a read. The answer is whether the worker is to look at the ports first.
-    pub fn looks_up(&mut self) -> bool
-        ensures goes_on { result ≡ false → self.new.reads + 1 ≡ self.old.reads }
-        ensures looks { result ≡ true → (self.old.reads ≡ 0) × (self.new.reads ≡ 7) }
+    /// Counts so many reads. The answer is whether the worker is to look at the ports first.
+    pub fn looks_up(&mut self, reads: u64) -> bool
+        ensures goes_on { result ≡ false → self.new.reads + reads ≡ self.old.reads }
+        ensures looks { result ≡ true → (self.old.reads < reads) × (self.new.reads ≡ 8 - reads) }
         ensures same { (self.new.place ≡ self.old.place) × (self.new.waits ≡ self.old.waits) }
     {
-        if self.reads > 0 {
-            self.reads -= 1;
+        if self.reads >= reads {
+            self.reads -= reads;
             return false;
         }
-        self.reads = MOST_READS - 1;
+        self.reads = MOST_READS.saturating_sub(reads);
         true
     }
 }

@@ -45,6 +45,17 @@ impl Spin {
         false
     }
 
+    /// Takes so many of the waits that go by without spinning, or as many as are left: 0 if spinning is due.
+    pub fn take_waits(&mut self, most: u64) -> u64
+        ensures taken { result ≡ min self.old.left most }
+        ensures left { self.new.left + result ≡ self.old.left }
+        ensures pause { self.new.pause ≡ self.old.pause }
+    {
+        let waits = self.left.min(most);
+        self.left -= waits;
+        waits
+    }
+
     /// Notes whether something came while the worker spun.
     pub fn note(&mut self, has_come: bool)
         ensures vain { has_come ≡ false → (self.new.pause ≡ min (2 * self.old.pause + 1) 255) × (self.new.left ≡ self.new.pause) }

@@ -4,7 +4,7 @@ ghost use Rattle.std.specs.Prelude.{None};
 use std::io;
 use std::io::{ErrorKind, Read, Write};
 use std::net::{Shutdown, TcpStream};
-use std::sync::atomic::{AtomicBool, Ordering};
+use std::sync::atomic::{AtomicBool, AtomicU64, Ordering};
 use std::time::Duration;
 
 /// How many milliseconds a call that may wait waits at most. The system measures it by its own ticks, and may take two.
@@ -18,6 +18,8 @@ const LAST_READS: usize = 16;
 #[derive(Drop)]
 pub struct Patience {
     is_allowed: AtomicBool,
+    /// How many reads may wait one after the other in a turn still.
+    reads: AtomicU64,
     /// Whether a read has found nothing since the worker asked.
     was_vain: AtomicBool,
     /// Whether a client has not taken all that was written since calls may wait.
@@ -31,6 +33,7 @@ impl Patience {
     pub fn new() -> Patience {
         Patience {
             is_allowed: AtomicBool::new(false),
+            reads: AtomicU64::new(0),
             was_vain: AtomicBool::new(false),
             is_stuck: AtomicBool::new(false),
             _room: [0; 16],
@@ -41,8 +44,9 @@ impl Patience {
         self.is_allowed.load(Ordering::Relaxed)
     }
 
-    /// Calls may wait from now on.
-    pub fn allow(&self) {
+    /// Calls may wait from now on, so many reads one after the other in a turn.
+    pub fn allow(&self, reads: u64) {
+        self.reads.store(reads, Ordering::Relaxed);
         if !self.is_allowed() {
             self.is_allowed.store(true, Ordering::Relaxed);
         }
@@ -73,6 +77,17 @@ impl Patience {
     /// Whether a client did not take all that was written.
     pub fn is_stuck(&self) -> bool {
         self.is_stuck.load(Ordering::Relaxed)
+    }
+
+    /// Whether another read may wait in the same turn.
+    fn reads_wait(&self) -> bool {
+        self.is_allowed() && self.reads.load(Ordering::Relaxed) > 0
+    }
+
+    /// One of the reads that may wait is made.
+    fn note_read(&self) {
+        let left = self.reads.load(Ordering::Relaxed);
+        self.reads.store(left.saturating_sub(1), Ordering::Relaxed);
     }
 
     /// A read has found nothing, or has failed.
@@ -164,6 +179,9 @@ impl connections::Stream for Stream<'_> {
 
     fn read(&mut self, buf: &mut [u8]) -> io::Result<usize> {
         self.settle()?;
+        if self.waits {
+            self.patience.note_read();
+        }
         match self.inner.read(buf) {
             Ok(count) => Ok(count),
             Err(error) => {
@@ -187,6 +205,10 @@ impl connections::Stream for Stream<'_> {
                 Err(failed(error))
             }
         }
+    }
+
+    fn reads_wait(&self) -> bool {
+        self.patience.reads_wait()
     }
 }
 

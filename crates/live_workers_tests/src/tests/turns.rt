@@ -18,6 +18,13 @@ struct Once<'i, 'o> {
     reads: &'o mut u64,
 }
 
+/// A client that gives a frame at each read, which waits for it, and then its end; and takes all.
+#[derive(Drop)]
+struct Steady<'i, 'o> {
+    input: &'i [u8],
+    output: &'o mut Vec<u8>,
+}
+
 impl<'i, 'o> Stream for Once<'i, 'o> {
     ghost use Rattle.std.specs.Prelude.{None, true};
 
@@ -37,7 +44,73 @@ impl<'i, 'o> Stream for Once<'i, 'o> {
     }
 }
 
-/// What a turn of such a client comes to, and how often it was read.
+impl<'i, 'o> Stream for Steady<'i, 'o> {
+    ghost use Rattle.std.specs.Prelude.{None, true};
+
+    ghost left = { λ _. None };
+
+    ghost held = { λ _. None };
+
+    ghost may = { λ _. record { block = true; leave_room = true; fail = true } };
+
+    fn read(&mut self, buf: &mut [u8]) -> io::Result<usize> {
+        let most = SET_A.len().min(buf.len());
+        let (piece, _) = buf.split_at_mut(most);
+        self.input.read(piece)
+    }
+
+    fn write(&mut self, buf: &[u8]) -> io::Result<usize> {
+        self.output.write(buf)
+    }
+
+    fn reads_wait(&self) -> bool {
+        true
+    }
+}
+
+/// What a turn of a client comes to which sets `a` so many times, one after the other.
+fn steady_turn_of(alloc: Global, sets: usize, output: &mut Vec<u8>) -> Result<After, AllocError> {
+    let mut input = Vec::new(alloc);
+    for _ in 0..sets {
+        input.extend_from_slice(SET_A)?;
+    }
+    let client = Steady {
+        input: input.as_slice(),
+        output,
+    };
+    let mut connection = Connection::new(alloc, client)?;
+    let mut documents = DocumentReader::new(alloc);
+    let mut map = Contents::new(alloc);
+    let mut room = [0; ROOM_BYTES];
+    Ok(connection.turn(&mut documents, &mut room, &mut map, false))
+}
+
+/// What a turn of a client that sets `a` so many times comes to, and how many bytes it has got.
+fn is_steady(
+    rt: &impl Abort,
+    alloc: Global,
+    sets: usize,
+    wanted: (After, usize),
+) -> Result<(), Fail> {
+    let mut output = Vec::new(alloc);
+    let after = steady_turn_of(alloc, sets, &mut output)?;
+    is_equal(rt, &(after, output.len()), &wanted);
+    Ok(())
+}
+
+// Each read has left some of its room, and the next one waits for what the client sends then.
+#[test]
+fn a_client_whose_reads_wait_is_read_again_in_its_turn(rt: HostRuntime) -> Result<(), Fail> {
+    is_steady(&rt, rt.alloc(), 3, (After::Over(Ok(3)), 3 * STORED.len()))
+}
+
+// It has its share of 8 reads. The last one is not answered yet.
+#[test]
+fn a_client_whose_reads_wait_has_a_turn_of_8_reads(rt: HostRuntime) -> Result<(), Fail> {
+    is_steady(&rt, rt.alloc(), 9, (After::Again, 7 * STORED.len()))
+}
+
+/// What a turn of a client comes to that gives all in one piece, and how often it was read.
 fn turn_of(
     alloc: Global,
     input: &[u8],
