@@ -173,24 +173,42 @@ fn most_silent_of(settings: Settings) -> u64 {
     settings.idle.saturating_mul(TICKS_A_SECOND)
 }
 
+/// What the threads of a server run over.
+#[derive(Drop)]
+struct Host<'a, R, L> {
+    rt: &'a R,
+    alloc: Global,
+    store: &'a Store,
+    shared: &'a Shared,
+    settings: Settings,
+    log: &'a L,
+}
+
+/// What the threads of a server begin with: for each worker its pass and what comes to it, and what counts the ticks.
+#[derive(Drop)]
+struct Crew<'a, C> {
+    passes: Vec<Pass>,
+    incoming: Vec<Incoming<'a, C>>,
+    ticker: Ticker,
+}
+
 /// Runs the workers, and beside them counts the ticks.
 fn run_workers<R: Threads + Clock + Sync, L: Log + Sync>(
-    rt: &R,
-    alloc: Global,
-    store: &Store,
-    passes: Vec<Pass>,
-    incoming: Vec<Incoming<'_, R>>,
-    shared: &Shared,
-    mut ticker: Ticker,
-    settings: Settings,
-    log: &L,
+    host: &Host<'_, R, L>,
+    crew: Crew<'_, R>,
 ) -> Result<Vec<Worked>, AllocError>
-    requires same { vec_len passes ≡ vec_len incoming }
-    requires own { All (λ pass. IsOf pass store.now) passes.items }
-    ensures { IfOk result (λ all. AllServed always_open store.now 0 passes.items all.items) }
+    requires same { vec_len crew.passes ≡ vec_len crew.incoming }
+    requires own { All (λ pass. IsOf pass host.now.store.now) crew.passes.items }
+    ensures { IfOk result (λ all. AllServed always_open host.now.store.now 0 crew.entry.passes.items all.items) }
 {
-    let retries = settings.retries;
-    let most_silent = most_silent_of(settings);
+    let Crew {
+        passes,
+        incoming,
+        mut ticker,
+    } = crew;
+    let (rt, alloc, store, shared, log) = (host.rt, host.alloc, host.store, host.shared, host.log);
+    let retries = host.settings.retries;
+    let most_silent = most_silent_of(host.settings);
     let run = || -> Result<Vec<Worked>, AllocError>
         requires same { vec_len passes ≡ vec_len incoming }
         requires own { All (λ pass. IsOf pass store.now) passes.items }
@@ -216,61 +234,39 @@ fn run_workers<R: Threads + Clock + Sync, L: Log + Sync>(
 
 /// Runs the workers, and beside them waits for the end of the input: then they are to stop.
 fn run_until_end<R: Threads + Clock + Sync, I: Read, L: Log + Sync>(
-    rt: &R,
-    alloc: Global,
-    store: &Store,
-    passes: Vec<Pass>,
-    incoming: Vec<Incoming<'_, R>>,
-    shared: &Shared,
-    ticker: Ticker,
-    settings: Settings,
+    host: &Host<'_, R, L>,
+    crew: Crew<'_, R>,
     end: &mut Watch<'_, '_, I>,
-    log: &L,
 ) -> Result<Vec<Worked>, AllocError>
-    requires same { vec_len passes ≡ vec_len incoming }
-    requires own { All (λ pass. IsOf pass store.now) passes.items }
-    ensures { IfOk result (λ all. AllServed always_open store.now 0 passes.items all.items) }
+    requires same { vec_len crew.passes ≡ vec_len crew.incoming }
+    requires own { All (λ pass. IsOf pass host.now.store.now) crew.passes.items }
+    ensures { IfOk result (λ all. AllServed always_open host.now.store.now 0 crew.entry.passes.items all.items) }
 {
     let run = || -> Result<Vec<Worked>, AllocError>
-        requires same { vec_len passes ≡ vec_len incoming }
-        requires own { All (λ pass. IsOf pass store.now) passes.items }
-        ensures { IfOk result (λ all. AllServed always_open store.entry.now 0 passes.items all.items) }
-    {
-        run_workers(
-            rt, alloc, store, passes, incoming, shared, ticker, settings, log,
-        )
-    };
-    let (worked, ()) = thread::join(rt, run, || end.stop_at_end());
+        requires same { vec_len crew.passes ≡ vec_len crew.incoming }
+        requires own { All (λ pass. IsOf pass host.now.store.now) crew.passes.items }
+        ensures { IfOk result (λ all. AllServed always_open host.entry.now.store.now 0 crew.entry.passes.items all.items) }
+    { run_workers(host, crew) };
+    let (worked, ()) = thread::join(host.rt, run, || end.stop_at_end());
     worked
 }
 
 /// Runs the workers; if the server is to stop at the end of its input, that is waited for beside them.
 fn serve_all<R: Threads + Clock + Sync, I: Read, L: Log + Sync>(
-    rt: &R,
-    alloc: Global,
-    store: &Store,
-    passes: Vec<Pass>,
-    incoming: Vec<Incoming<'_, R>>,
-    shared: &Shared,
-    ticker: Ticker,
-    settings: Settings,
+    host: &Host<'_, R, L>,
+    crew: Crew<'_, R>,
     input: &mut Counted<I>,
-    log: &L,
 ) -> Result<Vec<Worked>, AllocError>
-    requires same { vec_len passes ≡ vec_len incoming }
-    requires own { All (λ pass. IsOf pass store.now) passes.items }
-    ensures served { IfOk result (λ all. AllServed always_open store.now 0 passes.items all.items) }
-    ensures read { settings.until_eof ≡ false → input.new ≡ input.old }
+    requires same { vec_len crew.passes ≡ vec_len crew.incoming }
+    requires own { All (λ pass. IsOf pass host.now.store.now) crew.passes.items }
+    ensures served { IfOk result (λ all. AllServed always_open host.now.store.now 0 crew.entry.passes.items all.items) }
+    ensures read { host.now.settings.until_eof ≡ false → input.new ≡ input.old }
 {
-    if !settings.until_eof {
-        return run_workers(
-            rt, alloc, store, passes, incoming, shared, ticker, settings, log,
-        );
+    if !host.settings.until_eof {
+        return run_workers(host, crew);
     }
-    let mut end = Watch { input, shared };
-    run_until_end(
-        rt, alloc, store, passes, incoming, shared, ticker, settings, &mut end, log,
-    )
+    let shared = host.shared;
+    run_until_end(host, crew, &mut Watch { input, shared })
 }
 
 /// Serves at the listeners over a store that is set up, until each worker has had as many connections as it may take, or
@@ -331,9 +327,20 @@ fn serve_on<
     if !say(out, err, before, Said::Listening(port, read_port)) {
         return 1;
     }
-    match serve_all(
-        rt, alloc, &store, passes, incoming, &shared, ticker, settings, input, log,
-    ) {
+    let crew = Crew {
+        passes,
+        incoming,
+        ticker,
+    };
+    let host = Host {
+        rt,
+        alloc,
+        store: &store,
+        shared: &shared,
+        settings,
+        log,
+    };
+    match serve_all(&host, crew, input) {
         Ok(worked) => report(store, worked, out, err, before),
         Err(_) => {
             Fault::Front(FrontError::Memory).tell_unless_failed(err, before);
