@@ -303,7 +303,7 @@ What to do: See where the output goes.
         "\
 55 TurnsUsed
 The session has made as many reads as --turns allows; or the server was stopped while more
-than 4 MiB of replies were to be sent to the client.
+than 12 MiB of replies were to be sent to the client.
 What to do: Connect again, or raise --turns.
 ",
     ),
