@@ -8,9 +8,11 @@ of the two in turns, by as many clients as the server has workers; the clients a
 table is a load: for each number of workers the median of the program's runs and of the peer's, and after it the least and the
 greatest of each. The program's is in bold where it is at least the peer's. Behind it stands the ratio of the two, by the
 geometric mean over the runs, with its standard error: where the machine's speed changes from minute to minute, many short runs
-(`--runs 60 --requests 6000`, of each client) tell more than a few long ones.
+(`--runs 60 --requests 6000`, of each client) tell more than a few long ones. Last come the slowest write, by the median of the
+runs, and for how long the threads of each server ran for a request, by their mean with its standard error.
 """
 import argparse
+import glob
 import math
 import os
 import re
@@ -51,11 +53,21 @@ class Server:
             sys.exit(f"{program} does not say that it is listening")
         self.port = said.group(1)
 
+    def nanoseconds(self):
+        """For how long its threads ran until now."""
+        ran = 0
+        for path in glob.glob(f"/proc/{self.running.pid}/task/*/schedstat"):
+            with open(path, encoding="ascii") as it:
+                ran += int(it.read().split()[0])
+        return ran
+
     def ask(self, load, clients, writes, batch, window, keys, kind):
-        """Requests a second, and the microseconds of the slowest write."""
+        """Requests a second, the microseconds of the slowest write, and those that the server ran for a request."""
         words = [self.port, clients, writes, batch, window, DOMAINS, keys, kind]
+        before = self.nanoseconds()
         said = subprocess.run([load, *map(str, words)], stdout=subprocess.PIPE, check=True, text=True).stdout
-        return int(said.split()[0]), int(re.search(r"worst (\d+)", said).group(1))
+        ran = (self.nanoseconds() - before) / 1000 / (clients * writes * batch)
+        return int(said.split()[0]), int(re.search(r"worst (\d+)", said).group(1)), ran
 
     def end(self):
         self.running.kill()
@@ -81,21 +93,27 @@ def measure(load, programs, workers, name, runs, requests):
     return given
 
 
+def error_of(some):
+    """The standard error of their mean."""
+    return statistics.stdev(some) / math.sqrt(len(some)) if len(some) > 1 else 0
+
+
 def ratio(ours, theirs):
     """The geometric mean of the ratios, and its standard error."""
     logs = [math.log(our / their) for our, their in zip(ours, theirs)]
-    error = statistics.stdev(logs) / math.sqrt(len(logs)) if len(logs) > 1 else 0
-    return f"{math.exp(statistics.mean(logs)):.3f} +- {error:.3f}"
+    return f"{math.exp(statistics.mean(logs)):.3f} +- {error_of(logs):.3f}"
 
 
 def cell(given):
-    """The medians of the two, and the range of each, and the median of the slowest writes."""
-    rates = [[rate for rate, _ in runs] for runs in given]
+    """The medians of the two; and the range of each, the ratio, the slowest writes, and what a request took of each server."""
+    rates, worst, ran = zip(*[[list(column) for column in zip(*runs)] for runs in given])
     ours, theirs = map(statistics.median, rates)
     medians = f"{ours:,.0f}, {theirs:,.0f}"
     ranges = "; ".join(f"{min(some):,} to {max(some):,}" for some in rates)
-    worst = ", ".join(f"{statistics.median(us for _, us in runs) / 1000:.1f}" for runs in given)
-    return (f"**{medians}**" if ours >= theirs else medians), f"{ranges}; {ratio(*rates)}; slowest {worst} ms"
+    slowest = ", ".join(f"{statistics.median(some) / 1000:.1f}" for some in worst)
+    took = ", ".join(f"{statistics.mean(some):.2f} +- {error_of(some):.2f}" for some in ran)
+    told = f"{ranges}; {ratio(*rates)}; slowest {slowest} ms; the server ran {took} us a request"
+    return (f"**{medians}**" if ours >= theirs else medians), told
 
 
 def main(words):
