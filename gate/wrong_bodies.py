@@ -1,10 +1,11 @@
 #!/usr/bin/env python3
-"""The wrong bodies that stand in crates/NAME/wrong-bodies: more than the gate tries.
+"""The wrong bodies: those in crates/NAME/must-fail, which rt ci tries, and more in crates/NAME/wrong-bodies.
 
-usage: gate/wrong_bodies.py                fails unless each of them can be put into the code as it stands
-       gate/wrong_bodies.py try [NAME..]   wants the prover to refuse each, of all crates or of these
+usage: gate/wrong_bodies.py                fails unless each of them, in either folder, can be put into the code as it stands
+       gate/wrong_bodies.py try [NAME..]   wants the prover to refuse each in wrong-bodies/, of all crates or of these
 
-rt ci tries those in must-fail/, with at least one of each public function.
+In must-fail/ is at least one of each public function. One that cannot be put into the code tries nothing, and rt ci passes
+it over.
 """
 import os
 import re
@@ -17,9 +18,9 @@ ROOT = os.path.dirname(os.path.dirname(os.path.abspath(__file__)))
 PAIR = re.compile(r"^(file|old|new): ?(.*)$", re.M)
 
 
-def edits_of(crate):
-    folder = f"{ROOT}/crates/{crate}/wrong-bodies"
-    return sorted(f"{folder}/{it}" for it in os.listdir(folder)) if os.path.isdir(folder) else []
+def edits_of(crate, folder="wrong-bodies"):
+    path = f"{ROOT}/crates/{crate}/{folder}"
+    return sorted(f"{path}/{it}" for it in os.listdir(path)) if os.path.isdir(path) else []
 
 
 def applies(crate, edit):
@@ -42,11 +43,13 @@ def applies(crate, edit):
     return pairs > 0 and edit.endswith(".edit")
 
 
-def apply_all(crates):
-    bad = [it for crate in crates for it in edits_of(crate) if not applies(crate, it)]
+def apply_all():
+    crates = sorted(os.listdir(f"{ROOT}/crates"))
+    edits = [(crate, it) for crate in crates for folder in ("must-fail", "wrong-bodies") for it in edits_of(crate, folder)]
+    bad = [it for crate, it in edits if not applies(crate, it)]
     for it in bad:
         print(f"{os.path.relpath(it, ROOT)}: it cannot be applied")
-    return sum(len(edits_of(it)) for it in crates) - len(bad), len(bad)
+    return len(edits) - len(bad), len(bad)
 
 
 def try_all(crates):
@@ -71,7 +74,7 @@ def main(words):
     if words[:1] == ["try"] and all(it in crates for it in words[1:]):
         passed, failed = try_all(words[1:] or crates)
     elif not words:
-        passed, failed = apply_all(crates)
+        passed, failed = apply_all()
     else:
         print(__doc__, end="", file=sys.stderr)
         return 2
