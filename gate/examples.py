@@ -1,0 +1,94 @@
+#!/usr/bin/env python3
+"""Runs the examples of the README, and compares what they print with what stands there.
+
+usage: gate/examples.py   (over the program that rt ci or rt run has built in crates/bundled/out/)
+
+An example is a block of lines, four spaces in, with a command after each '$' and below the commands what they print. The
+commands of a block are run by one shell, at the top of the repository, after the aliases of the blocks before it.
+"""
+import os
+import re
+import signal
+import socket
+import subprocess
+import sys
+import tempfile
+
+sys.dont_write_bytecode = True
+
+from refusals import ROOT  # noqa: E402
+
+PORT = "8443"
+SECONDS = 60
+# A server in the background is ready when it says so.
+UNTIL_READY = f'for _ in $(seq {SECONDS}0); do grep -q ^listening "$OUTPUT" && break; sleep 0.1; done'
+
+
+def examples():
+    """Yields of each block with commands its line, the commands, and what they print."""
+    with open(f"{ROOT}/README.md", encoding="utf-8") as it:
+        text = it.read()
+    for block in re.finditer(r"^    \$ .*\n(?:    .*\n|\n(?=    ))*", text, re.M):
+        lines = [it[4:] for it in block[0].split("\n")[:-1]]
+        commands = [it[2:] for it in lines if it.startswith("$ ")]
+        yield text.count("\n", 0, block.start()) + 1, commands, [it for it in lines if not it.startswith("$ ")]
+
+
+def free_port():
+    with socket.create_server(("127.0.0.1", 0)) as it:
+        return str(it.getsockname()[1])
+
+
+def printed(commands):
+    """What the commands print, with what those in the background print until they end."""
+    script = ["shopt -s expand_aliases"]
+    for command in commands:
+        script += [command, UNTIL_READY] if command.endswith("&") else [command]
+    with tempfile.TemporaryDirectory() as room:
+        with open(f"{room}/script", "w", encoding="utf-8") as it:
+            it.write("\n".join([*script, "wait", ""]))
+        with open(f"{room}/output", "wb") as output:
+            how = {"cwd": ROOT, "env": {**os.environ, "OUTPUT": output.name}, "stdin": subprocess.DEVNULL}
+            how |= {"stdout": output, "stderr": subprocess.STDOUT, "start_new_session": True}
+            with subprocess.Popen(["bash", f"{room}/script"], **how) as running:
+                try:
+                    running.wait(SECONDS)
+                except subprocess.TimeoutExpired:
+                    os.killpg(running.pid, signal.SIGKILL)
+        with open(f"{room}/output", encoding="utf-8", errors="replace") as it:
+            return it.read().split("\n")[:-1]
+
+
+def counted(line):
+    """A line of the race without its counts, which differ from run to run: only a fetch-all has to show no wrong map."""
+    return re.sub(r"\b[1-9]\d*\b" if line.startswith("fetch-all") else r"\d+", "N", line)
+
+
+def alike(commands, lines):
+    """Lines that the commands print, in the form in which they are the same at each run."""
+    if any("demo race" in it for it in commands):
+        # (a naive reader may be lucky, and then has no first wrong map)
+        return [counted(it) for it in lines if "the first: " not in it]
+    # (what is in the background ends beside the last command)
+    return sorted(lines) if any(it.endswith("&") for it in commands) else lines
+
+
+def main():
+    passed = failed = 0
+    aliases = []
+    for line, commands, wanted in examples():
+        port = free_port()
+        found = printed([it.replace(PORT, port) for it in [*aliases, *commands]])
+        aliases += [it for it in commands if it.startswith("alias ")]
+        if alike(commands, found) == alike(commands, [it.replace(PORT, port) for it in wanted]):
+            print(f"README.md:{line}: as it stands there", flush=True)
+            passed += 1
+        else:
+            print("\n".join([f"README.md:{line}: FAILED: it prints something else:", *found]), flush=True)
+            failed += 1
+    print(f"{passed} passed, {failed} failed")
+    return 1 if failed else 0
+
+
+if __name__ == "__main__":
+    sys.exit(main())
