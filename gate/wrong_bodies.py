@@ -23,8 +23,9 @@ def edits_of(crate, folder="wrong-bodies"):
     return sorted(f"{path}/{it}" for it in os.listdir(path)) if os.path.isdir(path) else []
 
 
-def applies(crate, edit):
-    """Whether each text that the edit replaces is once in the file that it names, one pair after the other."""
+def edited(crate, edit):
+    """The files of the crate that the edit changes, by their paths, each with its text then; None if it can't be put into
+    them: each text that it replaces has to be once in the file that it names, one pair after the other."""
     with open(edit, encoding="utf-8") as it:
         lines = PAIR.findall(it.read())
     texts, path, old, pairs = {}, "", None, 0
@@ -37,16 +38,16 @@ def applies(crate, edit):
         elif word == "old":
             old = said
         elif texts.get(path, "").count(old) != 1:
-            return False
+            return None
         else:
             texts[path], pairs = texts[path].replace(old, said), pairs + 1
-    return pairs > 0 and edit.endswith(".edit")
+    return texts if pairs > 0 and edit.endswith(".edit") else None
 
 
 def apply_all():
     crates = sorted(os.listdir(f"{ROOT}/crates"))
     edits = [(crate, it) for crate in crates for folder in ("must-fail", "wrong-bodies") for it in edits_of(crate, folder)]
-    bad = [it for crate, it in edits if not applies(crate, it)]
+    bad = [it for crate, it in edits if not edited(crate, it)]
     for it in bad:
         print(f"{os.path.relpath(it, ROOT)}: it cannot be applied")
     return len(edits) - len(bad), len(bad)
