@@ -3,13 +3,16 @@
 
 usage: gate/clients.py   (over the program that rt ci or rt run has built in crates/bundled/out/)
 
-Neither the tests nor the exchanges take what they expect from the program.
+Neither the tests nor the exchanges take what they expect from the program. Those of the client in Go are left out if the
+machine has no go.
 """
 import faulthandler
 import os
 import re
+import shutil
 import subprocess
 import sys
+import tempfile
 import unittest
 
 sys.dont_write_bytecode = True
@@ -57,6 +60,26 @@ class Told(unittest.TestResult):
         return test.id().rpartition(".")[2].replace("test_", "", 1)
 
 
+def go_tests():
+    """How many tests of the client in Go passed and failed."""
+    if not shutil.which("go"):
+        print("the client in Go: left out, since this machine has no go", flush=True)
+        return 0, 0
+    with tempfile.TemporaryDirectory(prefix="go-tests-") as home:
+        env = {"HOME": home, **os.environ, "CGO_ENABLED": "0", "GOFLAGS": ""}
+        words = ["go", "test", "-count=1", f"-timeout={SECONDS}s", "-v", "."]
+        how = {"stdout": subprocess.PIPE, "stderr": subprocess.STDOUT, "stdin": subprocess.DEVNULL, "text": True}
+        ran = subprocess.run(words, cwd=f"{ROOT}/clients/go", env=env, **how)
+    passed = re.findall(r"^--- PASS: (\w+)", ran.stdout, re.M)
+    failed = re.findall(r"^--- FAIL: (\w+)", ran.stdout, re.M)
+    for name in passed:
+        print(f"go {name}: as it should be", flush=True)
+    if ran.returncode or failed or not passed:
+        print(f"go test: FAILED: {ran.stdout[-2000:]}", flush=True)
+        return len(passed), max(len(failed), 1)
+    return len(passed), 0
+
+
 def main():
     # A client that is blocked for ever ends here.
     faulthandler.dump_traceback_later(SECONDS, exit=True)
@@ -66,8 +89,10 @@ def main():
     told = Told()
     load.loadTestsFromTestCase(Exchanges).run(told)
     load.loadTestsFromName("test_hopslintel").run(told)
-    failed = len(told.errors) + len(told.failures)
-    print(f"{told.passed} passed, {failed} failed")
+    faulthandler.cancel_dump_traceback_later()
+    in_go = go_tests()
+    failed = len(told.errors) + len(told.failures) + in_go[1]
+    print(f"{told.passed + in_go[0]} passed, {failed} failed")
     return 1 if failed else 0
 
 

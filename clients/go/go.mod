@@ -1,0 +1,3 @@
+module hopslintel
+
+go 1.19
