@@ -1,15 +1,18 @@
 #!/usr/bin/env python3
-"""Clients that ask a server for as long as is wanted, and a checker of what they were answered. No part of the gate.
+"""Clients that ask a server for as long as is wanted, and a checker of what they were answered.
 
 usage: gate/soak.py [--seconds N] [--clients N] [--workers N] [--round SECONDS]   (over the program in crates/bundled/out/)
 
 Each client gets, sets and fetches all, over a connection of its own. After each round all of them stop for a moment, and what
-they were told is checked: there has to be one order of all operations of the round that keeps each client's own order and gives
-every reply. Sets of a domain carry rising sequences, so the order of its versions is known; then such an order exists if and
+they were told is checked: the operations of the round have to be linearizable (Herlihy and Wing, 1990). There has to be one
+order of them that gives every reply, and in which an operation that had ended before another began stands before it, whoever
+asked them. Sets of a domain carry rising sequences, so the order of its versions is known; then such an order exists if and
 only if nothing has to come before itself: a reply comes after the version that it shows, and before the next one.
+
+The gate runs it for a few seconds (`./check --histories`), and it is run for an hour by hand.
 """
 import argparse
-import os
+import heapq
 import random
 import sys
 import threading
@@ -33,19 +36,25 @@ def sequence_of(text):
 
 
 class Client:
-    """One connection, and what it was told: each deed is SET and one version, or READ and the versions that it shows."""
+    """One connection, and what it was told: each deed is SET and one version, or READ and the versions that it shows, and
+    when it was asked and when it was answered."""
 
     def __init__(self, server, seed):
         self.stream = server.connect()
         self.chance = random.Random(seed)
         self.deeds = []
         self.passed = 0
+        self.asked = 0
+
+    def note(self, kind, shown):
+        self.deeds.append((kind, shown, self.asked, time.monotonic_ns()))
 
     def reply(self):
         size = int.from_bytes(received(self.stream, 4), "big")
         return received(self.stream, size)
 
     def ask(self, payload):
+        self.asked = time.monotonic_ns()
         self.stream.sendall(frame(payload))
         return self.reply()
 
@@ -55,23 +64,23 @@ class Client:
     def get(self, domain):
         reply = self.named(b"G", domain)
         if reply[:1] == b"f":
-            return self.deeds.append((READ, {domain: sequence_of(reply[1:])}))
+            return self.note(READ, {domain: sequence_of(reply[1:])})
         return self.say_other(reply, domain)
 
     def set(self, domain, sequence):
         reply = self.named(b"S", domain, document(sequence))
         if reply == b"s":
-            return self.deeds.append((SET, {domain: sequence}))
+            return self.note(SET, {domain: sequence})
         if reply == b"u":
-            return self.deeds.append((READ, {domain: sequence}))
+            return self.note(READ, {domain: sequence})
         if reply[:1] == b"\x1f":
-            return self.deeds.append((READ, {domain: int.from_bytes(reply[1:9], "big")}))
+            return self.note(READ, {domain: int.from_bytes(reply[1:9], "big")})
         return self.say_other(reply, domain)
 
     def say_other(self, reply, domain):
         """30 shows that nothing stands there; 41 and 42 show nothing, and have changed nothing."""
         if reply == b"\x1e":
-            return self.deeds.append((READ, {domain: 0}))
+            return self.note(READ, {domain: 0})
         if reply[:1] in (b"\x29", b"\x2a"):
             self.passed += 1
             return None
@@ -87,7 +96,7 @@ class Client:
             assert item[:1] == b"i", item[:20]
             end = 2 + item[1]
             shown[item[2:end]] = sequence_of(item[end:])
-        return self.deeds.append((READ, shown))
+        return self.note(READ, shown)
 
     def run(self, until, newest):
         while time.monotonic() < until:
@@ -106,7 +115,7 @@ def check(histories, start):
     """Whether the deeds have one order, if these versions stood there before. Says what is wrong, or nothing."""
     versions = {domain: [start[domain]] for domain in DOMAINS}
     for deeds in histories:
-        for kind, shown in deeds:
+        for kind, shown, _, _ in deeds:
             if kind == SET:
                 for domain, version in shown.items():
                     versions[domain].append(version)
@@ -119,26 +128,61 @@ def check(histories, start):
     return one_order(histories, versions)
 
 
+class Heads:
+    """The first deed of each client that is not taken yet, and which of them was answered first."""
+
+    def __init__(self, histories):
+        self.histories, self.at, self.answers, self.late = histories, [0] * len(histories), [], []
+        for client in range(len(histories)):
+            self.push(client)
+
+    def push(self, client):
+        if self.at[client] < len(self.histories[client]):
+            heapq.heappush(self.answers, (self.histories[client][self.at[client]][3], client, self.at[client]))
+
+    def first_answer(self):
+        while self.answers and self.answers[0][2] < self.at[self.answers[0][1]]:
+            heapq.heappop(self.answers)
+        return self.answers[0][0] if self.answers else float("inf")
+
+    def is_early(self, client, asked):
+        """Whether no deed that is not taken was answered before this one was asked. If one was, the client waits for that."""
+        if asked <= self.first_answer():
+            return True
+        heapq.heappush(self.late, (asked, client))
+        return False
+
+    def take(self, client):
+        """Takes the client's deed. Answers which clients need not wait any more."""
+        self.at[client] += 1
+        self.push(client)
+        first, freed = self.first_answer(), []
+        while self.late and self.late[0][0] <= first:
+            freed.append(heapq.heappop(self.late)[1])
+        return freed
+
+
 def one_order(histories, versions):
     """Takes the deeds in an order that gives each of them, as long as one can be taken."""
     place = {domain: {version: at for at, version in enumerate(all_versions)} for domain, all_versions in versions.items()}
-    now, at = dict.fromkeys(DOMAINS, 0), [0] * len(histories)
-    waits = {}
+    now, heads, waits = dict.fromkeys(DOMAINS, 0), Heads(histories), {}
     ready = list(range(len(histories)))
     for deeds in histories:
-        for _, shown in deeds:
+        for _, shown, _, _ in deeds:
             if any(version not in place[domain] for domain, version in shown.items()):
                 return f"a version was shown that nobody stored: {shown}"
     left = left_to_read(histories, place)
     while ready:
         client = ready.pop()
-        while at[client] < len(histories[client]):
-            kind, shown = histories[client][at[client]]
+        while heads.at[client] < len(histories[client]):
+            kind, shown, asked, _ = histories[client][heads.at[client]]
+            if not heads.is_early(client, asked):
+                break
             lacking = lacks(kind, shown, place, now, left)
             if lacking:
                 waits.setdefault(lacking, []).append(client)
                 break
-            at[client] += 1
+            ready += heads.take(client)
             for domain, version in shown.items():
                 there = place[domain][version]
                 if kind == SET:
@@ -149,8 +193,8 @@ def one_order(histories, versions):
                     if not left[domain][there]:
                         ready += waits.pop((domain, there, "read"), [])
     for client, deeds in enumerate(histories):
-        if at[client] < len(deeds):
-            return f"there is no order: client {client} was told {deeds[at[client]]}, which has to come before itself"
+        if heads.at[client] < len(deeds):
+            return f"there is no order: client {client} was told {deeds[heads.at[client]]}, which has to come before itself"
     return ""
 
 
@@ -158,7 +202,7 @@ def left_to_read(histories, place):
     """How many deeds show each version."""
     left = {domain: [0] * len(places) for domain, places in place.items()}
     for deeds in histories:
-        for kind, shown in deeds:
+        for kind, shown, _, _ in deeds:
             if kind == READ:
                 for domain, version in shown.items():
                     left[domain][place[domain][version]] += 1
@@ -185,6 +229,26 @@ def versions_now(server):
     return client.deeds[0][1]
 
 
+def sees_what_is_wrong():
+    """Whether the checker takes histories that are linearizable, and no others."""
+    start, domain, other = dict.fromkeys(DOMAINS, 0), *DOMAINS[:2]
+    stored = [(SET, {domain: 1}, 0, 10)]
+    beside = [(SET, {other: 1}, 0, 10)]
+    right = [
+        [stored, [(READ, {domain: 0}, 5, 15)]],
+        [stored, [(READ, {domain: 1}, 5, 15), (READ, {domain: 1}, 20, 30)]],
+        [stored, beside, [(READ, {domain: 0, other: 1}, 1, 9)], [(READ, {domain: 1, other: 1}, 2, 8)]],
+    ]
+    wrong = [
+        [stored, [(READ, {domain: 0}, 15, 20)]],
+        [stored, [(READ, {domain: 1}, 1, 4)], [(READ, {domain: 0}, 5, 9)]],
+        [stored, beside, [(READ, {domain: 0, other: 1}, 1, 9)], [(READ, {domain: 1, other: 0}, 2, 8)]],
+        [stored, [(READ, {domain: 2}, 5, 15)]],
+        [stored, [(SET, {domain: 1}, 5, 15)]],
+    ]
+    return not any(check(it, start) for it in right) and all(check(it, start) for it in wrong)
+
+
 def main():
     parser = argparse.ArgumentParser(description=__doc__.split("\n", maxsplit=1)[0])
     parser.add_argument("--seconds", type=int, default=3600)
@@ -194,7 +258,8 @@ def main():
     wanted = parser.parse_args()
     server = Lasting("--workers", str(wanted.workers), "--max-open", str(wanted.clients + 1))
     clients = [Client(server, seed) for seed in range(wanted.clients)]
-    end, deeds, passed, bad = time.monotonic() + wanted.seconds, 0, 0, ""
+    end, deeds, passed, rounds = time.monotonic() + wanted.seconds, 0, 0, 0
+    bad = "" if sees_what_is_wrong() else "the checker takes what is wrong, or does not take what is right"
     memory = server.kilobytes()
     while time.monotonic() < end and not bad:
         start = versions_now(server)
@@ -207,6 +272,7 @@ def main():
         deeds += sum(len(it.deeds) for it in clients)
         bad = check([it.deeds for it in clients], start)
         passed = sum(it.passed for it in clients)
+        rounds += not bad
         for client in clients:
             client.deeds = []
     memory = server.kilobytes() - memory
@@ -214,7 +280,8 @@ def main():
         client.stream.close()
     server.ended()
     print(f"{deeds} operations by {wanted.clients} clients, {passed} of them given up; memory has grown by {memory} kB")
-    print(bad or "there is one order of the operations of each round that gives every reply")
+    print(bad or "the operations of each round are linearizable")
+    print(f"{rounds} passed, {1 if bad else 0} failed")
     return 1 if bad else 0
 
 
