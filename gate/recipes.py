@@ -60,11 +60,11 @@ class Room:
         how = {"stdin": subprocess.PIPE, "stdout": subprocess.PIPE, "stderr": subprocess.STDOUT, **how}
         return subprocess.Popen(["sh", "-c", script], start_new_session=True, **how)
 
-    def run(self, text, status=0, given=b""):
-        """What the text prints. It has to end with the status."""
+    def run(self, text, status=0, given=b"", seconds=SECONDS):
+        """What the text prints. It has to end with the status, and within these seconds."""
         with self.start(text) as running:
             try:
-                said = running.communicate(given, SECONDS)[0]
+                said = running.communicate(given, seconds)[0]
             finally:
                 stop(running)
         assert running.returncode == status, (text, running.returncode, said)
@@ -205,7 +205,8 @@ def is_read_in_go():
         os.makedirs(f"{room.path}/program")
         room.write("program/main.go", BLOCKS["Read it in Go"][0].replace(PORT, room.port).encode())
         room.write("program/go.mod", f"module program\ngo 1.19\nrequire hopslintel v0.0.0\nreplace hopslintel => {ROOT}/clients/go\n".encode())
-        lines = room.run("cd program && CGO_ENABLED=0 go run .").splitlines()
+        # The first build takes its time.
+        lines = room.run("cd program && CGO_ENABLED=0 go run .", seconds=10 * SECONDS).splitlines()
         assert lines == [A.decode(), *(f"{it} {len(BOTH[it])}" for it in BOTH)], lines
 
 

@@ -10,7 +10,7 @@
 //
 // A bundle is the text of a JWK set with the members of SPIFFE Trust Domain and Bundle, section 4, as
 // spiffebundle.Parse of go-spiffe reads it. The package speaks the binary protocol of docs/FORMATS.md, and needs nothing
-// besides the standard library: copy the folder.
+// besides the standard library.
 package hopslintel
 
 import (
