@@ -58,6 +58,7 @@ class Room:
         """A shell that runs the text after what the page says that recipes need."""
         script = f"cd {ROOT}\n{BLOCKS[''][0]}cd {self.path}\n{text}".replace(PORT, self.port)
         how = {"stdin": subprocess.PIPE, "stdout": subprocess.PIPE, "stderr": subprocess.STDOUT, **how}
+        how["env"] = {"HOME": self.path, **os.environ}
         return subprocess.Popen(["sh", "-c", script], start_new_session=True, **how)
 
     def run(self, text, status=0, given=b"", seconds=SECONDS):
