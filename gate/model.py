@@ -154,9 +154,9 @@ def told(sequence):
 class Store:
     """What a session answers."""
 
-    def __init__(self):
+    def __init__(self, version=1):
         # A bundle by each name that has one, and the sequence of a removed one by each name that has had one.
-        self.bundles, self.tombstones, self.version = {}, {}, 1
+        self.bundles, self.tombstones, self.version = {}, {}, version
 
     def answer(self, payload):
         """The payloads of a reply."""

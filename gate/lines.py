@@ -1,0 +1,134 @@
+#!/usr/bin/env python3
+"""Requests and replies as lines, by docs/FORMATS.md: what `encode` and `decode` make of random sessions is foretold.
+
+usage: gate/lines.py   (over the program that rt ci or rt run has built in crates/bundled/out/)
+
+The sessions, and the replies to them, are those of gate/model.py.
+"""
+import subprocess
+import sys
+
+sys.dont_write_bytecode = True
+
+from model import SEEDS, Refused, Store, random_payloads  # noqa: E402
+from program_runs import frame  # noqa: E402
+from refusals import program  # noqa: E402
+
+SECONDS = 300
+MOST_RUNS = 50
+VERBS = {ord("S"): b"set", ord("C"): b"setif", ord("A"): b"append", ord("R"): b"remove", ord("G"): b"get"}
+WORDS = {ord("s"): b"stored", ord("u"): b"unchanged", ord("d"): b"removed", 22: b"memory", 56: b"shut"}
+# The numbers that stand beside those of refusals: how many bytes each has.
+BESIDE = {3: [4], **dict.fromkeys(range(16, 21), [4]), 31: [8]}
+
+
+def expectation(data):
+    """What a set expects, as a word; and what follows it."""
+    if data[0] == 1:
+        return b"%d" % int.from_bytes(data[1:9], "big"), data[9:]
+    return (b"none" if data[0] else b"absent"), data[1:]
+
+
+def request_line(payload):
+    """The line of a request, or None if it has none."""
+    if payload == b"F":
+        return b"fetch"
+    if payload in (b"V\1", b"V\2"):
+        return b"version %d" % payload[1]
+    try:
+        # (a session in version 2 tells which payloads are requests)
+        Store(version=2).read(payload)
+    except Refused as refused:
+        if refused.payload == bytes([51]):
+            return None
+    name, rest = payload[2:2 + payload[1]], payload[2 + payload[1]:]
+    words = [VERBS[payload[0]], name]
+    if payload[0] == ord("C"):
+        expected, rest = expectation(rest)
+        words.append(expected)
+    if payload[0] in b"SCA":
+        words.append(rest)
+    has_line = b" " not in name and b"\n" not in name + rest and not rest.startswith(b"@")
+    return b" ".join(words) if has_line else None
+
+
+def numbers(data, sizes):
+    for size in sizes:
+        yield b"%d" % int.from_bytes(data[:size], "big")
+        data = data[size:]
+
+
+def reply_line(payload):
+    """The line of a reply, or of a frame of one."""
+    code, rest = payload[0], payload[1:]
+    if code in WORDS:
+        return WORDS[code]
+    if code == ord("f"):
+        return b"found " + rest
+    if code == ord("i"):
+        return b"bundle " + rest[1:1 + rest[0]] + b" " + rest[1 + rest[0]:]
+    if code == ord("p"):
+        return b"appended " + (b"%d" % int.from_bytes(rest[1:], "big") if rest[0] else b"-")
+    if code in b"av":
+        return (b"all " if code == ord("a") else b"version ") + b"%d" % int.from_bytes(rest, "big")
+    beside = [expectation(rest)[0]] if code == 36 else numbers(rest, BESIDE.get(code, []))
+    return b" ".join([b"refused", b"%d" % code, *beside])
+
+
+def ran(command, given):
+    done = subprocess.run([program("bundled"), command], input=given, capture_output=True, timeout=SECONDS)
+    assert (done.returncode, done.stderr) == (0, b""), done.stderr
+    return done.stdout
+
+
+def is_alike(what, found, wanted):
+    for place, (one, other) in enumerate(zip(found.split(b"\n"), wanted.split(b"\n"))):
+        assert one == other, f"{what} {place}: {one[:300]!r}, and not {other[:300]!r}"
+    assert found == wanted, f"{what}: another number of lines"
+
+
+def requests_as_lines(payloads):
+    """Those that have lines, as lines and back."""
+    pairs = [(payload, request_line(payload)) for payload in payloads]
+    framed = b"".join(frame(payload) for payload, line in pairs if line is not None)
+    lines = b"".join(line + b"\n" for _, line in pairs if line is not None)
+    is_alike("decode", ran("decode", framed), lines)
+    assert ran("encode", lines) == framed, "encode gives other frames"
+    return len([line for _, line in pairs if line is not None])
+
+
+def requests_without_lines(payloads):
+    """What stands before one that has no line is written, and then it is a fault."""
+    lacking = [it for it in payloads if it[:1] in (b"S", b"C", b"A", b"R", b"G", b"F", b"V") and request_line(it) is None]
+    for payload in lacking[:MOST_RUNS]:
+        words = [program("bundled"), "decode"]
+        done = subprocess.run(words, input=frame(b"F") + frame(payload), capture_output=True, timeout=SECONDS)
+        assert (done.returncode, done.stdout, done.stderr) == (1, b"fetch\n", b"fault 51 1\n"), (payload[:300], done.stdout[:300])
+    return len(lacking[:MOST_RUNS])
+
+
+def replies_as_lines(payloads):
+    """The reply to each request."""
+    store = Store()
+    given = [reply for payload in payloads for reply in store.answer(payload)]
+    is_alike("decode", ran("decode", b"".join(map(frame, given))), b"".join(reply_line(it) + b"\n" for it in given))
+    return len(given)
+
+
+def main():
+    passed = failed = 0
+    for seed in SEEDS:
+        payloads = list(random_payloads(seed))
+        for check in (requests_as_lines, requests_without_lines, replies_as_lines):
+            try:
+                print(f"{check.__name__} of session {seed}: {check(payloads)} as they should be", flush=True)
+                passed += 1
+            except (AssertionError, subprocess.SubprocessError) as error:
+                failed += 1
+                print(f"{check.__name__} of session {seed}: FAILED: {error}"[:2000], flush=True)
+    print(f"{passed} passed, {failed} failed")
+    return 1 if failed else 0
+
+
+if __name__ == "__main__":
+    sys.exit(main())
