@@ -25,7 +25,7 @@ def edits_of(crate, folder="wrong-bodies"):
 
 def edited(crate, edit):
     """The files of the crate that the edit changes, by their paths, each with its text then; None if it can't be put into
-    them: each text that it replaces has to be once in the file that it names, one pair after the other."""
+    them: each text that it replaces has to be once in the file that it names, one pair after the other, and to change."""
     with open(edit, encoding="utf-8") as it:
         lines = PAIR.findall(it.read())
     texts, path, old, pairs = {}, "", None, 0
@@ -37,7 +37,7 @@ def edited(crate, edit):
                     texts[path] = it.read()
         elif word == "old":
             old = said
-        elif texts.get(path, "").count(old) != 1:
+        elif texts.get(path, "").count(old) != 1 or old == said:
             return None
         else:
             texts[path], pairs = texts[path].replace(old, said), pairs + 1
