@@ -1,15 +1,18 @@
 #!/usr/bin/env python3
 """Runs a command of the gate, and tells how much processor time each crate takes in it, and for what.
 
-usage: gate/times.py rt ci        the whole gate, from nothing where nothing is kept
-       gate/times.py rt ci NAME   a crate and those below it
+usage: gate/times.py rt ci --anew     the whole gate, from nothing
+       gate/times.py rt ci NAME       a crate and those below it, where nothing is kept of them
+       gate/times.py --write rt ..    the same, and writes the table into docs/TESTING.md, by which ./check tells what is left
 
-What runs is looked at twice a second, so what takes less than a second is left out. The table has a line for each crate:
-the seconds of its own proof, of its tests, of the check that its wrong bodies begin with, and of the wrong bodies. Below it
-stand the wrong bodies that took longest.
+What runs is looked at twice a second, so what takes less than a second is left out of the table; what all took together is
+counted by the system. The table has a row for each crate: the seconds of its own proof, of its tests, of the check that its
+wrong bodies begin with, and of the wrong bodies. Below it stand the wrong bodies that took longest.
 """
 import collections
 import os
+import re
+import resource
 import signal
 import subprocess
 import sys
@@ -20,8 +23,11 @@ sys.dont_write_bytecode = True
 from wrong_bodies import ROOT, edits_of, edited  # noqa: E402
 
 TICKS = os.sysconf("SC_CLK_TCK")
-KINDS = ["proof", "tests", "seed", "wrong bodies"]
+KINDS = ["proof", "tests", "check before its wrong bodies", "wrong bodies"]
 SLOWEST = 20
+PAGE = f"{ROOT}/docs/TESTING.md"
+# Where the table stands there.
+TABLE = re.compile(r"^\| crate \|(?:.*\n)+?(?=\n)", re.M)
 
 # A process that checks or builds: what it works on, in which folder, and its seconds until now.
 Seen = collections.namedtuple("Seen", "crate kind folder seconds")
@@ -39,7 +45,7 @@ def look(process, session):
     if os.path.basename(words[0]) != "rattle" or "--crate-name" not in words or int(fields[3]) != session:
         return None
     folder = os.readlink(f"/proc/{process}/cwd")
-    kind = "tests" if "--test" in words else "seed" if "/rt-edit-" in folder else "proof"
+    kind = KINDS["--test" in words or 2 * ("/rt-edit-" in folder)]
     return Seen(words[words.index("--crate-name") + 1], kind, folder, (int(fields[11]) + int(fields[12])) / TICKS)
 
 
@@ -55,7 +61,7 @@ class Times:
                 found = look(process, session)
                 if found:
                     self.seen[process, found.folder, found.crate] = found
-                    if found.kind == "seed" and found.folder not in self.edits:
+                    if found.kind == KINDS[2] and found.folder not in self.edits:
                         self.edits[found.folder] = self.edit_in(found)
             except (OSError, ValueError):
                 # It has ended meanwhile.
@@ -75,36 +81,50 @@ class Times:
         crates, bodies = collections.defaultdict(collections.Counter), collections.Counter()
         for found in self.seen.values():
             edit = self.edits.get(found.folder)
-            crates[found.crate]["wrong bodies" if edit else found.kind] += found.seconds
+            crates[found.crate][KINDS[3] if edit else found.kind] += found.seconds
             if edit:
                 bodies[f"{found.crate}/{edit}"] += found.seconds
         return crates, bodies
 
 
-def tell(times):
+def table_of(crates):
+    """The rows of the crates, those that take longest first, and the sum."""
+    rows = sorted(crates.items(), key=lambda it: -it[1].total())
+    rows.append(("all", sum(crates.values(), collections.Counter())))
+    lines = [f"| crate | {' | '.join(KINDS)} |", f"|---{'|---:' * len(KINDS)}|"]
+    lines += [f"| {crate} | {' | '.join(f'{row[it]:.0f}' for it in KINDS)} |" for crate, row in rows]
+    return "".join(f"{it}\n" for it in lines)
+
+
+def tell(times, is_written):
     crates, bodies = times.rows()
-    print(f"{'seconds of':<22}" + "".join(f"{it:>14}" for it in KINDS))
-    for crate, row in sorted(crates.items(), key=lambda it: -it[1].total()):
-        print(f"{crate:<22}" + "".join(f"{row[it]:>14.0f}" for it in KINDS))
-    total = sum(crates.values(), collections.Counter())
-    print(f"{'all':<22}" + "".join(f"{total[it]:>14.0f}" for it in KINDS))
+    print(table_of(crates))
     for body, seconds in bodies.most_common(SLOWEST):
         print(f"{seconds:6.0f} {body}")
+    used = resource.getrusage(resource.RUSAGE_CHILDREN)
+    print(f"all together: {(used.ru_utime + used.ru_stime) / 60:.0f} minutes of processor time")
+    if is_written:
+        text = text_of(PAGE)
+        with open(PAGE, "w", encoding="utf-8") as it:
+            it.write(TABLE.sub(lambda _: table_of(crates), text, count=1))
 
 
 def main(words):
-    if not words or words[0] in ("-h", "--help"):
+    is_written = words[:1] == ["--write"]
+    command = words[is_written:]
+    if not command or command[0].startswith("-"):
         print(__doc__, end="", file=sys.stderr)
         return 2
-    times = Times()
-    with subprocess.Popen(words, cwd=ROOT, stdin=subprocess.DEVNULL, start_new_session=True) as running:
+    times, start = Times(), time.monotonic()
+    with subprocess.Popen(command, cwd=ROOT, stdin=subprocess.DEVNULL, start_new_session=True) as running:
         try:
             while running.poll() is None:
                 times.watch(running.pid)
                 time.sleep(0.5)
         except KeyboardInterrupt:
             os.killpg(running.pid, signal.SIGINT)
-    tell(times)
+    tell(times, is_written)
+    print(f"on the clock: {(time.monotonic() - start) / 60:.0f} minutes, on {len(os.sched_getaffinity(0))} processors")
     return running.returncode
 
 
