@@ -3,8 +3,9 @@
 
 usage: gate/examples.py   (over the program that rt ci or rt run has built in crates/bundled/out/)
 
-An example is a block of lines, four spaces in, with a command after each '$' and below the commands what they print. The
-commands of a block are run by one shell, at the top of the repository, after the aliases of the blocks before it.
+An example is a block of lines, four spaces in, with a command after each '$' and below it what it prints. The commands of a
+block are run by one shell, at the top of the repository, after the aliases of the blocks before it. What they print comes in
+one order, at each run: two commands that run beside each other don't both print, and one in the background is waited for.
 """
 import os
 import re
@@ -19,7 +20,7 @@ sys.dont_write_bytecode = True
 from refusals import ROOT  # noqa: E402
 
 PORT = "8443"
-SECONDS = 60
+SECONDS = 300
 # A server in the background is ready when it says so.
 UNTIL_READY = f'for _ in $(seq {SECONDS}0); do grep -q ^listening "$OUTPUT" && break; sleep 0.1; done'
 
@@ -48,7 +49,7 @@ def printed(commands):
         with open(f"{room}/script", "w", encoding="utf-8") as it:
             it.write("\n".join([*script, "wait", ""]))
         with open(f"{room}/output", "wb") as output:
-            how = {"cwd": ROOT, "env": {**os.environ, "OUTPUT": output.name}, "stdin": subprocess.DEVNULL}
+            how = {"cwd": ROOT, "env": {**os.environ, "OUTPUT": output.name, "TMPDIR": room}, "stdin": subprocess.DEVNULL}
             how |= {"stdout": output, "stderr": subprocess.STDOUT, "start_new_session": True}
             with subprocess.Popen(["bash", f"{room}/script"], **how) as running:
                 try:
@@ -69,8 +70,7 @@ def alike(commands, lines):
     if any("demo race" in it for it in commands):
         # (a naive reader may be lucky, and then has no first wrong map)
         return [counted(it) for it in lines if "the first: " not in it]
-    # (what is in the background ends beside the last command)
-    return sorted(lines) if any(it.endswith("&") for it in commands) else lines
+    return lines
 
 
 def main():
