@@ -12,8 +12,8 @@ streams. A method asks one operation and returns what it gives; an answer that
 it was not done is raised. `Client.ask` and `Client.pipeline` return every
 answer as a value.
 
-A client belongs to one thread at a time. It needs Python 3.8 or later, and
-nothing besides the standard library.
+Threads may share a client: one exchange comes after another. It needs Python
+3.8 or later, and nothing besides the standard library.
 """
 from __future__ import annotations
 
@@ -25,6 +25,7 @@ import re
 import socket
 import struct
 import sys
+import threading
 from collections import deque
 from dataclasses import dataclass
 from types import TracebackType
@@ -330,7 +331,10 @@ class Client:
         self._retries = retries
         self._version = 1
         self._owed: Deque[Request] = deque()
-        self._is_pipelining = False
+        # One exchange or pipeline at a time: a reply to a get has no name,
+        # so a thread could not tell that it took another's.
+        self._lock = threading.Lock()
+        self._pipelining: Optional[int] = None  # the thread that began one
         self._is_closed = False
 
     @classmethod
@@ -401,7 +405,6 @@ class Client:
 
     def ask(self, request: Request) -> Reply:
         """The answer to a request, whatever it is."""
-        self._check_idle()
         reply = self._exchange(request)
         for _ in range(self._retries):
             if not isinstance(reply, _WORTH_RETRYING):
@@ -417,19 +420,22 @@ class Client:
         of one longer request, each when all answers to the one before have
         come: a client that writes without reading would block for ever as
         soon as the server waits for it to read. Until the iterator is at its
-        end or closed, the client can be asked nothing else.
+        end or closed, other threads wait, and this one can ask nothing else.
         """
         self._check_idle()
-        self._is_pipelining = True
-        try:
-            for batch in _batches(requests):
-                self._send(batch)
-                while self._owed:
-                    yield self._receive()
-        finally:
-            self._is_pipelining = False
-            while self._owed:
-                self._receive()
+        with self._lock:
+            self._pipelining = threading.get_ident()
+            try:
+                for batch in _batches(requests):
+                    self._send(batch)
+                    while self._owed:
+                        yield self._receive()
+            finally:
+                try:
+                    while self._owed:
+                        self._receive()
+                finally:
+                    self._pipelining = None
 
     def _do(self, request: Request, kinds: Tuple[Type[_Done], ...]) -> _Done:
         reply = self.ask(request)
@@ -442,8 +448,8 @@ class Client:
         raise GivenUpError(reply)
 
     def _check_idle(self) -> None:
-        if self._is_pipelining:
-            raise RuntimeError("a pipeline of this client has not ended")
+        if self._pipelining == threading.get_ident():
+            raise RuntimeError("a pipeline of this thread has not ended")
 
     @contextlib.contextmanager
     def _closing_on_error(self) -> Iterator[None]:
@@ -461,7 +467,8 @@ class Client:
             raise
 
     def _exchange(self, request: Request) -> Reply:
-        with self._closing_on_error():
+        self._check_idle()
+        with self._lock, self._closing_on_error():
             self._send([request])
             return self._receive()
 

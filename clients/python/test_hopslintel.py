@@ -626,6 +626,84 @@ class TogetherTest(unittest.TestCase):
                 self.assertEqual(store.get("a"), numbered(400))
 
 
+class ThreadsTest(unittest.TestCase):
+    """Threads that share one client."""
+
+    def answer_names(self, listener):
+        """Each get is answered by the name that it asks for, after a
+        moment in which another thread can come."""
+        stream, _ = listener.accept()
+        with stream:
+            while True:
+                payload = take(stream, int.from_bytes(take(stream, 4), "big"))
+                if not payload:
+                    break
+                time.sleep(0.0002)
+                stream.sendall(frame(b"f" + payload[2:]))
+
+    @contextlib.contextmanager
+    def shared(self):
+        with socket.create_server(("127.0.0.1", 0)) as listener:
+            server = threading.Thread(target=self.answer_names,
+                                      args=[listener])
+            server.start()
+            with Client.connect(listener.getsockname()[1]) as store:
+                yield store
+            server.join(60)
+
+    def run_together(self, *works):
+        raised = []
+
+        def run(work):
+            try:
+                work()
+            except BaseException as error:
+                raised.append(error)
+
+        threads = [threading.Thread(target=run, args=[it]) for it in works]
+        for thread in threads:
+            thread.start()
+        for thread in threads:
+            thread.join(60)
+        self.assertEqual(raised, [])
+
+    def gets(self, store, name, wrong):
+        for _ in range(300):
+            if store.get(name) != name.encode():
+                wrong.append(name)
+
+    def test_each_gets_its_own_reply(self):
+        wrong = []
+        with self.shared() as store:
+            self.run_together(*[
+                lambda name=name: self.gets(store, name, wrong)
+                for name in ["a", "b", "c", "d"]])
+        self.assertEqual(wrong, [])
+
+    def test_a_pipeline_beside_others(self):
+        """It keeps the client until it ends; the others wait."""
+        wrong = []
+
+        def pipes():
+            for _ in range(5):
+                replies = store.pipeline([Request.get("p")] * 30)
+                self.assertEqual([*replies], [Found(b"p")] * 30)
+
+        with self.shared() as store:
+            self.run_together(pipes, lambda: self.gets(store, "a", wrong),
+                              pipes, lambda: self.gets(store, "b", wrong))
+        self.assertEqual(wrong, [])
+
+    def test_a_pipeline_that_is_left_lets_others_in(self):
+        with self.shared() as store:
+            replies = store.pipeline([Request.get("p")] * 30)
+            self.assertEqual(next(replies), Found(b"p"))
+            self.assertRaises(RuntimeError, store.get, "a")
+            replies.close()
+            self.run_together(
+                lambda: self.assertEqual(store.get("a"), b"a"))
+
+
 class FilesTest(unittest.TestCase):
     def test_a_dump(self):
         """By hand; and the program reads it, from a file and as a filter."""
