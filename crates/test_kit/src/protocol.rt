@@ -1,0 +1,1 @@
+//! Frames as the tests write and read them.
