@@ -21,11 +21,13 @@ import argparse
 import contextlib
 import enum
 import json
+import random
 import re
 import socket
 import struct
 import sys
 import threading
+import time
 from collections import deque
 from dataclasses import dataclass
 from types import TracebackType
@@ -37,8 +39,8 @@ __all__ = [
     "Expected", "Found", "GivenUp", "GivenUpError", "Held",
     "HopslintelError", "MAX_PAYLOAD", "Moved", "NoDomainError",
     "OutOfMemory", "ProtocolError", "Refused", "RefusedError", "Removed",
-    "Reply", "Request", "Shut", "Stored", "Unchanged", "Version", "Worn",
-    "bundle_map", "dump",
+    "Reply", "Request", "Shut", "Stored", "TimedOutError", "Unchanged",
+    "Version", "Worn", "bundle_map", "dump",
 ]
 
 MAX_PAYLOAD = 1_049_000
@@ -47,6 +49,7 @@ MAX_PAYLOAD = 1_049_000
 _BATCH = 4096
 _NAME = re.compile(rb"[a-z0-9._-]{1,255}")
 _Done = TypeVar("_Done")
+_Other = TypeVar("_Other")
 
 
 # Requests
@@ -66,7 +69,7 @@ class Expect(enum.Enum):
 Expected = Union[Expect, int]
 """No bundle, a bundle without a sequence, or one with this sequence."""
 
-Document = Union[bytes, str, Mapping[str, Any]]
+Document = Union[bytes, bytearray, memoryview, str, Mapping[str, Any]]
 """JSON: its bytes, its text, or what `json.dumps` turns into it."""
 
 
@@ -173,17 +176,29 @@ class Refused:
     """The store refused: the number, its name, and what it tells.
 
     The detail is the place of a bad byte or entry, the stored sequence (31),
-    or what stands there (36).
+    or what stands there (36). A number that this module doesn't know has the
+    name `Unknown`, and its detail is the bytes that came with it, if any did.
     """
 
     number: int
     name: str
-    detail: Optional[Expected] = None
+    detail: Union[Expected, bytes, None] = None
+
+    def __str__(self) -> str:
+        words = ["refused", str(self.number), self.name]
+        if isinstance(self.detail, bytes):
+            words.append(self.detail.hex())
+        elif self.detail is not None:
+            words.append(str(self.detail))
+        return " ".join(words)
 
 
 @dataclass(frozen=True)
 class OutOfMemory:
     """The store had no memory for it (22)."""
+
+    def __str__(self) -> str:
+        return "given up 22: the store is out of memory"
 
 
 @dataclass(frozen=True)
@@ -191,6 +206,9 @@ class Worn:
     """The shard has used up its revisions (40)."""
 
     shard: int
+
+    def __str__(self) -> str:
+        return f"given up 40: shard {self.shard} has used up its revisions"
 
 
 @dataclass(frozen=True)
@@ -201,6 +219,9 @@ class Moved:
     first: int
     second: int
 
+    def __str__(self) -> str:
+        return f"given up 41: shard {self.shard} was changed in each round"
+
 
 @dataclass(frozen=True)
 class Held:
@@ -209,20 +230,26 @@ class Held:
     shard: int
     revision: int
 
+    def __str__(self) -> str:
+        return f"given up 42: others had shard {self.shard} in each try"
+
 
 @dataclass(frozen=True)
 class Shut:
-    """The server is being shut down (56)."""
+    """The request was not asked (56): the port is for reads only, or the
+    server is being shut down."""
+
+    def __str__(self) -> str:
+        return ("given up 56: this port is for reads only, or the server is "
+                "being shut down")
 
 
 GivenUp = Union[OutOfMemory, Worn, Moved, Held, Shut]
 Reply = Union[Stored, Unchanged, Appended, Removed, Found, All, Version,
               Refused, GivenUp]
 
-# Those that tell that the store gave up, and their numbers.
 _GIVEN_UP = (OutOfMemory, Worn, Moved, Held, Shut)
-_WORTH_RETRYING = (OutOfMemory, Moved, Held)
-_NUMBERS = {OutOfMemory: 22, Worn: 40, Moved: 41, Held: 42, Shut: 56}
+_WORTH_RETRYING = (Moved, Held)
 
 # Those that tell that it was done, by the letter of the request.
 _DONE: Dict[int, Tuple[type, ...]] = {
@@ -247,6 +274,9 @@ _FIXED: Dict[int, Tuple[str, Callable[..., Reply]]] = {
     42: (">IQ", Held),
     56: (">", Shut),
 }
+
+# A reply of a lower code is a refusal, also one that is not known here.
+_LEAST_LETTER = 64
 
 # The names of the other refusals, and the layout of their details.
 _REFUSALS: Dict[int, Tuple[str, str]] = {
@@ -278,15 +308,14 @@ _REFUSALS: Dict[int, Tuple[str, str]] = {
 # Errors
 
 class HopslintelError(Exception):
-    """What this module raises; errors of connecting are `OSError`."""
+    """What this module raises."""
 
 
 class RefusedError(HopslintelError):
     """The store refused, and nothing has changed."""
 
     def __init__(self, reply: Refused) -> None:
-        detail = "" if reply.detail is None else f" {reply.detail}"
-        super().__init__(f"refused {reply.number} {reply.name}{detail}")
+        super().__init__(reply)
         self.reply = reply
 
 
@@ -298,7 +327,7 @@ class GivenUpError(HopslintelError):
     """The store gave up (22, 40, 41, 42, 56), and nothing has changed."""
 
     def __init__(self, reply: GivenUp) -> None:
-        super().__init__(f"given up {_NUMBERS[type(reply)]} {reply}")
+        super().__init__(reply)
         self.reply = reply
 
 
@@ -306,11 +335,15 @@ class ProtocolError(HopslintelError):
     """What came is not a reply to the request. The client is closed."""
 
 
-class DisconnectedError(HopslintelError):
-    """The connection failed or ended. The client is closed.
+class DisconnectedError(HopslintelError, ConnectionError):
+    """There is no connection, or it failed or ended. The client is closed.
 
     Whether a request that had no reply took effect is not known.
     """
+
+
+class TimedOutError(DisconnectedError, TimeoutError):
+    """The server did not take or give anything for too long."""
 
 
 # The client
@@ -323,8 +356,8 @@ class Client:
         """A session over two blocking streams, such as those of a process
         `bundled run`; `close` closes them.
 
-        An answer that gave up and may be another one next time (22, 41, 42)
-        is asked again, up to `retries` times. Nothing else is.
+        An answer that others were in the way (41, 42) is asked again, up to
+        `retries` times, after pauses of some milliseconds. Nothing else is.
         """
         self._reader = reader
         self._writer = writer
@@ -342,7 +375,10 @@ class Client:
                 timeout: Optional[float] = 30.0, retries: int = 10) -> Client:
         """A session over TCP. The timeout, in seconds, is that of connecting
         and of each wait for the server."""
-        connection = socket.create_connection((host, port), timeout)
+        try:
+            connection = socket.create_connection((host, port), timeout)
+        except OSError as error:
+            raise _disconnected(f"{host} port {port}", error) from error
         with connection:  # the streams keep it open
             connection.setsockopt(socket.IPPROTO_TCP, socket.TCP_NODELAY, 1)
             reader = connection.makefile("rb")
@@ -367,7 +403,7 @@ class Client:
 
     def set(self, name: str, document: Document) -> Union[Stored, Unchanged]:
         """Sets the bundle of a trust domain."""
-        return self._do(Request.set(name, document), (Stored, Unchanged))
+        return self._do(Request.set(name, document), Stored, Unchanged)
 
     def set_if(self, name: str, expected: Expected,
                document: Document) -> Union[Stored, Unchanged]:
@@ -376,19 +412,19 @@ class Client:
         request = Request.set_if(name, expected, document)
         if self._version != 2:
             self.version(2)
-        return self._do(request, (Stored, Unchanged))
+        return self._do(request, Stored, Unchanged)
 
     def append(self, name: str, jwk: Document) -> Union[Appended, Unchanged]:
         """Appends an authority, one JWK, to the bundle."""
-        return self._do(Request.append(name, jwk), (Appended, Unchanged))
+        return self._do(Request.append(name, jwk), Appended, Unchanged)
 
     def remove(self, name: str) -> Removed:
         """Removes the bundle."""
-        return self._do(Request.remove(name), (Removed,))
+        return self._do(Request.remove(name), Removed, Removed)
 
     def get(self, name: str) -> bytes:
         """The bundle's canonical text; `NoDomainError` if there is none."""
-        return self._do(Request.get(name), (Found,)).document
+        return self._do(Request.get(name), Found, Found).document
 
     def get_json(self, name: str) -> Dict[str, Any]:
         """The bundle, parsed."""
@@ -397,18 +433,19 @@ class Client:
 
     def fetch_all(self) -> Dict[str, bytes]:
         """All bundles as they stood at one moment, in order of names."""
-        return self._do(Request.fetch_all(), (All,)).bundles
+        return self._do(Request.fetch_all(), All, All).bundles
 
     def version(self, number: int) -> Version:
         """Sets the version of the session, 1 or 2."""
-        return self._do(Request.version(number), (Version,))
+        return self._do(Request.version(number), Version, Version)
 
     def ask(self, request: Request) -> Reply:
         """The answer to a request, whatever it is."""
         reply = self._exchange(request)
-        for _ in range(self._retries):
+        for attempt in range(self._retries):
             if not isinstance(reply, _WORTH_RETRYING):
                 break
+            time.sleep(_pause(attempt))
             reply = self._exchange(request)
         return reply
 
@@ -437,15 +474,17 @@ class Client:
                 finally:
                     self._pipelining = None
 
-    def _do(self, request: Request, kinds: Tuple[Type[_Done], ...]) -> _Done:
+    def _do(self, request: Request, kind: Type[_Done],
+            other: Type[_Other]) -> Union[_Done, _Other]:
         reply = self.ask(request)
-        if isinstance(reply, kinds):
+        if isinstance(reply, kind) or isinstance(reply, other):
             return reply
         if isinstance(reply, Refused):
             is_absent = reply.number == 30
             raise (NoDomainError if is_absent else RefusedError)(reply)
-        assert isinstance(reply, _GIVEN_UP)
-        raise GivenUpError(reply)
+        if isinstance(reply, (OutOfMemory, Worn, Moved, Held, Shut)):
+            raise GivenUpError(reply)
+        raise ProtocolError(f"not asked for: {reply}")
 
     def _check_idle(self) -> None:
         if self._pipelining == threading.get_ident():
@@ -458,10 +497,12 @@ class Client:
             raise DisconnectedError("the client is closed")
         try:
             yield
+        except HopslintelError:
+            self.close()
+            raise
         except OSError as error:
             self.close()
-            why = f"the connection failed: {error}"
-            raise DisconnectedError(why) from error
+            raise _disconnected("the connection failed", error) from error
         except BaseException:
             self.close()
             raise
@@ -527,6 +568,17 @@ class Client:
         return b"".join(pieces)
 
 
+def _disconnected(what: str, error: OSError) -> DisconnectedError:
+    is_late = isinstance(error, (TimeoutError, socket.timeout))
+    return (TimedOutError if is_late else DisconnectedError)(f"{what}: {error}")
+
+
+def _pause(attempt: int) -> float:
+    """Seconds: from nothing to 1, 2, 4 and at last 64 milliseconds, at
+    random, so that those who met do not meet again."""
+    return random.random() * 0.001 * float(2 ** min(attempt, 6))
+
+
 # Files that other programs read
 
 def dump(bundles: Mapping[str, bytes]) -> bytes:
@@ -558,8 +610,8 @@ def _sized(name: str) -> bytes:
 
 
 def _json(document: Document) -> bytes:
-    if isinstance(document, bytes):
-        return document
+    if isinstance(document, (bytes, bytearray, memoryview)):
+        return bytes(document)
     if not isinstance(document, str):
         document = json.dumps(document, separators=(",", ":"))
     return document.encode()
@@ -601,6 +653,8 @@ def _parse(payload: bytes) -> Reply:
     if code in _REFUSALS:
         name, layout = _REFUSALS[code]
         return Refused(code, name, *struct.unpack(layout, rest))
+    if code < _LEAST_LETTER:
+        return Refused(code, "Unknown", rest or None)
     raise ProtocolError(f"a reply of code {code}")
 
 
@@ -643,16 +697,19 @@ def _batches(requests: Iterable[Request]) -> Iterator[List[Request]]:
 # The command line
 
 def _main(words: Optional[Sequence[str]] = None) -> int:
-    """Asks a store on this machine one thing, and prints the answer."""
+    """Asks a store on this machine one thing, and prints the answer. The
+    status is 0 if it was done, 1 if that failed, 2 if the command line was
+    refused, and 3 if the store refused or gave up."""
     parser = argparse.ArgumentParser(description=_main.__doc__)
     parser.add_argument("--port", type=int, required=True)
     commands = parser.add_subparsers(dest="command", required=True)
-    for command, about, arguments in (
-            ("get", "the bundle of a trust domain", ["name"]),
-            ("set", "sets it to the document in a file", ["name", "file"]),
-            ("remove", "removes it", ["name"]),
-            ("map", "all bundles, as a SPIFFE bundle map", []),
-            ("dump", "all bundles, as `bundled serve --load` reads them", [])):
+    rows: List[Tuple[str, str, List[str]]] = [
+        ("get", "the bundle of a trust domain", ["name"]),
+        ("set", "sets it to the document in a file", ["name", "file"]),
+        ("remove", "removes it", ["name"]),
+        ("map", "all bundles, as a SPIFFE bundle map", []),
+        ("dump", "all bundles, as `bundled serve --load` reads them", [])]
+    for command, about, arguments in rows:
         reader = commands.add_parser(command, help=about)
         for argument in arguments:
             reader.add_argument(argument)
@@ -660,9 +717,10 @@ def _main(words: Optional[Sequence[str]] = None) -> int:
     try:
         with Client.connect(asked.port) as store:
             sys.stdout.buffer.write(_output(store, asked))
+        sys.stdout.flush()
     except (HopslintelError, OSError, ValueError) as error:
         print(f"hopslintel: {error}", file=sys.stderr)
-        return 1
+        return 3 if isinstance(error, (RefusedError, GivenUpError)) else 1
     return 0
 
 

@@ -11,6 +11,7 @@ import io
 import itertools
 import json
 import os
+import pickle
 import socket
 import subprocess
 import sys
@@ -18,14 +19,15 @@ import tempfile
 import threading
 import time
 import unittest
+import unittest.mock
 
 sys.dont_write_bytecode = True
 
 from hopslintel import (  # noqa: E402
     MAX_PAYLOAD, All, Appended, Client, DisconnectedError, Expect, Found,
-    GivenUpError, Held, Moved, NoDomainError, OutOfMemory, ProtocolError,
-    Refused, RefusedError, Removed, Request, Shut, Stored, Unchanged, Version,
-    Worn, _main, bundle_map, dump)
+    GivenUpError, Held, HopslintelError, Moved, NoDomainError, OutOfMemory,
+    ProtocolError, Refused, RefusedError, Removed, Request, Shut, Stored,
+    TimedOutError, Unchanged, Version, Worn, _main, bundle_map, dump)
 
 ROOT = os.path.dirname(os.path.dirname(os.path.dirname(
     os.path.abspath(__file__))))
@@ -132,6 +134,8 @@ class RequestsTest(unittest.TestCase):
                 (Request.set("a", EMPTY), b"S\x01a" + EMPTY),
                 (Request.set("a", '{"keys":[]}'), b"S\x01a" + EMPTY),
                 (Request.set("a", {"keys": []}), b"S\x01a" + EMPTY),
+                (Request.set("a", bytearray(EMPTY)), b"S\x01a" + EMPTY),
+                (Request.set("a", memoryview(EMPTY)), b"S\x01a" + EMPTY),
                 (Request.append("a.b", ENTRY), b"A\x03a.b" + ENTRY),
                 (Request.remove("a"), b"R\x01a"),
                 (Request.get("a"), b"G\x01a"),
@@ -321,6 +325,74 @@ class RefusalsTest(unittest.TestCase):
             self.assertEqual(store.fetch_all(), {})
 
 
+    def test_numbers_that_are_not_known(self):
+        """A code below 64 is a refusal, and the session goes on."""
+        for payload, detail, text in [
+                (b"\x00", None, "refused 0 Unknown"),
+                (b"\x02", None, "refused 2 Unknown"),
+                (b"\x32", None, "refused 50 Unknown"),
+                (b"\x39\x00\x2a", b"\x00\x2a", "refused 57 Unknown 002a"),
+                (b"\x3f" + EMPTY, EMPTY, "refused 63 Unknown " + EMPTY.hex())]:
+            with answered_by(frame(payload), frame(b"s")) as store:
+                with self.assertRaises(RefusedError) as caught:
+                    store.set("a", EMPTY)
+                self.assertEqual(caught.exception.reply,
+                                 Refused(payload[0], "Unknown", detail))
+                self.assertEqual(str(caught.exception), text)
+                self.assertEqual(store.set("a", EMPTY), Stored())
+
+
+class ErrorsTest(unittest.TestCase):
+    def test_one_family(self):
+        """Those of a connection are also what Python calls them."""
+        for kind, others in [
+                (RefusedError, []), (NoDomainError, [RefusedError]),
+                (GivenUpError, []), (ProtocolError, []),
+                (DisconnectedError, [ConnectionError, OSError]),
+                (TimedOutError, [DisconnectedError, TimeoutError])]:
+            for other in [HopslintelError, *others]:
+                self.assertTrue(issubclass(kind, other), (kind, other))
+
+    def test_they_can_be_pickled(self):
+        replies = [reply for _, reply in GivenUpTest.ANSWERS]
+        for error in [
+                *[RefusedError(Refused(36, "NotExpected", found))
+                  for found in (None, 7, b"\x00", Expect.UNNUMBERED)],
+                NoDomainError(Refused(30, "NoDomain")),
+                *map(GivenUpError, replies), ProtocolError("why"),
+                DisconnectedError("why"), TimedOutError("why")]:
+            again = pickle.loads(pickle.dumps(error))
+            self.assertIs(type(again), type(error))
+            self.assertEqual(str(again), str(error))
+            self.assertEqual(again.args, error.args)
+            self.assertEqual(getattr(again, "reply", None),
+                             getattr(error, "reply", None))
+
+    def test_what_they_say(self):
+        for error, text in [
+                (RefusedError(Refused(31, "Stale", 7)), "refused 31 Stale 7"),
+                (RefusedError(Refused(36, "NotExpected", Expect.ABSENT)),
+                 "refused 36 NotExpected absent"),
+                (NoDomainError(Refused(30, "NoDomain")),
+                 "refused 30 NoDomain"),
+                (GivenUpError(Held(3, 9)),
+                 "given up 42: others had shard 3 in each try"),
+                (GivenUpError(Shut()), "given up 56: this port is for reads "
+                 "only, or the server is being shut down")]:
+            self.assertEqual(str(error), text)
+
+    def test_those_of_connecting(self):
+        with socket.socket() as silent:
+            silent.bind(("127.0.0.1", 0))  # and nobody listens
+            with self.assertRaises(DisconnectedError) as caught:
+                Client.connect(silent.getsockname()[1])
+        self.assertIsInstance(caught.exception.__cause__, OSError)
+
+    def test_a_silent_server_is_a_timeout(self):
+        with answered_by(b"", stays=True, timeout=0.2) as store:
+            self.assertRaises(TimedOutError, store.get, "a")
+
+
 class GivenUpTest(unittest.TestCase):
     """The answers that a quiet program doesn't give, by a server that does."""
 
@@ -345,13 +417,26 @@ class GivenUpTest(unittest.TestCase):
         stored = frame(b"s")
         refusals = [("00000001 1e", Refused(30, "NoDomain"))]
         for text, reply in self.ANSWERS + refusals:
-            is_final = isinstance(reply, (Worn, Shut, Refused))
+            is_final = not isinstance(reply, (Moved, Held))
             data = [bytes.fromhex(text)] * 2
             with answered_by(*data, stored, retries=2) as store:
                 answer = store.ask(Request.set("a", EMPTY))
                 self.assertEqual(answer, reply if is_final else Stored())
             with answered_by(*data, stored, retries=1) as store:
                 self.assertEqual(store.ask(Request.set("a", EMPTY)), reply)
+
+    def test_there_is_a_pause_before_each_retry(self):
+        """Of at most 1, 2, 4, .. milliseconds, and none without a retry."""
+        for text, pauses in [("00000001 16", 0), ("00000001 38", 0),
+                             ("0000000d 2a 00000001 0000000000000003", 3)]:
+            data = [bytes.fromhex(text)] * 4
+            with unittest.mock.patch("time.sleep") as sleep:
+                with answered_by(*data, retries=3) as store:
+                    store.ask(Request.set("a", EMPTY))
+            slept = [call.args[0] for call in sleep.call_args_list]
+            self.assertEqual(len(slept), pauses)
+            for seconds, most in zip(slept, [0.001, 0.002, 0.004]):
+                self.assertTrue(0 <= seconds <= most, slept)
 
     def test_a_pipeline_asks_nothing_again(self):
         with answered_by(frame(b"\x16"), frame(b"s")) as store:
@@ -396,10 +481,10 @@ class BrokenRepliesTest(unittest.TestCase):
                 b"s\x00", b"u\x00", b"d\x00", b"v", b"v\x01\x02", b"p",
                 b"p\x02", b"p\x00\x00", b"p\x01" + bytes(7),
                 b"p\x03" + bytes(8), b"a", b"a" + bytes(7), b"i\x01a" + EMPTY,
-                b"S\x01a" + EMPTY, b"\x00", b"\x02", b"\x03", b"\x1f",
+                b"S\x01a" + EMPTY, b"\x40", b"\x03", b"\x1f",
                 b"\x1f" + bytes(7), b"\x1f" + bytes(9), b"$", b"$\x01",
                 b"$\x03", b"\x28", b"\x29" + bytes(19), b"\x2a" + bytes(13),
-                b"\x32", b"\x39", b"\xff"]:
+                b"\xff"]:
             for request in [Request.append("a", ENTRY), Request.get("a")]:
                 with answered_by(frame(payload), stays=True) as store:
                     with self.assertRaises(ProtocolError, msg=payload):
@@ -743,11 +828,25 @@ class FilesTest(unittest.TestCase):
                     (["map"], 0, b'{"trust_domains":{"a":{"keys":[]}}}\n'),
                     (["dump"], 0, dump({"a": EMPTY})),
                     (["remove", "a"], 0, b"removed\n"),
-                    (["get", "a"], 1, b"hopslintel: refused 30 NoDomain\n"),
+                    (["get", "a"], 3, b"hopslintel: refused 30 NoDomain\n"),
                     (["set", "a", folder], 1, b"hopslintel: [Errno 21] Is a "
                      b"directory: '%s'\n" % folder.encode())]:
                 self.assertEqual(self.run_main(port, *words),
                                  (status, output))
+
+    def test_statuses_of_the_command_line(self):
+        """3 if the store refused or gave up, and 1 if it was not asked."""
+        for reply, status in [(frame(b"d"), 0), (frame(b"\x1e"), 3),
+                              (frame(b"\x38"), 3), (frame(b"\x39"), 3),
+                              (frame(b"s"), 1), (b"", 1)]:
+            server = Answers([reply], stays=False)
+            found = self.run_main(server.port, "remove", "a")
+            server.thread.join(60)
+            self.assertEqual(found[0], status, found)
+        with socket.socket() as silent:
+            silent.bind(("127.0.0.1", 0))  # and nobody listens
+            port = silent.getsockname()[1]
+            self.assertEqual(self.run_main(port, "get", "a")[0], 1)
 
     def run_main(self, port, *words):
         """The status of the command line, and what it writes."""
