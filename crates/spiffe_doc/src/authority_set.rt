@@ -48,20 +48,22 @@ impl<'a> AuthoritySet<'a> {
         place: usize,
         authority: Authority,
         entry: Octets,
-        kid: Option<KidKey<'a>>,
+        kid: &Option<KidKey<'a>>,
     ) -> Result<(), DocError>
         requires whole { IsWhole self.old }
         requires valid { IsAuthority authority }
         requires entry { entry ≡ entry_text authority }
-        requires kid { kid ≡ kid_of authority }
+        requires kid { kid.now ≡ kid_of authority }
         ensures whole { OnOk result (IsWhole self.new) }
         ensures exact { MatchResult result
             (λ _. admission place self.old.authorities.items authority ≡ Ok self.new.authorities.items)
             (λ e. (e ≡ DocError.Memory) ⊎ (admission place self.old.authorities.items authority ≡ Err e)) }
     {
-        if self.admits(place, &authority, &entry, &kid)? {
-            self.add(authority, entry, kid)?;
-        }
+        let admitted = self.admits(place, &authority, &entry, kid);
+        let Ok(true) = admitted else {
+            return admitted.and(Ok(()));
+        };
+        self.add(authority, entry, kid)?;
         Ok(())
     }
 
@@ -124,21 +126,21 @@ impl<'a> AuthoritySet<'a> {
         &mut self,
         authority: Authority,
         entry: Octets,
-        kid: Option<KidKey<'a>>,
+        kid: &Option<KidKey<'a>>,
     ) -> Result<(), AllocError>
         requires indexed { AreIndexed self.old.texts self.old.kids self.old.authorities.items }
         requires written { self.old.text.items ≡ front_text self.old.authorities.items }
         requires entry { entry ≡ entry_text authority }
-        requires kid { kid ≡ kid_of authority }
+        requires kid { kid.now ≡ kid_of authority }
         ensures added { OnOk result (self.new.authorities.items ≡ self.old.authorities.items ++ authority ∷ []) }
         ensures indexed { OnOk result (AreIndexed self.new.texts self.new.kids self.new.authorities.items) }
         ensures written { OnOk result (self.new.text.items ≡ front_text self.new.authorities.items) }
     {
-        let is_first = self.authorities.as_slice().is_empty();
-        push_entry(&mut self.text, is_first, entry.as_slice())?;
-        put_text(&mut self.texts, entry, !kid.is_some())?;
-        put_kid(&mut self.kids, kid, self.authorities.len())?;
+        let at = self.authorities.len();
         self.authorities.push(authority)?;
+        push_entry(&mut self.text, at == 0, entry.as_slice())?;
+        put_kid(&mut self.kids, kid, at)?;
+        put_text(&mut self.texts, entry, !kid.is_some())?;
         Ok(())
     }
 }
@@ -156,13 +158,13 @@ fn put_text(set: &mut BTreeSet<Octets>, text: Octets, is_wanted: bool) -> Result
 /// Adds the key id with its place, if there is one.
 fn put_kid<'a>(
     kids: &mut BTreeMap<KidKey<'a>, usize>,
-    kid: Option<KidKey<'a>>,
+    kid: &Option<KidKey<'a>>,
     at: usize,
 ) -> Result<(), AllocError>
-    ensures { OnOk result ((other : List ℕ) → place_of_kid kids.new other ≡ cond (is_some_of other kid.entry) (Some at) (place_of_kid kids.old other)) }
+    ensures { OnOk result ((other : List ℕ) → place_of_kid kids.new other ≡ cond (is_some_of other kid.now) (Some at) (place_of_kid kids.old other)) }
 {
     match kid {
-        Some(kid) => match kids.insert(kid, at) {
+        Some(kid) => match kids.insert(kid.copy(), at) {
             Ok(_) => Ok(()),
             Err(_) => Err(AllocError),
         },

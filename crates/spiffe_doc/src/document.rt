@@ -173,7 +173,7 @@ fn take_entry<'a, A: Allocator>(
         Some(authority) => {
             let text = Octets::new(text_from_entry(alloc, entry, &authority)?);
             let kid = kid_from_entry(entry, &authority);
-            set.admit(place, authority, text, kid)
+            set.admit(place, authority, text, &kid)
         }
         None => Ok(()),
     }

@@ -1,4 +1,4 @@
-use Rattle.std.proofs.Common.{sym, ◌∙◌, rules}
+use Rattle.std.proofs.Common.{rules}
 use Rattle.spiffe_doc.proofs.AuthorityLists.{authorities_none}
 use Rattle.spiffe_doc.proofs.TextLemmas.{front_text-nil}
 use Rattle.spiffe_doc.proofs.authority_set.AuthoritySet.new.Goals as goal
