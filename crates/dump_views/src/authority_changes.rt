@@ -10,7 +10,7 @@ use spiffe_doc::Authority;
 use std::alloc::AllocError;
 
 /// How many authorities there are of each kind.
-#[derive(Clone, Copy, PartialEq, Eq)]
+#[derive(Clone, Copy)]
 struct Counts {
     x509: usize,
     jwt: usize,

@@ -11,7 +11,7 @@ pub enum Wants {
 }
 
 /// What one call of `LiveSession::answer` did.
-#[derive(Clone, Copy, Debug, PartialEq, Eq)]
+#[derive(Clone, Copy, Debug)]
 pub struct Answered {
     /// How many frames it answered.
     pub frames: u64,

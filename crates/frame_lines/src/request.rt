@@ -3,7 +3,7 @@ use frame_front::Version;
 use map_core::Expect;
 
 /// What a request says. Its name and its document stay where they were read, and nobody has judged them.
-#[derive(Clone, Copy, Debug, PartialEq, Eq)]
+#[derive(Clone, Copy)]
 pub enum RequestForm<'a> {
     /// The bundle of a trust domain is set: its name, and the document.
     Set(&'a [u8], &'a [u8]),

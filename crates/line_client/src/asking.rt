@@ -1,7 +1,7 @@
 //! How a server is asked.
 
 /// What replies are shown as.
-#[derive(Clone, Copy, Debug, PartialEq, Eq)]
+#[derive(Clone, Copy)]
 pub enum Form {
     /// A line for each reply.
     Lines,
@@ -10,7 +10,7 @@ pub enum Form {
 }
 
 /// How a server is asked.
-#[derive(Clone, Copy, Debug, PartialEq, Eq)]
+#[derive(Clone, Copy)]
 pub struct Asking {
     pub form: Form,
     /// How often a request is asked again whose reply is that memory ran out, that a shard was moved, or that it was held: such a

@@ -24,7 +24,7 @@ const TRIES: u64 = 1000;
 const CHANGES: u64 = 1 << 30;
 
 /// Why there was no race.
-#[derive(Clone, Copy, Debug, PartialEq, Eq, Error)]
+#[derive(Clone, Copy, Debug, Error)]
 pub enum RaceError {
     #[error("out of memory")]
     Memory,

@@ -16,7 +16,7 @@ use std::fs::Files;
 use std::io::Write;
 
 /// The time of the refreshes, and how long a relationship is not due again, in seconds.
-#[derive(Clone, Copy, Debug)]
+#[derive(Clone, Copy)]
 pub struct Times {
     pub time: u64,
     pub at_least: u64,

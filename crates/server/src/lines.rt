@@ -15,7 +15,7 @@ use workers::{SessionFault, Worked};
 const LINE_BYTES: usize = 62;
 
 /// What a server says on its output: words, each with a number.
-#[derive(Clone, Copy, Debug)]
+#[derive(Clone, Copy)]
 pub enum Said {
     /// The port where it listens, and the port for reads only, if there is one.
     Listening(u16, Option<u16>),

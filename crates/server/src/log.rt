@@ -10,7 +10,7 @@ const LINE_BYTES: usize = 384;
 
 /// Lines on an end that all workers share, such as standard error. Each line is one write, so that lines of two workers
 /// don't mix. A line that is not taken is left out: the log never stands in the way of a reply.
-#[derive(Clone, Copy, Debug)]
+#[derive(Clone, Copy)]
 pub struct LineLog<N> {
     pub end: N,
     pub is_on: bool,

@@ -2,7 +2,7 @@
 use map_core::Op;
 
 /// Why a caller gives an operation up.
-#[derive(Clone, Copy, Debug, PartialEq, Eq, Drop)]
+#[derive(Clone, Copy, Drop)]
 pub enum Why {
     /// Another caller held this shard, at this revision.
     Held { shard: usize, revision: u64 },

@@ -19,7 +19,7 @@ const VERSION_TWO: &[u8] = b"\x00\x00\x00\x02v\x02";
 const STORED: &[u8] = b"\x00\x00\x00\x01s";
 
 /// Why a store is not filled.
-#[derive(Clone, Copy, Debug, PartialEq, Eq, Error)]
+#[derive(Clone, Copy, Debug, Error)]
 pub enum FillError {
     /// The session ended so.
     #[error("{0}")]

@@ -3,7 +3,7 @@ use crate::ended::SessionFault;
 use map_core::Expect;
 
 /// How a bundle was changed.
-#[derive(Clone, Copy, Debug, PartialEq, Eq)]
+#[derive(Clone, Copy, PartialEq, Eq)]
 pub enum How {
     Set,
     Appended,
@@ -11,7 +11,7 @@ pub enum How {
 }
 
 /// A change that a worker made.
-#[derive(Clone, Copy, Debug)]
+#[derive(Clone, Copy)]
 pub struct Changed<'a> {
     pub how: How,
     pub domain: &'a str,
@@ -34,7 +34,7 @@ pub trait Log {
 }
 
 /// A log that takes note of nothing.
-#[derive(Clone, Copy, Debug)]
+#[derive(Clone, Copy)]
 pub struct Quiet;
 
 impl Log for Quiet {
