@@ -4,6 +4,7 @@
 #![tactic(auto)]
 
 mod compare;
+pub mod ends;
 pub mod protocol;
 
 pub use compare::{holds, holds_at, is_equal, is_equal_at};
