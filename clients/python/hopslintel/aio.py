@@ -1,0 +1,328 @@
+# SPDX-License-Identifier: Apache-2.0
+"""The client for asyncio.
+
+    from hopslintel.aio import Client
+
+    async with await Client.connect(8443) as store:
+        await store.get("a.example")
+        async for changes in store.follow(5):
+            print(sorted(changes.bundles))
+
+It has the methods of `hopslintel.Client`, and they are awaited.
+"""
+from __future__ import annotations
+
+import asyncio
+import contextlib
+import json
+from types import TracebackType
+from typing import (Any, AsyncIterator, Awaitable, Callable, Dict, Iterable,
+                    List, NamedTuple, Optional, Sequence, Tuple, Type, Union)
+
+from .changes import Changes, changes_between
+from .connection import Deadline
+from .errors import (DisconnectedError, GivenUpError, HopslintelError,
+                     done)
+from .reply import (IN_THE_WAY, All, Appended, Found, Removed, Reply, Stored,
+                    Unchanged, Version)
+from .request import Document, Expected, Request
+from .session import Session, batches, pauses
+
+_READ = 65536
+_Streams = Tuple[asyncio.StreamReader, asyncio.StreamWriter]
+_Dial = Callable[[], Awaitable[_Streams]]
+
+
+class _Line(NamedTuple):
+    reader: asyncio.StreamReader
+    writer: asyncio.StreamWriter
+    session: Session
+
+
+class Client:
+    """A session with a store, which the tasks of a loop may share.
+
+    `timeout`, `retries` and new connections are as in `hopslintel.Client`.
+    A call that is cancelled inside an exchange drops the connection, and the
+    next call makes a new one.
+    """
+
+    def __init__(self, reader: asyncio.StreamReader,
+                 writer: asyncio.StreamWriter, *,
+                 timeout: Optional[float] = 30.0, retries: int = 10) -> None:
+        """A session over two streams, such as those of a process `bundled
+        run`; `close` closes the writer. It has no other connection."""
+        line = _Line(reader, writer, Session())
+        self._start(None, line, timeout, retries)
+
+    @classmethod
+    async def connect(cls, port: int, host: str = "127.0.0.1", *,
+                      timeout: Optional[float] = 30.0,
+                      retries: int = 10) -> Client:
+        """A session over TCP."""
+        return await cls._dialed(lambda: asyncio.open_connection(host, port),
+                                 timeout, retries)
+
+    @classmethod
+    async def connect_unix(cls, path: str, *, timeout: Optional[float] = 30.0,
+                           retries: int = 10) -> Client:
+        """A session over a Unix socket, behind which something hands on to
+        the port of the store."""
+        return await cls._dialed(lambda: asyncio.open_unix_connection(path),
+                                 timeout, retries)
+
+    @classmethod
+    async def _dialed(cls, dial: _Dial, timeout: Optional[float],
+                      retries: int) -> Client:
+        client = cls.__new__(cls)
+        client._start(dial, None, timeout, retries)
+        await _within(client._dial_anew(), Deadline(timeout))
+        return client
+
+    def _start(self, dial: Optional[_Dial], line: Optional[_Line],
+               timeout: Optional[float], retries: int) -> None:
+        self._dial = dial
+        self._line = line
+        self._timeout = timeout
+        self._retries = retries
+        self._version = 1  # that of the session, also of the next one
+        self._lock = asyncio.Lock()  # one exchange at a time
+        self._closing = asyncio.Event()
+
+    async def close(self) -> None:
+        """Ends the session: also a call of another task, and `follow`.
+        Closing again does nothing."""
+        self._closing.set()
+        line = self._line
+        self._drop()
+        if line is not None:
+            with contextlib.suppress(OSError):
+                await line.writer.wait_closed()
+
+    async def __aenter__(self) -> Client:
+        return self
+
+    async def __aexit__(self, kind: Optional[Type[BaseException]],
+                        error: Optional[BaseException],
+                        trace: Optional[TracebackType]) -> None:
+        await self.close()
+
+    # What is asked
+
+    async def set(self, name: str, document: Document, *,
+                  timeout: Optional[float] = None) -> Union[Stored, Unchanged]:
+        """Sets the bundle of a trust domain."""
+        reply = await self.ask(Request.set(name, document), timeout=timeout)
+        return done(reply, Stored, Unchanged)
+
+    async def set_if(self, name: str, expected: Expected, document: Document,
+                     *, timeout: Optional[float] = None
+                     ) -> Union[Stored, Unchanged]:
+        """Sets the bundle only if the stored one is the expected one; else
+        it is refused as 36. Puts the session into version 2."""
+        request = Request.set_if(name, expected, document)
+        deadline = self._deadline(timeout)
+        if self._version != 2:
+            reply = await self._ask(Request.version(2), deadline)
+            done(reply, Version, Version)
+        return done(await self._ask(request, deadline), Stored, Unchanged)
+
+    async def append(self, name: str, jwk: Document, *,
+                     timeout: Optional[float] = None
+                     ) -> Union[Appended, Unchanged]:
+        """Appends an authority, one JWK, to the bundle."""
+        reply = await self.ask(Request.append(name, jwk), timeout=timeout)
+        return done(reply, Appended, Unchanged)
+
+    async def remove(self, name: str, *,
+                     timeout: Optional[float] = None) -> Removed:
+        """Removes the bundle."""
+        reply = await self.ask(Request.remove(name), timeout=timeout)
+        return done(reply, Removed, Removed)
+
+    async def get(self, name: str, *,
+                  timeout: Optional[float] = None) -> bytes:
+        """The bundle's canonical text; `NoDomainError` if there is none."""
+        reply = await self.ask(Request.get(name), timeout=timeout)
+        return done(reply, Found, Found).document
+
+    async def get_json(self, name: str, *,
+                       timeout: Optional[float] = None) -> Dict[str, Any]:
+        """The bundle, parsed."""
+        text = await self.get(name, timeout=timeout)
+        bundle: Dict[str, Any] = json.loads(text)
+        return bundle
+
+    async def fetch_all(self, *,
+                        timeout: Optional[float] = None) -> Dict[str, bytes]:
+        """All bundles as they stood at one moment, in order of names."""
+        reply = await self.ask(Request.fetch_all(), timeout=timeout)
+        return done(reply, All, All).bundles
+
+    async def version(self, number: int, *,
+                      timeout: Optional[float] = None) -> Version:
+        """Sets the version of the session, 1 or 2."""
+        reply = await self.ask(Request.version(number), timeout=timeout)
+        return done(reply, Version, Version)
+
+    async def ask(self, request: Request, *,
+                  timeout: Optional[float] = None) -> Reply:
+        """The answer to a request, whatever it is."""
+        return await self._ask(request, self._deadline(timeout))
+
+    async def pipeline(self, requests: Iterable[Request], *,
+                       timeout: Optional[float] = None
+                       ) -> AsyncIterator[Reply]:
+        """The answers to many requests, as `hopslintel.Client` gives them."""
+        for batch in batches(requests):
+            replies: List[Reply] = []
+            failure: Optional[HopslintelError] = None
+            try:
+                await self._exchange(batch, self._deadline(timeout), replies)
+            except HopslintelError as error:
+                failure = error
+            for reply in replies:  # also those that came before it failed
+                yield reply
+            if failure is not None:
+                raise failure
+
+    async def follow(self, interval: float, *,
+                     on_error: Optional[Callable[[HopslintelError],
+                                                 None]] = None,
+                     timeout: Optional[float] = None
+                     ) -> AsyncIterator[Changes]:
+        """What changed from one fetch-all to the next, until the client is
+        closed, as `hopslintel.Client` gives it."""
+        before: Optional[Dict[str, bytes]] = None
+        while not self._closing.is_set():
+            try:
+                bundles = await self.fetch_all(timeout=timeout)
+            except (DisconnectedError, GivenUpError) as error:
+                if self._closing.is_set():
+                    return
+                if on_error is None or not self._dial:
+                    raise
+                on_error(error)
+            else:
+                changes = changes_between(before or {}, bundles)
+                if changes or before is None:
+                    yield changes
+                before = bundles
+            await self._pause(interval)
+
+    # How it is asked
+
+    def _deadline(self, timeout: Optional[float]) -> Deadline:
+        return Deadline(self._timeout if timeout is None else timeout)
+
+    async def _pause(self, seconds: float) -> None:
+        """Waits, but no longer than the client is open."""
+        with contextlib.suppress(asyncio.TimeoutError):
+            await asyncio.wait_for(self._closing.wait(), seconds)
+
+    async def _ask(self, request: Request, deadline: Deadline) -> Reply:
+        replies: List[Reply] = []
+        await self._exchange([request], deadline, replies)
+        for pause in pauses(self._retries):
+            is_final = not isinstance(replies[-1], IN_THE_WAY)
+            if is_final or not deadline.allows(pause):
+                break
+            await asyncio.sleep(pause)
+            await self._exchange([request], deadline, replies)
+        return replies[-1]
+
+    async def _exchange(self, requests: Sequence[Request], deadline: Deadline,
+                        replies: List[Reply]) -> None:
+        """Adds the replies to the requests, as many as come."""
+        await _within(self._take_turn(requests, replies), deadline)
+
+    async def _take_turn(self, requests: Sequence[Request],
+                         replies: List[Reply]) -> None:
+        async with self._lock:
+            line = self._line
+            is_new = line is None
+            if line is None:
+                line = await self._dial_anew()
+            had = len(replies)
+            try:
+                await self._speak(line, requests, replies)
+                return
+            except DisconnectedError:
+                is_safe = all(request.is_read for request in requests)
+                if is_new or not is_safe or not self._dial:
+                    raise
+            del replies[had:]
+            line = await self._dial_anew()
+            await self._speak(line, requests, replies)
+
+    async def _dial_anew(self) -> _Line:
+        """A new connection, with a session of the version of the last."""
+        self._check_open()
+        if self._dial is None:
+            raise DisconnectedError("the session has ended")
+        try:
+            reader, writer = await self._dial()
+        except OSError as error:
+            raise DisconnectedError(f"no connection: {error}") from error
+        line = _Line(reader, writer, Session())
+        self._line = line
+        if self._version != 1:
+            replies: List[Reply] = []
+            await self._speak(line, [Request.version(self._version)], replies)
+            try:
+                done(replies[0], Version, Version)
+            except HopslintelError:
+                self._drop()
+                raise
+        return line
+
+    async def _speak(self, line: _Line, requests: Sequence[Request],
+                     replies: List[Reply]) -> None:
+        """One exchange. Whatever fails in it, the next frame can't be found,
+        so the connection is dropped."""
+        reader, writer, session = line
+        try:
+            self._check_open()
+            writer.write(session.ask(*requests))
+            await writer.drain()
+            while session.owed:
+                reply = session.take()
+                if reply is None:
+                    session.feed(await _some(reader))
+                    continue
+                replies.append(reply)
+                if isinstance(reply, Version):
+                    self._version = reply.number
+        except HopslintelError:
+            self._drop()
+            raise
+        except OSError as error:
+            self._drop()
+            why = f"the connection failed: {error}"
+            raise DisconnectedError(why) from error
+        except BaseException:
+            self._drop()
+            raise
+
+    def _check_open(self) -> None:
+        if self._closing.is_set():
+            raise DisconnectedError("the client is closed")
+
+    def _drop(self) -> None:
+        line, self._line = self._line, None
+        if line is not None:
+            line.writer.transport.abort()
+
+
+async def _within(work: Awaitable[Any], deadline: Deadline) -> Any:
+    try:
+        return await asyncio.wait_for(work, deadline.left())
+    except asyncio.TimeoutError as error:
+        raise deadline.missed() from error
+
+
+async def _some(reader: asyncio.StreamReader) -> bytes:
+    data = await reader.read(_READ)
+    if not data:
+        raise DisconnectedError("the connection ended")
+    return data

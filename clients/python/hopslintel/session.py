@@ -1,0 +1,170 @@
+# SPDX-License-Identifier: Apache-2.0
+"""The protocol without input and output: bytes go in, and replies come out.
+
+    session = Session()
+    stream.write(session.ask(Request.get("a.example")))
+    while (reply := session.take()) is None:
+        session.feed(stream.read())
+
+Both clients are made of it, and so can be a client for another way to do
+input and output.
+"""
+from __future__ import annotations
+
+import random
+from collections import deque
+from typing import Deque, Dict, Iterable, Iterator, List, Optional
+
+from .decode import check_kind, decode, decode_bundle, decode_count
+from .errors import ProtocolError
+from .reply import All, Reply
+from .request import Request
+from .wire import MAX_PAYLOAD, frame
+
+# What is sent before any of it is answered: so many bytes, which a pipe or a
+# socket takes even if nobody reads, or one longer request. And so many
+# requests, as their replies are kept until the last has come.
+_BATCH_BYTES = 4096
+_BATCH_REQUESTS = 64
+
+
+class Frames:
+    """Takes the bytes of a stream as they come, and gives its payloads."""
+
+    def __init__(self) -> None:
+        self._came = bytearray()
+
+    def feed(self, data: bytes) -> None:
+        """Adds the bytes that came next."""
+        self._came += data
+
+    def take(self) -> Optional[bytes]:
+        """The payload of the next frame, or None if it is not whole yet."""
+        if len(self._came) < 4:
+            return None
+        size = int.from_bytes(self._came[:4], "big")
+        if not 1 <= size <= MAX_PAYLOAD:
+            raise ProtocolError(f"a frame of {size} bytes")
+        if len(self._came) < 4 + size:
+            return None
+        payload = bytes(self._came[4:4 + size])
+        del self._came[:4 + size]
+        return payload
+
+    @property
+    def is_empty(self) -> bool:
+        """Whether no byte came after the frames that were taken."""
+        return not self._came
+
+    @property
+    def wanted(self) -> int:
+        """How many bytes the next frame lacks, as far as can be told."""
+        size = int.from_bytes(self._came[:4], "big")
+        whole = 4 + size if len(self._came) >= 4 else 4
+        return max(whole - len(self._came), 0)
+
+
+class Session:
+    """What one connection owes, and what came over it.
+
+    After an error the next frame can't be found: the connection is of no
+    more use.
+    """
+
+    def __init__(self) -> None:
+        self._frames = Frames()
+        self._owed: Deque[Request] = deque()
+        self._fetched: Optional[_Fetched] = None
+
+    def ask(self, *requests: Request) -> bytes:
+        """The bytes that ask these requests."""
+        if not self._owed and not self._frames.is_empty:
+            raise ProtocolError("something came that was not asked for")
+        self._owed.extend(requests)
+        return b"".join(frame(request.payload) for request in requests)
+
+    @property
+    def owed(self) -> int:
+        """How many requests have no reply yet."""
+        return len(self._owed)
+
+    @property
+    def wanted(self) -> int:
+        """At least so many bytes are to come before the next reply."""
+        return self._frames.wanted
+
+    def feed(self, data: bytes) -> None:
+        """Adds the bytes that came next."""
+        self._frames.feed(data)
+
+    def take(self) -> Optional[Reply]:
+        """The reply to the first request that has none, or None if it has
+        not come as a whole."""
+        while self._owed:
+            payload = self._frames.take()
+            if payload is None:
+                break
+            reply = self._add(payload)
+            if reply is not None:
+                self._fetched = None
+                self._owed.popleft()
+                return reply
+        return None
+
+    def _add(self, payload: bytes) -> Optional[Reply]:
+        """The reply that ends with this payload, if one does."""
+        if self._fetched is not None:
+            self._fetched.add(payload)
+        elif payload.startswith(b"a"):
+            check_kind(self._owed[0], All({}))
+            self._fetched = _Fetched(decode_count(payload))
+        else:
+            reply = decode(payload)
+            check_kind(self._owed[0], reply)
+            return reply
+        return self._fetched.reply()
+
+
+class _Fetched:
+    """As much of a fetch-all as has come."""
+
+    def __init__(self, count: int) -> None:
+        self._left = count
+        self._last = ""
+        self._bundles: Dict[str, bytes] = {}
+
+    def add(self, payload: bytes) -> None:
+        name, text = decode_bundle(payload)
+        if name <= self._last:
+            raise ProtocolError(f"{name!r} comes after {self._last!r}")
+        self._bundles[name] = text
+        self._last = name
+        self._left -= 1
+
+    def reply(self) -> Optional[All]:
+        return None if self._left else All(self._bundles)
+
+
+def batches(requests: Iterable[Request]) -> Iterator[List[Request]]:
+    """Cuts requests into those that are sent before any is answered. A
+    client that writes more without reading would block for ever as soon as
+    the server waits for it to read."""
+    batch: List[Request] = []
+    size = 0
+    for request in requests:
+        added = 4 + len(request.payload)
+        is_full = size + added > _BATCH_BYTES or len(batch) == _BATCH_REQUESTS
+        if batch and is_full:
+            yield batch
+            batch, size = [], 0
+        batch.append(request)
+        size += added
+    if batch:
+        yield batch
+
+
+def pauses(retries: int) -> Iterator[float]:
+    """The seconds before each retry: from nothing to 1, 2, 4 and at last 64
+    milliseconds, at random, so that those who met do not meet again."""
+    for retry in range(retries):
+        yield random.random() * 0.001 * float(2 ** min(retry, 6))

@@ -1,0 +1,1 @@
+"""Tests of the clients: run by ../test_hopslintel.py."""

@@ -1,0 +1,116 @@
+"""New connections, and what is asked again over them."""
+import socket
+import tempfile
+import threading
+import unittest
+
+from hopslintel import (Client, DisconnectedError, Found, Refused, Request,
+                        Stored, TimedOutError, Version)
+
+from .support import (EMPTY, STAYS, Server, all_of, found, frame, take,
+                      take_payload)
+
+GET, FETCH, SET = b"G\x01a", b"F", b"S\x01a" + EMPTY
+
+
+class RedialTest(unittest.TestCase):
+    def test_reads_are_asked_once_more(self):
+        """If the connection is found closed, or ends inside the reply."""
+        both = {"a": EMPTY, "b": EMPTY}
+        for cut in [0, 3, 20]:
+            for payload, call, reply in [
+                    (GET, lambda it: it.get("a"), found(b"x" * 40)),
+                    (FETCH, lambda it: it.fetch_all(), all_of(both))]:
+                with Server([reply, reply[:cut]], [reply]) as server:
+                    with Client.connect(server.port) as store:
+                        first = call(store)
+                        self.assertEqual(call(store), first)
+                self.assertEqual(server.asked, [[payload] * 2, [payload]])
+
+    def test_they_are_so_once(self):
+        with Server([b""], [b""], [found(EMPTY)]) as server:
+            with Client.connect(server.port) as store:
+                self.assertRaises(DisconnectedError, store.get, "a")
+                self.assertEqual(store.get("a"), EMPTY)
+        self.assertEqual(server.asked, [[GET]] * 3)
+
+    def test_changes_never_are(self):
+        """The next call makes a new connection."""
+        for payload, call in [
+                (SET, lambda it: it.set("a", EMPTY)),
+                (b"A\x01a{}", lambda it: it.append("a", {})),
+                (b"R\x01a", lambda it: it.remove("a"))]:
+            with Server([b""], [found(EMPTY)]) as server:
+                with Client.connect(server.port) as store:
+                    self.assertRaises(DisconnectedError, call, store)
+                    self.assertEqual(server.asked, [[payload]])
+                    self.assertEqual(store.get("a"), EMPTY)
+            self.assertEqual(server.asked, [[payload], [GET]])
+
+    def test_a_change_over_a_new_connection(self):
+        """It was not sent before, so nothing is asked twice."""
+        with Server([b""], [frame(b"s")]) as server:
+            with Client.connect(server.port) as store:
+                self.assertRaises(DisconnectedError, store.set, "a", EMPTY)
+                self.assertEqual(store.set("a", EMPTY), Stored())
+        self.assertEqual(server.asked, [[SET], [SET]])
+
+    def test_the_version_stays(self):
+        """The new session is put into it before anything else."""
+        two = frame(b"v\x02")
+        with Server([two], [two, found(EMPTY)]) as server:
+            with Client.connect(server.port) as store:
+                self.assertEqual(store.version(2), Version(2))
+                self.assertEqual(store.get("a"), EMPTY)
+        self.assertEqual(server.asked, [[b"V\x02"], [b"V\x02", GET]])
+        with Server([two], [frame(b"\x33"), found(EMPTY)]) as server:
+            with Client.connect(server.port) as store:
+                store.version(2)
+                with self.assertRaises(Exception) as caught:
+                    store.get("a")
+                self.assertEqual(caught.exception.reply,
+                                 Refused(51, "BadRequest"))
+
+    def test_after_a_timeout(self):
+        """The reply that comes too late is not taken for another one."""
+        with Server([b"", STAYS], [found(b"b")]) as server:
+            with Client.connect(server.port) as store:
+                with self.assertRaises(TimedOutError):
+                    store.get("a", timeout=0.1)
+                self.assertEqual(store.get("b"), b"b")
+
+    def test_batches_of_a_pipeline(self):
+        """Asked again if they are reads only; else what came is given."""
+        get, change = Request.get("a"), Request.set("a", EMPTY)
+        with Server([found(b"1")], [found(b"2"), found(b"3")]) as server:
+            with Client.connect(server.port) as store:
+                self.assertEqual([*store.pipeline([get, get])],
+                                 [Found(b"2"), Found(b"3")])
+        with Server([found(b"1")], [found(b"2")]) as server:
+            with Client.connect(server.port) as store:
+                replies = store.pipeline([get, change, get])
+                self.assertEqual(next(replies), Found(b"1"))
+                self.assertRaises(DisconnectedError, next, replies)
+        self.assertEqual(server.asked[0][:1], [GET])
+
+    def test_a_unix_socket(self):
+        def serve():
+            for _ in range(2):
+                stream, _ = listener.accept()
+                with stream:
+                    self.assertEqual(take_payload(stream), GET)
+                    stream.sendall(found(EMPTY))
+
+        with tempfile.TemporaryDirectory() as folder:
+            path = f"{folder}/socket"
+            with socket.socket(socket.AF_UNIX) as listener:
+                listener.bind(path)
+                listener.listen()
+                serving = threading.Thread(target=serve, daemon=True)
+                serving.start()
+                with Client.connect_unix(path) as store:
+                    for _ in range(2):
+                        self.assertEqual(store.get("a"), EMPTY)
+                serving.join(60)
+            with self.assertRaises(DisconnectedError):
+                Client.connect_unix(path)
