@@ -1,9 +1,8 @@
-//! Real bundles, with certificates and keys, and their canonical texts as another program made them.
-use super::{bundle, holds, is_equal};
-use spiffe_doc::{Bundle, write_document, write_entry};
+//! Real bundles, with certificates and keys, and small ones, and their canonical texts as another program made them.
+use super::{bundle, holds_at, is_equal_at};
+use spiffe_doc::{Bundle, DocError, read_document, write_document, write_entry};
 use std::alloc::{AllocError, Global};
 use std::process::Abort;
-use std::test::Fail;
 
 /// A domain that has withdrawn what it published.
 const WITHDRAWN: &str = "{\"spiffe_sequence\": 12, \"keys\": []}";
@@ -38,91 +37,152 @@ const LARGE_CURVE: &str =
 const LARGE_CURVE_TEXT: &str =
     "{\"keys\":[{\"crv\":\"P-521\",\"kty\":\"EC\",\"use\":\"x509-svid\",\"x\":\"AFxrgwFU0W1cXRyiDD-YS65G3-I-u-FmnoiSX_OruP0bxWA5zRfjUsNIOFjecLgJC7kVnxI8GbEbT6XYBFLxfJqW\",\"x5c\":[\"MIIB6TCCAUugAwIBAgIJAOGYitnwbBRKMAoGCCqGSM49BAMCMB0xDjAMBgNVBAoMBVNQSVJFMQswCQYDVQQGEwJVUzAeFw0yNjAxMDEwMDAwMDBaFw0yNzAxMDEwMDAwMDBaMB0xDjAMBgNVBAoMBVNQSVJFMQswCQYDVQQGEwJVUzCBmzAQBgcqhkjOPQIBBgUrgQQAIwOBhgAEAFxrgwFU0W1cXRyiDD+YS65G3+I+u+FmnoiSX/OruP0bxWA5zRfjUsNIOFjecLgJC7kVnxI8GbEbT6XYBFLxfJqWAAFGxd5s39XCjPIkFXbNHJksUoEkIAG6c97Se9uXNwZUiQbooKkEaeoyzlgqGDnFHzUWAheLzprSnRPs81JfXtoiozEwLzAPBgNVHRMBAf8EBTADAQH/MBwGA1UdEQQVMBOGEXNwaWZmZTovL3RkXzUuMi0xMAoGCCqGSM49BAMCA4GLADCBhwJCAJ8QHYhYzRRrXJU4d1oIu61cOSYNPbZq5X+w77it5cFop1q1IXulSQqL9niL1az40Nw34MhTsJ1U/1W73rEXO7s0AkEu2Qp1L8RPAondDSGmHzb/BW3iEA9IecHDvS13ehnEhdlYIYSRdRu4ef2c6O/V72ciEEpZD33GHyYOzQ2wzE/5GA==\"],\"y\":\"AAFGxd5s39XCjPIkFXbNHJksUoEkIAG6c97Se9uXNwZUiQbooKkEaeoyzlgqGDnFHzUWAheLzprSnRPs81JfXtoi\"},{\"crv\":\"P-521\",\"kid\":\"z5mWYflnva_fDnM3QgwT-PXUD2zgedG5\",\"kty\":\"EC\",\"use\":\"jwt-svid\",\"x\":\"APH13y7r79kDrpYwTHS7Gfj7uHT7x6dGdtGFsaefqddqaDM6agLSn4wUUH9oPYuSZ8kBYvcGmn1nX-dAoi90lB89\",\"y\":\"AayNnmYqWBibgqlLcRnfgeV6xdndgKnI9yFlC5ZA3-0h4zdR5mi7JwYdzZiMsCzmVUDo5HENMEklRYDcNdPXHVmv\"}],\"spiffe_sequence\":18446744073709551615}";
 
-/// The texts of a bundle's authorities in a list, as a document has them.
-fn listed(alloc: Global, bundle: &Bundle) -> Result<Vec<u8>, AllocError> {
-    let mut list = Vec::from_slice(alloc, b"{\"keys\":[")?;
+/// A document, its canonical text, its sequence, its refresh hint, and how many authorities it has.
+type Row<'a> = (&'a str, &'a str, Option<u64>, Option<u64>, usize);
+
+static BUNDLES: [Row<'static>; 18] = [
+    (WITHDRAWN, WITHDRAWN_TEXT, Some(12), None, 0),
+    (DEFAULT, DEFAULT_TEXT, Some(1), Some(2419200), 2),
+    (MIXED, MIXED_TEXT, Some(3), None, 2),
+    (ROTATION, ROTATION_TEXT, Some(7), Some(300), 4),
+    (
+        LARGE_CURVE,
+        LARGE_CURVE_TEXT,
+        Some(18446744073709551615),
+        None,
+        2,
+    ),
+    ("{\"keys\":[]}", "{\"keys\":[]}", None, None, 0),
+    (
+        " {\"z\":{}, \"keys\" : [ ]\n}",
+        "{\"keys\":[]}",
+        None,
+        None,
+        0,
+    ),
+    (
+        "{\"keys\":[],\"spiffe_sequence\":null}",
+        "{\"keys\":[]}",
+        None,
+        None,
+        0,
+    ),
+    (
+        "{\"keys\":[],\"spiffe_sequence\":null,\"spiffe_refresh_hint\":null}",
+        "{\"keys\":[]}",
+        None,
+        None,
+        0,
+    ),
+    (
+        "{\"keys\":[],\"spiffe_sequence\":18446744073709551615}",
+        "{\"keys\":[],\"spiffe_sequence\":18446744073709551615}",
+        Some(18446744073709551615),
+        None,
+        0,
+    ),
+    (
+        "{\"spiffe_refresh_hint\":0,\"keys\":[],\"spiffe_sequence\":7}",
+        "{\"keys\":[],\"spiffe_refresh_hint\":0,\"spiffe_sequence\":7}",
+        Some(7),
+        Some(0),
+        0,
+    ),
+    (
+        "{\"keys\":[{\"use\":\"x509-svid\",\"kty\":\"RSA\",\"n\":\"AQAB\",\"e\":\"AQAB\",\"x5c\":[\"MAA=\"]}],\"spiffe_sequence\":1,\"spiffe_refresh_hint\":60}",
+        "{\"keys\":[{\"e\":\"AQAB\",\"kty\":\"RSA\",\"n\":\"AQAB\",\"use\":\"x509-svid\",\"x5c\":[\"MAA=\"]}],\"spiffe_refresh_hint\":60,\"spiffe_sequence\":1}",
+        Some(1),
+        Some(60),
+        1,
+    ),
+    (
+        "{\"keys\":[{\"use\":\"jwt-svid\",\"kty\":\"RSA\",\"n\":\"AQAB\",\"e\":\"AQAB\",\"kid\":\"k\",\"alg\":\"RS256\"}]}",
+        "{\"keys\":[{\"e\":\"AQAB\",\"kid\":\"k\",\"kty\":\"RSA\",\"n\":\"AQAB\",\"use\":\"jwt-svid\"}]}",
+        None,
+        None,
+        1,
+    ),
+    (
+        "{\"keys\":[{\"use\":\"x509-svid\",\"kty\":\"EC\",\"crv\":\"P-256\",\"x\":\"AAAAAAAAAAAAAAAAAAAAAAAAAAAAAAAAAAAAAAAAAAA\",\"y\":\"AAAAAAAAAAAAAAAAAAAAAAAAAAAAAAAAAAAAAAAAAAA\",\"x5c\":[\"MAA=\"]}]}",
+        "{\"keys\":[{\"crv\":\"P-256\",\"kty\":\"EC\",\"use\":\"x509-svid\",\"x\":\"AAAAAAAAAAAAAAAAAAAAAAAAAAAAAAAAAAAAAAAAAAA\",\"x5c\":[\"MAA=\"],\"y\":\"AAAAAAAAAAAAAAAAAAAAAAAAAAAAAAAAAAAAAAAAAAA\"}]}",
+        None,
+        None,
+        1,
+    ),
+    // A text may be written with escapes, which its canonical text does not have.
+    (
+        "{\"keys\":[{\"use\":\"jwt-svid\",\"kty\":\"EC\",\"crv\":\"P-256\",\"kid\":\"k\\u00e9\",\"x\":\"AAAAAAAAAAAAAAAAAAAAAAAAAAAAAAAAAAAAAAAAAAA\",\"y\":\"AAAAAAAAAAAAAAAAAAAAAAAAAAAAAAAAAAAAAAAAAAA\"}]}",
+        "{\"keys\":[{\"crv\":\"P-256\",\"kid\":\"k\u{e9}\",\"kty\":\"EC\",\"use\":\"jwt-svid\",\"x\":\"AAAAAAAAAAAAAAAAAAAAAAAAAAAAAAAAAAAAAAAAAAA\",\"y\":\"AAAAAAAAAAAAAAAAAAAAAAAAAAAAAAAAAAAAAAAAAAA\"}]}",
+        None,
+        None,
+        1,
+    ),
+    (
+        "{\"keys\":[{\"use\":\"jwt-\\u0073vid\",\"kty\":\"RSA\",\"n\":\"AQA\\u0042\",\"e\":\"AQAB\",\"k\\u0069d\":\"a\\/b\"}]}",
+        "{\"keys\":[{\"e\":\"AQAB\",\"kid\":\"a/b\",\"kty\":\"RSA\",\"n\":\"AQAB\",\"use\":\"jwt-svid\"}]}",
+        None,
+        None,
+        1,
+    ),
+    (
+        "{\"keys\":[{\"use\":\"x509-svid\",\"kty\":\"RS\\u0041\",\"n\":\"\\u0041QAB\",\"e\":\"AQAB\",\"x5c\":[\"MD\\/\\/\"]}]}",
+        "{\"keys\":[{\"e\":\"AQAB\",\"kty\":\"RSA\",\"n\":\"AQAB\",\"use\":\"x509-svid\",\"x5c\":[\"MD//\"]}]}",
+        None,
+        None,
+        1,
+    ),
+    // Equal authorities stand once.
+    (
+        "{\"keys\":[{\"use\":\"jwt-svid\",\"kty\":\"EC\",\"crv\":\"P-256\",\"kid\":\"k\",\"x\":\"AAAAAAAAAAAAAAAAAAAAAAAAAAAAAAAAAAAAAAAAAAA\",\"y\":\"AAAAAAAAAAAAAAAAAAAAAAAAAAAAAAAAAAAAAAAAAAA\"},{\"use\":\"jwt-svid\",\"kty\":\"EC\",\"crv\":\"P-256\",\"kid\":\"l\",\"x\":\"AAAAAAAAAAAAAAAAAAAAAAAAAAAAAAAAAAAAAAAAAAA\",\"y\":\"AAAAAAAAAAAAAAAAAAAAAAAAAAAAAAAAAAAAAAAAAAA\"},{\"use\":\"jwt-svid\",\"kty\":\"EC\",\"crv\":\"P-256\",\"kid\":\"k\",\"x\":\"AAAAAAAAAAAAAAAAAAAAAAAAAAAAAAAAAAAAAAAAAAA\",\"y\":\"AAAAAAAAAAAAAAAAAAAAAAAAAAAAAAAAAAAAAAAAAAA\"}]}",
+        "{\"keys\":[{\"crv\":\"P-256\",\"kid\":\"k\",\"kty\":\"EC\",\"use\":\"jwt-svid\",\"x\":\"AAAAAAAAAAAAAAAAAAAAAAAAAAAAAAAAAAAAAAAAAAA\",\"y\":\"AAAAAAAAAAAAAAAAAAAAAAAAAAAAAAAAAAAAAAAAAAA\"},{\"crv\":\"P-256\",\"kid\":\"l\",\"kty\":\"EC\",\"use\":\"jwt-svid\",\"x\":\"AAAAAAAAAAAAAAAAAAAAAAAAAAAAAAAAAAAAAAAAAAA\",\"y\":\"AAAAAAAAAAAAAAAAAAAAAAAAAAAAAAAAAAAAAAAAAAA\"}]}",
+        None,
+        None,
+        2,
+    ),
+];
+
+/// The texts of a bundle's authorities in a list, as its canonical text begins.
+fn front_of(alloc: Global, bundle: &Bundle) -> Result<Vec<u8>, AllocError> {
+    let mut front = Vec::from_slice(alloc, b"{\"keys\":[")?;
     for (place, authority) in bundle.authorities().iter().enumerate() {
         if place > 0 {
-            list.push(b',')?;
+            front.push(b',')?;
         }
-        list.extend_from_slice(&write_entry(alloc, authority)?)?;
+        front.extend_from_slice(&write_entry(alloc, authority)?)?;
     }
-    list.push(b']')?;
-    Ok(list)
+    front.push(b']')?;
+    Ok(front)
 }
 
-/// A canonical text up to the end of its list.
-fn front_of(text: &str) -> &str {
-    match text.split_once(",\"spiffe_") {
-        Some((front, _)) => front,
-        None => text,
-    }
-}
-
-/// What a document holds besides its authorities, and how many those are.
-type Numbers = (Option<u64>, Option<u64>, usize);
-
-/// The bundle has the canonical text and the numbers.
-fn is_read(
-    rt: &impl Abort,
-    alloc: Global,
-    read: &Bundle,
-    text: &str,
-    numbers: Numbers,
-) -> Result<(), AllocError> {
-    let (sequence, refresh_hint, count) = numbers;
-    is_equal(rt, &read.text(), &text.as_bytes());
-    is_equal(rt, &read.sequence(), &sequence);
-    is_equal(rt, &read.refresh_hint(), &refresh_hint);
-    is_equal(rt, &read.authorities().len(), &count);
-    let list = listed(alloc, read)?;
-    is_equal(rt, &list.as_slice(), &front_of(text).as_bytes());
-    Ok(())
-}
-
-/// The canonical text is that of the bundle, and is written again.
-fn reads_back(rt: &impl Abort, alloc: Global, read: &Bundle, text: &str) -> Result<(), Fail> {
-    let again = bundle(alloc, text)?;
-    holds(rt, again == *read);
-    let written = write_document(alloc, &again)?;
-    is_equal(rt, &written.as_slice(), &text.as_bytes());
-    Ok(())
-}
-
-fn is_real(
-    rt: &impl Abort,
-    alloc: Global,
-    document: &str,
-    text: &str,
-    numbers: Numbers,
-) -> Result<(), Fail> {
-    let read = bundle(alloc, document)?;
-    is_read(rt, alloc, &read, text, numbers)?;
-    reads_back(rt, alloc, &read, text)
-}
-
-fn are_real(rt: &impl Abort, alloc: Global, rows: &[(&str, &str, Numbers)]) -> Result<(), Fail> {
-    for (document, text, numbers) in rows {
-        is_real(rt, alloc, document, text, *numbers)?;
-    }
+/// The bundle is as the row says, and its canonical text reads back as it.
+fn is_read(rt: &impl Abort, alloc: Global, read: &Bundle, row: &Row<'_>) -> Result<(), DocError> {
+    let &(document, text, sequence, refresh_hint, count) = row;
+    is_equal_at(rt, &read.text(), &text.as_bytes(), &document);
+    is_equal_at(
+        rt,
+        &(
+            read.sequence(),
+            read.refresh_hint(),
+            read.authorities().len(),
+            read.text_len(),
+        ),
+        &(sequence, refresh_hint, count, text.len()),
+        &document,
+    );
+    let written = write_document(alloc, read)?;
+    is_equal_at(rt, &written.as_slice(), &text.as_bytes(), &document);
+    let front = front_of(alloc, read)?;
+    holds_at(rt, text.as_bytes().starts_with(&front), &document);
+    let again = read_document(alloc, &written)?;
+    holds_at(rt, again == *read, &document);
     Ok(())
 }
 
 #[test]
-fn real_bundles(rt: HostRuntime) -> Result<(), Fail> {
-    are_real(
-        &rt,
-        rt.alloc(),
-        &[
-            (WITHDRAWN, WITHDRAWN_TEXT, (Some(12u64), None, 0)),
-            (DEFAULT, DEFAULT_TEXT, (Some(1u64), Some(2419200u64), 2)),
-            (MIXED, MIXED_TEXT, (Some(3u64), None, 2)),
-            (ROTATION, ROTATION_TEXT, (Some(7u64), Some(300u64), 4)),
-            (
-                LARGE_CURVE,
-                LARGE_CURVE_TEXT,
-                (Some(18446744073709551615u64), None, 2),
-            ),
-        ],
-    )
+fn bundles(rt: HostRuntime) -> Result<(), DocError> {
+    for row in &BUNDLES {
+        let read = bundle(rt.alloc(), row.0)?;
+        is_read(&rt, rt.alloc(), &read, row)?;
+    }
+    Ok(())
 }
