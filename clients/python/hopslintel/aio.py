@@ -93,11 +93,8 @@ class Client:
         """Ends the session: also a call of another task, and `follow`.
         Closing again does nothing."""
         self._closing.set()
-        line = self._line
         self._drop()
-        if line is not None:
-            with contextlib.suppress(OSError):
-                await line.writer.wait_closed()
+        await asyncio.sleep(0)  # the loop closes what was dropped
 
     async def __aenter__(self) -> Client:
         return self
