@@ -1,7 +1,8 @@
 //! One shard: a part of the map, and how often it was changed.
-ghost use Rattle.std.specs.Prelude.{◌≡◌, ◌<◌, ◌≤◌, ◌⊎◌, ℕ, length, IfOk, IfErr, OnOk, OnErr, Ok, Err};
+ghost use Rattle.std.specs.Prelude.{◌≡◌, ◌<◌, ◌≤◌, ◌⊎◌, ℕ, length, IfOk, IfErr, OnOk, OnErr, Ok, Err, false};
 ghost use Rattle.std.specs.Arc.{arc_value};
 ghost use Rattle.map_core.specs.PlainMap.{ask};
+ghost use Rattle.map_core.specs.Reply.{is_change};
 ghost use Rattle.map_core.specs.declared.op.Op.TheVariants.{Get};
 ghost use Rattle.step_core.specs.Shard.{fresh_shard, last_revision, of_shard, reading, step_on};
 
@@ -90,15 +91,24 @@ impl Shard {
         ensures refused { IfErr result (λ e. (e ≡ AskError.Memory) ⊎ ((step_on self.old op).answer ≡ Err e)) }
         ensures err { OnErr result (self.new ≡ self.old) }
     {
-        if self.revision == LAST_REVISION && self.version.would_change(&op)? {
-            return Err(AskError::Worn { shard: 0 });
-        }
+        self.refuse_worn(&op)?;
         let alloc = self.alloc;
         let reply = ask_version(alloc, &mut self.version, op)?;
         if reply.is_change() {
             self.revision += 1;
         }
         Ok(reply)
+    }
+
+    // Refuses an operation that would change a shard of the last revision.
+    fn refuse_worn(&self, op: &Op) -> Result<(), AskError>
+        ensures taken { OnOk result (self.now.revision ≡ last_revision → is_change (ask self.now.part op.now).reply ≡ false) }
+        ensures refused { IfErr result (λ e. (e ≡ AskError.Memory) ⊎ ((step_on self.now op.now).answer ≡ Err e)) }
+    {
+        if self.revision == LAST_REVISION && self.version.would_change(op)? {
+            return Err(AskError::Worn { shard: 0 });
+        }
+        Ok(())
     }
 }
 
