@@ -53,6 +53,10 @@ class Told(unittest.TestResult):
         super().addFailure(test, error)
         self.tell(test, self.failures)
 
+    def addSkip(self, test, reason):
+        super().addSkip(test, reason)
+        print(f"{self.name_of(test)}: left out, since {reason}", flush=True)
+
     def tell(self, test, found):
         print(f"{self.name_of(test)}: FAILED: {found[-1][1]}"[:2000], flush=True)
 

@@ -1,0 +1,153 @@
+"""What the package is to those who install it or copy its folder."""
+import importlib
+import importlib.util
+import os
+import re
+import shutil
+import subprocess
+import sys
+import tempfile
+import unittest
+import zipfile
+
+import hopslintel
+
+from .support import PROGRAM, ROOT, served
+
+HERE = f"{ROOT}/clients/python"
+FOLDER = os.path.dirname(hopslintel.__file__)
+
+# What has been public since there was a client: it stays.
+PUBLIC = {
+    "All", "Appended", "Client", "DisconnectedError", "Document", "Expect",
+    "Expected", "Found", "GivenUp", "GivenUpError", "Held",
+    "HopslintelError", "MAX_PAYLOAD", "Moved", "NoDomainError",
+    "OutOfMemory", "ProtocolError", "Refused", "RefusedError", "Removed",
+    "Reply", "Request", "Shut", "Stored", "Unchanged", "Version", "Worn",
+    "bundle_map", "dump"}
+
+
+def read(path):
+    with open(path, encoding="utf-8") as file:
+        return file.read()
+
+
+def has_module(name):
+    return importlib.util.find_spec(name) is not None
+
+
+class PackageTest(unittest.TestCase):
+    def test_names(self):
+        self.assertLessEqual(PUBLIC, set(hopslintel.__all__))
+        for name in hopslintel.__all__:
+            self.assertTrue(hasattr(hopslintel, name), name)
+
+    def test_the_version_is_that_of_the_program(self):
+        said = subprocess.run([PROGRAM, "--version"], check=True,
+                              stdout=subprocess.PIPE).stdout.split()
+        self.assertEqual(said[-1].decode(), hopslintel.__version__)
+
+    def test_each_file_names_its_license(self):
+        for name in sorted(os.listdir(FOLDER)):
+            if name.endswith(".py"):
+                self.assertTrue(read(f"{FOLDER}/{name}").startswith(
+                    "# SPDX-License-Identifier: Apache-2.0\n"), name)
+        self.assertEqual(read(f"{HERE}/LICENSE"), read(f"{ROOT}/LICENSE"))
+
+    def test_what_the_project_file_names(self):
+        text = read(f"{HERE}/pyproject.toml")
+        module, name = re.search(r'^hopslintel = "([\w.]+):(\w+)"$', text,
+                                 re.M).groups()
+        self.assertTrue(callable(getattr(importlib.import_module(module),
+                                         name)))
+        self.assertIn('dynamic = ["version"]', text)
+        self.assertIn('license = "Apache-2.0"', text)
+        for file in ["README.md", "LICENSE", "hopslintel/py.typed"]:
+            self.assertTrue(os.path.isfile(f"{HERE}/{file}"), file)
+
+    def test_a_copied_folder(self):
+        """It can stand anywhere in a package of another name."""
+        with tempfile.TemporaryDirectory() as folder:
+            copy = f"{folder}/yours/vendored/hopslintel"
+            shutil.copytree(FOLDER, copy)
+            text = ("from yours.vendored.hopslintel import Client, aio\n"
+                    "from yours.vendored.hopslintel.aio import Client\n"
+                    "import sys\nassert 'hopslintel' not in sys.modules")
+            for words in [["-c", text],
+                          ["-m", "yours.vendored.hopslintel", "--help"]]:
+                ran = subprocess.run([sys.executable, *words], cwd=folder,
+                                     stdout=subprocess.PIPE,
+                                     stderr=subprocess.PIPE, timeout=60)
+                self.assertEqual((ran.returncode, ran.stderr), (0, b""))
+
+    def test_a_wheel(self):
+        if not has_module("flit_core"):
+            self.skipTest("this Python has no flit_core")
+        script = ("import sys\nfrom flit_core import buildapi\n"
+                  "print(buildapi.build_wheel(sys.argv[1]))")
+        with tempfile.TemporaryDirectory() as folder:
+            name = subprocess.run([sys.executable, "-c", script, folder],
+                                  cwd=HERE, stdout=subprocess.PIPE,
+                                  check=True).stdout.decode().strip()
+            version = hopslintel.__version__
+            self.assertEqual(name, f"hopslintel-{version}-py3-none-any.whl")
+            with zipfile.ZipFile(f"{folder}/{name}") as wheel:
+                names = set(wheel.namelist())
+                about = f"hopslintel-{version}.dist-info"
+                said = wheel.read(f"{about}/METADATA").decode().splitlines()
+        modules = {f"hopslintel/{it}" for it in os.listdir(FOLDER)
+                   if not it.startswith("__pycache__")}
+        self.assertEqual({it for it in names if not it.startswith(about)},
+                         modules)
+        self.assertIn(f"{about}/licenses/LICENSE", names)
+        self.assertIn("License-Expression: Apache-2.0", said)
+
+
+class TypesTest(unittest.TestCase):
+    def test_mypy(self):
+        """As a user of the package has it checked."""
+        if not shutil.which("mypy"):
+            self.skipTest("this machine has no mypy")
+        with tempfile.TemporaryDirectory() as folder:
+            ran = subprocess.run(
+                ["mypy", "--strict", "--cache-dir", folder, FOLDER], cwd=HERE,
+                stdout=subprocess.PIPE, stderr=subprocess.STDOUT)
+        self.assertEqual(ran.returncode, 0, ran.stdout.decode())
+
+
+class ReadmeTest(unittest.TestCase):
+    """Each example in Python runs, over a server."""
+
+    # A loop over `follow` ends after what comes first.
+    BEFORE = (
+        "import hopslintel\n"
+        "follow = hopslintel.Client.follow\n"
+        "def once(*words, **named):\n"
+        "    yield next(follow(*words, **named))\n"
+        "hopslintel.Client.follow = once\n")
+
+    def examples(self):
+        text = read(f"{HERE}/README.md")
+        found = re.findall(r"^(?:    .*\n|\n(?=    ))+", text, re.M)
+        blocks = [re.sub("^    ", "", block, flags=re.M) for block in found]
+        return [block for block in blocks if "import " in block]
+
+    def test_the_examples(self):
+        said = []
+        with served() as port:
+            for text in self.examples():
+                text = self.BEFORE + text.replace("8443", str(port))
+                env = {**os.environ, "PYTHONPATH": HERE}
+                ran = subprocess.run(
+                    [sys.executable, "-B", "-c", text], env=env, timeout=60,
+                    stdout=subprocess.PIPE, stderr=subprocess.PIPE)
+                self.assertEqual((ran.returncode, ran.stderr), (0, b""), text)
+                said.append(ran.stdout.decode().splitlines())
+        bundle = '{"keys":[],"spiffe_sequence":7}'
+        self.assertEqual(said, [
+            [f"b'{bundle}'", "{'keys': [], 'spiffe_sequence': 7}",
+             f"a.example b'{bundle}'", "b.example has no bundle"],
+            ["trust a.example 31"], [], ["['a.example']"],
+            ["59", f"b'{{\"trust_domains\":{{\"a.example\":{bundle}}}}}\\n'",
+             "0", "b''", "{'keys': []}"],
+            ["None", "refused 30 NoDomain"]])
