@@ -16,13 +16,14 @@ import asyncio
 import contextlib
 import json
 from types import TracebackType
-from typing import (Any, AsyncIterator, Awaitable, Callable, Dict, Iterable,
-                    List, NamedTuple, Optional, Sequence, Tuple, Type, Union)
+from typing import (Any, AsyncIterator, Awaitable, Callable, Coroutine, Dict,
+                    Iterable, List, NamedTuple, Optional, Sequence, Tuple,
+                    Type, Union)
 
 from .changes import Changes, changes_between
 from .connection import Deadline
 from .errors import (DisconnectedError, GivenUpError, HopslintelError,
-                     done)
+                     TimedOutError, done)
 from .reply import (IN_THE_WAY, All, Appended, Found, Removed, Reply, Stored,
                     Unchanged, Version)
 from .request import Document, Expected, Request
@@ -311,9 +312,14 @@ class Client:
             line.writer.transport.abort()
 
 
-async def _within(work: Awaitable[Any], deadline: Deadline) -> Any:
+async def _within(work: Coroutine[Any, Any, Any], deadline: Deadline) -> None:
     try:
-        return await asyncio.wait_for(work, deadline.left())
+        left = deadline.left()
+    except TimedOutError:
+        work.close()
+        raise
+    try:
+        await asyncio.wait_for(work, left)
     except asyncio.TimeoutError as error:
         raise deadline.missed() from error
 

@@ -99,9 +99,7 @@ class Client:
         line = self._line
         if line is not None:
             line.connection.shut()
-        if self._lock.acquire(blocking=False):
-            self._drop()
-            self._lock.release()
+        self._drop_if_free()
 
     def __enter__(self) -> Client:
         return self
@@ -266,9 +264,9 @@ class Client:
         try:
             yield deadline
         finally:
-            if self._closing.is_set():
-                self._drop()
             lock.release()
+            if self._closing.is_set():
+                self._drop_if_free()
 
     def _dial_anew(self, deadline: Deadline) -> _Line:
         """A new connection, with a session of the version of the last."""
@@ -318,6 +316,12 @@ class Client:
         line, self._line = self._line, None
         if line is not None:
             line.connection.close()
+
+    def _drop_if_free(self) -> None:
+        """After `close`; a thread whose turn it is does so at its end."""
+        if self._lock.acquire(blocking=False):
+            self._drop()
+            self._lock.release()
 
     def _leave(self) -> None:
         """In a child process: the connection is its parent's."""

@@ -4,6 +4,7 @@ import inspect
 import math
 import time
 import unittest
+import warnings
 
 import hopslintel
 from hopslintel import (Appended, Changes, DisconnectedError, Expect, Found,
@@ -148,6 +149,17 @@ class TasksTest(unittest.IsolatedAsyncioTestCase):
                 with self.assertRaises(TimedOutError):
                     await store.get("a", timeout=0.1)
                 self.assertEqual(await store.get("b"), b"b")
+
+    async def test_no_time_at_all(self):
+        with Server([found(EMPTY)]) as server:
+            async with await Client.connect(server.port) as store:
+                for seconds in [0, -1]:
+                    with warnings.catch_warnings(record=True) as given:
+                        warnings.simplefilter("always")
+                        with self.assertRaises(TimedOutError):
+                            await store.get("a", timeout=seconds)
+                    self.assertEqual(given, [])
+                self.assertEqual(await store.get("a"), EMPTY)
 
     async def test_a_call_ends_if_the_client_is_closed(self):
         with Server([b"", STAYS]) as server:
