@@ -1,11 +1,9 @@
 //! A document for each fault. The numbers are those of docs/FORMATS.md.
-use super::{is_equal_at, tells};
-use doc_report::put_report;
-use spiffe_doc::DocError;
+use super::tells;
 use std::alloc::{AllocError, Global};
 
 /// Documents that are not bundles, and what is wrong.
-const DOCUMENTS: [(&str, &str); 21] = [
+static DOCUMENTS: [(&str, &str); 21] = [
     (
         "{\"keys\":[]",
         "it is not a JSON text of UTF-8, nested at most 127 deep (11)",
@@ -88,66 +86,70 @@ const DOCUMENTS: [(&str, &str); 21] = [
 
 #[test]
 fn documents_that_are_not_bundles(rt: HostRuntime) -> Result<(), AllocError> {
-    let alloc = rt.alloc();
-    for (document, fault) in DOCUMENTS {
-        let wanted = format!(in alloc; "a.json: not a bundle: {fault}\n")?;
-        tells(&rt, alloc, "a.json", document, wanted.as_str())?;
+    for &(document, fault) in &DOCUMENTS {
+        let wanted = format!(in rt.alloc(); "a.json: not a bundle: {fault}\n")?;
+        tells(&rt, rt.alloc(), "a.json", document, &wanted)?;
     }
     Ok(())
 }
 
-/// A document of this many bytes.
-fn document_of(alloc: Global, size: usize) -> Result<String, AllocError> {
-    let mut document = String::from_str(alloc, "{\"keys\":[]}")?;
-    for _ in 11..size {
+/// A document of a first entry and so many JWT authorities, which differ by their key ids, with so many spaces behind it.
+fn document_of(
+    alloc: Global,
+    first: &str,
+    authorities: usize,
+    spaces: usize,
+) -> Result<String, AllocError> {
+    let mut document = String::from_str(alloc, "{\"keys\":[")?;
+    document.push_str(first)?;
+    for at in 0..authorities {
+        document.push_str(
+            ",{\"kty\":\"RSA\",\"use\":\"jwt-svid\",\"n\":\"AQ\",\"e\":\"Aw\",\"kid\":\"",
+        )?;
+        document.push_str(&at.to_string(alloc)?)?;
+        document.push_str("\"}")?;
+    }
+    document.push_str("]}")?;
+    for _ in 0..spaces {
         document.push(' ')?;
     }
     Ok(document)
 }
 
-#[test]
-fn documents_at_the_limit(rt: HostRuntime) -> Result<(), AllocError> {
-    let alloc = rt.alloc();
-    let longest = document_of(alloc, 1048576)?;
-    let wanted =
-        "a: bundle of 0 authorities (0 X.509, 0 JWT), no sequence, no refresh hint\na: no authorities: nothing would be kept of 0 entries\n";
-    tells(&rt, alloc, "a", longest.as_str(), wanted)?;
-    let longer = document_of(alloc, 1048577)?;
-    let wanted =
-        "a: not a bundle: the document, or its canonical text, has over 1048576 bytes (10)\n";
-    tells(&rt, alloc, "a", longer.as_str(), wanted)
-}
+/// A first entry, how many authorities and spaces there are, and what is told: documents of 1,048,576 bytes and of one
+/// more, and of 1,024 authorities and of one more.
+static LIMITS: [(&str, usize, usize, &str); 4] = [
+    (
+        "",
+        0,
+        1048565,
+        "a: bundle of 0 authorities (0 X.509, 0 JWT), no sequence, no refresh hint\na: no authorities: nothing would be kept of 0 entries\n",
+    ),
+    (
+        "",
+        0,
+        1048566,
+        "a: not a bundle: the document, or its canonical text, has over 1048576 bytes (10)\n",
+    ),
+    (
+        "{}",
+        1024,
+        0,
+        "a: bundle of 1024 authorities (0 X.509, 1024 JWT), no sequence, no refresh hint\na: keys[0] is ignored: it has no kty\n",
+    ),
+    (
+        "{}",
+        1025,
+        0,
+        "a: not a bundle: it has over 1024 different authorities (21)\n",
+    ),
+];
 
-/// A document of so many JWT authorities, which differ by their key ids.
-fn authorities(alloc: Global, count: usize) -> Result<String, AllocError> {
-    let mut document = String::from_str(alloc, "{\"keys\":[{}")?;
-    for at in 0..count {
-        let entry = format!(in alloc;
-            ",{{\"kty\":\"RSA\",\"use\":\"jwt-svid\",\"kid\":\"{at}\",\"n\":\"AQ\",\"e\":\"Aw\"}}"
-        )?;
-        document.push_str(entry.as_str())?;
+#[test]
+fn documents_at_the_limits(rt: HostRuntime) -> Result<(), AllocError> {
+    for &(first, authorities, spaces, wanted) in &LIMITS {
+        let document = document_of(rt.alloc(), first, authorities, spaces)?;
+        tells(&rt, rt.alloc(), "a", &document, wanted)?;
     }
-    document.push_str("]}")?;
-    Ok(document)
-}
-
-#[test]
-fn as_many_authorities_as_may_be(rt: HostRuntime) -> Result<(), AllocError> {
-    let alloc = rt.alloc();
-    let most = authorities(alloc, 1024)?;
-    let wanted =
-        "a: bundle of 1024 authorities (0 X.509, 1024 JWT), no sequence, no refresh hint\na: keys[0] is ignored: it has no kty\n";
-    tells(&rt, alloc, "a", most.as_str(), wanted)?;
-    let more = authorities(alloc, 1025)?;
-    let wanted = "a: not a bundle: it has over 1024 different authorities (21)\n";
-    tells(&rt, alloc, "a", more.as_str(), wanted)
-}
-
-#[test]
-fn memory_is_no_verdict(rt: HostRuntime) -> Result<(), AllocError> {
-    let mut out = Vec::new(rt.alloc());
-    put_report("a", &Err(DocError::Memory), &mut out)?;
-    let wanted = b"a: not judged: out of memory (22)\n".as_slice();
-    is_equal_at(&rt, &out.as_slice(), &wanted, &"memory");
     Ok(())
 }

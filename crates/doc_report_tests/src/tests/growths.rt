@@ -1,9 +1,8 @@
 //! What a refused growth leaves.
 use super::is_equal_at;
-use doc_report::{Report, put_report, report_on};
+use doc_report::{put_report, report_on};
 use spiffe_doc::DocError;
-use std::alloc::Global;
-use std::test::Fail;
+use std::alloc::AllocError;
 
 const DOCUMENT: &[u8] =
     b"{\"keys\":[{\"kty\":\"OKP\"},{\"kty\":\"RSA\",\"use\":\"jwt-svid\",\"kid\":\"k\",\"n\":\"AQ\",\"e\":\"Aw\"}]}";
@@ -11,23 +10,27 @@ const DOCUMENT: &[u8] =
 const LINES: &[u8] =
     b"before a: bundle of 1 authority (0 X.509, 1 JWT), no sequence, no refresh hint\na: keys[0] is ignored: its kty is \"OKP\", not EC or RSA\n";
 
-/// The report, which is asked for once more if a growth was refused.
-fn reported(alloc: Global) -> Result<Report, DocError> {
-    match report_on(alloc, DOCUMENT) {
-        Err(DocError::Memory) => report_on(alloc, DOCUMENT),
-        outcome => outcome,
+/// The report is asked for once more if a growth was refused.
+#[test]
+fn a_refused_growth_appends_nothing(rt: HostRuntime) -> Result<(), AllocError> {
+    let mut report = report_on(rt.alloc(), DOCUMENT);
+    if matches!(report, Err(DocError::Memory)) {
+        report = report_on(rt.alloc(), DOCUMENT);
     }
+    let mut out = Vec::from_slice(rt.alloc(), b"before ")?;
+    if put_report("a", &report, &mut out).is_err() {
+        is_equal_at(&rt, &out.as_slice(), &b"before ".as_slice(), &"refused");
+        put_report("a", &report, &mut out)?;
+    }
+    is_equal_at(&rt, &out.as_slice(), &LINES, &"put");
+    Ok(())
 }
 
 #[test]
-fn a_refused_growth_appends_nothing(rt: HostRuntime) -> Result<(), Fail> {
-    let alloc = rt.alloc();
-    let outcome = reported(alloc);
-    let mut out = Vec::from_slice(alloc, b"before ")?;
-    if put_report("a", &outcome, &mut out).is_err() {
-        is_equal_at(&rt, &out.as_slice(), &b"before ".as_slice(), &"refused");
-        put_report("a", &outcome, &mut out)?;
-    }
-    is_equal_at(&rt, &out.as_slice(), &LINES, &"put");
+fn memory_is_no_verdict(rt: HostRuntime) -> Result<(), AllocError> {
+    let mut out = Vec::new(rt.alloc());
+    put_report("a", &Err(DocError::Memory), &mut out)?;
+    let wanted = b"a: not judged: out of memory (22)\n".as_slice();
+    is_equal_at(&rt, &out.as_slice(), &wanted, &"memory");
     Ok(())
 }
