@@ -1,56 +1,74 @@
 //! The decoder by itself.
-use super::holds;
 use frame_front::{Decoder, FrontError};
-use std::process::Abort;
 use std::test::Fail;
+use test_kit::protocol::{FETCH_ALL, text_of};
+use test_kit::{is_equal, is_equal_at};
+
+/// What is fed, the payloads that come out then, what is answered after them, and whether the input may end there.
+type Step<'a> = (
+    &'a [u8],
+    &'a [&'a [u8]],
+    Result<(), FrontError>,
+    Result<(), FrontError>,
+);
+
+/// Frames come out when they are whole. At a bad length the decoder stays as it is.
+static STEPS: [&[Step<'static>]; 2] = [
+    &[
+        (b"", &[], Ok(()), Ok(())),
+        (
+            b"\x00\x00\x00\x02a",
+            &[],
+            Ok(()),
+            Err(FrontError::Truncated),
+        ),
+        (
+            b"b\x00\x00\x00\x01c\x00\x00\x00",
+            &[b"ab", b"c"],
+            Ok(()),
+            Err(FrontError::Truncated),
+        ),
+    ],
+    &[
+        (
+            b"\x00\x00\x00\x01c\x00\x10\x01\xa9",
+            &[b"c"],
+            Err(FrontError::BadLength),
+            Err(FrontError::Truncated),
+        ),
+        (
+            b"\x00\x00\x00\x01c",
+            &[],
+            Err(FrontError::BadLength),
+            Err(FrontError::Truncated),
+        ),
+    ],
+];
 
 /// The next frame has this payload.
-fn gives(rt: &impl Abort, decoder: &mut Decoder, want: &[u8]) -> Result<(), Fail> {
+fn gives(decoder: &mut Decoder, wanted: &[u8]) -> Result<(), Fail> {
     let payload = decoder.next_frame()?.ok_or("a frame is there")?;
-    holds(rt, payload.as_slice() == want);
-    Ok(())
+    is_equal(&payload.as_slice(), &wanted)
 }
 
-/// There is no whole frame, and the input may end so.
-fn gives_none(
-    rt: &impl Abort,
-    decoder: &mut Decoder,
-    end: Result<(), FrontError>,
-) -> Result<(), Fail> {
-    holds(rt, decoder.next_frame()?.is_none());
-    holds(rt, decoder.finish() == end);
-    Ok(())
-}
-
-fn takes_out(rt: &impl Abort, decoder: &mut Decoder) -> Result<(), Fail> {
-    gives_none(rt, decoder, Ok(()))?;
-    decoder.feed(b"\x00\x00\x00\x02a")?;
-    gives_none(rt, decoder, Err(FrontError::Truncated))?;
-    decoder.feed(b"b\x00\x00\x00\x01c\x00\x00\x00")?;
-    gives(rt, decoder, b"ab")?;
-    gives(rt, decoder, b"c")?;
-    gives_none(rt, decoder, Err(FrontError::Truncated))
+/// The decoder takes the step.
+fn takes(decoder: &mut Decoder, (fed, payloads, next, end): Step<'_>) -> Result<(), Fail> {
+    decoder.feed(fed)?;
+    for &payload in payloads {
+        gives(decoder, payload)?;
+    }
+    let found = decoder.next_frame().map(|frame| frame.is_some());
+    let wanted = next.map(|()| false);
+    is_equal_at(&(found, decoder.finish()), &(wanted, end), &fed)
 }
 
 #[test]
 fn takes_frames_out(rt: HostRuntime) -> Result<(), Fail> {
-    let mut decoder = Decoder::new(rt.alloc())?;
-    takes_out(&rt, &mut decoder)
-}
-
-// At a bad length the decoder stays as it is.
-#[test]
-fn stays_at_a_bad_length(rt: HostRuntime) -> Result<(), Fail> {
-    let mut decoder = Decoder::new(rt.alloc())?;
-    decoder.feed(b"\x00\x00\x00\x01c\x00\x10\x01\xa9")?;
-    holds(&rt, decoder.next_frame()?.is_some());
-    for _ in 0..2 {
-        holds(
-            &rt,
-            matches!(decoder.next_frame(), Err(FrontError::BadLength)),
-        );
-        holds(&rt, decoder.finish() == Err(FrontError::Truncated));
-        decoder.feed(b"\x00\x00\x00\x01c")?;
+    for &steps in &STEPS {
+        let mut decoder = Decoder::new(rt.alloc())?;
+        for &step in steps {
+            takes(&mut decoder, step)?;
+        }
     }
     Ok(())
 }
@@ -58,16 +76,11 @@ fn stays_at_a_bad_length(rt: HostRuntime) -> Result<(), Fail> {
 // A million frames of 5 bytes in one piece: each costs as little as the first.
 #[test]
 fn takes_a_million_frames_out_of_one_piece(rt: HostRuntime) -> Result<(), Fail> {
-    let alloc = rt.alloc();
-    let mut piece = Vec::new(alloc);
-    for _ in 0..1_000_000 {
-        piece.extend_from_slice(b"\x00\x00\x00\x01F")?;
-    }
-    let mut decoder = Decoder::new(alloc)?;
+    let mut decoder = Decoder::new(rt.alloc())?;
+    let piece = text_of(rt.alloc(), &[(FETCH_ALL, 1_000_000)])?;
     decoder.feed(piece.as_slice())?;
     for _ in 0..1_000_000 {
-        gives(&rt, &mut decoder, b"F")?;
+        gives(&mut decoder, b"F")?;
     }
-    holds(&rt, decoder.finish() == Ok(()));
-    Ok(())
+    is_equal(&decoder.finish(), &Ok(()))
 }

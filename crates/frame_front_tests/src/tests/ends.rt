@@ -1,62 +1,46 @@
 //! Readers and writers that fail.
-use super::{ALL_OF_NONE, ALL_OF_ONE, Calls, FETCH_ALL, Pieces, SET, holds, holds_at};
-use frame_front::{Counted, FaultyReader, FaultyWriter, FrontError, serve};
-use map_core::Contents;
-use std::alloc::AllocError;
+use super::{SET_AND_FETCH_ALL, SET_AND_GET, SET_GET_AND_FETCH_ALL, STORED_AND_FOUND, ended_of};
+use frame_front::{Counted, FaultyReader, FaultyWriter, FrontError};
+use std::test::Fail;
+use test_kit::protocol::{ALL_OF_NONE, ALL_OF_ONE, Calls, Pieces, STORED};
+use test_kit::{holds_at, is_equal, is_equal_at};
 
-const INPUT: &[u8] = b"\x00\x00\x00\x0eS\x01a{\"keys\":[]}\x00\x00\x00\x03G\x01a";
-
-const OUTPUT: &[u8] = b"\x00\x00\x00\x01s\x00\x00\x00\x0cf{\"keys\":[]}";
-
-// The reader fails after each front of the input: the whole frames before are answered.
+// The reader fails after each front of the set and the get: the whole frames before are answered.
 #[test]
-fn a_reader_that_fails(rt: HostRuntime) -> Result<(), AllocError> {
+fn a_reader_that_fails(rt: HostRuntime) -> Result<(), Fail> {
     for after in 0..=25 {
-        let bytes = Vec::from_slice(rt.alloc(), INPUT)?;
+        let bytes = Vec::from_slice(rt.alloc(), SET_AND_GET)?;
         let mut reader = Counted::new(FaultyReader::new(bytes, after));
         let mut writer = Counted::new(Vec::new(rt.alloc()));
-        let mut map = Contents::new(rt.alloc());
-        let ended = serve(rt.alloc(), &mut reader, &mut writer, &mut map, 100);
-        drop(map);
-        holds_at(&rt, ended == Err(FrontError::ReadFault), &after);
+        let ended = ended_of(rt.alloc(), &mut reader, &mut writer, 100);
         let written = match after {
             0..=17 => 0,
             18..=24 => 5,
             _ => 21,
         };
-        holds_at(
-            &rt,
-            Some(writer.end.as_slice()) == OUTPUT.get(..written),
-            &after,
-        );
-        holds(&rt, reader.faults() == 1);
-        holds(&rt, writer.faults() == 0);
+        let is_front = Some(writer.end.as_slice()) == STORED_AND_FOUND.get(..written);
+        let found = (ended, is_front, reader.faults(), writer.faults());
+        let wanted = (Err(FrontError::ReadFault), true, 1, 0);
+        is_equal_at(&found, &wanted, &after)?;
     }
     Ok(())
 }
 
 // The writer fails after each front of the output: what it took is that front.
 #[test]
-fn a_writer_that_fails(rt: HostRuntime) -> Result<(), AllocError> {
+fn a_writer_that_fails(rt: HostRuntime) -> Result<(), Fail> {
     for room in 0..=21 {
-        let mut reader = Counted::new(INPUT);
+        let mut reader = Counted::new(SET_AND_GET);
         let mut writer = Counted::new(FaultyWriter::new(rt.alloc(), room));
-        let mut map = Contents::new(rt.alloc());
-        let ended = serve(rt.alloc(), &mut reader, &mut writer, &mut map, 100);
-        drop(map);
-        let (want, faults) = if room < 21 {
-            (Err(FrontError::WriteFault), 1)
+        let ended = ended_of(rt.alloc(), &mut reader, &mut writer, 100);
+        let is_front = Some(writer.end.taken.as_slice()) == STORED_AND_FOUND.get(..room);
+        let found = (ended, is_front, reader.faults(), writer.faults());
+        let wanted = if room < 21 {
+            (Err(FrontError::WriteFault), true, 0, 1)
         } else {
-            (Ok(2), 0)
+            (Ok(2), true, 0, 0)
         };
-        holds_at(&rt, ended == want, &room);
-        holds_at(
-            &rt,
-            Some(writer.end.taken.as_slice()) == OUTPUT.get(..room),
-            &room,
-        );
-        holds_at(&rt, writer.faults() == faults, &room);
-        holds(&rt, reader.faults() == 0);
+        is_equal_at(&found, &wanted, &room)?;
     }
     Ok(())
 }
@@ -68,18 +52,12 @@ fn is_joined(bytes: &[u8], first: &[u8], second: &[u8]) -> bool {
 
 /// To be run with each allocation refused in turn: however the session ends, a row of the table allows it.
 #[test]
-fn a_refused_growth_is_answered(rt: HostRuntime) -> Result<(), AllocError> {
-    const STORED: &[u8] = b"\x00\x00\x00\x01s";
+fn a_refused_growth_is_answered(rt: HostRuntime) -> Result<(), Fail> {
     const NO_MEMORY: &[u8] = b"\x00\x00\x00\x01\x16";
-    let alloc = rt.alloc();
-    let mut input = Vec::from_slice(alloc, SET)?;
-    input.extend_from_slice(FETCH_ALL)?;
-    let mut reader = Counted::new(input.as_slice());
+    let mut reader = Counted::new(SET_AND_FETCH_ALL);
     // Room for all replies, so that the writer has no growth of its own.
-    let mut writer = Counted::new(Vec::with_capacity(alloc, 64)?);
-    let mut map = Contents::new(alloc);
-    let ended = serve(alloc, &mut reader, &mut writer, &mut map, 100);
-    drop(map);
+    let mut writer = Counted::new(Vec::with_capacity(rt.alloc(), 64)?);
+    let ended = ended_of(rt.alloc(), &mut reader, &mut writer, 100);
     let written = writer.end.as_slice();
     let both = is_joined(written, STORED, ALL_OF_ONE);
     let allowed = match ended {
@@ -90,30 +68,22 @@ fn a_refused_growth_is_answered(rt: HostRuntime) -> Result<(), AllocError> {
         Err(FrontError::Memory) => written.is_empty() || written == STORED || both,
         _ => false,
     };
-    holds_at(&rt, allowed, &ended);
-    Ok(())
+    holds_at(allowed, &ended)
 }
 
 /// Two requests come by one read and a third by the next: each round is one write, which is flushed.
 #[test]
-fn each_round_is_one_write(rt: HostRuntime) -> Result<(), AllocError> {
-    let alloc = rt.alloc();
-    let mut input = Vec::from_slice(alloc, INPUT)?;
-    input.extend_from_slice(FETCH_ALL)?;
+fn each_round_is_one_write(rt: HostRuntime) -> Result<(), Fail> {
     let mut reader = Counted::new(Pieces {
-        bytes: input.as_slice(),
-        first: INPUT.len(),
+        bytes: SET_GET_AND_FETCH_ALL,
+        first: 25,
         size: 4096,
     });
     let mut writer = Counted::new(Calls {
         writes: 0,
         flushes: 0,
     });
-    let mut map = Contents::new(alloc);
-    let ended = serve(alloc, &mut reader, &mut writer, &mut map, 100);
-    drop(map);
-    holds_at(&rt, ended == Ok(3), &ended);
-    holds_at(&rt, writer.end.writes == 2, &writer.end.writes);
-    holds_at(&rt, writer.end.flushes == 2, &writer.end.flushes);
-    Ok(())
+    let ended = ended_of(rt.alloc(), &mut reader, &mut writer, 100);
+    let found = (ended, writer.end.writes, writer.end.flushes);
+    is_equal(&found, &(Ok(3), 2, 2))
 }

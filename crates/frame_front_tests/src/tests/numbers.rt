@@ -1,122 +1,39 @@
-//! The numbers and the messages of errors.
-use super::{holds, holds_at, is_equal, is_equal_at};
+//! The numbers of errors, by which clients know them, and where a refused document is at fault.
 use frame_front::{DumpError, FrontError, Refusal};
 use spiffe_doc::{DocError, NameError};
-use std::alloc::Global;
-use std::fmt::Display;
-use std::process::Abort;
 use std::test::Fail;
+use test_kit::is_equal;
 
-/// The error has this message.
-fn says(rt: &impl Abort, alloc: Global, error: &impl Display, message: &str) -> Result<(), Fail> {
-    is_equal(rt, &format!(in alloc; "{error}")?.as_str(), &message);
-    Ok(())
-}
-
-/// Each error has its number and its message.
-fn end_so(rt: &impl Abort, alloc: Global, rows: &[(FrontError, u8, &str)]) -> Result<(), Fail> {
-    for (error, number, message) in rows {
-        is_equal_at(rt, &error.number(), number, message);
-        says(rt, alloc, error, message)?;
+#[test]
+fn numbers_of_errors(_rt: HostRuntime) -> Result<(), Fail> {
+    let rows = [
+        (FrontError::Memory.number(), 22),
+        (FrontError::BadLength.number(), 50),
+        (FrontError::Truncated.number(), 52),
+        (FrontError::ReadFault.number(), 53),
+        (FrontError::WriteFault.number(), 54),
+        (FrontError::TurnsUsed.number(), 55),
+        (DumpError::BadDump(7).number(), 63),
+        (DumpError::Memory.number(), 22),
+    ];
+    for &(found, wanted) in &rows {
+        is_equal(&found, &wanted)?;
     }
     Ok(())
 }
 
 #[test]
-fn errors_that_end_a_session(rt: HostRuntime) -> Result<(), Fail> {
-    end_so(
-        &rt,
-        rt.alloc(),
-        &[
-            (FrontError::Memory, 22, "out of memory"),
-            (
-                FrontError::BadLength,
-                50,
-                "a frame has a length of 0 or of more than 1049000",
-            ),
-            (FrontError::Truncated, 52, "the input ended inside a frame"),
-            (FrontError::ReadFault, 53, "the reader failed"),
-            (FrontError::WriteFault, 54, "the writer failed"),
-            (
-                FrontError::TurnsUsed,
-                55,
-                "the reads that a session may make are used up",
-            ),
-        ],
-    )
-}
-
-/// Each error has its number and its message.
-fn are_of_dumps(
-    rt: &impl Abort,
-    alloc: Global,
-    rows: &[(DumpError, u8, &str)],
-) -> Result<(), Fail> {
-    for (error, number, message) in rows {
-        is_equal_at(rt, &error.number(), number, message);
-        says(rt, alloc, error, message)?;
+fn numbers_and_places_of_refusals(_rt: HostRuntime) -> Result<(), Fail> {
+    let rows = [
+        (Refusal::BadRequest, 51, None),
+        (Refusal::BadName(NameError::Empty), 1, None),
+        (Refusal::BadName(NameError::BadChar(2)), 3, Some(2)),
+        (Refusal::BadDocument(DocError::BadEntry(4)), 16, Some(4)),
+        (Refusal::PassedOver, 23, None),
+        (Refusal::Memory, 22, None),
+    ];
+    for (refusal, number, place) in &rows {
+        is_equal(&(refusal.number(), refusal.place()), &(*number, *place))?;
     }
     Ok(())
-}
-
-#[test]
-fn errors_of_dumps(rt: HostRuntime) -> Result<(), Fail> {
-    are_of_dumps(
-        &rt,
-        rt.alloc(),
-        &[
-            (
-                DumpError::BadDump(7),
-                63,
-                "frame 7 of the dump is wrong, missing or too much",
-            ),
-            (DumpError::Memory, 22, "out of memory"),
-        ],
-    )
-}
-
-/// A refusal with its number, its place and its message.
-type Refused<'a> = (Refusal, u8, Option<usize>, &'a str);
-
-fn refuse_so(rt: &impl Abort, alloc: Global, rows: &[Refused]) -> Result<(), Fail> {
-    for (refusal, number, place, message) in rows {
-        is_equal_at(rt, &refusal.number(), number, message);
-        holds_at(rt, refusal.place() == *place, message);
-        says(rt, alloc, refusal, message)?;
-    }
-    Ok(())
-}
-
-#[test]
-fn refusals_of_requests(rt: HostRuntime) -> Result<(), Fail> {
-    holds(
-        &rt,
-        Refusal::BadName(NameError::BadChar(2)).place() == Some(2),
-    );
-    refuse_so(
-        &rt,
-        rt.alloc(),
-        &[
-            (Refusal::BadRequest, 51, None, "the payload is no request"),
-            (
-                Refusal::BadName(NameError::Empty),
-                1,
-                None,
-                "the trust domain: the trust domain name is empty",
-            ),
-            (
-                Refusal::BadDocument(DocError::BadEntry(4)),
-                16,
-                Some(4),
-                "the document: key 4 is not a JSON object",
-            ),
-            (
-                Refusal::PassedOver,
-                23,
-                None,
-                "the key has a type, a use or a curve that is passed over",
-            ),
-            (Refusal::Memory, 22, None, "out of memory"),
-        ],
-    )
 }

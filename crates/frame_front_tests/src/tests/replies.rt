@@ -1,9 +1,10 @@
 //! How answers that no session over one map gives are coded.
-use super::{GET, holds_at, is_equal};
 use frame_front::{Counted, serve};
 use map_core::{Ask, AskError, Op, Reply};
 use std::alloc::Global;
-use std::process::Abort;
+use std::test::Fail;
+use test_kit::is_equal_at;
+use test_kit::protocol::GET;
 
 /// Gives each operation this answer.
 #[derive(Drop)]
@@ -25,47 +26,42 @@ impl Ask for Refuses {
 }
 
 /// Each error is coded so.
-fn are_coded(rt: &impl Abort, alloc: Global, rows: &[(AskError, &[u8])]) {
-    for (error, text) in rows {
-        let mut reader = Counted::new(GET);
-        let mut writer = Counted::new(Vec::new(alloc));
-        let mut refuses = Refuses(*error);
-        let ended = serve(alloc, &mut reader, &mut writer, &mut refuses, 10);
-        is_equal(rt, &ended, &Ok(1));
-        holds_at(rt, writer.end.as_slice() == *text, error);
-    }
+static CODES: [(AskError, &[u8]); 5] = [
+    (
+        AskError::Moved {
+            shard: 0,
+            first: 0,
+            second: 1,
+        },
+        b"\x00\x00\x00\x15\x29\x00\x00\x00\x00\x00\x00\x00\x00\x00\x00\x00\x00\x00\x00\x00\x00\x00\x00\x00\x01",
+    ),
+    (
+        AskError::Held {
+            shard: 1,
+            revision: 3,
+        },
+        b"\x00\x00\x00\x0d\x2a\x00\x00\x00\x01\x00\x00\x00\x00\x00\x00\x00\x03",
+    ),
+    (AskError::GateShut, b"\x00\x00\x00\x01\x38"),
+    (
+        AskError::Worn { shard: 255 },
+        b"\x00\x00\x00\x05\x28\x00\x00\x00\xff",
+    ),
+    (AskError::Memory, b"\x00\x00\x00\x01\x16"),
+];
+
+/// A get that is answered by the error has this reply.
+fn is_coded(alloc: Global, error: AskError, text: &[u8]) -> Result<(), Fail> {
+    let mut reader = Counted::new(GET);
+    let mut writer = Counted::new(Vec::new(alloc));
+    let ended = serve(alloc, &mut reader, &mut writer, &mut Refuses(error), 10);
+    is_equal_at(&(ended, writer.end.as_slice()), &(Ok(1), text), &error)
 }
 
 #[test]
-fn codes_errors(rt: HostRuntime) {
-    let moved: &[u8] =
-        b"\x00\x00\x00\x15\x29\x00\x00\x00\x00\x00\x00\x00\x00\x00\x00\x00\x00\x00\x00\x00\x00\x00\x00\x00\x01";
-    let held: &[u8] = b"\x00\x00\x00\x0d\x2a\x00\x00\x00\x01\x00\x00\x00\x00\x00\x00\x00\x03";
-    let shut: &[u8] = b"\x00\x00\x00\x01\x38";
-    let worn: &[u8] = b"\x00\x00\x00\x05\x28\x00\x00\x00\xff";
-    let memory: &[u8] = b"\x00\x00\x00\x01\x16";
-    are_coded(
-        &rt,
-        rt.alloc(),
-        &[
-            (
-                AskError::Moved {
-                    shard: 0,
-                    first: 0,
-                    second: 1,
-                },
-                moved,
-            ),
-            (
-                AskError::Held {
-                    shard: 1,
-                    revision: 3,
-                },
-                held,
-            ),
-            (AskError::GateShut, shut),
-            (AskError::Worn { shard: 255 }, worn),
-            (AskError::Memory, memory),
-        ],
-    );
+fn codes_errors(rt: HostRuntime) -> Result<(), Fail> {
+    for &(error, text) in &CODES {
+        is_coded(rt.alloc(), error, text)?;
+    }
+    Ok(())
 }

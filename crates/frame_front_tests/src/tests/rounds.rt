@@ -1,11 +1,11 @@
 //! The replies to all whole frames that came are flushed before the next read.
-use super::{ALL_OF_ONE, FETCH_ALL, GET, SET, holds, holds_at};
-use frame_front::{Counted, serve};
-use map_core::Contents;
-use std::alloc::AllocError;
+use super::{SET_GET_AND_FETCH_ALL, ended_of};
+use frame_front::Counted;
 use std::cell::Cell;
 use std::io;
 use std::io::{ErrorKind, Read, Write};
+use std::test::Fail;
+use test_kit::is_equal_at;
 
 /// How many bytes of replies the writer of a session has taken, and how many of them are flushed.
 #[derive(Drop)]
@@ -69,12 +69,7 @@ impl<'a> Write for Counting<'a> {
 }
 
 #[test]
-fn replies_are_flushed_before_the_next_read(rt: HostRuntime) -> Result<(), AllocError> {
-    let alloc = rt.alloc();
-    let mut input = Vec::from_slice(alloc, SET)?;
-    input.extend_from_slice(GET)?;
-    input.extend_from_slice(FETCH_ALL)?;
-    holds(&rt, ALL_OF_ONE.len() == 31);
+fn replies_are_flushed_before_the_next_read(rt: HostRuntime) -> Result<(), Fail> {
     for size in 1..=30 {
         let replies = Replies {
             written: Cell::new(0),
@@ -82,16 +77,14 @@ fn replies_are_flushed_before_the_next_read(rt: HostRuntime) -> Result<(), Alloc
         };
         let mut reader = Counted::new(Waiting {
             replies: &replies,
-            bytes: input.as_slice(),
+            bytes: SET_GET_AND_FETCH_ALL,
             given: 0,
             size,
         });
         let mut writer = Counted::new(Counting { replies: &replies });
-        let mut map = Contents::new(alloc);
-        let ended = serve(alloc, &mut reader, &mut writer, &mut map, 100);
-        drop(map);
-        holds_at(&rt, ended == Ok(3), &size);
-        holds_at(&rt, replies.flushed.get() == 52, &size);
+        let ended = ended_of(rt.alloc(), &mut reader, &mut writer, 100);
+        let found = (ended, replies.flushed.get());
+        is_equal_at(&found, &(Ok(3), 52), &size)?;
     }
     Ok(())
 }
