@@ -17,23 +17,21 @@ import unittest
 
 sys.dont_write_bytecode = True
 
-from refusals import ROOT, program  # noqa: E402
+from checks import ROOT, bytes_of, program, run_words  # noqa: E402
 
-SECONDS = 300
+SECONDS = 600
 LETTERS = set(b"SARGFVC")
 
 
 class Exchanges(unittest.TestCase):
     def test_exchanges_of_the_docs(self):
         """In one session: what is sent, and what has to come back."""
-        with open(f"{ROOT}/docs/FORMATS.md", encoding="utf-8") as it:
-            lines = re.findall(r"^    ([<>]) ([0-9a-f ]+)$", it.read(), re.M)
+        lines = re.findall(r"^    ([<>]) ([0-9a-f ]+)$", bytes_of(f"{ROOT}/docs/FORMATS.md").decode(), re.M)
         sent = [bytes.fromhex(line) for end, line in lines if end == ">"]
         wanted = b"".join(bytes.fromhex(line) for end, line in lines if end == "<")
-        how = {"stdout": subprocess.PIPE, "stderr": subprocess.PIPE, "timeout": SECONDS}
-        ran = subprocess.run([program("bundled"), "run"], input=b"".join(sent), **how)
+        status, out, err = run_words("run", given=b"".join(sent))
         self.assertLessEqual(LETTERS, {request[4] for request in sent})
-        self.assertEqual((ran.returncode, ran.stdout.hex(" "), ran.stderr), (0, wanted.hex(" "), b""))
+        self.assertEqual((status, out.hex(" "), err), (0, wanted.hex(" "), b""))
 
 
 class Told(unittest.TestResult):
@@ -87,7 +85,7 @@ def go_tests():
 def main():
     # A client that is blocked for ever ends here.
     faulthandler.dump_traceback_later(SECONDS, exit=True)
-    os.environ["BUNDLED"] = program("bundled")
+    os.environ["BUNDLED"] = program()
     sys.path.insert(0, f"{ROOT}/clients/python")
     load = unittest.defaultTestLoader
     told = Told()

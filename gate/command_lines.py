@@ -3,25 +3,18 @@
 
 usage: gate/command_lines.py   (over the program that rt ci or rt run has built in crates/bundled/out/)
 """
-import base64
 import hashlib
 import json
 import re
-import subprocess
 import sys
-import tempfile
-import textwrap
 
 sys.dont_write_bytecode = True
 
-from program_runs import frame  # noqa: E402
-from refusals import ROOT, program  # noqa: E402
+from checks import EMPTY, ROOT, Room, bytes_of, canonical, dump_of, frame, pem_of, run_checks, run_words  # noqa: E402
 
-SECONDS = 60
-EMPTY = b'{"keys":[]}'
 FIRST_RUN = frame(b"S\x01a" + EMPTY) + frame(b"G\x01a")
 FIRST_REPLIES = frame(b"s") + frame(b"f" + EMPTY)
-DUMP_OF_ONE = frame(b"a" + (1).to_bytes(8, "big")) + frame(b"i\x01a" + EMPTY)
+DUMP_OF_ONE = dump_of({"a": EMPTY})
 MIGRATED = frame(b"V\x02") + frame(b"C\x01a\x00" + EMPTY)
 
 # A fetch-all over one shard that is done after two steps; over more shards it is not.
@@ -67,20 +60,15 @@ NOTHING = b"-: no authorities: nothing would be kept of 0 entries\n"
 FIRST_LINES = b'# two requests\nset a {"keys":[]}\n\nget a\n'
 TOLD = b'stored\nfound {"keys":[]}\n'
 BUNDLE = f"{ROOT}/gate/bundles/many.json"
-with open(BUNDLE, "rb") as document:
-    SET_BUNDLE = frame(b"S\x01a" + document.read())
+SET_BUNDLE = frame(b"S\x01a" + bytes_of(BUNDLE))
 
 # A dump of a domain with an empty bundle and of a real one, with what is shown of it.
-with open(f"{ROOT}/gate/bundles/rotation.canonical", "rb") as canonical:
-    ROTATION = canonical.read().rstrip()
-DUMP_OF_TWO = frame(b"a" + (2).to_bytes(8, "big")) + frame(b"i\x01a" + EMPTY) + frame(b"i\x08rotation" + ROTATION)
+ROTATION = canonical("rotation")
+DUMP_OF_TWO = dump_of({"a": EMPTY, "rotation": ROTATION})
 MAP_OF_TWO = b'{"trust_domains":{"a":' + EMPTY + b',"rotation":' + ROTATION + b"}}"
 MAP_OF_ONE = b'{"trust_domains":{"a":' + EMPTY + b"}}"
-CERTIFICATES = [it["x5c"][0] for it in json.loads(ROTATION)["keys"] if it["use"] == "x509-svid"]
-PEM = "".join(
-    f"-----BEGIN CERTIFICATE-----\n{textwrap.fill(it, 64)}\n-----END CERTIFICATE-----\n" for it in CERTIFICATES
-).encode()
-assert len(CERTIFICATES) > 1 and all(base64.b64decode(it, validate=True) for it in CERTIFICATES)
+PEM = pem_of(ROTATION)
+assert PEM.count(b"BEGIN") > 1
 
 # Each option at its limits, with a run that shows it if any does (the replies are the same over each number of shards).
 RUNS = [
@@ -231,11 +219,9 @@ REFUSED = [
 ]
 
 
-def ran(line, given=FIRST_RUN, out=subprocess.PIPE):
-    """The status of the program, and what it writes, over these arguments. (A byte that is no text comes as a surrogate.)"""
-    words = [program("bundled"), *line.split()]
-    ended = subprocess.run(words, input=given, stdout=out, stderr=subprocess.PIPE, timeout=SECONDS)
-    return ended.returncode, ended.stdout, ended.stderr
+def ran(line, given=FIRST_RUN, **how):
+    """The program over these arguments. (A byte that is no text comes as a surrogate.)"""
+    return run_words(*line.split(), given=given, **how)
 
 
 def runs_what_the_line_wants():
@@ -292,22 +278,16 @@ def tells_what_changed():
     """From one dump to another, with status 3; nothing where they hold the same, with status 0."""
     sequence = json.loads(ROTATION)["spiffe_sequence"]
     count = len(json.loads(ROTATION)["keys"])
-    with tempfile.TemporaryDirectory() as folder:
-
-        def file(name, content):
-            with open(f"{folder}/{name}", "wb") as it:
-                it.write(content)
-            return f"{folder}/{name}"
-
-        one, two, other = file("one", DUMP_OF_ONE), file("two", DUMP_OF_TWO), file("other", FIRST_RUN)
-        added = f"+ rotation authorities {count} sequence {sequence}\n".encode()
-        assert ran(f"diff {one} {two}") == (3, added, b"")
-        assert ran(f"diff {two} {one}") == (3, b"- rotation\n", b"")
-        assert ran(f"diff {two} {two}") == (0, b"", b"")
-        assert ran(f"diff {one} {other}") == (1, b"", b"fault 63 0\n")
-        assert ran(f"diff {folder}/none {one}") == (1, b"", b"fault 53\n")
-        with open("/dev/full", "wb") as full:
-            assert ran(f"diff {one} {two}", out=full) == (1, None, b"fault 54\n")
+    room = Room()
+    one, two, other = room.write("one", DUMP_OF_ONE), room.write("two", DUMP_OF_TWO), room.write("other", FIRST_RUN)
+    added = f"+ rotation authorities {count} sequence {sequence}\n".encode()
+    assert ran(f"diff {one} {two}") == (3, added, b"")
+    assert ran(f"diff {two} {one}") == (3, b"- rotation\n", b"")
+    assert ran(f"diff {two} {two}") == (0, b"", b"")
+    assert ran(f"diff {one} {other}") == (1, b"", b"fault 63 0\n")
+    assert ran(f"diff {room.path}/none {one}") == (1, b"", b"fault 53\n")
+    with open("/dev/full", "wb") as full:
+        assert ran(f"diff {one} {two}", out=full) == (1, None, b"fault 54\n")
 
 
 def explains_each_number():
@@ -338,18 +318,5 @@ CHECKS = [
 ]
 
 
-def main():
-    failed = 0
-    for check in CHECKS:
-        try:
-            check()
-            print(f"{check.__name__}: as it should be", flush=True)
-        except (AssertionError, subprocess.SubprocessError, OSError, ValueError) as error:
-            failed += 1
-            print(f"{check.__name__}: FAILED: {error!r}"[:2000], flush=True)
-    print(f"{len(CHECKS) - failed} passed, {failed} failed")
-    return 1 if failed else 0
-
-
 if __name__ == "__main__":
-    sys.exit(main())
+    sys.exit(run_checks(CHECKS))

@@ -7,18 +7,18 @@ An example is a block of lines, four spaces in, with a command after each '$' an
 block are run by one shell, at the top of the repository, after the aliases of the blocks before it. What they print comes in
 one order, at each run: two commands that run beside each other don't both print, and one in the background is waited for.
 """
+import functools
 import os
 import re
 import signal
-import socket
 import subprocess
 import sys
-import tempfile
 
 sys.dont_write_bytecode = True
 
-from refusals import ROOT  # noqa: E402
+from checks import ROOT, Room, bytes_of, run_checks, unused_port  # noqa: E402
 
+# The port that the texts name; another one is asked in its place.
 PORT = "8443"
 SECONDS = 300
 # A server in the background is ready when it says so.
@@ -27,17 +27,11 @@ UNTIL_READY = f'for _ in $(seq {SECONDS}0); do grep -q ^listening "$OUTPUT" && b
 
 def examples():
     """Yields of each block with commands its line, the commands, and what they print."""
-    with open(f"{ROOT}/README.md", encoding="utf-8") as it:
-        text = it.read()
+    text = bytes_of(f"{ROOT}/README.md").decode()
     for block in re.finditer(r"^    \$ .*\n(?:    .*\n|\n(?=    ))*", text, re.M):
         lines = [it[4:] for it in block[0].split("\n")[:-1]]
         commands = [it[2:] for it in lines if it.startswith("$ ")]
         yield text.count("\n", 0, block.start()) + 1, commands, [it for it in lines if not it.startswith("$ ")]
-
-
-def free_port():
-    with socket.create_server(("127.0.0.1", 0)) as it:
-        return str(it.getsockname()[1])
 
 
 def printed(commands):
@@ -45,19 +39,16 @@ def printed(commands):
     script = ["shopt -s expand_aliases"]
     for command in commands:
         script += [command, UNTIL_READY] if command.endswith("&") else [command]
-    with tempfile.TemporaryDirectory() as room:
-        with open(f"{room}/script", "w", encoding="utf-8") as it:
-            it.write("\n".join([*script, "wait", ""]))
-        with open(f"{room}/output", "wb") as output:
-            how = {"cwd": ROOT, "env": {**os.environ, "OUTPUT": output.name, "TMPDIR": room}, "stdin": subprocess.DEVNULL}
-            how |= {"stdout": output, "stderr": subprocess.STDOUT, "start_new_session": True}
-            with subprocess.Popen(["bash", f"{room}/script"], **how) as running:
-                try:
-                    running.wait(SECONDS)
-                except subprocess.TimeoutExpired:
-                    os.killpg(running.pid, signal.SIGKILL)
-        with open(f"{room}/output", encoding="utf-8", errors="replace") as it:
-            return it.read().split("\n")[:-1]
+    room = Room()
+    words = ["bash", room.write("script", "\n".join([*script, "wait", ""]).encode())]
+    with open(f"{room.path}/output", "wb") as output:
+        how = {"cwd": ROOT, "env": {**os.environ, "OUTPUT": output.name, "TMPDIR": room.path}, "stdin": subprocess.DEVNULL}
+        with subprocess.Popen(words, **how, stdout=output, stderr=subprocess.STDOUT, start_new_session=True) as running:
+            try:
+                running.wait(SECONDS)
+            except subprocess.TimeoutExpired:
+                os.killpg(running.pid, signal.SIGKILL)
+    return room.read("output").decode(errors="replace").split("\n")[:-1]
 
 
 def counted(line):
@@ -73,22 +64,22 @@ def alike(commands, lines):
     return lines
 
 
-def main():
-    passed = failed = 0
-    aliases = []
+def prints(commands, wanted):
+    """The commands print these lines."""
+    port = str(unused_port())
+    found = printed([it.replace(PORT, port) for it in commands])
+    wanted = [it.replace(PORT, port) for it in wanted]
+    assert alike(commands, found) == alike(commands, wanted), "\n".join(["it prints something else:", *found])
+
+
+def checks():
+    """A check for each example, by its line."""
+    aliases, found = [], {}
     for line, commands, wanted in examples():
-        port = free_port()
-        found = printed([it.replace(PORT, port) for it in [*aliases, *commands]])
+        found[f"README.md:{line}"] = functools.partial(prints, [*aliases, *commands], wanted)
         aliases += [it for it in commands if it.startswith("alias ")]
-        if alike(commands, found) == alike(commands, [it.replace(PORT, port) for it in wanted]):
-            print(f"README.md:{line}: as it stands there", flush=True)
-            passed += 1
-        else:
-            print("\n".join([f"README.md:{line}: FAILED: it prints something else:", *found]), flush=True)
-            failed += 1
-    print(f"{passed} passed, {failed} failed")
-    return 1 if failed else 0
+    return found
 
 
 if __name__ == "__main__":
-    sys.exit(main())
+    sys.exit(run_checks(checks()))

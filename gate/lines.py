@@ -5,16 +5,14 @@ usage: gate/lines.py   (over the program that rt ci or rt run has built in crate
 
 The sessions, and the replies to them, are those of gate/model.py.
 """
-import subprocess
+import functools
 import sys
 
 sys.dont_write_bytecode = True
 
-from model import SEEDS, Refused, Store, random_payloads  # noqa: E402
-from program_runs import frame  # noqa: E402
-from refusals import program  # noqa: E402
+from checks import frame, run_checks, run_words  # noqa: E402
+from model import SECONDS, SEEDS, Refused, Store, random_payloads  # noqa: E402
 
-SECONDS = 300
 MOST_RUNS = 50
 VERBS = {ord("S"): b"set", ord("C"): b"setif", ord("A"): b"append", ord("R"): b"remove", ord("G"): b"get"}
 WORDS = {ord("s"): b"stored", ord("u"): b"unchanged", ord("d"): b"removed", 22: b"memory", 56: b"shut"}
@@ -76,9 +74,9 @@ def reply_line(payload):
 
 
 def ran(command, given):
-    done = subprocess.run([program("bundled"), command], input=given, capture_output=True, timeout=SECONDS)
-    assert (done.returncode, done.stderr) == (0, b""), done.stderr
-    return done.stdout
+    status, out, err = run_words(command, given=given, seconds=SECONDS)
+    assert (status, err) == (0, b""), (status, err)
+    return out
 
 
 def is_alike(what, found, wanted):
@@ -87,48 +85,40 @@ def is_alike(what, found, wanted):
     assert found == wanted, f"{what}: another number of lines"
 
 
-def requests_as_lines(payloads):
+def requests_as_lines(seed):
     """Those that have lines, as lines and back."""
+    payloads = random_payloads(seed)
     pairs = [(payload, request_line(payload)) for payload in payloads]
     framed = b"".join(frame(payload) for payload, line in pairs if line is not None)
     lines = b"".join(line + b"\n" for _, line in pairs if line is not None)
     is_alike("decode", ran("decode", framed), lines)
     assert ran("encode", lines) == framed, "encode gives other frames"
-    return len([line for _, line in pairs if line is not None])
+    return f"; {sum(line is not None for _, line in pairs)} of them"
 
 
-def requests_without_lines(payloads):
+def requests_without_lines(seed):
     """What stands before one that has no line is written, and then it is a fault."""
-    lacking = [it for it in payloads if it[:1] in (b"S", b"C", b"A", b"R", b"G", b"F", b"V") and request_line(it) is None]
+    lacking = [it for it in random_payloads(seed) if it[:1] in (b"S", b"C", b"A", b"R", b"G", b"F", b"V") and request_line(it) is None]
     for payload in lacking[:MOST_RUNS]:
-        words = [program("bundled"), "decode"]
-        done = subprocess.run(words, input=frame(b"F") + frame(payload), capture_output=True, timeout=SECONDS)
-        assert (done.returncode, done.stdout, done.stderr) == (1, b"fetch\n", b"fault 51 1\n"), (payload[:300], done.stdout[:300])
-    return len(lacking[:MOST_RUNS])
+        ended = run_words("decode", given=frame(b"F") + frame(payload))
+        assert ended == (1, b"fetch\n", b"fault 51 1\n"), (payload[:300], ended)
+    return f"; {len(lacking[:MOST_RUNS])} of them"
 
 
-def replies_as_lines(payloads):
+def replies_as_lines(seed):
     """The reply to each request."""
     store = Store()
-    given = [reply for payload in payloads for reply in store.answer(payload)]
+    given = [reply for payload in random_payloads(seed) for reply in store.answer(payload)]
     is_alike("decode", ran("decode", b"".join(map(frame, given))), b"".join(reply_line(it) + b"\n" for it in given))
-    return len(given)
+    return f"; {len(given)} of them"
 
 
-def main():
-    passed = failed = 0
-    for seed in SEEDS:
-        payloads = list(random_payloads(seed))
-        for check in (requests_as_lines, requests_without_lines, replies_as_lines):
-            try:
-                print(f"{check.__name__} of session {seed}: {check(payloads)} as they should be", flush=True)
-                passed += 1
-            except (AssertionError, subprocess.SubprocessError) as error:
-                failed += 1
-                print(f"{check.__name__} of session {seed}: FAILED: {error}"[:2000], flush=True)
-    print(f"{passed} passed, {failed} failed")
-    return 1 if failed else 0
+CHECKS = {
+    f"{check.__name__} of session {seed}": functools.partial(check, seed)
+    for seed in SEEDS
+    for check in (requests_as_lines, requests_without_lines, replies_as_lines)
+}
 
 
 if __name__ == "__main__":
-    sys.exit(main())
+    sys.exit(run_checks(CHECKS))

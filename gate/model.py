@@ -7,15 +7,14 @@ usage: gate/model.py           the sessions of the gate (over the program that r
 The proof says that a session answers as the definition says. Here a second reading of the same page says the same.
 """
 import base64
+import functools
 import json
 import random
-import subprocess
 import sys
 
 sys.dont_write_bytecode = True
 
-from program_runs import frame, replies  # noqa: E402
-from refusals import program  # noqa: E402
+from checks import frame, replies_of, run_checks, run_words  # noqa: E402
 
 SECONDS = 300
 SEEDS = [1, 2, 3, 4]
@@ -349,44 +348,38 @@ def limits():
     yield b"F"
 
 
-def compared(shards, payloads):
-    """Runs a session, and compares each of its replies. Answers the codes that came."""
+def compared(shards, payloads, codes):
+    """Runs a session, and compares each of its replies. Keeps the codes that came."""
     store = Store()
-    given = b"".join(map(frame, payloads))
-    ran = subprocess.run([program("bundled"), "run", "--shards", str(shards)], input=given, capture_output=True, timeout=SECONDS)
-    assert (ran.returncode, ran.stderr) == (0, b""), ran.stderr
-    found, codes = list(replies(ran.stdout)), set()
+    status, out, err = run_words("run", "--shards", str(shards), given=b"".join(map(frame, payloads)), seconds=SECONDS)
+    assert (status, err) == (0, b""), (status, err)
+    found = list(replies_of(out))
     for place, payload in enumerate(payloads):
         wanted = b"".join(map(frame, store.answer(payload)))
         came = found[place] if place < len(found) else b""
         assert came == wanted, f"request {place}, {payload[:300]!r}: {came[:300]!r}, and not {wanted[:300]!r}"
         codes.add(wanted[4])
     assert len(found) == len(payloads), "a reply too much"
-    return codes
+    return f"; {len(payloads)} replies"
 
 
-def main(words):
-    seeds, failed, codes = list(map(int, words)) or SEEDS, 0, set()
-    sessions = {f"random session {seed}": random_payloads(seed) for seed in seeds} | {"limits": limits()}
-    for number, (name, payloads) in enumerate(sessions.items()):
-        try:
-            codes |= compared([1, 4, 16][number % 3], list(payloads))
-            print(f"{name}: as the model says", flush=True)
-        except (AssertionError, subprocess.SubprocessError) as error:
-            failed += 1
-            print(f"{name}: FAILED: {error}"[:2000], flush=True)
-    passed = len(sessions) - failed
-    if not words and not failed and codes != WANTED:
-        failed += 1
-        print(f"FAILED: answers that no session has, or that none should have: {sorted(codes ^ WANTED)}")
-    print(f"{passed} passed, {failed} failed")
-    return 1 if failed else 0
+def all_answers(codes):
+    """The sessions have all answers that they should have, and no others."""
+    assert codes == WANTED, f"answers that no session has, or that none should have: {sorted(codes ^ WANTED)}"
 
 
 def random_payloads(seed):
     requests = Requests(seed)
-    return (requests.payload() for _ in range(REQUESTS))
+    return [requests.payload() for _ in range(REQUESTS)]
+
+
+def checks(words):
+    codes, found = set(), {}
+    for number, seed in enumerate(list(map(int, words)) or SEEDS):
+        found[f"random session {seed}"] = lambda shards=[1, 4, 16][number % 3], seed=seed: compared(shards, random_payloads(seed), codes)
+    found["limits"] = lambda: compared(4, list(limits()), codes)
+    return found if words else found | {"all_answers": functools.partial(all_answers, codes)}
 
 
 if __name__ == "__main__":
-    sys.exit(main(sys.argv[1:]))
+    sys.exit(run_checks(checks(sys.argv[1:])))

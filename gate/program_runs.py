@@ -1,38 +1,22 @@
 """The runs of the program to which memory is refused: what goes in, and what comes out."""
-from refusals import ROOT, Ended, Run, program, run_once
+from checks import BUNDLES, EMPTY, ENTRY, ROOT, bytes_of, canonical, frame, named, program, replies_of
+from refusals import Ended, Run, run_once
 
 OUT_OF_MEMORY = Ended(1, b"", b"fault 22\n")
 NO_MEMORY = b"\0\0\0\1\x16"
 
 
-def frame(payload):
-    return len(payload).to_bytes(4, "big") + payload
-
-
-def replies(stream):
-    """The replies of a session, one for each request: a fetch-all's is a frame and then one for each domain."""
-    frames = []
-    while stream:
-        end = 4 + int.from_bytes(stream[:4], "big")
-        frames.append(stream[:end])
-        stream = stream[end:]
-    while frames:
-        count = 1 + int.from_bytes(frames[0][5:], "big") if frames[0][4:5] == b"a" else 1
-        yield b"".join(frames[:count])
-        frames = frames[count:]
-
-
 def session(name, options, rows):
     """A session of requests and their replies. A request that met a refusal is answered by 22, and the others are
     answered as if it had not been asked; or the session ends by fault 22, and whole replies stand written."""
-    words = [program("bundled"), "run", *options]
+    words = [program(), "run", *options]
     requests = [frame(request) for request, _ in rows]
     known = {(): [b"".join(frame(it) for it in reply) for _, reply in rows]}
 
     def answers(left_out):
         if left_out not in known:
             given = b"".join(it for place, it in enumerate(requests) if place not in left_out)
-            rest = replies(run_once(words, given)[0].out)
+            rest = replies_of(run_once(words, given)[0].out)
             known[left_out] = [NO_MEMORY if place in left_out else next(rest, b"") for place in range(len(rows))]
         return known[left_out]
 
@@ -40,7 +24,7 @@ def session(name, options, rows):
         is_fault = (ended.status, ended.err) == (1, OUT_OF_MEMORY.err)
         if not is_fault and (ended.status, ended.err) != (0, b""):
             return False
-        given = list(replies(ended.out))
+        given = list(replies_of(ended.out))
         left_out = tuple(place for place, reply in enumerate(given) if reply == NO_MEMORY)
         wanted = answers(left_out)[: len(given) if is_fault else len(rows)]
         return given == wanted and is_fault + len(left_out) <= refused
@@ -54,7 +38,7 @@ def command(words, given, is_plain):
     def allows(ended, refused):
         return is_plain(ended) or refused and ended == OUT_OF_MEMORY
 
-    return Run(f"bundled {' '.join(words)}".strip(), [program("bundled"), *words], given, allows)
+    return Run(f"bundled {' '.join(words)}".strip(), [program(), *words], given, allows)
 
 
 def pieces(word, given, parts):
@@ -66,19 +50,14 @@ def pieces(word, given, parts):
             return ended.out in fronts
         return ended == Ended(0, fronts[-1], b"")
 
-    return Run(f"bundled {word}", [program("bundled"), word], given, allows)
-
-
-def file(name):
-    with open(f"{ROOT}/{name}", "rb") as it:
-        return it.read()
+    return Run(f"bundled {word}", [program(), word], given, allows)
 
 
 def refresh():
     """A refresh of two real bundles. What memory is refused to is not fetched, or it ends the command by fault 22; what
     was sent before is whole."""
     names = ["p521", "withdrawn"]
-    words = ["refresh", "--relationships", f"{ROOT}/gate/two.relationships", "--documents", f"{ROOT}/gate/bundles"]
+    words = ["refresh", "--relationships", f"{ROOT}/gate/two.relationships", "--documents", BUNDLES]
 
     def allows(ended, refused):
         lines = ended.err.decode().splitlines()
@@ -86,8 +65,7 @@ def refresh():
         said, sent, missed = lines[: len(lines) - is_fault], b"", 0
         for name, line in zip(names, said):
             if line == f"0 {name} sent{' empty' if name == 'withdrawn' else ''} due 300":
-                text = file(f"gate/bundles/{name}.canonical").rstrip()
-                sent += frame(b"S" + bytes([len(name)]) + name.encode() + text)
+                sent += named(b"S", name, canonical(name))
             elif line == f"0 {name} no answer due 300 (out of memory)":
                 missed += 1
             else:
@@ -96,12 +74,11 @@ def refresh():
             return False
         return ended.status == 1 if is_fault else len(said) == len(names) and ended.status == (3 if missed else 0)
 
-    return Run("bundled refresh", [program("bundled"), *words, "--now", "0"], b"", allows)
+    return Run("bundled refresh", [program(), *words, "--now", "0"], b"", allows)
 
 
 def program_runs():
-    empty, real, text = b'{"keys":[]}', file("gate/bundles/rotation.json"), file("gate/bundles/rotation.canonical").rstrip()
-    entry = b'{"use":"jwt-svid","kty":"RSA","kid":"k","n":"AQAB","e":"AQAB"}'
+    empty, entry, real, text = EMPTY, ENTRY, bytes_of(f"{BUNDLES}/rotation.json"), canonical("rotation")
     one_key = b'{"keys":[{"e":"AQAB","kid":"k","kty":"RSA","n":"AQAB","use":"jwt-svid"}]}'
     of_one = b"a" + (1).to_bytes(8, "big")
     set_and_fetch = [(b"S\x01a" + empty, [b"s"]), (b"F", [of_one, b"i\x01a" + empty])]
@@ -118,8 +95,8 @@ def program_runs():
     dump = [b"a" + (2).to_bytes(8, "big"), b"i\x01a" + real, b"i\x01b" + empty]
     stream = b"".join(map(frame, [b"V\x02", b"C\x01a\x00" + text, b"C\x01b\x00" + empty]))
     yield command(["migrate"], b"".join(map(frame, dump)), lambda it: it == Ended(0, stream, b""))
-    race, lines = ["trace", "--shards", "2", "--rounds", "2"], file("examples/race.trace")
-    yield command(race, file("examples/race.events"), lambda it: it == Ended(0, lines, b""))
+    race, lines = ["trace", "--shards", "2", "--rounds", "2"], bytes_of(f"{ROOT}/examples/race.trace")
+    yield command(race, bytes_of(f"{ROOT}/examples/race.events"), lambda it: it == Ended(0, lines, b""))
     words = [b"set a %s\n" % text, b"fetch\n", b"found %s\n" % text, b"stored\n"]
     frames = [frame(it) for it in (b"S\x01a" + text, b"F", b"f" + text, b"s")]
     yield pieces("encode", b"".join(words[:2]), frames[:2])

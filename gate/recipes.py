@@ -7,27 +7,20 @@ A recipe is a block of the page, and its text is taken from the page: only the p
 made by the program: each NAME.canonical in gate/bundles was made by another one. Some recipes call jq, openssl or go, and
 those are left out if the machine has no such program. What only configures other programs is not run.
 """
-import contextlib
 import hashlib
 import json
 import os
 import re
-import shutil
 import signal
 import subprocess
 import sys
-import tempfile
-import time
 
 sys.dont_write_bytecode = True
 
-from examples import PORT, free_port  # noqa: E402
-from program_runs import frame  # noqa: E402
-from refreshes import BUNDLES, canonical  # noqa: E402
-from refusals import ROOT  # noqa: E402
-from snapshots import dump_of, pem_of  # noqa: E402
+from checks import AFTERWARDS, BUNDLES, ROOT, SECONDS, Room, bytes_of, canonical, dump_of, line_of  # noqa: E402
+from checks import pem_of, run_checks, unused_port, wait_until  # noqa: E402
+from examples import PORT  # noqa: E402
 
-SECONDS = 60
 # The documents that stand for those of the page's two trust domains.
 A, B = canonical("rotation"), canonical("spire-default")
 BOTH = {"a.example": A, "b.example": B}
@@ -35,8 +28,7 @@ BOTH = {"a.example": A, "b.example": B}
 
 def blocks():
     """The blocks of the page below each heading, in their order."""
-    with open(f"{ROOT}/docs/USING.md", encoding="utf-8") as it:
-        parts = re.split(r"^##+ (.*)\n", it.read(), flags=re.M)
+    parts = re.split(r"^##+ (.*)\n", bytes_of(f"{ROOT}/docs/USING.md").decode(), flags=re.M)
     found = re.compile(r"^    .*\n(?:    .*\n|\n(?=    ))*", re.M)
     cut = lambda text: [re.sub(r"^    ", "", it, flags=re.M) for it in found.findall(text)]
     return {"": cut(parts[0])} | {heading: cut(text) for heading, text in zip(parts[1::2], parts[2::2])}
@@ -45,29 +37,29 @@ def blocks():
 BLOCKS = blocks()
 
 
-class Room:
+class Shell(Room):
     """A folder with the documents of the two trust domains, and the port that recipes ask there."""
 
-    def __init__(self, path):
-        self.path, self.port = path, free_port()
-        os.makedirs(f"{path}/documents")
+    def __init__(self):
+        super().__init__()
+        self.port = str(unused_port())
+        os.mkdir(f"{self.path}/documents")
         for name, document in (("a.example", "rotation"), ("b.example", "spire-default")):
-            shutil.copy(f"{BUNDLES}/{document}.json", f"{path}/documents/{name}.json")
+            self.write(f"documents/{name}.json", bytes_of(f"{BUNDLES}/{document}.json"))
 
     def start(self, text, **how):
         """A shell that runs the text after what the page says that recipes need."""
         script = f"cd {ROOT}\n{BLOCKS[''][0]}cd {self.path}\n{text}".replace(PORT, self.port)
         how = {"stdin": subprocess.PIPE, "stdout": subprocess.PIPE, "stderr": subprocess.STDOUT, **how}
         how["env"] = {"HOME": self.path, **os.environ}
-        return subprocess.Popen(["sh", "-c", script], start_new_session=True, **how)
+        running = AFTERWARDS.enter_context(subprocess.Popen(["sh", "-c", script], start_new_session=True, **how))
+        AFTERWARDS.callback(stop, running)
+        return running
 
     def run(self, text, status=0, given=b"", seconds=SECONDS):
         """What the text prints. It has to end with the status, and within these seconds."""
-        with self.start(text) as running:
-            try:
-                said = running.communicate(given, seconds)[0]
-            finally:
-                stop(running)
+        running = self.start(text)
+        said = running.communicate(given, seconds)[0]
         assert running.returncode == status, (text, running.returncode, said)
         return said.decode()
 
@@ -78,228 +70,210 @@ class Room:
         assert (ran.returncode, ran.stderr) == (0, b""), (text, ran)
         return ran.stdout.decode()
 
-    def read(self, name):
-        with open(f"{self.path}/{name}", "rb") as it:
-            return it.read()
-
-    def write(self, name, data):
-        with open(f"{self.path}/{name}", "wb") as it:
-            it.write(data)
-
     def get(self, name):
         return self.run(f"store get {name}").rstrip("\n").encode()
 
 
 def stop(running):
-    """Ends a shell and what it has started."""
-    with contextlib.suppress(ProcessLookupError):
+    """Ends a shell and what it has started, if it has not ended."""
+    if running.poll() is None:
         os.killpg(running.pid, signal.SIGKILL)
 
 
-@contextlib.contextmanager
 def a_store(*, recipe=("A store by hand", 0), prepare=None, is_filled=True):
     """A room with a server, which the recipe starts."""
-    with tempfile.TemporaryDirectory(prefix="recipes-") as path:
-        room = Room(path)
-        if prepare:
-            prepare(room)
-        heading, number = recipe
-        with room.start(BLOCKS[heading][number].splitlines()[-1], stderr=subprocess.DEVNULL) as server:
-            try:
-                assert server.stdout.readline() == f"listening {room.port}\n".encode()
-                if is_filled:
-                    room.run(BLOCKS["Set one document"][1])
-                yield room
-            finally:
-                stop(server)
+    room = Shell()
+    if prepare:
+        prepare(room)
+    heading, number = recipe
+    server = room.start(BLOCKS[heading][number].splitlines()[-1], stderr=subprocess.DEVNULL)
+    assert line_of(server) == f"listening {room.port}\n".encode()
+    if is_filled:
+        room.run(BLOCKS["Set one document"][1])
+    return room
 
 
 def runs_a_store():
     """By hand, with an empty dump, and with a dump that was kept."""
     empty = BLOCKS["A store as a service"][1]
-    with a_store(recipe=("Keep what it holds", 0), prepare=lambda it: it.run(empty), is_filled=False) as room:
-        assert json.loads(room.run("store map")) == {"trust_domains": {}}
-    with a_store() as room:
-        room.run(BLOCKS["Keep what it holds"][0].splitlines()[0])
-        kept = room.read("dump")
-        assert kept == dump_of(BOTH)
+    room = a_store(recipe=("Keep what it holds", 0), prepare=lambda it: it.run(empty), is_filled=False)
+    assert json.loads(room.run("store map")) == {"trust_domains": {}}
+    room = a_store()
+    room.run(BLOCKS["Keep what it holds"][0].splitlines()[0])
+    kept = room.read("dump")
+    assert kept == dump_of(BOTH)
     for heading in ("Keep what it holds", "More than one machine"):
-        with a_store(recipe=(heading, 1 if heading[0] == "M" else 0), prepare=lambda it: it.write("dump", kept), is_filled=False) as room:
-            assert (room.get("a.example"), room.get("b.example")) == (A, B)
+        room = a_store(recipe=(heading, 1 if heading[0] == "M" else 0), prepare=lambda it: it.write("dump", kept), is_filled=False)
+        assert (room.get("a.example"), room.get("b.example")) == (A, B)
 
 
 def fills_it_by_refreshes():
     """The list of the page, twice; what is to be told somebody; and a document that is fetched."""
     grep = BLOCKS["Fill it over HTTPS"][2]
-    with a_store(is_filled=False) as room:
-        room.write("list", BLOCKS["Fill it from SPIRE"][1].encode())
-        for said in ("stored", "unchanged"):
-            lines = room.run(BLOCKS["Fill it from SPIRE"][2]).splitlines()
-            assert [it.split()[1:3] for it in lines] == [["a.example", said], ["b.example", said]], lines
-            room.write("refreshed", "\n".join([*lines, ""]).encode())
-            assert room.run(grep, status=1) == ""
-        os.remove(f"{room.path}/documents/b.example.json")
-        room.run(f"{BLOCKS['Fill it from SPIRE'][2].rstrip()} >> refreshed", status=3)
-        assert [it.split()[1:4] for it in room.run(grep).splitlines()] == [["b.example", "no", "answer"]]
-        assert (room.get("a.example"), room.get("b.example")) == (A, B)
+    room = a_store(is_filled=False)
+    room.write("list", BLOCKS["Fill it from SPIRE"][1].encode())
+    for said in ("stored", "unchanged"):
+        lines = room.run(BLOCKS["Fill it from SPIRE"][2]).splitlines()
+        assert [it.split()[1:3] for it in lines] == [["a.example", said], ["b.example", said]], lines
+        room.write("refreshed", "\n".join([*lines, ""]).encode())
+        assert room.run(grep, status=1) == ""
+    os.remove(f"{room.path}/documents/b.example.json")
+    room.run(f"{BLOCKS['Fill it from SPIRE'][2].rstrip()} >> refreshed", status=3)
+    assert [it.split()[1:4] for it in room.run(grep).splitlines()] == [["b.example", "no", "answer"]]
+    assert (room.get("a.example"), room.get("b.example")) == (A, B)
 
 
 def fetches_over_https():
     """The script that fetches, with a curl of its own that takes documents from a folder, and one that fails."""
-    with tempfile.TemporaryDirectory(prefix="recipes-") as path:
-        room = Room(path)
-        os.makedirs(f"{path}/bin")
-        room.write("bin/curl", b'#!/bin/sh\nfor it; do last=$it; done\nwhile [ "$1" != -o ]; do shift; done\ncp "$SERVED/${last##*/}" "$2"\n')
-        room.write("fetch", BLOCKS["Fill it over HTTPS"][0].encode())
-        os.chmod(f"{path}/bin/curl", 0o755)
-        room.write("served-a", A)
-        room.write("list", b"# a note\nc.example https://h/served-a https_web\nd.example https://h/none https_web\n"
-                           b"e.example https://h/served-a https_spiffe spiffe://e/s\nf.example https://h/served-a https_web")
-        room.run(f"PATH={path}/bin:$PATH SERVED={path} sh ./fetch list documents 2> faults", status=0)
-        found = {it: room.read(f"documents/{it}") for it in os.listdir(f"{path}/documents") if it[0] in "cdef."}
-        assert found == {"c.example.json": A, "f.example.json": A}, found
+    room = Shell()
+    path = room.path
+    os.mkdir(f"{path}/bin")
+    room.write("bin/curl", b'#!/bin/sh\nfor it; do last=$it; done\nwhile [ "$1" != -o ]; do shift; done\ncp "$SERVED/${last##*/}" "$2"\n')
+    room.write("fetch", BLOCKS["Fill it over HTTPS"][0].encode())
+    os.chmod(f"{path}/bin/curl", 0o755)
+    room.write("served-a", A)
+    room.write("list", b"# a note\nc.example https://h/served-a https_web\nd.example https://h/none https_web\n"
+                       b"e.example https://h/served-a https_spiffe spiffe://e/s\nf.example https://h/served-a https_web")
+    room.run(f"PATH={path}/bin:$PATH SERVED={path} sh ./fetch list documents 2> faults", status=0)
+    found = {it: room.read(f"documents/{it}") for it in os.listdir(f"{path}/documents") if it[0] in "cdef."}
+    assert found == {"c.example.json": A, "f.example.json": A}, found
 
 
 def fills_it_by_hand():
     """Documents are judged and set, one and many, and a bundle map is imported."""
-    with a_store(is_filled=False) as room:
-        said = room.run(BLOCKS["Judge a document"][0])
-        assert "documents/a.example.json" in said and "documents/b.example.json" in said, said
-        assert room.run(BLOCKS["Set one document"][0]) == "stored\n"
-        assert room.run(BLOCKS["Set one document"][1]) == "unchanged\nstored\n"
-        room.write("map.json", b'{"trust_domains":{"c.example":' + A + b"}}")
-        assert room.run(BLOCKS["Fill it from a bundle map"][0]) == "stored\n"
-        assert room.get("c.example") == A
-        room.write("map.json", b'{"trust_domains":{"c.example":{}}}')
-        room.run(BLOCKS["Fill it from a bundle map"][0], status=1)
+    room = a_store(is_filled=False)
+    said = room.run(BLOCKS["Judge a document"][0])
+    assert "documents/a.example.json" in said and "documents/b.example.json" in said, said
+    assert room.run(BLOCKS["Set one document"][0]) == "stored\n"
+    assert room.run(BLOCKS["Set one document"][1]) == "unchanged\nstored\n"
+    room.write("map.json", b'{"trust_domains":{"c.example":' + A + b"}}")
+    assert room.run(BLOCKS["Fill it from a bundle map"][0]) == "stored\n"
+    assert room.get("c.example") == A
+    room.write("map.json", b'{"trust_domains":{"c.example":{}}}')
+    room.run(BLOCKS["Fill it from a bundle map"][0], status=1)
 
 
 def sets_it_if_it_is_the_one():
     """Of two who have read the same bundle the first sets it."""
     recipe = BLOCKS["Several refreshers"][0]
-    with a_store() as room:
-        assert room.python(recipe) == ""
-        assert json.loads(room.get("a.example")) == {**json.loads(A), "spiffe_sequence": 8, "spiffe_refresh_hint": 60}
-        other = "        Client.connect(8443).set('a.example', {'keys': [], 'spiffe_sequence': 9})\n"
-        raced = recipe.replace("    try:\n", f"    try:\n{other}")
-        assert raced != recipe
-        assert room.python(raced) == "refused 36 NotExpected 9\n"
+    room = a_store()
+    assert room.python(recipe) == ""
+    assert json.loads(room.get("a.example")) == {**json.loads(A), "spiffe_sequence": 8, "spiffe_refresh_hint": 60}
+    other = "        Client.connect(8443).set('a.example', {'keys': [], 'spiffe_sequence': 9})\n"
+    raced = recipe.replace("    try:\n", f"    try:\n{other}")
+    assert raced != recipe
+    assert room.python(raced) == "refused 36 NotExpected 9\n"
 
 
 def is_read():
     """In a shell, by the client, and in Python, over a port and over a pipe."""
-    with a_store() as room:
-        lines = [f"bundle {name} {text.decode()}" for name, text in BOTH.items()]
-        assert room.run(BLOCKS["Read it in a shell"][0]).splitlines() == [f"found {A.decode()}", "all 2", *lines]
-        assert room.read("dump") == dump_of(BOTH)
-        text, whole = room.run(BLOCKS["Read it in a shell"][1]).splitlines()
-        assert (text.encode(), json.loads(whole)) == (A, {"trust_domains": {it: json.loads(BOTH[it]) for it in BOTH}})
-        keys, *rest = room.python(BLOCKS["Read it in Python"][0]).splitlines()
-        assert keys == repr(json.loads(A)["keys"])
-        assert rest[:2] == [f"{it} {len(BOTH[it])}" for it in BOTH] and len(rest) == 4, rest
-        assert room.python(BLOCKS["Read it in Python"][1]).startswith("Stored")
+    room = a_store()
+    lines = [f"bundle {name} {text.decode()}" for name, text in BOTH.items()]
+    assert room.run(BLOCKS["Read it in a shell"][0]).splitlines() == [f"found {A.decode()}", "all 2", *lines]
+    assert room.read("dump") == dump_of(BOTH)
+    text, whole = room.run(BLOCKS["Read it in a shell"][1]).splitlines()
+    assert (text.encode(), json.loads(whole)) == (A, {"trust_domains": {it: json.loads(BOTH[it]) for it in BOTH}})
+    keys, *rest = room.python(BLOCKS["Read it in Python"][0]).splitlines()
+    assert keys == repr(json.loads(A)["keys"])
+    assert rest[:2] == [f"{it} {len(BOTH[it])}" for it in BOTH] and len(rest) == 4, rest
+    assert room.python(BLOCKS["Read it in Python"][1]).startswith("Stored")
 
 
 def is_read_in_go():
     """By a program that is made of the page's and the client."""
-    with a_store() as room:
-        os.makedirs(f"{room.path}/program")
-        room.write("program/main.go", BLOCKS["Read it in Go"][0].replace(PORT, room.port).encode())
-        room.write("program/go.mod", f"module program\ngo 1.19\nrequire hopslintel v0.0.0\nreplace hopslintel => {ROOT}/clients/go\n".encode())
-        # The first build takes its time.
-        lines = room.run("cd program && CGO_ENABLED=0 go run .", seconds=10 * SECONDS).splitlines()
-        assert lines == [A.decode(), *(f"{it} {len(BOTH[it])}" for it in BOTH)], lines
+    room = a_store()
+    os.mkdir(f"{room.path}/program")
+    room.write("program/main.go", BLOCKS["Read it in Go"][0].replace(PORT, room.port).encode())
+    room.write("program/go.mod", f"module program\ngo 1.19\nrequire hopslintel v0.0.0\nreplace hopslintel => {ROOT}/clients/go\n".encode())
+    # The first build takes its time.
+    lines = room.run("cd program && CGO_ENABLED=0 go run .", seconds=10 * SECONDS).splitlines()
+    assert lines == [A.decode(), *(f"{it} {len(BOTH[it])}" for it in BOTH)], lines
 
 
 def hands_on_a_folder():
     """A snapshot again and again, and two files of it that are of one moment."""
-    with a_store() as room, room.start(BLOCKS["A folder of files"][0]) as running:
-        try:
-            limit = time.monotonic() + SECONDS
-            while not os.path.exists(f"{room.path}/bundles/current") and time.monotonic() < limit:
-                time.sleep(0.05)
-            assert room.run(BLOCKS["A folder of files"][1]).encode() == pem_of(A) + pem_of(B)
-        finally:
-            stop(running)
+    room = a_store()
+    room.start(BLOCKS["A folder of files"][0])
+    wait_until(lambda: os.path.exists(f"{room.path}/bundles/current"), "the folder shows something")
+    assert room.run(BLOCKS["A folder of files"][1]).encode() == pem_of(A) + pem_of(B)
 
 
 def hands_on_files():
     """For gRPC and Envoy, for nginx, and for another SPIRE server."""
-    with a_store() as room:
-        room.run(BLOCKS["gRPC"][0])
-        only = {name: {"keys": [it for it in json.loads(text)["keys"] if it["use"] == "x509-svid"]} for name, text in BOTH.items()}
-        found = json.loads(room.read("map.json"))["trust_domains"]
-        assert {it: {"keys": found[it]["keys"]} for it in found} == only
-        assert not any("spiffe_refresh_hint" in it for it in found.values())
-        room.run(BLOCKS["nginx"][0])
-        assert room.read("a.example.pem") == pem_of(A)
-        room.run(BLOCKS["SPIRE"][0].splitlines()[0])
-        assert room.read("b.example.json") == B + b"\n"
+    room = a_store()
+    room.run(BLOCKS["gRPC"][0])
+    only = {name: {"keys": [it for it in json.loads(text)["keys"] if it["use"] == "x509-svid"]} for name, text in BOTH.items()}
+    found = json.loads(room.read("map.json"))["trust_domains"]
+    assert {it: {"keys": found[it]["keys"]} for it in found} == only
+    assert not any("spiffe_refresh_hint" in it for it in found.values())
+    room.run(BLOCKS["nginx"][0])
+    assert room.read("a.example.pem") == pem_of(A)
+    room.run(BLOCKS["SPIRE"][0].splitlines()[0])
+    assert room.read("b.example.json") == B + b"\n"
 
 
 def is_looked_at():
     """A dump and requests as lines, what changed, and the digest."""
-    with a_store() as room:
-        room.run("store dump > dump.yesterday && store dump > dump")
-        dumps, typed, piped = BLOCKS["Look at it in lines"][0].splitlines()
-        assert room.run(dumps).splitlines()[0] == "all 2"
-        assert room.run(typed, given=b"get b.example\nremove b.example\n").splitlines() == [f"found {B.decode()}", "removed"]
-        assert room.run(piped, given=b"get b.example\n").splitlines() == ["refused 30"]
-        assert room.run(BLOCKS["What changed"][0]) == ""
-        room.run(BLOCKS["More than one machine"][0])
-        assert room.read("dump") == dump_of({"a.example": A})
-        assert room.run(BLOCKS["What changed"][0], status=3).startswith("- b.example")
-        digest = room.run(BLOCKS["More than one machine"][2]).split()[0]
-        assert digest == hashlib.sha256(dump_of({"a.example": A})).hexdigest()
+    room = a_store()
+    room.run("store dump > dump.yesterday && store dump > dump")
+    dumps, typed, piped = BLOCKS["Look at it in lines"][0].splitlines()
+    assert room.run(dumps).splitlines()[0] == "all 2"
+    assert room.run(typed, given=b"get b.example\nremove b.example\n").splitlines() == [f"found {B.decode()}", "removed"]
+    assert room.run(piped, given=b"get b.example\n").splitlines() == ["refused 30"]
+    assert room.run(BLOCKS["What changed"][0]) == ""
+    room.run(BLOCKS["More than one machine"][0])
+    assert room.read("dump") == dump_of({"a.example": A})
+    assert room.run(BLOCKS["What changed"][0], status=3).startswith("- b.example")
+    digest = room.run(BLOCKS["More than one machine"][2]).split()[0]
+    assert digest == hashlib.sha256(dump_of({"a.example": A})).hexdigest()
 
 
 def is_looked_at_with_jq():
     """Sequences and authorities, domains without any, a key ID; and the keys of a JWT library."""
     first, second, third = BLOCKS["Look at it with jq"]
     key = json.loads(B)["keys"][1]["kid"]
-    with a_store() as room:
-        assert room.run(first).splitlines() == ["a.example\t7\t2\t2", "b.example\t1\t1\t1"]
-        assert room.run(second) == ""
-        assert room.run(third.replace("kid k1", f"kid {key}")) == "b.example\n"
-        wanted = [{**it, "use": "sig"} for it in json.loads(A)["keys"] if it["use"] == "jwt-svid"]
-        assert json.loads(room.run(BLOCKS["A JWT library"][0])) == {"keys": wanted}
-        room.run(BLOCKS["A restart"][0])
-        assert json.loads(room.get("a.example")) == {"keys": [], "spiffe_sequence": 8}
-        assert room.run(second) == "a.example\n"
+    room = a_store()
+    assert room.run(first).splitlines() == ["a.example\t7\t2\t2", "b.example\t1\t1\t1"]
+    assert room.run(second) == ""
+    assert room.run(third.replace("kid k1", f"kid {key}")) == "b.example\n"
+    wanted = [{**it, "use": "sig"} for it in json.loads(A)["keys"] if it["use"] == "jwt-svid"]
+    assert json.loads(room.run(BLOCKS["A JWT library"][0])) == {"keys": wanted}
+    room.run(BLOCKS["A restart"][0])
+    assert json.loads(room.get("a.example")) == {"keys": [], "spiffe_sequence": 8}
+    assert room.run(second) == "a.example\n"
 
 
 def certificates_are_looked_at():
     """Each X.509 authority has a subject and an end."""
-    with a_store() as room:
-        lines = room.run(BLOCKS["Look at certificates"][0]).splitlines()
-        assert [it.partition("=")[0] for it in lines] == 2 * ["subject", "notAfter"], lines
+    room = a_store()
+    lines = room.run(BLOCKS["Look at certificates"][0]).splitlines()
+    assert [it.partition("=")[0] for it in lines] == 2 * ["subject", "notAfter"], lines
 
 
 def is_put_right():
     """A domain that began its sequence anew, and one whose bundle was emptied."""
     empty = b'{"keys":[],"spiffe_sequence":9}'
     emptied = BLOCKS["A bundle was emptied"]
-    with a_store() as room:
-        room.run("store dump > dump")
-        room.write("later", empty)
-        room.run("store set a.example later")
-        assert room.run(BLOCKS["Set one document"][0], status=3) == "refused 31 9\n"
-        room.run(BLOCKS["A domain began its sequence anew"][0])
-        assert room.get("a.example") == A
-        uses = [json.loads(it)["use"] for it in room.run(emptied[0]).splitlines()]
-        assert uses == [it["use"] for it in json.loads(room.read("documents/a.example.json"))["keys"]]
-        room.run("store set a.example later")
-        room.run(emptied[1])
-        wanted = json.loads(A)
-        del wanted["spiffe_sequence"]
-        assert json.loads(room.get("a.example")) == wanted
+    room = a_store()
+    room.run("store dump > dump")
+    room.write("later", empty)
+    room.run("store set a.example later")
+    assert room.run(BLOCKS["Set one document"][0], status=3) == "refused 31 9\n"
+    room.run(BLOCKS["A domain began its sequence anew"][0])
+    assert room.get("a.example") == A
+    uses = [json.loads(it)["use"] for it in room.run(emptied[0]).splitlines()]
+    assert uses == [it["use"] for it in json.loads(room.read("documents/a.example.json"))["keys"]]
+    room.run("store set a.example later")
+    room.run(emptied[1])
+    wanted = json.loads(A)
+    del wanted["spiffe_sequence"]
+    assert json.loads(room.get("a.example")) == wanted
 
 
 def shows_the_race():
     """No fetch-all shows a map that never was."""
-    with tempfile.TemporaryDirectory(prefix="recipes-") as path:
-        last = Room(path).run(BLOCKS["See why a fetch-all matters"][0]).splitlines()[-1]
-        assert re.fullmatch(r"fetch-all: [1-9]\d* readings, 0 of them maps that never were", last), last
+    last = Shell().run(BLOCKS["See why a fetch-all matters"][0]).splitlines()[-1]
+    assert re.fullmatch(r"fetch-all: [1-9]\d* readings, 0 of them maps that never were", last), last
 
 
 # Each check, and the programs that its recipes call besides those of any system.
@@ -308,23 +282,5 @@ CHECKS = {runs_a_store: [], fills_it_by_refreshes: [], fetches_over_https: [], f
           certificates_are_looked_at: ["jq", "openssl"], is_put_right: ["jq"], shows_the_race: []}
 
 
-def main():
-    passed = failed = 0
-    for check, programs in CHECKS.items():
-        lacking = [it for it in programs if not shutil.which(it)]
-        if lacking:
-            print(f"{check.__name__}: left out, since this machine has no {lacking[0]}", flush=True)
-            continue
-        try:
-            check()
-            passed += 1
-            print(f"{check.__name__}: as it should be", flush=True)
-        except (AssertionError, subprocess.SubprocessError, OSError, ValueError) as error:
-            failed += 1
-            print(f"{check.__name__}: FAILED: {error!r}"[:2000], flush=True)
-    print(f"{passed} passed, {failed} failed")
-    return 1 if failed else 0
-
-
 if __name__ == "__main__":
-    sys.exit(main())
+    sys.exit(run_checks(list(CHECKS), needs=CHECKS))

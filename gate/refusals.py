@@ -2,10 +2,9 @@
 import collections
 import os
 import subprocess
-import sys
 
-ROOT = os.path.dirname(os.path.dirname(os.path.abspath(__file__)))
-SECONDS = 60
+from checks import ROOT, SECONDS, built
+
 MOST_GROWTHS = 2000
 
 # `allows` says whether an end is right where up to so many growths were refused.
@@ -20,17 +19,6 @@ def build_shim(room):
     shim = f"{room}/refuse.so"
     subprocess.run([*clang, "-fuse-ld=lld", "-o", shim, f"{ROOT}/gate/refuse.c"], check=True)
     return shim
-
-
-def built(crate, name):
-    path = f"{ROOT}/crates/{crate}/out/{name}"
-    if not os.path.isfile(path):
-        sys.exit(f"{path} is not built: ./check builds all, rt run the program, and rt test a crate's tests")
-    return path
-
-
-def program(name):
-    return built(name, name)
 
 
 def tests_of(crate):

@@ -15,6 +15,7 @@ from concurrent.futures import ThreadPoolExecutor
 
 sys.dont_write_bytecode = True
 
+from checks import what_went_wrong  # noqa: E402
 from program_runs import program_runs  # noqa: E402
 from refusals import MOST_GROWTHS, Run, build_shim, run_once, sweep, tests_of  # noqa: E402
 
@@ -55,12 +56,20 @@ def test_runs():
                 yield Run(f"{crate} {name}", [tests, name], b"", test_allows(name))
 
 
+def swept(run, shim):
+    """How many growths the run has, and what went wrong: also if it could not be run."""
+    try:
+        return sweep(run, shim)
+    except Exception as error:  # pylint: disable=broad-except
+        return 0, what_went_wrong(error)
+
+
 def main():
     with tempfile.TemporaryDirectory(prefix="refused-growths-") as room:
         shim = build_shim(room)
         runs, passed, failed = [*program_runs(), *test_runs()], 0, 0
         with ThreadPoolExecutor(os.cpu_count()) as pool:
-            for run, (growths, why) in zip(runs, pool.map(lambda it: sweep(it, shim), runs)):
+            for run, (growths, why) in zip(runs, pool.map(lambda it: swept(it, shim), runs)):
                 if growths is None:
                     print(f"{run.name}: left out, since it has over {MOST_GROWTHS} growths", flush=True)
                     continue

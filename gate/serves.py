@@ -5,60 +5,29 @@ usage: gate/serves.py   (over the program that rt ci or rt run has built in crat
 
 What is expected of the bundles in gate/bundles is not made by the program: each NAME.canonical was made by another one.
 """
+import contextlib
 import os
+import select
 import signal
 import socket
+import statistics
 import struct
-import subprocess
 import sys
-import tempfile
 import threading
 import time
 
 sys.dont_write_bytecode = True
 
-from program_runs import frame  # noqa: E402
-from refreshes import BUNDLES, DUE, canonical  # noqa: E402
-from refusals import build_shim, program  # noqa: E402
+from checks import BUNDLES, DUE, EMPTY, ENTRY, SECONDS, Beside, Lasting, Room, Server, bytes_of, canonical, dump_of_real  # noqa: E402
+from checks import frame, frame_of, named, numbered, received, rest_of, run_checks, run_words, wait_until  # noqa: E402
+from refusals import build_shim  # noqa: E402
 
-SECONDS = 60
-EMPTY = b'{"keys":[]}'
-ENTRY = b'{"use":"jwt-svid","kty":"RSA","kid":"k","n":"AQAB","e":"AQAB"}'
-SET_A = frame(b"S\x01a" + EMPTY)
-GET_A = frame(b"G\x01a")
-FIRST = frame(b"s") + frame(b"f" + EMPTY)
-
-
-class Server:
-    """The program behind a port that it has chosen."""
-
-    def __init__(self, *options, port="0", stdin=subprocess.DEVNULL, env=None):
-        words = [program("bundled"), "serve", "--port", port, *options]
-        how = {"stdin": stdin, "stdout": subprocess.PIPE, "stderr": subprocess.PIPE, "env": env}
-        self.started = subprocess.Popen(words, **how)
-        self.line = self.started.stdout.readline().decode()
-        words = self.line.split()
-        self.port = int(words[1]) if words[:1] == ["listening"] else None
-        self.read_port = int(words[3]) if words[2:3] == ["read-only"] else None
-
-    def connect(self, port=None):
-        return socket.create_connection(("127.0.0.1", port or self.port), timeout=SECONDS)
-
-    def ask(self, request, port=None):
-        """What comes back, to its end, for a request that is the last."""
-        with self.connect(port) as stream:
-            stream.sendall(request)
-            stream.shutdown(socket.SHUT_WR)
-            return b"".join(iter(lambda: stream.recv(65536), b""))
-
-    def ended(self):
-        out, err = self.started.communicate(timeout=SECONDS)
-        return self.started.returncode, out.decode(), (err or b"").decode()
-
-    def of_status(self, name):
-        """A number that the system tells of the process."""
-        with open(f"/proc/{self.started.pid}/status", encoding="ascii") as it:
-            return next(int(line.split()[1]) for line in it if line.startswith(f"{name}:"))
+SET_A, GET_A = named(b"S", "a", EMPTY), named(b"G", "a")
+STORED, FOUND, NO_DOMAIN = frame(b"s"), frame(b"f" + EMPTY), frame(b"\x1e")
+FIRST = STORED + FOUND
+REAL = f"{BUNDLES}/many.json"
+# So many gets of that are answered by more than a connection holds, if nobody reads.
+TOO_MANY = 2000
 
 
 def two_workers():
@@ -75,10 +44,10 @@ def side_by_side():
     server = Server("--workers", "2")
     with server.connect() as slow:
         slow.sendall(SET_A + b"\0\0\0\3G")
-        assert slow.recv(5) == frame(b"s")
-        assert server.ask(GET_A) == frame(b"f" + EMPTY)
+        assert received(slow, len(STORED)) == STORED
+        assert server.ask(GET_A) == FOUND
         slow.sendall(b"\x01a")
-        assert slow.recv(100) == frame(b"f" + EMPTY)
+        assert received(slow, len(FOUND)) == FOUND
     assert server.ended() == (0, "served 2\ndomains 1\n", ""), "ended otherwise"
 
 
@@ -87,52 +56,41 @@ def real_bundles():
     server = Server("--workers", "1", "--connections", "3")
     words = ["--relationships", f"{BUNDLES}/relationships", "--documents", BUNDLES, "--now", "1000", "--port", str(server.port)]
     for said in ("stored", "unchanged"):
-        ran = subprocess.run([program("bundled"), "refresh", *words], stdout=subprocess.PIPE, timeout=SECONDS)
         lines = "".join(f"1000 {name} {said} due {1000 + due}\n" for name, due in sorted(DUE.items()))
-        assert (ran.returncode, ran.stdout.decode()) == (0, lines), ran
-    assert server.ask(frame(b"F")) == dump_of_all()
+        ended = run_words("refresh", *words)
+        assert ended == (0, lines.encode(), b""), ended
+    assert server.ask(frame(b"F")) == dump_of_real()
     assert server.ended() == (0, f"served 3\ndomains {len(DUE)}\n", ""), "ended otherwise"
-
-
-def dump_of_all():
-    """The reply to a fetch-all of the bundles in gate/bundles."""
-    items = [frame(b"i" + bytes([len(name)]) + name.encode() + canonical(name)) for name in sorted(DUE)]
-    return frame(b"a" + len(DUE).to_bytes(8, "big")) + b"".join(items)
 
 
 def filled_stores():
     """A dump fills the store before the first client comes; what is no dump is refused, and nothing listens."""
-    with tempfile.TemporaryDirectory(prefix="filled-stores-") as room:
-        dump = f"{room}/dump"
-        with open(dump, "wb") as it:
-            it.write(dump_of_all())
-        server = Server("--workers", "2", "--load", dump)
-        assert server.ask(frame(b"F")) == dump_of_all()
-        assert server.ask(frame(b"R\x04many") + frame(b"G\x04many")) == frame(b"d") + frame(b"\x1e")
-        assert server.ended() == (0, f"served 2\ndomains {len(DUE) - 1}\n", ""), "ended otherwise"
-        for bad, line in [(dump_of_all()[:-1], f"fault 63 {len(DUE)}\n"), (b"", "fault 63 0\n"), (None, "fault 53\n")]:
-            if bad is None:
-                os.remove(dump)
-            else:
-                with open(dump, "wb") as it:
-                    it.write(bad)
-            server = Server("--load", dump)
-            assert (server.line, server.ended()) == ("", (1, "", line)), server.line
+    room = Room()
+    dump = room.write("dump", dump_of_real())
+    server = Server("--workers", "2", "--load", dump)
+    assert server.ask(frame(b"F")) == dump_of_real()
+    assert server.ask(named(b"R", "many") + named(b"G", "many")) == frame(b"d") + NO_DOMAIN
+    assert server.ended() == (0, f"served 2\ndomains {len(DUE) - 1}\n", ""), "ended otherwise"
+    room.write("torn", dump_of_real()[:-1])
+    room.write("empty", b"")
+    for bad, line in [("torn", f"fault 63 {len(DUE)}\n"), ("empty", "fault 63 0\n"), ("nowhere", "fault 53\n")]:
+        server = Server("--load", f"{room.path}/{bad}")
+        assert (server.line, server.ended()) == ("", (1, "", line)), server.line
 
 
 def clients_that_fail():
     """Clients that leave inside a frame, send a bad length, close at once or reset the connection; the server goes on."""
     server = Server("--workers", "1", "--connections", "6")
-    assert server.ask(SET_A + b"\0\0\0\3G") == frame(b"s")
-    assert server.ask(GET_A + b"\0\0\0\0") == frame(b"f" + EMPTY)
+    assert server.ask(SET_A + b"\0\0\0\3G") == STORED
+    assert server.ask(GET_A + b"\0\0\0\0") == FOUND
     assert server.ask(b"") == b""
     with server.connect() as stream:
         stream.setsockopt(socket.SOL_SOCKET, socket.SO_LINGER, struct.pack("ii", 1, 0))
         stream.sendall(b"\0\0")
     with server.connect() as stream:
         stream.sendall(GET_A)
-        assert stream.recv(100) == frame(b"f" + EMPTY)
-    assert server.ask(GET_A + frame(b"R\x01a") + GET_A) == frame(b"f" + EMPTY) + frame(b"d") + frame(b"\x1e")
+        assert received(stream, len(FOUND)) == FOUND
+    assert server.ask(GET_A + named(b"R", "a") + GET_A) == FOUND + frame(b"d") + NO_DOMAIN
     status, out, err = server.ended()
     assert (status, out) == (0, "served 6\ndomains 0\n"), (status, out, err)
     assert err == "fault 52\nfault 50\nfault 53\n", err
@@ -141,11 +99,11 @@ def clients_that_fail():
 def many_workers():
     """64 workers take 64 connections that stand beside each other."""
     server = Server("--workers", "64")
-    streams = [server.connect() for _ in range(64)]
+    streams = server.connections(64)
     for number, stream in enumerate(streams):
         stream.sendall(SET_A.replace(b"\x01a", bytes([1, 48 + number % 10])))
     for stream in streams:
-        assert stream.recv(5) in (frame(b"s"), frame(b"u"))
+        assert received(stream, 5) in (STORED, frame(b"u"))
         stream.close()
     assert server.ended() == (0, "served 64\ndomains 10\n", ""), "ended otherwise"
 
@@ -156,48 +114,52 @@ def ports_and_outputs():
         server = Server(port=str(taken.getsockname()[1]))
         assert (server.line, server.ended()) == ("", (1, "", "fault 57\n")), server.line
     with open("/dev/full", "wb") as full:
-        words = [program("bundled"), "serve", "--port", "0"]
-        ran = subprocess.run(words, stdin=subprocess.DEVNULL, stdout=full, stderr=subprocess.PIPE, timeout=SECONDS)
-        assert (ran.returncode, ran.stderr) == (1, b"fault 54\n"), ran
+        ended = run_words("serve", "--port", "0", out=full)
+        assert ended == (1, None, b"fault 54\n"), ended
     server = Server("--workers", "1")
     server.started.stdout.close()
-    assert server.ask(SET_A) == frame(b"s")
-    err = server.started.stderr.read()
-    assert (server.started.wait(SECONDS), err) == (1, b"fault 54\nfault 54\n"), err
-    server.started.stderr.close()
+    assert server.ask(SET_A) == STORED
+    assert (server.started.wait(SECONDS), server.said()) == (1, "fault 54\nfault 54\n"), server.said()
 
 
 def silent_clients(env=None, threads=2):
-    """A client that is silent inside a frame is given up; between frames it may be silent."""
-    server = Server("--workers", "1", "--connections", "3", "--idle", "1", env=env)
-    with server.connect() as stream:
-        stream.sendall(SET_A + b"\0\0\0\3G")
-        assert stream.recv(5) == frame(b"s")
-        assert server.of_status("Threads") == threads
-        assert stream.recv(5) == b""
-    with server.connect() as stream:
+    """A client that is silent inside a frame is given up. One that is silent between frames for longer than that is not."""
+    server = Server("--workers", "1", "--connections", "3", "--idle", "3", env=env)
+    with server.connect() as patient:
+        patient.sendall(SET_A)
+        assert received(patient, len(STORED)) == STORED
         for _ in range(2):
             for byte in GET_A:
-                stream.sendall(bytes([byte]))
-            assert stream.recv(100) == frame(b"f" + EMPTY)
-            time.sleep(2.5)
-    assert server.ask(GET_A) == frame(b"f" + EMPTY)
-    assert server.ended() == (0, "served 3\ndomains 1\n", "fault 53\n"), "ended otherwise"
+                patient.sendall(bytes([byte]))
+            assert received(patient, len(FOUND)) == FOUND
+            with server.connect() as silent:
+                silent.sendall(GET_A + b"\0\0\0\3G")
+                assert received(silent, len(FOUND)) == FOUND
+                assert int(server.of_system("Threads")) == threads
+                assert rest_of(silent) == b""
+        patient.sendall(GET_A)
+        assert received(patient, len(FOUND)) == FOUND
+    assert server.ended() == (0, "served 3\ndomains 1\n", 2 * "fault 53\n"), "ended otherwise"
 
 
 def silent_clients_without_threads():
     """It is the same where no thread can be made that counts the time: then the worker reads the clock."""
-    with tempfile.TemporaryDirectory() as room:
-        silent_clients({"LD_PRELOAD": build_shim(room), "REFUSE_THREADS": "1"}, threads=1)
+    silent_clients({"LD_PRELOAD": build_shim(Room().path), "REFUSE_THREADS": "1"}, threads=1)
 
 
 def client_that_never_reads():
     """A client that asks for more than the sockets hold, and reads nothing, is given up."""
     server = Server("--workers", "1", "--connections", "2", "--idle", "1")
-    with open(f"{BUNDLES}/many.json", "rb") as it, server.connect() as stream:
-        stream.sendall(frame(b"S\x01a" + it.read()) + 2000 * GET_A)
+    with server.connect() as stream:
+        stream.sendall(named(b"S", "a", bytes_of(REAL)) + TOO_MANY * GET_A)
+        wait_until_it_writes(stream)
         assert server.ask(GET_A) == frame(b"f" + canonical("many"))
-    assert server.ended() == (0, "served 2\ndomains 1\n", "fault 54\n"), "ended otherwise"
+        assert server.ended() == (0, "served 2\ndomains 1\n", "fault 54\n"), "ended otherwise"
+
+
+def wait_until_it_writes(stream):
+    """Waits until the server has written much that is not read, and leaves that there."""
+    wait_until(lambda: len(stream.recv(1 << 16, socket.MSG_PEEK)) == 1 << 16, "there is much to read")
 
 
 def replies_before_a_bad_length():
@@ -205,10 +167,17 @@ def replies_before_a_bad_length():
     server = Server("--workers", "1")
     with server.connect() as stream:
         stream.sendall(GET_A + bytes(4) + bytes(30000))
-        time.sleep(0.5)
+        wait_until_it_writes_no_more(stream)
         stream.sendall(b"more")
-        assert b"".join(iter(lambda: stream.recv(65536), b"")) == frame(b"\x1e")
+        assert rest_of(stream) == NO_DOMAIN
     assert server.ended() == (0, "served 1\ndomains 0\n", "fault 50\n"), "ended otherwise"
+
+
+def wait_until_it_writes_no_more(stream):
+    """Waits for the end of what the server writes, and leaves all of that there."""
+    waiting = select.poll()
+    waiting.register(stream, select.POLLRDHUP)
+    assert waiting.poll(1000 * SECONDS), f"the server goes on after {SECONDS} seconds"
 
 
 def stops_at_the_end_of_input():
@@ -217,25 +186,24 @@ def stops_at_the_end_of_input():
     server = Server("--workers", "3", "--connections", "unlimited", "--until-eof", stdin=end)
     os.close(end)
     os.write(hold, b"what is read says nothing")
-    assert server.ask(SET_A) == frame(b"s")
+    assert server.ask(SET_A) == STORED
     for _ in range(10):
-        assert server.ask(GET_A) == frame(b"f" + EMPTY)
+        assert server.ask(GET_A) == FOUND
     with server.connect() as stream:
         stream.sendall(GET_A)
-        assert stream.recv(100) == frame(b"f" + EMPTY)
+        assert received(stream, len(FOUND)) == FOUND
         os.close(hold)
-        assert stream.recv(100) == b""
+        assert rest_of(stream) == b""
     assert server.ended() == (0, "served 12\ndomains 1\n", ""), "ended otherwise"
 
 
 def told_changes():
     """With --log each change and each end of a connection is a line on standard error, and nothing else is."""
     server = Server("--workers", "1", "--connections", "2", "--log")
-    numbered = b'{"keys":[],"spiffe_sequence":7}'
     turns = [
-        (b"S\x01a" + numbered, b"s"),
-        (b"S\x01a" + numbered, b"u"),
-        (b"G\x01a", b"f" + numbered),
+        (b"S\x01a" + numbered(7), b"s"),
+        (b"S\x01a" + numbered(7), b"u"),
+        (b"G\x01a", b"f" + numbered(7)),
         (b"A\x01a" + ENTRY, b"p\1" + (8).to_bytes(8, "big")),
         (b"S\x01b" + EMPTY, b"s"),
         (b"R\x01b", b"d"),
@@ -249,79 +217,47 @@ def told_changes():
     assert server.ended() == (0, "served 2\ndomains 1\n", f"{log}fault 52\n"), "ended otherwise"
 
 
-class Lasting(Server):
-    """A server that takes connections without end, until it is told to stop."""
-
-    def __init__(self, *options):
-        end, self.hold = os.pipe()
-        super().__init__("--connections", "unlimited", "--until-eof", *options, stdin=end)
-        os.close(end)
-
-    def ended(self):
-        os.close(self.hold)
-        return super().ended()
-
-    def kilobytes(self):
-        """How much memory of the machine it has now."""
-        return self.of_status("VmRSS")
-
-
-def name_of(number):
-    return b"n%04d" % number
-
-
 def set_of(number):
-    return frame(b"S\x05" + name_of(number) + EMPTY)
+    return named(b"S", f"n{number:04}", EMPTY)
 
 
 def get_of(number):
-    return frame(b"G\x05" + name_of(number))
+    return named(b"G", f"n{number:04}")
 
 
 def a_thousand_connections():
     """On 4 workers a thousand connections are open at once, and each gets all its replies, in order."""
     server = Lasting("--workers", "4", "--max-open", "1000")
-    streams = [server.connect() for _ in range(1000)]
+    streams = server.connections(1000)
     for number, stream in enumerate(streams):
         stream.sendall(set_of(number) + 3 * get_of(number))
     for stream in streams:
-        assert received(stream, 5 + 3 * 16) == frame(b"s") + 3 * frame(b"f" + EMPTY)
+        assert received(stream, len(FIRST + 2 * FOUND)) == FIRST + 2 * FOUND
     # All are open still, and are answered again, in another order.
     for number, stream in reversed(list(enumerate(streams))):
         stream.sendall(get_of((number + 1) % 1000))
     for stream in streams:
-        assert received(stream, 16) == frame(b"f" + EMPTY)
+        assert received(stream, len(FOUND)) == FOUND
     for stream in streams:
         stream.close()
     assert server.ended() == (0, "served 1000\ndomains 1000\n", ""), "ended otherwise"
 
 
-def received(stream, size):
-    """So many bytes, or as many as come."""
-    data = b""
-    while len(data) < size:
-        more = stream.recv(size - len(data))
-        if not more:
-            break
-        data += more
-    return data
-
-
 def connections_in_wait():
     """One more than may be open waits, and is answered once another is closed."""
     server = Lasting("--workers", "2", "--max-open", "2")
-    streams = [server.connect() for _ in range(3)]
+    streams = server.connections(3)
     for stream in streams:
         stream.sendall(GET_A)
     for stream in streams[:2]:
-        assert received(stream, 5) == frame(b"\x1e")
+        assert received(stream, 5) == NO_DOMAIN
     streams[2].settimeout(0.6)
     try:
         raise AssertionError(f"one too many was answered: {streams[2].recv(5)}")
     except TimeoutError:
         streams[2].settimeout(SECONDS)
     streams[0].close()
-    assert received(streams[2], 5) == frame(b"\x1e")
+    assert received(streams[2], 5) == NO_DOMAIN
     for stream in streams[1:]:
         stream.close()
     assert server.ended() == (0, "served 3\ndomains 0\n", ""), "ended otherwise"
@@ -331,90 +267,94 @@ def read_only_port():
     """At the port for reads only nothing is changed, and what is set at the other port is seen."""
     server = Lasting("--workers", "2", "--read-port", "0")
     shut = frame(b"\x38")
-    tried = SET_A + frame(b"R\x01a") + frame(b"A\x01a" + ENTRY) + GET_A + frame(b"F")
+    tried = SET_A + named(b"R", "a") + named(b"A", "a", ENTRY) + GET_A + frame(b"F")
     none = frame(b"a" + bytes(8))
-    assert server.ask(tried, server.read_port) == 3 * shut + frame(b"\x1e") + none
+    assert server.ask(tried, server.read_port) == 3 * shut + NO_DOMAIN + none
     assert server.ask(frame(b"V\2") + frame(b"C\x01a\0" + EMPTY), server.read_port) == frame(b"v\2") + shut
-    assert server.ask(SET_A) == frame(b"s")
-    found = frame(b"f" + EMPTY)
-    assert server.ask(frame(b"R\x01a") + GET_A, server.read_port) == shut + found
+    assert server.ask(SET_A) == STORED
+    assert server.ask(named(b"R", "a") + GET_A, server.read_port) == shut + FOUND
     assert server.ended() == (0, "served 4\ndomains 1\n", ""), "ended otherwise"
 
 
 def one_client_that_asks_steadily():
     """A worker waits in the read of its only client. Meanwhile it is stopped and goes on, and others come and leave."""
-    server = Lasting("--workers", "1")
-    worst = 0
+    server = Lasting("--workers", "1", "--idle", "3600")
+    took = []
     with server.connect() as steady:
         steady.sendall(SET_A)
-        assert steady.recv(5) == frame(b"s")
+        assert received(steady, len(STORED)) == STORED
         for number in range(600):
             time.sleep(0.001)
             if number % 200 == 100:
-                server.started.send_signal(signal.SIGSTOP)
-                server.started.send_signal(signal.SIGCONT)
+                stop_and_go_on(server)
             if number % 100 == 50:
-                began = time.monotonic()
-                assert server.ask(GET_A) == frame(b"f" + EMPTY)
-                worst = max(worst, time.monotonic() - began)
+                took.append(seconds_of(lambda: server.ask(GET_A)))
             # In two pieces now and then, so that the worker waits inside a frame too.
             front = 3 if number % 7 == 0 else 0
             steady.sendall(GET_A[:front])
             time.sleep(0.002 * bool(front))
             steady.sendall(GET_A[front:])
-            assert steady.recv(100) == frame(b"f" + EMPTY)
+            assert received(steady, len(FOUND)) == FOUND
         # A client that takes no more keeps nobody waiting.
-        with open(f"{BUNDLES}/many.json", "rb") as it:
-            steady.sendall(frame(b"S\x01b" + it.read()) + 2000 * GET_A.replace(b"a", b"b"))
-        time.sleep(0.1)
-        began = time.monotonic()
-        assert server.ask(GET_A) == frame(b"f" + EMPTY)
-        worst = max(worst, time.monotonic() - began)
-    assert worst < 1, worst
+        steady.sendall(named(b"S", "b", bytes_of(REAL)) + TOO_MANY * named(b"G", "b"))
+        wait_until_it_writes(steady)
+        took.append(seconds_of(lambda: server.ask(GET_A)))
     assert server.ended()[:2] == (0, "served 8\ndomains 2\n"), "ended otherwise"
-    return f"; others were answered within {1000 * worst:.1f} ms"
+    return f"; others were {answered_soon(took)}"
+
+
+def stop_and_go_on(server):
+    """Stops the process, sees that it stands, and lets it go on."""
+    server.started.send_signal(signal.SIGSTOP)
+    wait_until(lambda: server.of_system("State") == "T", "the server stands")
+    server.started.send_signal(signal.SIGCONT)
+
+
+def seconds_of(ask, wanted=FOUND):
+    began = time.monotonic()
+    assert ask() == wanted
+    return time.monotonic() - began
+
+
+def answered_soon(took):
+    """Sees that most answers come soon. The machine may have kept the server from any one of them."""
+    usual, worst = statistics.median(took), max(took)
+    assert usual < 1, f"half of the answers took {usual:.1f} seconds or more"
+    return f"answered within {1000 * usual:.1f} ms, at worst {1000 * worst:.1f}"
 
 
 def flood_beside_others():
     """One client sends without pause, one a byte at a time, one bad lengths; another one has its answers soon."""
-    server = Lasting("--workers", "1", "--idle", "60")
+    server = Lasting("--workers", "1", "--idle", "3600")
     until = time.monotonic() + 3
-    flood = threading.Thread(target=send_gets, args=(server, until))
-    bad = threading.Thread(target=send_bad_lengths, args=(server, until))
-    slow = server.connect()
-    flood.start()
-    bad.start()
-    worst, before, at = 0.0, server.kilobytes(), 0
-    with server.connect() as stream:
+    others = [Beside("the flood", send_gets, server, until), Beside("the bad lengths", send_bad_lengths, server, until)]
+    took, before, at = [], server.kilobytes(), 0
+    with server.connect() as slow, server.connect() as stream:
         while time.monotonic() < until:
             slow.sendall(bytes([GET_A[at % len(GET_A)]]))
             at += 1
-            asked = time.monotonic()
             stream.sendall(GET_A)
-            assert received(stream, 5) == frame(b"\x1e")
-            worst = max(worst, time.monotonic() - asked)
+            took.append(seconds_of(lambda: received(stream, 5), NO_DOMAIN))
             time.sleep(0.05)
-    flood.join()
-    bad.join()
-    assert received(slow, at // len(GET_A) * 5) == at // len(GET_A) * frame(b"\x1e")
-    slow.close()
+        for other in others:
+            other.join(6 * SECONDS)
+        assert received(slow, at // len(GET_A) * 5) == at // len(GET_A) * NO_DOMAIN
     grown = server.kilobytes() - before
-    assert worst < 1, f"an answer took {worst} seconds"
     assert grown < 20_000, f"the server has grown by {grown} kB"
     status, out, _ = server.ended()
     assert status == 0 and out.endswith("domains 0\n"), (status, out)
-    return f"; the worst answer took {1000 * worst:.1f} ms, and the server has grown by {grown} kB"
+    return f"; another one was {answered_soon(took)}, and the server has grown by {grown} kB"
 
 
 def send_gets(server, until):
     """Sends gets as fast as they are taken, and reads the replies as they come."""
     with server.connect() as stream:
-        reader = threading.Thread(target=read_all, args=(stream,))
-        reader.start()
+        reader = Beside("the reader of the flood", read_all, stream)
         while time.monotonic() < until:
             stream.sendall(1000 * GET_A)
         stream.shutdown(socket.SHUT_WR)
-        reader.join()
+        # (much of what was sent is still to be answered)
+        reader.join(5 * SECONDS)
 
 
 def read_all(stream):
@@ -426,44 +366,39 @@ def send_bad_lengths(server, until):
     """Connects again and again, and sends lengths of 4,294,967,295 until the server takes no more."""
     lengths = 100_000 * b"\xff\xff\xff\xff"
     while time.monotonic() < until:
-        with server.connect() as stream:
-            try:
-                for _ in range(50):
-                    stream.sendall(lengths)
-            except OSError:
-                pass
+        with server.connect() as stream, contextlib.suppress(ConnectionError):
+            for _ in range(50):
+                stream.sendall(lengths)
 
 
 def stops_while_clients_write():
     """A stop while 100 clients set domains: each that was told `stored` is there at the end."""
-    server = Lasting("--workers", "4")
-    stored = []
-    clients = [threading.Thread(target=set_until_it_ends, args=(server, number, stored)) for number in range(100)]
-    for client in clients:
-        client.start()
-    time.sleep(1)
+    server, is_over = Lasting("--workers", "4"), threading.Event()
+    stored = 100 * [0]
+    clients = [Beside(f"client {number}", set_until_it_ends, server, number, stored, is_over) for number in range(len(stored))]
+    wait_until(lambda: sum(stored) >= 1000, "a thousand domains are set")
+    is_over.set()
     status, out, _ = server.ended()
     for client in clients:
         client.join()
-    domains = int(out.split()[3])
-    assert status == 0 and sum(stored) <= domains, (status, out, sum(stored))
-    assert sum(stored) > 0, "no client was told anything"
+    assert status == 0 and sum(stored) <= int(out.split()[3]), (status, out, sum(stored))
 
 
-def set_until_it_ends(server, number, stored):
-    """Sets one domain of its own after the other, and counts the replies."""
-    count = 0
+def set_until_it_ends(server, number, stored, is_over):
+    """Sets one domain of its own after the other, and counts the replies, until the server is told to end and does."""
     try:
         with server.connect() as stream:
             for domain in range(1_000_000):
-                name = b"c%02d-%06d" % (number, domain)
-                stream.sendall(frame(b"S" + bytes([len(name)]) + name + EMPTY))
-                if received(stream, 5) != frame(b"s"):
+                stream.sendall(named(b"S", f"c{number:02}-{domain:06}", EMPTY))
+                reply = frame_of(stream)
+                if not reply:
                     break
-                count += 1
-    except OSError:
-        pass
-    stored.append(count)
+                # Another worker may have been in the way.
+                assert reply == STORED or reply[4:5] == b"\x2a", reply
+                stored[number] += reply == STORED
+            assert is_over.is_set(), "the connection is closed"
+    except ConnectionError:
+        assert is_over.is_set(), "the connection is lost"
 
 
 CHECKS = [two_workers, side_by_side, real_bundles, filled_stores, clients_that_fail, many_workers, ports_and_outputs,
@@ -472,18 +407,5 @@ CHECKS = [two_workers, side_by_side, real_bundles, filled_stores, clients_that_f
           one_client_that_asks_steadily, flood_beside_others, stops_while_clients_write]
 
 
-def main():
-    failed = 0
-    for check in CHECKS:
-        try:
-            said = check() or ""
-            print(f"{check.__name__}: as it should be{said}", flush=True)
-        except (AssertionError, subprocess.SubprocessError, OSError, ValueError) as error:
-            failed += 1
-            print(f"{check.__name__}: FAILED: {error!r}"[:2000], flush=True)
-    print(f"{len(CHECKS) - failed} passed, {failed} failed")
-    return 1 if failed else 0
-
-
 if __name__ == "__main__":
-    sys.exit(main())
+    sys.exit(run_checks(CHECKS))

@@ -15,20 +15,16 @@ import argparse
 import heapq
 import random
 import sys
-import threading
 import time
 
 sys.dont_write_bytecode = True
 
-from program_runs import frame  # noqa: E402
-from serves import Lasting, received  # noqa: E402
+from checks import AFTERWARDS, SECONDS, Beside, Lasting, frame, frame_of, named, numbered, what_went_wrong  # noqa: E402
 
 DOMAINS = [b"d%02d" % number for number in range(20)]
 SET, READ = "set", "read"
-
-
-def document(sequence):
-    return b'{"keys":[],"spiffe_sequence":%d}' % sequence
+# How many operations a client asks for in a round, however slow the machine is.
+LEAST = 10
 
 
 def sequence_of(text):
@@ -50,25 +46,23 @@ class Client:
         self.deeds.append((kind, shown, self.asked, time.monotonic_ns()))
 
     def reply(self):
-        size = int.from_bytes(received(self.stream, 4), "big")
-        return received(self.stream, size)
+        reply = frame_of(self.stream)
+        assert reply, "the server has closed the connection"
+        return reply[4:]
 
-    def ask(self, payload):
+    def ask(self, request):
         self.asked = time.monotonic_ns()
-        self.stream.sendall(frame(payload))
+        self.stream.sendall(request)
         return self.reply()
 
-    def named(self, letter, domain, rest=b""):
-        return self.ask(letter + bytes([len(domain)]) + domain + rest)
-
     def get(self, domain):
-        reply = self.named(b"G", domain)
+        reply = self.ask(named(b"G", domain))
         if reply[:1] == b"f":
             return self.note(READ, {domain: sequence_of(reply[1:])})
         return self.say_other(reply, domain)
 
     def set(self, domain, sequence):
-        reply = self.named(b"S", domain, document(sequence))
+        reply = self.ask(named(b"S", domain, numbered(sequence)))
         if reply == b"s":
             return self.note(SET, {domain: sequence})
         if reply == b"u":
@@ -87,7 +81,7 @@ class Client:
         raise AssertionError(f"a reply that none expects: {reply[:20]!r}")
 
     def fetch(self):
-        reply = self.ask(b"F")
+        reply = self.ask(frame(b"F"))
         if reply[:1] != b"a":
             return self.say_other(reply, b"")
         shown = dict.fromkeys(DOMAINS, 0)
@@ -99,7 +93,9 @@ class Client:
         return self.note(READ, shown)
 
     def run(self, until, newest):
-        while time.monotonic() < until:
+        asked = 0
+        while asked < LEAST or time.monotonic() < until:
+            asked += 1
             kind, domain = self.chance.random(), self.chance.choice(DOMAINS)
             if kind < 0.6:
                 self.get(domain)
@@ -223,14 +219,17 @@ def lacks(kind, shown, place, now, left):
 
 
 def versions_now(server):
+    """Which version of each domain stands there, while nobody sets any."""
     client = Client(server, 0)
-    client.fetch()
+    while not client.deeds:
+        client.fetch()
+        assert client.passed < 1000, "a fetch-all is given up though nothing changes"
     client.stream.close()
     return client.deeds[0][1]
 
 
-def sees_what_is_wrong():
-    """Whether the checker takes histories that are linearizable, and no others."""
+def check_of_the_checker():
+    """It takes histories that are linearizable, and no others."""
     start, domain, other = dict.fromkeys(DOMAINS, 0), *DOMAINS[:2]
     stored = [(SET, {domain: 1}, 0, 10)]
     beside = [(SET, {other: 1}, 0, 10)]
@@ -246,7 +245,44 @@ def sees_what_is_wrong():
         [stored, [(READ, {domain: 2}, 5, 15)]],
         [stored, [(SET, {domain: 1}, 5, 15)]],
     ]
-    return not any(check(it, start) for it in right) and all(check(it, start) for it in wrong)
+    for histories in right:
+        assert not check(histories, start), histories
+    for histories in wrong:
+        assert check(histories, start), histories
+
+
+class Soak:
+    """A server, its clients, and what came of them."""
+
+    def __init__(self, wanted):
+        self.wanted = wanted
+        self.server = Lasting("--workers", str(wanted.workers), "--max-open", str(wanted.clients + 1))
+        self.clients = [Client(self.server, seed) for seed in range(wanted.clients)]
+        self.deeds = self.passed = self.rounds = 0
+
+    def round(self):
+        """All clients ask for a while. What they were told has to be linearizable; and it raises what a client raised."""
+        start = versions_now(self.server)
+        newest, until = dict(start), time.monotonic() + self.wanted.round
+        running = [Beside(f"client {seed}", it.run, until, newest) for seed, it in enumerate(self.clients)]
+        for it in running:
+            it.join(self.wanted.round + LEAST * SECONDS)
+        self.deeds += sum(len(it.deeds) for it in self.clients)
+        self.passed = sum(it.passed for it in self.clients)
+        bad = check([it.deeds for it in self.clients], start)
+        assert not bad, bad
+        for client in self.clients:
+            client.deeds = []
+        self.rounds += 1
+
+    def end(self):
+        """All domains that were set are there at the end, and the server has nothing to tell."""
+        domains = sum(it > 0 for it in versions_now(self.server).values())
+        for client in self.clients:
+            client.stream.close()
+        connections = len(self.clients) + self.rounds + 1
+        wanted, ended = (0, f"served {connections}\ndomains {domains}\n", ""), self.server.ended()
+        assert ended == wanted, (ended, wanted)
 
 
 def main():
@@ -256,33 +292,23 @@ def main():
     parser.add_argument("--workers", type=int, default=4)
     parser.add_argument("--round", type=int, default=20)
     wanted = parser.parse_args()
-    server = Lasting("--workers", str(wanted.workers), "--max-open", str(wanted.clients + 1))
-    clients = [Client(server, seed) for seed in range(wanted.clients)]
-    end, deeds, passed, rounds = time.monotonic() + wanted.seconds, 0, 0, 0
-    bad = "" if sees_what_is_wrong() else "the checker takes what is wrong, or does not take what is right"
-    memory = server.kilobytes()
-    while time.monotonic() < end and not bad:
-        start = versions_now(server)
-        newest, until = dict(start), time.monotonic() + wanted.round
-        threads = [threading.Thread(target=it.run, args=(until, newest)) for it in clients]
-        for thread in threads:
-            thread.start()
-        for thread in threads:
-            thread.join()
-        deeds += sum(len(it.deeds) for it in clients)
-        bad = check([it.deeds for it in clients], start)
-        passed = sum(it.passed for it in clients)
-        rounds += not bad
-        for client in clients:
-            client.deeds = []
-    memory = server.kilobytes() - memory
-    for client in clients:
-        client.stream.close()
-    server.ended()
-    print(f"{deeds} operations by {wanted.clients} clients, {passed} of them given up; memory has grown by {memory} kB")
-    print(bad or "the operations of each round are linearizable")
-    print(f"{rounds} passed, {1 if bad else 0} failed")
-    return 1 if bad else 0
+    rounds, failed = 0, 0
+    try:
+        with AFTERWARDS:
+            check_of_the_checker()
+            soak = Soak(wanted)
+            memory = soak.server.kilobytes()
+            for rounds in range(max(wanted.seconds // wanted.round, 1)):
+                soak.round()
+            print(f"{soak.deeds} operations by {wanted.clients} clients, {soak.passed} of them given up; "
+                  f"memory has grown by {soak.server.kilobytes() - memory} kB; the operations of each round are linearizable")
+            soak.end()
+            rounds += 1
+    except Exception as error:  # pylint: disable=broad-except
+        failed = 1
+        print(f"FAILED: {what_went_wrong(error)}")
+    print(f"{rounds} passed, {failed} failed")
+    return failed
 
 
 if __name__ == "__main__":

@@ -9,17 +9,16 @@ that took effect stands in the order once, and no other; each has a moment betwe
 other; and the model of gate/model.py, asked one operation after another in that order, gives each reply.
 """
 import collections
+import functools
 import random
-import subprocess
 import sys
 
 sys.dont_write_bytecode = True
 
+from checks import run_checks, run_words  # noqa: E402
 from lines import reply_line  # noqa: E402
 from model import Store  # noqa: E402
-from refusals import program  # noqa: E402
 
-SECONDS = 300
 SEEDS = range(1, 301)
 NAMES = [b"a", b"b", b"c", b"d"]
 KEY = b'{"use":"jwt-svid","kty":"RSA","kid":"%s","n":"AQAB","e":"AQAB"}'
@@ -77,11 +76,10 @@ def events(seed):
 
 def traced(given, shards, rounds):
     """The records and the order that the program prints."""
-    words = [program("bundled"), "trace", "--shards", str(shards), "--rounds", str(rounds)]
     lines = b"".join(line + b"\n" for line, _ in given)
-    ran = subprocess.run(words, input=lines, capture_output=True, timeout=SECONDS)
-    assert (ran.returncode, ran.stderr) == (0, b""), ran.stderr
-    *lines, order = ran.stdout.split(b"\n")[:-1]
+    status, out, err = run_words("trace", "--shards", str(shards), "--rounds", str(rounds), given=lines)
+    assert (status, err) == (0, b""), (status, err)
+    *lines, order = out.split(b"\n")[:-1]
     records = []
     for number, line in enumerate(lines):
         words = line.split(b" ", 9)
@@ -129,27 +127,26 @@ def linearized(given, records, order):
         assert record.reply in (b"-", reply), f"record {number}: {record.reply!r}, and the model says {reply!r}"
 
 
-def main(words):
-    seeds, failed, shown = list(map(int, words)) or SEEDS, 0, set()
-    count = 0
-    for seed in seeds:
-        given = events(seed)
-        try:
-            records, order = traced(given, [1, 2, 3, 4][seed % 4], [1, 2][seed // 4 % 2])
-            whole(given, records)
-            linearized(given, records, order)
-            shown |= {it.reply.split(b" ")[0] for it in records}
-            count += len(records)
-        except (AssertionError, subprocess.SubprocessError) as error:
-            failed += 1
-            print(f"run {seed}: FAILED: {error}"[:2000], flush=True)
-    print(f"{count} operations in {len(seeds) - failed} runs are as the model says", flush=True)
-    if not words and not failed and shown != WANTED:
-        failed += 1
-        print(f"FAILED: answers that no run has, or that none should have: {sorted(shown ^ WANTED)}")
-    print(f"{len(seeds) - failed} passed, {failed} failed")
-    return 1 if failed else 0
+def is_linearization(seed, shown):
+    """What the program prints of this run is one. Keeps which answers are shown."""
+    given = events(seed)
+    records, order = traced(given, [1, 2, 3, 4][seed % 4], [1, 2][seed // 4 % 2])
+    whole(given, records)
+    linearized(given, records, order)
+    shown.update(it.reply.split(b" ")[0] for it in records)
+
+
+def all_answers(shown):
+    """The runs have all answers that they should have, and no others."""
+    assert set(shown) == WANTED, f"answers that no run has, or that none should have: {sorted(set(shown) ^ WANTED)}"
+    print(f"{shown.total()} operations are as the model says", flush=True)
+
+
+def checks(words):
+    shown = collections.Counter()
+    found = {f"run {seed}": functools.partial(is_linearization, seed, shown) for seed in list(map(int, words)) or SEEDS}
+    return found if words else found | {"all_answers": functools.partial(all_answers, shown)}
 
 
 if __name__ == "__main__":
-    sys.exit(main(sys.argv[1:]))
+    sys.exit(run_checks(checks(sys.argv[1:]), is_quiet=True))
