@@ -5,7 +5,7 @@ import subprocess
 
 from checks import ROOT, SECONDS, built
 
-MOST_GROWTHS = 2000
+MOST_GROWTHS = 4000
 
 # `allows` says whether an end is right where up to so many growths were refused.
 Run = collections.namedtuple("Run", "name words given allows")

@@ -1,10 +1,10 @@
 //! Gets that are answered to a viewer. No clause says that a bundle which could be shown is shown.
-use super::{bundle, is_equal, reply_text, set};
+use super::play;
 use map_core::{Contents, Viewer};
 use spiffe_doc::{Bundle, TrustDomain};
 use std::alloc::{AllocError, Global};
-use std::process::Abort;
 use std::test::Fail;
+use test_kit::{Shown, is_equal_at, reply_text};
 
 /// Notes the texts of the bundles that it sees, if it has room.
 #[derive(Drop)]
@@ -29,60 +29,46 @@ impl Viewer for Notes {
     }
 }
 
-/// A map that has a bundle of sequence 5 under `a`.
-fn map_of_a(alloc: Global) -> Result<Contents, Fail> {
-    let mut map = Contents::new(alloc);
-    let domain = TrustDomain::parse(alloc, "a")?;
-    let bundle = bundle(alloc, "5")?;
-    match set(&mut map, domain, bundle) {
-        Ok(_) => Ok(map),
-        Err(fail) => Err(fail),
-    }
-}
-
 /// A get of the name, answered by the map to a viewer: `shown`, or the reply.
 fn show(alloc: Global, map: &Contents, name: &str, notes: &mut Notes) -> Result<String, Fail> {
     let domain = TrustDomain::parse(alloc, name)?;
-    let answer = map.show(&domain, notes);
-    drop(domain);
-    match answer? {
-        Some(reply) => Ok(reply_text(alloc, &reply)?),
+    match map.show(&domain, notes)? {
+        Some(reply) => Ok(reply_text(alloc, Shown::Counted, &reply)?),
         None => Ok(String::from_str(alloc, "shown")?),
     }
 }
 
-/// A get of the name is answered so, and the viewer has noted this.
-fn is_shown(
-    rt: &impl Abort,
-    alloc: Global,
-    name: &str,
-    has_room: bool,
-    wanted: (&str, &[u8]),
-) -> Result<(), Fail> {
-    let map = map_of_a(alloc)?;
-    let mut notes = Notes {
-        texts: Vec::with_capacity(alloc, 64)?,
-        has_room,
-    };
-    let answer = show(alloc, &map, name, &mut notes);
-    drop(map);
-    is_equal(rt, &answer?.as_str(), &wanted.0);
-    is_equal(rt, &notes.texts.as_slice(), &wanted.1);
+/// A name, whether the viewer has room, how a get of it is answered, and what the viewer has noted.
+static ROWS: [(&str, bool, &str, &[u8]); 3] = [
+    (
+        "a",
+        true,
+        "shown",
+        b"{\"keys\":[],\"spiffe_sequence\":5}",
+    ),
+    ("a", false, "found 5/0", b""),
+    ("b", true, "refused 30", b""),
+];
+
+/// A map that has a bundle of sequence 5 under `a` shows it so.
+fn shows_rows(alloc: Global, map: &mut Contents) -> Result<(), Fail> {
+    play(alloc, Shown::Counted, map, &[("set a 5", "stored")])?;
+    for &(name, has_room, answer, noted) in &ROWS {
+        let mut notes = Notes {
+            texts: Vec::with_capacity(alloc, 64)?,
+            has_room,
+        };
+        let found = show(alloc, map, name, &mut notes)?;
+        is_equal_at(&found.as_str(), &answer, &name)?;
+        is_equal_at(&notes.texts.as_slice(), &noted, &name)?;
+    }
     Ok(())
 }
 
 #[test]
-fn a_bundle_that_is_found_is_shown(rt: HostRuntime) -> Result<(), Fail> {
-    let text: &[u8] = b"{\"keys\":[],\"spiffe_sequence\":5}";
-    is_shown(&rt, rt.alloc(), "a", true, ("shown", text))
-}
-
-#[test]
-fn a_viewer_without_room_leaves_the_reply(rt: HostRuntime) -> Result<(), Fail> {
-    is_shown(&rt, rt.alloc(), "a", false, ("found 5/0", b""))
-}
-
-#[test]
-fn a_missing_domain_is_not_shown(rt: HostRuntime) -> Result<(), Fail> {
-    is_shown(&rt, rt.alloc(), "b", true, ("refused 30", b""))
+fn a_bundle_that_is_found_is_shown_to_a_viewer_with_room(rt: HostRuntime) -> Result<(), Fail> {
+    let mut map = Contents::new(rt.alloc());
+    let is_so = shows_rows(rt.alloc(), &mut map);
+    drop(map);
+    is_so
 }
