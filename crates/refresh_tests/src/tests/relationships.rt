@@ -1,212 +1,247 @@
 //! Which texts are relationships, and what is told of those that are not.
-use super::{holds, is_equal, is_equal_at};
-use refresh::{Profile, RelationError, Relationship, SourceFault};
+use super::is_equal_at;
+use refresh::{Profile, RelationError, Relationship};
 use spiffe_doc::{IdError, NameError};
-use std::alloc::Global;
+use std::alloc::{AllocError, Global};
 use std::test::Fail;
 
-/// What a relationship of these texts is: its number, or 0, and the place of the fault.
+/// A trust domain, a URL and how many letters follow it, a profile, the ID of the endpoint, and the fault.
+type Row = (
+    &'static str,
+    &'static str,
+    usize,
+    &'static str,
+    Option<&'static str>,
+    Option<RelationError>,
+);
+
+const URL: &str = "https://bundles.example/a";
+
+static RELATIONSHIPS: [Row; 23] = [
+    ("a", URL, 0, "https_web", None, None),
+    ("a", URL, 0, "https_web", Some("no ID"), None),
+    ("a", URL, 0, "https_spiffe", Some("spiffe://a/b"), None),
+    (
+        "a",
+        "HTTPS://bundles.example:8443/a?b",
+        0,
+        "https_web",
+        None,
+        None,
+    ),
+    (
+        "a",
+        "https://@bundles.example/a",
+        0,
+        "https_web",
+        None,
+        None,
+    ),
+    (
+        "a",
+        "https://:@bundles.example/a",
+        0,
+        "https_web",
+        None,
+        None,
+    ),
+    (
+        "a",
+        "http://bundles.example/a",
+        0,
+        "https_web",
+        None,
+        Some(RelationError::BadUrl),
+    ),
+    (
+        "a",
+        "https://u@bundles.example/a",
+        0,
+        "https_web",
+        None,
+        Some(RelationError::BadUrl),
+    ),
+    (
+        "a",
+        "https://:p@bundles.example/a",
+        0,
+        "https_web",
+        None,
+        Some(RelationError::BadUrl),
+    ),
+    (
+        "a",
+        "https://",
+        0,
+        "https_web",
+        None,
+        Some(RelationError::BadUrl),
+    ),
+    (
+        "a",
+        "bundles.example/a",
+        0,
+        "https_web",
+        None,
+        Some(RelationError::BadUrl),
+    ),
+    ("a", "", 0, "https_web", None, Some(RelationError::BadUrl)),
+    (
+        "a",
+        URL,
+        0,
+        "https_other",
+        None,
+        Some(RelationError::BadProfile),
+    ),
+    ("a", URL, 0, "", None, Some(RelationError::BadProfile)),
+    (
+        "a",
+        URL,
+        0,
+        "https_spiffe",
+        None,
+        Some(RelationError::NoEndpointId),
+    ),
+    (
+        "a",
+        URL,
+        0,
+        "https_spiffe",
+        Some("spiffe://a/"),
+        Some(RelationError::EndpointId(IdError::BadPath(0))),
+    ),
+    (
+        "a",
+        URL,
+        0,
+        "https_spiffe",
+        Some("a"),
+        Some(RelationError::EndpointId(IdError::NotSpiffe)),
+    ),
+    (
+        "",
+        "",
+        0,
+        "",
+        None,
+        Some(RelationError::Domain(NameError::Empty)),
+    ),
+    (
+        "aB",
+        "",
+        0,
+        "",
+        None,
+        Some(RelationError::Domain(NameError::BadChar(1))),
+    ),
+    ("a", "", 0, "https_other", None, Some(RelationError::BadUrl)),
+    (
+        "a",
+        URL,
+        0,
+        "https_other",
+        Some("no ID"),
+        Some(RelationError::BadProfile),
+    ),
+    // Of 2,048 bytes, and of 2,049.
+    (
+        "a",
+        "https://bundles.example/",
+        2024,
+        "https_web",
+        None,
+        None,
+    ),
+    (
+        "a",
+        "https://bundles.example/",
+        2025,
+        "https_web",
+        None,
+        Some(RelationError::BadUrl),
+    ),
+];
+
+/// Why these texts are no relationship, if they are not.
 fn fault_of(
     alloc: Global,
     domain: &str,
     url: &str,
     profile: &str,
     endpoint_id: Option<&str>,
-) -> Option<RelationError> {
-    match Relationship::read(alloc, domain, url, profile, endpoint_id) {
-        Ok(_) => None,
-        Err(error) => Some(error),
+) -> Result<Option<RelationError>, AllocError> {
+    match Relationship::read(alloc, domain, url, profile, endpoint_id).err() {
+        Some(RelationError::Memory) => Err(AllocError),
+        fault => Ok(fault),
     }
 }
 
 #[test]
-fn faults_of_relationships(rt: HostRuntime) {
-    let alloc = rt.alloc();
-    let url = "https://bundles.example/a";
-    let spiffe = "https_spiffe";
-    let rows = [
-        ("a", url, "https_web", None, None),
-        ("a", url, "https_web", Some("no ID"), None),
-        ("a", url, spiffe, Some("spiffe://a/b"), None),
-        (
-            "a",
-            "HTTPS://bundles.example:8443/a?b",
-            "https_web",
-            None,
-            None,
-        ),
-        ("a", "https://@bundles.example/a", "https_web", None, None),
-        ("a", "https://:@bundles.example/a", "https_web", None, None),
-        (
-            "a",
-            "http://bundles.example/a",
-            "https_web",
-            None,
-            Some(RelationError::BadUrl),
-        ),
-        (
-            "a",
-            "https://u@bundles.example/a",
-            "https_web",
-            None,
-            Some(RelationError::BadUrl),
-        ),
-        (
-            "a",
-            "https://:p@bundles.example/a",
-            "https_web",
-            None,
-            Some(RelationError::BadUrl),
-        ),
-        (
-            "a",
-            "https://",
-            "https_web",
-            None,
-            Some(RelationError::BadUrl),
-        ),
-        (
-            "a",
-            "bundles.example/a",
-            "https_web",
-            None,
-            Some(RelationError::BadUrl),
-        ),
-        ("a", "", "https_web", None, Some(RelationError::BadUrl)),
-        (
-            "a",
-            url,
-            "https_other",
-            None,
-            Some(RelationError::BadProfile),
-        ),
-        ("a", url, "", None, Some(RelationError::BadProfile)),
-        ("a", url, spiffe, None, Some(RelationError::NoEndpointId)),
-        (
-            "a",
-            url,
-            spiffe,
-            Some("spiffe://a/"),
-            Some(RelationError::EndpointId(IdError::BadPath(0))),
-        ),
-        (
-            "a",
-            url,
-            spiffe,
-            Some("a"),
-            Some(RelationError::EndpointId(IdError::NotSpiffe)),
-        ),
-        (
-            "",
-            "",
-            "",
-            None,
-            Some(RelationError::Domain(NameError::Empty)),
-        ),
-        (
-            "aB",
-            "",
-            "",
-            None,
-            Some(RelationError::Domain(NameError::BadChar(1))),
-        ),
-        ("a", "", "https_other", None, Some(RelationError::BadUrl)),
-        (
-            "a",
-            url,
-            "https_other",
-            Some("no ID"),
-            Some(RelationError::BadProfile),
-        ),
-    ];
-    for (domain, url, profile, endpoint_id, fault) in rows {
-        is_equal_at(
-            &rt,
-            &fault_of(alloc, domain, url, profile, endpoint_id),
-            &fault,
-            &domain,
-        );
+fn relationships(rt: HostRuntime) -> Result<(), AllocError> {
+    for &(domain, front, count, profile, endpoint_id, wanted) in &RELATIONSHIPS {
+        let mut url = String::from_str(rt.alloc(), front)?;
+        for _ in 0..count {
+            url.push('a')?;
+        }
+        let fault = fault_of(rt.alloc(), domain, &url, profile, endpoint_id)?;
+        is_equal_at(&rt, &fault, &wanted, &url);
     }
+    Ok(())
+}
+
+/// The trust domain of a relationship, its URL, and the parts of the endpoint's ID.
+type Parts<'a> = (&'a str, &'a str, Option<(&'a str, &'a str)>);
+
+/// A URL, a profile, the ID of the endpoint, and what is kept.
+static KEPT: [(&str, &str, &str, Parts<'static>); 2] = [
+    (
+        "https://b.example:8443",
+        "https_spiffe",
+        "spiffe://b.example/spire/server",
+        (
+            "b.example",
+            "https://b.example:8443/",
+            Some(("b.example", "/spire/server")),
+        ),
+    ),
+    (
+        "https://b.example",
+        "https_web",
+        "x",
+        ("a", "https://b.example/", None),
+    ),
+];
+
+fn parts_of(read: &Relationship) -> Parts<'_> {
+    let endpoint = match read.profile() {
+        Profile::HttpsWeb => None,
+        Profile::HttpsSpiffe(id) => Some((id.domain().as_str(), id.path())),
+    };
+    (read.domain().as_str(), read.url().as_str(), endpoint)
 }
 
 #[test]
 fn parts_of_relationships(rt: HostRuntime) -> Result<(), Fail> {
-    let alloc = rt.alloc();
-    let read = Relationship::read(
-        alloc,
-        "b.example",
-        "https://b.example:8443",
-        "https_spiffe",
-        Some("spiffe://b.example/spire/server"),
-    )?;
-    is_equal(&rt, &read.domain().as_str(), &"b.example");
-    is_equal(&rt, &read.url().as_str(), &"https://b.example:8443/");
-    let Profile::HttpsSpiffe(id) = read.profile() else {
-        return Err(Fail::from("the profile has an ID"));
-    };
-    is_equal(&rt, &id.domain().as_str(), &"b.example");
-    is_equal(&rt, &id.path(), &"/spire/server");
-    let read = Relationship::read(alloc, "a", "https://b.example", "https_web", Some("x"))?;
-    holds(&rt, matches!(read.profile(), Profile::HttpsWeb));
+    for &(url, profile, id, (domain, kept_url, endpoint)) in &KEPT {
+        let read = Relationship::read(rt.alloc(), domain, url, profile, Some(id))?;
+        is_equal_at(&rt, &parts_of(&read), &(domain, kept_url, endpoint), &url);
+    }
     Ok(())
 }
 
-#[test]
-fn urls_of_2048_bytes(rt: HostRuntime) -> Result<(), Fail> {
-    let alloc = rt.alloc();
-    let mut url = String::from_str(alloc, "https://bundles.example/")?;
-    for _ in 0..2024 {
-        url.push('a')?;
-    }
-    is_equal(&rt, &url.len(), &2048);
-    is_equal(&rt, &fault_of(alloc, "a", &url, "https_web", None), &None);
-    url.push('a')?;
-    is_equal(
-        &rt,
-        &fault_of(alloc, "a", &url, "https_web", None),
-        &Some(RelationError::BadUrl),
-    );
-    Ok(())
-}
+static NUMBERS: [(RelationError, u8); 6] = [
+    (RelationError::Domain(NameError::TooLong), 2),
+    (RelationError::EndpointId(IdError::NotSpiffe), 4),
+    (RelationError::Memory, 22),
+    (RelationError::BadUrl, 60),
+    (RelationError::BadProfile, 61),
+    (RelationError::NoEndpointId, 62),
+];
 
 #[test]
-fn numbers_and_texts(rt: HostRuntime) -> Result<(), Fail> {
-    let rows = [
-        (
-            RelationError::Domain(NameError::TooLong),
-            2,
-            "the trust domain name has over 255 bytes",
-        ),
-        (
-            RelationError::BadUrl,
-            60,
-            "the endpoint URL is not a URL of at most 2048 bytes with the scheme https and without a user name and a password",
-        ),
-        (
-            RelationError::BadProfile,
-            61,
-            "the endpoint profile is neither https_web nor https_spiffe",
-        ),
-        (
-            RelationError::NoEndpointId,
-            62,
-            "the endpoint profile https_spiffe needs the SPIFFE ID of the endpoint",
-        ),
-        (
-            RelationError::EndpointId(IdError::NotSpiffe),
-            4,
-            "the SPIFFE ID of the endpoint: the text does not begin with spiffe://",
-        ),
-        (RelationError::Memory, 22, "out of memory"),
-    ];
-    for (error, number, text) in rows {
-        is_equal(&rt, &error.number(), &number);
-        is_equal(&rt, &format!(in rt.alloc(); "{error}")?.as_str(), &text);
+fn numbers(rt: HostRuntime) {
+    for &(error, number) in &NUMBERS {
+        is_equal_at(&rt, &error.number(), &number, &error);
     }
-    is_equal(
-        &rt,
-        &format!(in rt.alloc(); "{}", SourceFault)?.as_str(),
-        &"the endpoint gave no document",
-    );
-    Ok(())
 }
