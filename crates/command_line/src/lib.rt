@@ -4,10 +4,14 @@
 //! place: help, the version, or why the arguments are refused.
 #![tactic(auto)]
 
-mod dump_options;
+mod argument;
+mod arguments;
+mod building;
+mod commands;
 mod explanations;
-mod options;
+mod ranges;
 mod reading;
+mod refusal;
 mod settings;
 mod texts;
 mod wanted;

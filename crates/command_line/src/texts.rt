@@ -194,3 +194,13 @@ end of a connection:
 
   bundled serve --port 8443 --read-port 8444 --connections unlimited
   bundled refresh --relationships list --documents documents --port 8443";
+
+pub const CERTIFICATES: &str = "\
+A bundle without X.509 authorities gives nothing.
+
+  bundled pem a.example < dump > ca.pem";
+
+pub const DIGESTS: &str = "  bundled digest < dump";
+
+pub const MIGRATIONS: &str =
+    "The requests are V 2 and then one C for each domain: bundled migrate < dump | bundled run";

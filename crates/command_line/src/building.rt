@@ -1,0 +1,75 @@
+//! The commands and their arguments, as `clap` knows them.
+use crate::argument::{Argument, Kind};
+use crate::commands::{Row, VERBS, Verb};
+use crate::texts::FRAMES;
+use clap::builder::ValueParser;
+use clap::{Arg, ArgAction, Command};
+use std::alloc::{AllocError, Global};
+
+/// The program, with all its commands.
+pub fn program<'a>(alloc: Global) -> Result<Command<'a>, AllocError> {
+    let mut program = Command::new(alloc, "bundled")
+        .version("1.0.0")
+        .about("A store of the trust bundles of SPIFFE trust domains")
+        .after_help(FRAMES)
+        .subcommand_required(true);
+    for &verb in &VERBS {
+        program = program.subcommand(placed(alloc, verb)?)?;
+    }
+    Ok(program)
+}
+
+/// A command in its place: itself, or the group that it belongs to.
+fn placed<'a>(alloc: Global, verb: Verb) -> Result<Command<'a>, AllocError> {
+    let command = command_of(alloc, verb.row())?;
+    match verb {
+        Verb::Race => Command::new(alloc, "demo")
+            .about("Shows what the store is for")
+            .subcommand_required(true)
+            .subcommand(command),
+        _ => Ok(command),
+    }
+}
+
+/// The command of a row, with its arguments.
+pub fn command_of<'a>(alloc: Global, row: &Row) -> Result<Command<'a>, AllocError> {
+    let mut command = noted(Command::new(alloc, row.name).about(row.about), row.notes);
+    for argument in row.arguments {
+        command = command.arg(arg_of(alloc, argument))?;
+    }
+    Ok(command)
+}
+
+/// A command with notes at the end of its help, if it has any.
+fn noted<'a>(command: Command<'a>, notes: Option<&'static str>) -> Command<'a> {
+    match notes {
+        Some(notes) => command.after_help(notes),
+        None => command,
+    }
+}
+
+/// The argument of a row.
+fn arg_of<'a>(alloc: Global, argument: &Argument) -> Arg<'a> {
+    let name = argument.name;
+    let arg = Arg::new(alloc, name).help(argument.help);
+    match argument.kind {
+        Kind::Switch => arg.long(name).action(ArgAction::SetTrue),
+        Kind::Number(value, number) => option(arg, name, value)
+            .value_parser(ValueParser::Unsigned(number.least, number.most))
+            .default_value(number.text),
+        Kind::NumberOrWord(value, number) => option(arg, name, value).default_value(number.text),
+        Kind::Optional(value, parser) => option(arg, name, value).value_parser(parser),
+        Kind::Required(value, parser) => option(arg, name, value)
+            .value_parser(parser)
+            .required(true),
+        Kind::Word(value, parser) => arg.value_name(value).value_parser(parser).required(true),
+        Kind::Words(value) => arg
+            .value_name(value)
+            .num_args(1..)
+            .action(ArgAction::Append),
+    }
+}
+
+fn option<'a>(arg: Arg<'a>, name: &'static str, value: &'static str) -> Arg<'a> {
+    arg.long(name).value_name(value)
+}

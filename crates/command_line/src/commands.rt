@@ -1,0 +1,219 @@
+//! The commands.
+use crate::argument::Argument;
+use crate::arguments::{
+    ASKED_PORT, AT_LEAST, CONNECTIONS, DOCUMENTS, EVERY, FILES, IDLE, LISTENED_PORT, LOAD, LOG,
+    MAX_OPEN, NAME, NAMES, NEW, NOW, NUMBER, OLD, OUT, PICTURE, RAW, READ_PORT, REFRESHED_PORT,
+    RELATIONSHIPS, REQUEST, RETRIES, RETRY, ROUNDS, SECONDS, SHARDS, TRIES, TURNS, UNTIL_EOF,
+    WORKERS, X509,
+};
+use crate::texts;
+
+/// A command: what it is called, what its help says of it, at its beginning and at its end, and its arguments.
+#[derive(Clone, Copy)]
+pub struct Row {
+    pub name: &'static str,
+    pub about: &'static str,
+    pub notes: Option<&'static str>,
+    pub arguments: &'static [Argument],
+}
+
+/// What a command does, without its settings.
+#[derive(Clone, Copy)]
+pub enum Verb {
+    Run,
+    Ask,
+    Encode,
+    Decode,
+    Explain,
+    Refresh,
+    Serve,
+    Snapshot,
+    Check,
+    Map,
+    Import,
+    Pem,
+    Diff,
+    Digest,
+    Migrate,
+    Trace,
+    Race,
+}
+
+/// All commands, in the order of the help.
+pub const VERBS: [Verb; 17] = [
+    Verb::Run,
+    Verb::Ask,
+    Verb::Encode,
+    Verb::Decode,
+    Verb::Explain,
+    Verb::Refresh,
+    Verb::Serve,
+    Verb::Snapshot,
+    Verb::Check,
+    Verb::Map,
+    Verb::Import,
+    Verb::Pem,
+    Verb::Diff,
+    Verb::Digest,
+    Verb::Migrate,
+    Verb::Trace,
+    Verb::Race,
+];
+
+impl Verb {
+    /// The row of the command.
+    pub fn row(self) -> &'static Row {
+        match self {
+            Verb::Run => &RUN,
+            Verb::Ask => &ASK,
+            Verb::Encode => &ENCODE,
+            Verb::Decode => &DECODE,
+            Verb::Explain => &EXPLAIN,
+            Verb::Refresh => &REFRESH,
+            Verb::Serve => &SERVE,
+            Verb::Snapshot => &SNAPSHOT,
+            Verb::Check => &CHECK,
+            Verb::Map => &MAP,
+            Verb::Import => &IMPORT,
+            Verb::Pem => &PEM,
+            Verb::Diff => &DIFF,
+            Verb::Digest => &DIGEST,
+            Verb::Migrate => &MIGRATE,
+            Verb::Trace => &TRACE,
+            Verb::Race => &RACE,
+        }
+    }
+}
+
+static RUN: Row = Row {
+    name: "run",
+    about: "Answers requests on standard input, over an empty store, on standard output",
+    notes: Some(texts::FRAMES),
+    arguments: &[SHARDS, TURNS],
+};
+
+static ASK: Row = Row {
+    name: "ask",
+    about: "Asks a server, and writes its replies",
+    notes: Some(texts::ASKING),
+    arguments: &[ASKED_PORT, RETRY, RAW, REQUEST],
+};
+
+static ENCODE: Row = Row {
+    name: "encode",
+    about: "Turns lines into frames of requests",
+    notes: Some(texts::LINES),
+    arguments: &[],
+};
+
+static DECODE: Row = Row {
+    name: "decode",
+    about: "Turns frames of requests and replies into lines",
+    notes: Some(texts::REPLIES),
+    arguments: &[],
+};
+
+static EXPLAIN: Row = Row {
+    name: "explain",
+    about: "Tells what the number of a refusal or a fault means, and what to do about it",
+    notes: None,
+    arguments: &[NUMBER],
+};
+
+static REFRESH: Row = Row {
+    name: "refresh",
+    about: "Sets the bundles of a list of trust domains, out of a folder of documents",
+    notes: Some(texts::RELATIONSHIPS),
+    arguments: &[RELATIONSHIPS, DOCUMENTS, NOW, AT_LEAST, REFRESHED_PORT],
+};
+
+static SERVE: Row = Row {
+    name: "serve",
+    about: "Answers requests at a port of this machine, over a store that its workers share",
+    notes: Some(texts::SERVING),
+    arguments: &[
+        UNTIL_EOF,
+        LOG,
+        LISTENED_PORT,
+        WORKERS,
+        READ_PORT,
+        CONNECTIONS,
+        MAX_OPEN,
+        IDLE,
+        LOAD,
+        SHARDS,
+        ROUNDS,
+        TRIES,
+        RETRIES,
+    ],
+};
+
+static SNAPSHOT: Row = Row {
+    name: "snapshot",
+    about: "Writes the bundles of a server as files, all as they stood at one moment",
+    notes: Some(texts::SNAPSHOTS),
+    arguments: &[ASKED_PORT, OUT, EVERY],
+};
+
+static CHECK: Row = Row {
+    name: "check",
+    about: "Tells what is kept of bundle documents, what is ignored and why, and what is wrong",
+    notes: Some(texts::REPORTS),
+    arguments: &[FILES],
+};
+
+static MAP: Row = Row {
+    name: "map",
+    about: "Turns a dump into one SPIFFE bundle map, the file that gRPC and Envoy read",
+    notes: Some(texts::MAPS),
+    arguments: &[X509, NAMES],
+};
+
+static IMPORT: Row = Row {
+    name: "import",
+    about: "Turns a SPIFFE bundle map into requests that set each bundle",
+    notes: Some(texts::IMPORTS),
+    arguments: &[],
+};
+
+static PEM: Row = Row {
+    name: "pem",
+    about: "Writes the X.509 authorities of a trust domain of a dump as PEM",
+    notes: Some(texts::CERTIFICATES),
+    arguments: &[NAME],
+};
+
+static DIFF: Row = Row {
+    name: "diff",
+    about: "Tells what changed from one dump to another",
+    notes: Some(texts::CHANGES),
+    arguments: &[OLD, NEW],
+};
+
+static DIGEST: Row = Row {
+    name: "digest",
+    about: "Writes the SHA-256 of a dump: it is equal for equal maps",
+    notes: Some(texts::DIGESTS),
+    arguments: &[],
+};
+
+static MIGRATE: Row = Row {
+    name: "migrate",
+    about: "Turns a dump, the frames of a reply to F, into requests that store it again",
+    notes: Some(texts::MIGRATIONS),
+    arguments: &[],
+};
+
+static TRACE: Row = Row {
+    name: "trace",
+    about: "Runs events on standard input over an empty store, and explains every reply by one order",
+    notes: Some(texts::EVENTS),
+    arguments: &[SHARDS, ROUNDS, PICTURE],
+};
+
+static RACE: Row = Row {
+    name: "race",
+    about: "Counts the maps that never were that a naive reader shows, and a fetch-all",
+    notes: Some(texts::RACE),
+    arguments: &[SECONDS],
+};
