@@ -9,7 +9,9 @@ The proof says that a session answers as the definition says. Here a second read
 import base64
 import functools
 import json
+import math
 import random
+import re
 import sys
 
 sys.dont_write_bytecode = True
@@ -37,6 +39,31 @@ class Refused(Exception):
 
 # Documents
 
+# A pair of surrogates, each in an escape; half of one, which has a group; any other escape.
+ESCAPE = re.compile(r"\\u[dD][89abAB]..\\u[dD][c-fC-F]..|(\\u[dD][89a-fA-F]..)|\\.")
+
+
+def not_json(text):
+    raise ValueError(text)
+
+
+def double(text):
+    value = float(text)
+    return not_json(text) if math.isinf(value) else value
+
+
+def whole(text):
+    """A number without a fraction or an exponent: a whole number if it is in digits only, or is less than 0."""
+    value = double(text)
+    return value if text == "-0" else int(text)
+
+
+def tree_of(text):
+    """The tree of a JSON text. (Python's reader takes some more for JSON.)"""
+    tree = json.loads(text, parse_constant=not_json, parse_float=double, parse_int=whole)
+    return not_json(text) if any(it[1] for it in ESCAPE.finditer(text)) else tree
+
+
 def nesting(value):
     inside = value.values() if isinstance(value, dict) else value if isinstance(value, list) else []
     return isinstance(value, (dict, list)) + max(map(nesting, inside), default=0)
@@ -47,8 +74,8 @@ def parsed(text):
     if len(text) > MOST_TEXT:
         raise Refused(10)
     try:
-        tree = json.loads(text.decode())
-    except ValueError:
+        tree = tree_of(text.decode())
+    except (ValueError, RecursionError):
         raise Refused(11) from None
     if nesting(tree) > MOST_NESTING:
         raise Refused(11)
@@ -245,6 +272,10 @@ class Store:
 
 # Random requests
 
+# What is written into a document as it stands there: numbers in other forms, and what is no JSON.
+AS_THEY_STAND = ["#NaN", "#-Infinity", "#1e400", "#-1e400", "#1e-400", "#-0", "#7e0", "#7.0", "#07", "#+7", "#" + 400 * "9"]
+
+
 class Requests:
     """Requests at random: most of them can be done, and some are wrong in one place."""
 
@@ -260,7 +291,7 @@ class Requests:
 
     def anything(self):
         some = [None, True, 0, -1, 1.5, MOST, MOST + 1, "", "x", "EC", "RSA", "sig", [], {}, ["MAA="], ["MAA"], ["MAB="], "AQAB", "AQB", "A",
-                "é\u2028\"\\\n\x7f", ["MAA=", "MAA="], {"kty": "EC"}]
+                "é\u2028\"\\\n\x7f", ["MAA=", "MAA="], {"kty": "EC"}, "\U0001f511", "\ud83d", "\udd11", *AS_THEY_STAND]
         return self.random.choice(some)
 
     def entry(self):
@@ -299,7 +330,7 @@ class Requests:
     def text(self, tree):
         """JSON of the tree, in one of many layouts; or what is not JSON."""
         layout = self.random.choice([{}, {"indent": 1}, {"ensure_ascii": False}, {"separators": (",", ":")}])
-        text = json.dumps(tree, **layout).encode()
+        text = re.sub('"#([^"]*)"', r"\1", json.dumps(tree, **layout)).encode(errors="surrogatepass")
         if self.is_rare():
             cut = self.random.randrange(len(text))
             text = self.random.choice([text[:cut], text + b"}", text[:cut] + b"\xff" + text[cut:], b""])
