@@ -16,7 +16,7 @@ from .changes import Changes, changes_between
 from .connection import (Connection, Deadline, SocketConnection,
                          StreamConnection)
 from .errors import (DisconnectedError, GivenUpError, HopslintelError,
-                     TimedOutError, done)
+                     done)
 from .reply import (IN_THE_WAY, All, Appended, Found, Removed, Reply, Stored,
                     Unchanged, Version)
 from .request import Document, Expected, Request
@@ -245,8 +245,6 @@ class Client:
             try:
                 self._speak(line, requests, deadline, replies)
                 return
-            except TimedOutError:
-                raise
             except DisconnectedError:
                 is_safe = all(request.is_read for request in requests)
                 if is_new or not is_safe or not self._dial:

@@ -4,6 +4,7 @@ from __future__ import annotations
 
 import argparse
 import json
+import os
 import sys
 from typing import Iterator, List, Optional, Sequence, Tuple
 
@@ -37,6 +38,7 @@ def main(words: Optional[Sequence[str]] = None) -> int:
                 sys.stdout.flush()
     except (HopslintelError, OSError, ValueError) as error:
         _tell(error)
+        _leave_unwritten()
         return 3 if isinstance(error, (RefusedError, GivenUpError)) else 1
     return 0
 
@@ -102,3 +104,13 @@ def _lines(changes: Changes) -> bytes:
 
 def _tell(error: Exception) -> None:
     print(f"hopslintel: {error}", file=sys.stderr)
+
+
+def _leave_unwritten() -> None:
+    """What could not be written is not tried once more at the end, where it
+    would fail with a status of its own."""
+    try:
+        sys.stdout.flush()
+    except OSError:
+        with open(os.devnull, "wb") as null:
+            os.dup2(null.fileno(), sys.stdout.fileno())

@@ -221,6 +221,14 @@ class RedialTest(unittest.IsolatedAsyncioTestCase):
                 with self.assertRaises(ProtocolError):
                     await store.get("d")
 
+    async def test_batches_of_a_pipeline(self):
+        """Asked again if they are reads only."""
+        with Server([found(b"1")], [found(b"2"), found(b"3")]) as server:
+            async with await Client.connect(server.port) as store:
+                replies = store.pipeline([Request.get("a")] * 2)
+                self.assertEqual([it async for it in replies],
+                                 [Found(b"2"), Found(b"3")])
+
     async def test_a_pipeline_that_ends_early(self):
         """What came before its end is given."""
         with Server([frame(b"s"), frame(b"s")[:3]]) as server:

@@ -1,5 +1,6 @@
 """What is made for other programs, and what changed."""
 import base64
+import io
 import json
 import ssl
 import subprocess
@@ -162,6 +163,14 @@ class FollowTest(unittest.TestCase):
                                   DisconnectedError, GivenUpError])
                 self.assertIsInstance(told[0].reply, Moved)
                 self.assertRaises(ProtocolError, next, changes)
+
+    def test_streams_that_have_ended(self):
+        """There is no other connection, so it does not go on."""
+        for on_error in [None, self.fail]:
+            store = Client(io.BytesIO(all_of({})), io.BytesIO())
+            changes = store.follow(0.001, on_error=on_error)
+            self.assertEqual(next(changes).bundles, {})
+            self.assertRaises(DisconnectedError, next, changes)
 
     def test_it_ends_with_the_client(self):
         """Soon, also if it waits for the next fetch-all or for a reply."""

@@ -101,7 +101,8 @@ class CommandLineTest(unittest.TestCase):
         with Server([all_of({"a": document(ENTRY)})]) as server:
             with open("/dev/full", "wb") as full:
                 words = [sys.executable, FOLDER, "--port", str(server.port)]
-                ran = subprocess.run([*words, "map"], stdout=full,
+                env = {**os.environ, "PYTHONUNBUFFERED": ""}
+                ran = subprocess.run([*words, "map"], stdout=full, env=env,
                                      stderr=subprocess.PIPE, timeout=60)
         self.assertEqual(ran.returncode, 1)
         self.assertIn(b"No space left", ran.stderr)

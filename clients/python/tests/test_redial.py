@@ -28,11 +28,13 @@ class RedialTest(unittest.TestCase):
                 self.assertEqual(server.asked, [[payload] * 2, [payload]])
 
     def test_they_are_so_once(self):
-        with Server([b""], [b""], [found(EMPTY)]) as server:
+        with Server([b""], [b""], [b""], [found(EMPTY)]) as server:
             with Client.connect(server.port) as store:
-                self.assertRaises(DisconnectedError, store.get, "a")
+                for connections in [2, 3]:
+                    self.assertRaises(DisconnectedError, store.get, "a")
+                    self.assertEqual(server.asked, [[GET]] * connections)
                 self.assertEqual(store.get("a"), EMPTY)
-        self.assertEqual(server.asked, [[GET]] * 3)
+        self.assertEqual(server.asked, [[GET]] * 4)
 
     def test_changes_never_are(self):
         """The next call makes a new connection."""

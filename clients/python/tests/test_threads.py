@@ -6,6 +6,7 @@ import subprocess
 import sys
 import time
 import unittest
+import unittest.mock
 
 from hopslintel import (Client, DisconnectedError, Found, GivenUpError,
                         Request, TimedOutError)
@@ -148,13 +149,17 @@ class DeadlinesTest(unittest.TestCase):
                 self.late(call, store, timeout=0.05)
 
     def test_retries(self):
-        """They end with the call, also if the last answer was there."""
+        """If there is no time for the next, the last answer is given."""
         held = frame(b"\x2a\0\0\0\1" + bytes(8))
         with answered_by(*[held] * 10_000, retries=10_000) as store:
             begun = time.monotonic()
             with self.assertRaises((GivenUpError, TimedOutError)):
                 store.get("a", timeout=0.3)
             self.assertLess(time.monotonic() - begun, 10)
+        with unittest.mock.patch("hopslintel.client.pauses",
+                                 lambda retries: [1000.0] * retries):
+            with answered_by(held) as store:
+                self.assertRaises(GivenUpError, store.get, "a")
 
     def test_waiting_for_another_thread(self):
         """The call that had the connection is not disturbed."""
@@ -208,6 +213,7 @@ class ClosingTest(unittest.TestCase):
                 store.close()
                 self.assertRaises(DisconnectedError, store.get, "a")
                 self.assertRaises(DisconnectedError, store.set, "a", EMPTY)
+        self.assertEqual(server.asked, [[b"G\x01a"]])
 
     @unittest.skipUnless(hasattr(signal, "setitimer"), "no such timer")
     def test_a_call_that_is_interrupted(self):
