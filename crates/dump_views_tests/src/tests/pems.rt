@@ -1,10 +1,11 @@
 //! Certificates as PEM. The wanted texts are those of OpenSSL, or of Python's `base64` and `textwrap` for bytes that are no certificate.
 use super::bundles::{DEFAULT, LARGE_CURVE, LARGE_KEY, ROTATION, WITHDRAWN};
-use super::{dump_of, is_equal_at};
+use super::{dump_of, put_all};
 use dump_views::{PemError, put_dump_pem, put_pem};
 use spiffe_doc::{TrustDomain, read_document};
-use std::alloc::{AllocError, Global};
+use std::alloc::Global;
 use std::test::Fail;
+use test_kit::{holds_at, is_equal_at};
 
 const DEFAULT_PEM: &str =
     "-----BEGIN CERTIFICATE-----\nMIIBZjCCAQugAwIBAgIJAJG3WEoiZbH1MAoGCCqGSM49BAMCMB0xDjAMBgNVBAoM\nBVNQSVJFMQswCQYDVQQGEwJVUzAeFw0yNjAxMDEwMDAwMDBaFw0yNzAxMDEwMDAw\nMDBaMB0xDjAMBgNVBAoMBVNQSVJFMQswCQYDVQQGEwJVUzBZMBMGByqGSM49AgEG\nCCqGSM49AwEHA0IABPhu36fo8zR8Na7xuC0v8qrwDjJJy/Nth3uY8Ujb70wTIZ+p\nqtQPNwT+ATj5DnXY1n97YBJfljCTbwabVztyAbSjNDAyMA8GA1UdEwEB/wQFMAMB\nAf8wHwYDVR0RBBgwFoYUc3BpZmZlOi8vZXhhbXBsZS5vcmcwCgYIKoZIzj0EAwID\nSQAwRgIhAOCQ9elfPJjrYR6wqnuDbcbLqE2/OEQ95er2HTp4cT0FAiEAy9fn5GWX\nXnuYP+c+/nwylq53vvHqjd/ZOO6BEhrbPRw=\n-----END CERTIFICATE-----\n";
@@ -19,7 +20,7 @@ const LARGE_KEY_PEM: &str =
     "-----BEGIN CERTIFICATE-----\nMIIE+DCCAuCgAwIBAgIJAJdV1ME6kCkxMA0GCSqGSIb3DQEBCwUAMB0xDjAMBgNV\nBAoMBVNQSVJFMQswCQYDVQQGEwJVUzAeFw0yNjAxMDEwMDAwMDBaFw0yNzAxMDEw\nMDAwMDBaMB0xDjAMBgNVBAoMBVNQSVJFMQswCQYDVQQGEwJVUzCCAiIwDQYJKoZI\nhvcNAQEBBQADggIPADCCAgoCggIBAMgGrFbJduaC4zu/31rl4zRZLmkb8QSLB8u/\nt7r3rfz3upFDhmk5iCrkKgh1K9EkS8hZmHtOAb0Q5VfA5SWvztKfcmExsIviDPW8\nOdtTs0Qcl7Nn8ASHWd2Fs410ZcIh14Tg/q/vPWrxF53744dM1gx3y/OZAEltJIFU\nvPIar8wkbvajboJnz1J5w1xXdl/U7JAeiD57rn0uDAXChvES0rxRrJBYG870Mqf9\nFfmeSRX5LBm0Vh5TSAkRA2d7bB+x2gxdqGgeycsyllP28Q7bCRpGK3WoI9CEk8eJ\nYEFcPYneBb+w1tHUrNdljOGw0hOuKASpKtLEAP6Y/nFLeXcLIYsFNJwJVfT3YZKT\noe8LXIBMQ8UqzPT8p1SAQcFWp4bMAFGacHtG3XnMDDoEAcr3g15Po7GNrM4N0RN3\nmQGEAFtyNCCMdAmy/7WlepOmett4wzsVkZ2+JYkBk1d2IzoZkKd1NImUQA9dSqIq\n44KJ1rpkk9UmZIupJbIbz4PCMTQK4nOhBUn1+Ecc9IQDQjTYVEfD+S2vvMXnJuik\nn3+Gq2Osy7zeBD5Q6vKsEFCUU3u+S9Aw+lQ9DC72FrRrhluAXCUDQG7la/AglbFS\n5saP+b9AfZ0R4mLxNaLpuU3267OshRq5Jh98j4EPyTdUDfEwDfP+uyfE3ZCuvs9e\nFaEqc1d3AgMBAAGjOzA5MA8GA1UdEwEB/wQFMAMBAf8wJgYDVR0RBB8wHYYbc3Bp\nZmZlOi8vbGVnYWN5LmV4YW1wbGUuY29tMA0GCSqGSIb3DQEBCwUAA4ICAQDAsk8I\nxfsQzBrDaRoQ8oU5BiC4u6vJPnvzyTl1x5jtUHDOA5IzsLQXbjNJCz7lgzhCit3S\ndJAVjsX6PVU+PYei/vaF0XTJXjaJFAQ8RrhhY45XoAu8aaAQ/q6id6wDJNnjYaB/\n9zrkZo4Ed8nqB6PkxPSMxcW7A9YAfYq3UsdiQiakapi2c8lgUBbm2WaZuyHtFju8\nlMoeFShXIaEMLMTgeUCuZOtFkxUZE9eAvx8m7kKJTwjjVOhQ9rij8F2aAiAtfGK+\n7GS5+aELeKYtL837l/TVZqZe9k4ukpCtIfLSeHCuIQlzn9/uPEYqsHwXGu+3ckHp\nq8++cOHOErnjhUAeEoNeuagemJyuM550Yh2NO52SjjKaz1glTX0+dxfMDjU5wO1m\nKmg240qJcVHOtHao7ycm7b56H+E78LB1yBjR8NOOBvLuTNchMX7Ba0xCxV9fpnNz\nXITGNyxiBf26ZMe5UslDLgfEyJBOAF8FeUryUlbeCabqqFL2izNlQxWNaCb2S1dg\n1xdyRbrtA/iXZ9xzSbeGd7jM4hKYDeebCQZi7g2ozn89mxxSpMan1bht8BPpH6ps\nyLrCsuRe0fc6NiEDh/MjSZiM3lciQjaJWPBXjivk/JcBHeGWtR8oDZj27h5LdCEU\nkeR4UUQvN4bd6COYrPRLQi7B70Pf33d9lykgaw==\n-----END CERTIFICATE-----\n";
 
 /// Bytes of a certificate as base64, and its lines.
-const LINES: [(&[u8], &[u8]); 11] = [
+static LINES: [(&[u8], &[u8]); 11] = [
     // 1 bytes
     (b"AQ==", b"AQ=="),
     // 2 bytes
@@ -68,121 +69,113 @@ const LINES: [(&[u8], &[u8]); 11] = [
     ),
 ];
 
-/// The three, one after the other.
-fn joined(alloc: Global, first: &[u8], second: &[u8], third: &[u8]) -> Result<Vec<u8>, AllocError> {
-    let mut all = Vec::from_slice(alloc, first)?;
-    all.extend_from_slice(second)?;
-    all.extend_from_slice(third)?;
-    Ok(all)
-}
-
-/// The PEM of a document.
-fn pem_of(alloc: Global, document: &str) -> Result<Vec<u8>, Fail> {
-    let bundle = read_document(alloc, document.as_bytes())?;
+/// Fails unless this is the PEM of a document.
+fn pem_is(alloc: Global, document: &[u8], wanted: &[u8]) -> Result<(), Fail> {
     let mut out = Vec::new(alloc);
-    put_pem(&bundle, &mut out)?;
-    Ok(out)
+    holds_at(is_put(alloc, document, &mut out)?, &document)?;
+    is_equal_at(&out.as_slice(), &wanted, &document)
 }
 
-#[test]
-fn certificates_of_real_bundles(rt: HostRuntime) -> Result<(), Fail> {
-    let rows = [
-        (WITHDRAWN, ""),
-        (DEFAULT, DEFAULT_PEM),
-        (ROTATION, ROTATION_PEM),
-        (LARGE_CURVE, LARGE_CURVE_PEM),
-        (LARGE_KEY, LARGE_KEY_PEM),
-    ];
-    for (document, wanted) in rows {
-        let found = pem_of(rt.alloc(), document)?;
-        is_equal_at(&rt, &found.as_slice(), &wanted.as_bytes(), &document);
-    }
-    Ok(())
-}
+static BUNDLES: [(&str, &str); 5] = [
+    (WITHDRAWN, ""),
+    (DEFAULT, DEFAULT_PEM),
+    (ROTATION, ROTATION_PEM),
+    (LARGE_CURVE, LARGE_CURVE_PEM),
+    (LARGE_KEY, LARGE_KEY_PEM),
+];
 
 #[test]
-fn lines_of_64_characters(rt: HostRuntime) -> Result<(), Fail> {
+fn certificates_of_bundles(rt: HostRuntime) -> Result<(), Fail> {
     let alloc = rt.alloc();
+    for &(document, wanted) in &BUNDLES {
+        pem_is(alloc, document.as_bytes(), wanted.as_bytes())?;
+    }
     let entry: &[u8] =
         b"{\"keys\":[{\"kty\":\"RSA\",\"use\":\"x509-svid\",\"n\":\"AQAB\",\"e\":\"AQAB\",\"x5c\":[\"";
-    for (der, lines) in LINES {
-        let document = joined(alloc, entry, der, b"\"]}]}")?;
-        let bundle = read_document(alloc, &document)?;
-        let mut found = Vec::new(alloc);
-        put_pem(&bundle, &mut found)?;
-        let wanted = joined(
-            alloc,
-            b"-----BEGIN CERTIFICATE-----\n",
-            lines,
-            b"\n-----END CERTIFICATE-----\n",
-        )?;
-        is_equal_at(&rt, &found, &wanted, &der);
+    let first: &[u8] = b"-----BEGIN CERTIFICATE-----\n";
+    for &(der, lines) in &LINES {
+        let (mut document, mut pem) = (Vec::new(alloc), Vec::new(alloc));
+        put_all(&mut document, &[entry, der, b"\"]}]}"])?;
+        put_all(&mut pem, &[first, lines, b"\n-----END CERTIFICATE-----\n"])?;
+        pem_is(alloc, &document, &pem)?;
     }
     Ok(())
 }
+
+/// Fails unless this is found of a domain of a dump, and this text is appended.
+fn dump_pem_is(
+    alloc: Global,
+    dump: &[u8],
+    name: &str,
+    wanted: Result<(), PemError>,
+    pem: &str,
+) -> Result<(), Fail> {
+    let domain = TrustDomain::parse(alloc, name)?;
+    let mut out = Vec::from_slice(alloc, b"before\n")?;
+    let found = put_dump_pem(alloc, dump, &domain, &mut out);
+    is_equal_at(&found, &wanted, &name)?;
+    let added = out.as_slice().strip_prefix(b"before\n");
+    is_equal_at(&added, &Some(pem.as_bytes()), &name)
+}
+
+static THREE: [(&str, &str); 3] = [("a.example", DEFAULT), ("b", ROTATION), ("c", WITHDRAWN)];
+
+/// Names, whether a domain of the three has it, and its certificates.
+static NAMES: [(&str, Result<(), PemError>, &str); 6] = [
+    ("a.example", Ok(()), DEFAULT_PEM),
+    ("b", Ok(()), ROTATION_PEM),
+    ("c", Ok(()), ""),
+    ("a", Err(PemError::NoDomain), ""),
+    ("b.example", Err(PemError::NoDomain), ""),
+    ("d", Err(PemError::NoDomain), ""),
+];
+
+static TWO: [(&str, &str); 2] = [("a", DEFAULT), ("b", WITHDRAWN)];
+
+static REVERSED: [(&str, &str); 2] = [("b", DEFAULT), ("a", WITHDRAWN)];
 
 #[test]
 fn certificates_of_a_domain_of_a_dump(rt: HostRuntime) -> Result<(), Fail> {
     let alloc = rt.alloc();
-    let dump = dump_of(
-        alloc,
-        &[("a.example", DEFAULT), ("b", ROTATION), ("c", WITHDRAWN)],
-    )?;
-    let rows = [
-        ("a.example", Ok(()), DEFAULT_PEM),
-        ("b", Ok(()), ROTATION_PEM),
-        ("c", Ok(()), ""),
-        ("a", Err(PemError::NoDomain), ""),
-        ("b.example", Err(PemError::NoDomain), ""),
-        ("d", Err(PemError::NoDomain), ""),
-    ];
-    for (name, wanted, pem) in rows {
-        let mut out = Vec::from_slice(alloc, b"before\n")?;
-        let found = put_dump_pem(alloc, &dump, &TrustDomain::parse(alloc, name)?, &mut out);
-        is_equal_at(&rt, &found, &wanted, &name);
-        let text = joined(alloc, b"before\n", pem.as_bytes(), b"")?;
-        is_equal_at(&rt, &out, &text, &name);
+    let dump = dump_of(alloc, &THREE)?;
+    for &(name, wanted, pem) in &NAMES {
+        dump_pem_is(alloc, &dump, name, wanted, pem)?;
     }
     Ok(())
 }
 
+// No bytes, a dump that lacks its last byte, one that lacks its domains, and one that has them out of order.
 #[test]
 fn no_certificates_of_what_is_no_dump(rt: HostRuntime) -> Result<(), Fail> {
     let alloc = rt.alloc();
-    let mut short = dump_of(alloc, &[("a", DEFAULT), ("b", WITHDRAWN)])?;
+    let mut short = dump_of(alloc, &TWO)?;
     let _last = short.pop();
-    let reversed = dump_of(alloc, &[("b", DEFAULT), ("a", WITHDRAWN)])?;
-    let rows: [(&str, &[u8], u64); 4] = [
-        ("no bytes", b"", 0),
-        ("a byte is missing", &short, 2),
-        (
-            "no domain",
-            b"\x00\x00\x00\x09a\x00\x00\x00\x00\x00\x00\x00\x02",
-            1,
-        ),
-        ("out of order", &reversed, 2),
-    ];
-    let name = TrustDomain::parse(alloc, "a")?;
-    for (case, dump, place) in rows {
-        let mut out = Vec::from_slice(alloc, b"before\n")?;
-        let found = put_dump_pem(alloc, dump, &name, &mut out);
-        is_equal_at(&rt, &found, &Err(PemError::BadDump(place)), &case);
-        is_equal_at(&rt, &out.as_slice(), &b"before\n".as_slice(), &case);
+    let reversed = dump_of(alloc, &REVERSED)?;
+    let none: &[u8] = b"\x00\x00\x00\x09a\x00\x00\x00\x00\x00\x00\x00\x02";
+    let rows: [(&[u8], u64); 4] = [(b"", 0), (&short, 2), (none, 1), (&reversed, 2)];
+    for &(dump, place) in &rows {
+        dump_pem_is(alloc, dump, "a", Err(PemError::BadDump(place)), "")?;
     }
     Ok(())
+}
+
+/// Appends the certificates of a document. Answers whether there was memory for them.
+fn is_put(alloc: Global, document: &[u8], out: &mut Vec<u8>) -> Result<bool, Fail> {
+    let bundle = read_document(alloc, document)?;
+    Ok(put_pem(&bundle, out).is_ok())
 }
 
 #[test]
 fn a_refused_growth_leaves_no_part_of_a_pem(rt: HostRuntime) -> Result<(), Fail> {
     let alloc = rt.alloc();
-    let bundle = read_document(alloc, ROTATION.as_bytes())?;
+    let (document, pem) = BUNDLES[2];
     let mut out = Vec::from_slice(alloc, b"before\n")?;
-    match put_pem(&bundle, &mut out) {
-        Ok(()) => {
-            let text = joined(alloc, b"before\n", ROTATION_PEM.as_bytes(), b"")?;
-            is_equal_at(&rt, &out, &text, &"whole");
-        }
-        Err(_) => is_equal_at(&rt, &out.as_slice(), &b"before\n".as_slice(), &"nothing"),
-    }
-    Ok(())
+    let size = if is_put(alloc, document.as_bytes(), &mut out)? {
+        pem.len()
+    } else {
+        0
+    };
+    let (wanted, _) = pem.as_bytes().split_at(size);
+    let added = out.as_slice().strip_prefix(b"before\n");
+    is_equal_at(&added, &Some(wanted), &"whole, or nothing")
 }
