@@ -91,7 +91,10 @@ impl Shard {
         ensures refused { IfErr result (λ e. (e ≡ AskError.Memory) ⊎ ((step_on self.old op).answer ≡ Err e)) }
         ensures err { OnErr result (self.new ≡ self.old) }
     {
-        self.refuse_worn(&op)?;
+        if let Err(why) = self.refuse_worn(&op) {
+            drop(op);
+            return Err(why);
+        }
         let alloc = self.alloc;
         let reply = ask_version(alloc, &mut self.version, op)?;
         if reply.is_change() {
@@ -122,7 +125,9 @@ fn ask_version(alloc: Global, version: &mut Arc<Contents>, op: Op) -> Result<Rep
     if let Some(contents) = Arc::get_mut(version) {
         return contents.ask(op);
     }
-    ask_shared(alloc, version, &op)
+    let reply = ask_shared(alloc, version, &op);
+    drop(op);
+    reply
 }
 
 // Asks a version that others share too: it stays, and if the operation would change it, another one takes its place.
@@ -135,6 +140,7 @@ fn ask_shared(alloc: Global, version: &mut Arc<Contents>, op: &Op) -> Result<Rep
     let (reply, after) = version.asked(op)?;
     if let Some(after) = after {
         let Ok(after) = Arc::new(alloc, after) else {
+            drop(reply);
             return Err(AskError::Memory);
         };
         *version = after;

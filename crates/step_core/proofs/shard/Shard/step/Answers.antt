@@ -34,7 +34,7 @@ returns-clause-shard c =
     let revision = c.self.inside.revision in
     let part : PlainMap = arc_value c.self.inside.version in
     let new : PlainMap = arc_value c.ask_version.new.version in
-    let taken : revision ≡ last_revision → is_change (ask part op).reply ≡ false = rw (← c.self.view_is) at c.in_ok-refuse_worn.ensures.taken in
+    let taken : revision ≡ last_revision → is_change (ask part op).reply ≡ false = rw (← c.self.view_is) at c.in_default.ensures.taken in
     let low : true ≡ is_change c.in_ok-reply.reply → revision ≢ last_revision =
     (λ change is. not_both (change ∙ ap is_change c.in_ok-reply.ensures.reply ∙ taken is)) in
     rw (← c.self.view_is) (elim c.if-is_change.branch [
