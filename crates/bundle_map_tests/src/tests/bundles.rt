@@ -1,17 +1,19 @@
 //! Real bundles, their canonical texts as another program made them, and maps of them by Python's json.
 
-/// Three domains with their canonical texts, in order of the names.
-pub(super) const DOMAINS: [(&str, &str); 3] = [
-    (
-        "example.org",
-        "{\"keys\":[{\"crv\":\"P-256\",\"kty\":\"EC\",\"use\":\"x509-svid\",\"x\":\"-G7fp-jzNHw1rvG4LS_yqvAOMknL822He5jxSNvvTBM\",\"x5c\":[\"MIIBZjCCAQugAwIBAgIJAJG3WEoiZbH1MAoGCCqGSM49BAMCMB0xDjAMBgNVBAoMBVNQSVJFMQswCQYDVQQGEwJVUzAeFw0yNjAxMDEwMDAwMDBaFw0yNzAxMDEwMDAwMDBaMB0xDjAMBgNVBAoMBVNQSVJFMQswCQYDVQQGEwJVUzBZMBMGByqGSM49AgEGCCqGSM49AwEHA0IABPhu36fo8zR8Na7xuC0v8qrwDjJJy/Nth3uY8Ujb70wTIZ+pqtQPNwT+ATj5DnXY1n97YBJfljCTbwabVztyAbSjNDAyMA8GA1UdEwEB/wQFMAMBAf8wHwYDVR0RBBgwFoYUc3BpZmZlOi8vZXhhbXBsZS5vcmcwCgYIKoZIzj0EAwIDSQAwRgIhAOCQ9elfPJjrYR6wqnuDbcbLqE2/OEQ95er2HTp4cT0FAiEAy9fn5GWXXnuYP+c+/nwylq53vvHqjd/ZOO6BEhrbPRw=\"],\"y\":\"IZ-pqtQPNwT-ATj5DnXY1n97YBJfljCTbwabVztyAbQ\"},{\"crv\":\"P-256\",\"kid\":\"32rx2DA-Yc3Eu4bD0cQnEDw0TEGJ6y8e\",\"kty\":\"EC\",\"use\":\"jwt-svid\",\"x\":\"UTfGp93aN36aNN-PUhyJb6ah3wKm6QpswBpeQpXMLFY\",\"y\":\"DfVcPQON1Cuf8YEd4vrVy4GIhcbDJzkPXlaBuGU-0S4\"}],\"spiffe_refresh_hint\":2419200,\"spiffe_sequence\":1}",
-    ),
-    (
-        "partner.example",
-        "{\"keys\":[{\"crv\":\"P-256\",\"kty\":\"EC\",\"use\":\"x509-svid\",\"x\":\"aKfVOnPDRXIttw9OAlUbg5jye2oLIK3SoVAuZslr7M0\",\"x5c\":[\"MIIBZzCCAQ2gAwIBAgIJAPBtP+9wGWagMAoGCCqGSM49BAMCMB0xDjAMBgNVBAoMBVNQSVJFMQswCQYDVQQGEwJVUzAeFw0yNjAxMDEwMDAwMDBaFw0yNzAxMDEwMDAwMDBaMB0xDjAMBgNVBAoMBVNQSVJFMQswCQYDVQQGEwJVUzBZMBMGByqGSM49AgEGCCqGSM49AwEHA0IABGin1Tpzw0VyLbcPTgJVG4OY8ntqCyCt0qFQLmbJa+zNBGMSwFpXxew36vgLEdonLaNGO/opUWyjlHmgUUVhcRmjNjA0MA8GA1UdEwEB/wQFMAMBAf8wIQYDVR0RBBowGIYWc3BpZmZlOi8vbWl4ZWQuZXhhbXBsZTAKBggqhkjOPQQDAgNIADBFAiAe6MAO+T1N14U52+VTGIiGrTfS0hO69gUw91xC97Uy2wIhAOWs0uyniYouIO3VBIAuvdxdq7DLf5iB5WFRiwZ0cGnU\"],\"y\":\"BGMSwFpXxew36vgLEdonLaNGO_opUWyjlHmgUUVhcRk\"},{\"crv\":\"P-256\",\"kid\":\"qQgCOJp4zcKUkqh190rG86ogL0rZiS_t\",\"kty\":\"EC\",\"use\":\"jwt-svid\",\"x\":\"K__4rg9Oo7oSyP-WLbHezM334InlW0VBWw0ZrKV4ScM\",\"y\":\"fS3oOG6RcLCnUE1ElPpbEYXtlYVR_L1IvM1mNHB_Gy0\"}],\"spiffe_sequence\":3}",
-    ),
-    ("withdrawn.example", "{\"keys\":[],\"spiffe_sequence\":12}"),
-];
+pub(super) const EXAMPLE: (&str, &str) = (
+    "example.org",
+    "{\"keys\":[{\"crv\":\"P-256\",\"kty\":\"EC\",\"use\":\"x509-svid\",\"x\":\"-G7fp-jzNHw1rvG4LS_yqvAOMknL822He5jxSNvvTBM\",\"x5c\":[\"MIIBZjCCAQugAwIBAgIJAJG3WEoiZbH1MAoGCCqGSM49BAMCMB0xDjAMBgNVBAoMBVNQSVJFMQswCQYDVQQGEwJVUzAeFw0yNjAxMDEwMDAwMDBaFw0yNzAxMDEwMDAwMDBaMB0xDjAMBgNVBAoMBVNQSVJFMQswCQYDVQQGEwJVUzBZMBMGByqGSM49AgEGCCqGSM49AwEHA0IABPhu36fo8zR8Na7xuC0v8qrwDjJJy/Nth3uY8Ujb70wTIZ+pqtQPNwT+ATj5DnXY1n97YBJfljCTbwabVztyAbSjNDAyMA8GA1UdEwEB/wQFMAMBAf8wHwYDVR0RBBgwFoYUc3BpZmZlOi8vZXhhbXBsZS5vcmcwCgYIKoZIzj0EAwIDSQAwRgIhAOCQ9elfPJjrYR6wqnuDbcbLqE2/OEQ95er2HTp4cT0FAiEAy9fn5GWXXnuYP+c+/nwylq53vvHqjd/ZOO6BEhrbPRw=\"],\"y\":\"IZ-pqtQPNwT-ATj5DnXY1n97YBJfljCTbwabVztyAbQ\"},{\"crv\":\"P-256\",\"kid\":\"32rx2DA-Yc3Eu4bD0cQnEDw0TEGJ6y8e\",\"kty\":\"EC\",\"use\":\"jwt-svid\",\"x\":\"UTfGp93aN36aNN-PUhyJb6ah3wKm6QpswBpeQpXMLFY\",\"y\":\"DfVcPQON1Cuf8YEd4vrVy4GIhcbDJzkPXlaBuGU-0S4\"}],\"spiffe_refresh_hint\":2419200,\"spiffe_sequence\":1}",
+);
+
+pub(super) const PARTNER: (&str, &str) = (
+    "partner.example",
+    "{\"keys\":[{\"crv\":\"P-256\",\"kty\":\"EC\",\"use\":\"x509-svid\",\"x\":\"aKfVOnPDRXIttw9OAlUbg5jye2oLIK3SoVAuZslr7M0\",\"x5c\":[\"MIIBZzCCAQ2gAwIBAgIJAPBtP+9wGWagMAoGCCqGSM49BAMCMB0xDjAMBgNVBAoMBVNQSVJFMQswCQYDVQQGEwJVUzAeFw0yNjAxMDEwMDAwMDBaFw0yNzAxMDEwMDAwMDBaMB0xDjAMBgNVBAoMBVNQSVJFMQswCQYDVQQGEwJVUzBZMBMGByqGSM49AgEGCCqGSM49AwEHA0IABGin1Tpzw0VyLbcPTgJVG4OY8ntqCyCt0qFQLmbJa+zNBGMSwFpXxew36vgLEdonLaNGO/opUWyjlHmgUUVhcRmjNjA0MA8GA1UdEwEB/wQFMAMBAf8wIQYDVR0RBBowGIYWc3BpZmZlOi8vbWl4ZWQuZXhhbXBsZTAKBggqhkjOPQQDAgNIADBFAiAe6MAO+T1N14U52+VTGIiGrTfS0hO69gUw91xC97Uy2wIhAOWs0uyniYouIO3VBIAuvdxdq7DLf5iB5WFRiwZ0cGnU\"],\"y\":\"BGMSwFpXxew36vgLEdonLaNGO_opUWyjlHmgUUVhcRk\"},{\"crv\":\"P-256\",\"kid\":\"qQgCOJp4zcKUkqh190rG86ogL0rZiS_t\",\"kty\":\"EC\",\"use\":\"jwt-svid\",\"x\":\"K__4rg9Oo7oSyP-WLbHezM334InlW0VBWw0ZrKV4ScM\",\"y\":\"fS3oOG6RcLCnUE1ElPpbEYXtlYVR_L1IvM1mNHB_Gy0\"}],\"spiffe_sequence\":3}",
+);
+
+pub(super) const WITHDRAWN: (&str, &str) = (
+    "withdrawn.example",
+    "{\"keys\":[],\"spiffe_sequence\":12}",
+);
 
 /// Their map.
 pub(super) const MAP: &str =

@@ -1,116 +1,129 @@
 //! What files become, and why others are refused.
-use super::bundles::{DOMAINS, SPACED_MAP};
-use super::{Domains, holds_at, is_equal_at, sets_of};
+use super::bundles::{EXAMPLE, PARTNER, SPACED_MAP, WITHDRAWN};
+use super::{Domains, frames_of, holds_at, is_equal_at};
 use bundle_map::{MapError, MemberFault, requests_of_map};
 use spiffe_doc::{DocError, NameError};
-use std::alloc::Global;
-use std::process::Abort;
 use std::test::Fail;
 
-/// The file becomes the requests that set these domains.
-fn becomes(rt: &impl Abort, alloc: Global, file: &str, domains: Domains<'_>) -> Result<(), Fail> {
-    let requests = requests_of_map(alloc, file.as_bytes())?;
-    holds_at(rt, requests == sets_of(alloc, domains)?, &file);
+/// A file, and the domains that its requests set.
+static TAKEN: [(&str, Domains<'static>); 4] = [
+    ("{\"trust_domains\":{}}", &[]),
+    (
+        " {\"x\":[1e999], \"trust_domains\" : {\"b\":{\"keys\":[]}, \"a\":{\"keys\":[], \"keys\":[]}}}\n",
+        &[("b", "{\"keys\":[]}"), ("a", "{\"keys\":[]}")],
+    ),
+    (
+        "{\"trust_domains\":{\"a\":{\"keys\":[],\"spiffe_sequence\":7,\"trust_domains\":0}}}",
+        &[("a", "{\"keys\":[],\"spiffe_sequence\":7}")],
+    ),
+    (SPACED_MAP, &[WITHDRAWN, PARTNER, EXAMPLE]),
+];
+
+#[test]
+fn maps_that_are_taken(rt: HostRuntime) -> Result<(), Fail> {
+    for &(file, domains) in &TAKEN {
+        let requests = requests_of_map(rt.alloc(), file.as_bytes())?;
+        let wanted = frames_of(rt.alloc(), b'S', domains)?;
+        holds_at(&rt, requests == wanted, &file);
+    }
     Ok(())
 }
 
-#[test]
-fn takes_maps(rt: HostRuntime) -> Result<(), Fail> {
-    let alloc = rt.alloc();
-    let [first, second, third] = DOMAINS;
-    becomes(&rt, alloc, "{\"trust_domains\":{}}", &[])?;
-    becomes(
-        &rt,
-        alloc,
-        " {\"x\":[1e999], \"trust_domains\" : {\"b\":{\"keys\":[]}, \"a\":{\"keys\":[], \"keys\":[]}}}\n",
-        &[("b", "{\"keys\":[]}"), ("a", "{\"keys\":[]}")],
-    )?;
-    becomes(
-        &rt,
-        alloc,
-        "{\"trust_domains\":{\"a\":{\"keys\":[],\"spiffe_sequence\":7,\"trust_domains\":0}}}",
-        &[("a", "{\"keys\":[],\"spiffe_sequence\":7}")],
-    )?;
-    becomes(&rt, alloc, SPACED_MAP, &[third, second, first])
-}
-
-#[test]
-fn refuses_what_is_not_a_map(rt: HostRuntime) {
-    let files: [&[u8]; 13] = [
-        b"",
-        b"{",
-        b"[]",
-        b"{}",
-        b"null",
-        b"\xff",
-        b"{\"trust_domains\":\"\xff\"}",
-        b"{\"trust_domains\":[]}",
-        b"{\"trust_domains\":null}",
-        b"{\"Trust_domains\":{}}",
-        b"{\"trust_domains\":{}}{}",
+/// A file, and why it is refused: what is not a map, and the first bad member.
+static REFUSED: [(&[u8], MapError); 23] = [
+    (b"", MapError::NotMap),
+    (b"{", MapError::NotMap),
+    (b"[]", MapError::NotMap),
+    (b"{}", MapError::NotMap),
+    (b"null", MapError::NotMap),
+    (b"\xff", MapError::NotMap),
+    (b"{\"trust_domains\":\"\xff\"}", MapError::NotMap),
+    (b"{\"trust_domains\":[]}", MapError::NotMap),
+    (b"{\"trust_domains\":null}", MapError::NotMap),
+    (b"{\"Trust_domains\":{}}", MapError::NotMap),
+    (b"{\"trust_domains\":{}}{}", MapError::NotMap),
+    (
         b"{\"trust_domains\":{},\"trust_domains\":{}}",
-        b"{\"keys\":[]}",
-    ];
-    for file in files {
-        let found = requests_of_map(rt.alloc(), file).err();
-        is_equal_at(&rt, &found, &Some(MapError::NotMap), &file);
-    }
-}
+        MapError::NotMap,
+    ),
+    (b"{\"keys\":[]}", MapError::NotMap),
+    (
+        b"{\"trust_domains\":{\"\":{\"keys\":[]}}}",
+        MapError::BadMember {
+            place: 0,
+            fault: MemberFault::BadName(NameError::Empty),
+        },
+    ),
+    (
+        b"{\"trust_domains\":{\"A\":{\"keys\":[]}}}",
+        MapError::BadMember {
+            place: 0,
+            fault: MemberFault::BadName(NameError::BadChar(0)),
+        },
+    ),
+    (
+        b"{\"trust_domains\":{\"a\":{\"keys\":[]},\"a b\":{\"keys\":[]}}}",
+        MapError::BadMember {
+            place: 1,
+            fault: MemberFault::BadName(NameError::BadChar(1)),
+        },
+    ),
+    (
+        b"{\"trust_domains\":{\"a\":{\"keys\":[]},\"b\":{\"keys\":[]},\"a\":{\"keys\":[]}}}",
+        MapError::BadMember {
+            place: 2,
+            fault: MemberFault::Twice,
+        },
+    ),
+    (
+        b"{\"trust_domains\":{\"a\":{\"keys\":[]},\"\\u0061\":0}}",
+        MapError::BadMember {
+            place: 1,
+            fault: MemberFault::Twice,
+        },
+    ),
+    (
+        b"{\"trust_domains\":{\"a\":[]}}",
+        MapError::BadMember {
+            place: 0,
+            fault: MemberFault::BadBundle(DocError::NotObject),
+        },
+    ),
+    (
+        b"{\"trust_domains\":{\"a\":{}}}",
+        MapError::BadMember {
+            place: 0,
+            fault: MemberFault::BadBundle(DocError::NoKeys),
+        },
+    ),
+    (
+        b"{\"trust_domains\":{\"a\":{\"keys\":[]},\"b\":{\"keys\":[0]},\"c\":{}}}",
+        MapError::BadMember {
+            place: 1,
+            fault: MemberFault::BadBundle(DocError::BadEntry(0)),
+        },
+    ),
+    (
+        b"{\"trust_domains\":{\"a\":{\"keys\":[],\"spiffe_sequence\":-1}}}",
+        MapError::BadMember {
+            place: 0,
+            fault: MemberFault::BadBundle(DocError::BadSequence),
+        },
+    ),
+    (
+        b"{\"trust_domains\":{\"a\":{\"keys\":[],\"x\":1e999}}}",
+        MapError::BadMember {
+            place: 0,
+            fault: MemberFault::BadBundle(DocError::NotJson),
+        },
+    ),
+];
 
 #[test]
-fn refuses_the_first_bad_member(rt: HostRuntime) {
-    let rows: [(&str, usize, MemberFault); 10] = [
-        (
-            "\"\":{\"keys\":[]}",
-            0,
-            MemberFault::BadName(NameError::Empty),
-        ),
-        (
-            "\"A\":{\"keys\":[]}",
-            0,
-            MemberFault::BadName(NameError::BadChar(0)),
-        ),
-        (
-            "\"a\":{\"keys\":[]},\"a b\":{\"keys\":[]}",
-            1,
-            MemberFault::BadName(NameError::BadChar(1)),
-        ),
-        (
-            "\"a\":{\"keys\":[]},\"b\":{\"keys\":[]},\"a\":{\"keys\":[]}",
-            2,
-            MemberFault::Twice,
-        ),
-        ("\"a\":{\"keys\":[]},\"\\u0061\":0", 1, MemberFault::Twice),
-        ("\"a\":[]", 0, MemberFault::BadBundle(DocError::NotObject)),
-        ("\"a\":{}", 0, MemberFault::BadBundle(DocError::NoKeys)),
-        (
-            "\"a\":{\"keys\":[]},\"b\":{\"keys\":[0]},\"c\":{}",
-            1,
-            MemberFault::BadBundle(DocError::BadEntry(0)),
-        ),
-        (
-            "\"a\":{\"keys\":[],\"spiffe_sequence\":-1}",
-            0,
-            MemberFault::BadBundle(DocError::BadSequence),
-        ),
-        (
-            "\"a\":{\"keys\":[],\"x\":1e999}",
-            0,
-            MemberFault::BadBundle(DocError::NotJson),
-        ),
-    ];
-    for (members, place, fault) in rows {
-        let Ok(file) = format!(in rt.alloc(); "{{\"trust_domains\":{{{members}}}}}") else {
-            holds_at(&rt, false, &members);
-            return;
-        };
-        let found = requests_of_map(rt.alloc(), file.as_bytes()).err();
-        is_equal_at(
-            &rt,
-            &found,
-            &Some(MapError::BadMember { place, fault }),
-            &members,
-        );
+fn maps_that_are_refused(rt: HostRuntime) {
+    for &(file, wanted) in &REFUSED {
+        let found = requests_of_map(rt.alloc(), file).err();
+        is_equal_at(&rt, &found, &Some(wanted), &file);
     }
 }
 

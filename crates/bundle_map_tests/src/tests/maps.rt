@@ -1,48 +1,49 @@
 //! What the map of a dump is.
-use super::bundles::{DOMAINS, MAP, X509_MAP};
-use super::{Domains, dumped, holds_at, is_equal_at, sets_of};
+use super::bundles::{EXAMPLE, MAP, PARTNER, WITHDRAWN, X509_MAP};
+use super::{Domains, frames_of, holds_at, is_equal_at};
 use bundle_map::{Profile, requests_of_map, write_map};
+use frame_front::read_dump;
 use std::alloc::Global;
-use std::process::Abort;
 use std::test::Fail;
 
 /// One domain with a refresh hint.
-const HINTED: [(&str, &str); 1] = [("a", "{\"keys\":[],\"spiffe_refresh_hint\":5}")];
+const HINTED: Domains<'static> = &[("a", "{\"keys\":[],\"spiffe_refresh_hint\":5}")];
 
-/// The map of these domains in this profile is this text.
-fn is_written(
-    rt: &impl Abort,
-    alloc: Global,
-    domains: Domains<'_>,
-    profile: Profile,
-    wanted: &str,
-) -> Result<(), Fail> {
-    let text = write_map(alloc, dumped(alloc, domains)?.pairs(), profile)?;
-    holds_at(rt, text.as_slice() == wanted.as_bytes(), &wanted);
-    Ok(())
+const REAL: Domains<'static> = &[EXAMPLE, PARTNER, WITHDRAWN];
+
+/// Domains, a profile, the map, and whether it is taken back as the requests that set the domains.
+static MAPS: [(Domains<'static>, Profile, &str, bool); 6] = [
+    (&[], Profile::Whole, "{\"trust_domains\":{}}", true),
+    (&[], Profile::X509, "{\"trust_domains\":{}}", true),
+    (
+        HINTED,
+        Profile::Whole,
+        "{\"trust_domains\":{\"a\":{\"keys\":[],\"spiffe_refresh_hint\":5}}}",
+        true,
+    ),
+    (
+        HINTED,
+        Profile::X509,
+        "{\"trust_domains\":{\"a\":{\"keys\":[]}}}",
+        false,
+    ),
+    (REAL, Profile::Whole, MAP, true),
+    (REAL, Profile::X509, X509_MAP, false),
+];
+
+fn map_of(alloc: Global, domains: Domains<'_>, profile: Profile) -> Result<Vec<u8>, Fail> {
+    let dumped = read_dump(alloc, &frames_of(alloc, b'i', domains)?)?;
+    Ok(write_map(alloc, dumped.pairs(), profile)?)
 }
 
 #[test]
-fn writes_maps(rt: HostRuntime) -> Result<(), Fail> {
-    let alloc = rt.alloc();
-    let whole = "{\"trust_domains\":{\"a\":{\"keys\":[],\"spiffe_refresh_hint\":5}}}";
-    let part = "{\"trust_domains\":{\"a\":{\"keys\":[]}}}";
-    is_written(&rt, alloc, &[], Profile::Whole, "{\"trust_domains\":{}}")?;
-    is_written(&rt, alloc, &[], Profile::X509, "{\"trust_domains\":{}}")?;
-    is_written(&rt, alloc, &HINTED, Profile::Whole, whole)?;
-    is_written(&rt, alloc, &HINTED, Profile::X509, part)?;
-    is_written(&rt, alloc, &DOMAINS, Profile::Whole, MAP)?;
-    is_written(&rt, alloc, &DOMAINS, Profile::X509, X509_MAP)
-}
-
-#[test]
-fn takes_a_map_back(rt: HostRuntime) -> Result<(), Fail> {
-    let alloc = rt.alloc();
-    for profile in [Profile::Whole, Profile::X509] {
-        let map = write_map(alloc, dumped(alloc, &DOMAINS)?.pairs(), profile)?;
-        let requests = requests_of_map(alloc, &map)?;
-        let is_whole = requests == sets_of(alloc, &DOMAINS)?;
-        is_equal_at(&rt, &is_whole, &(profile == Profile::Whole), &profile);
+fn maps(rt: HostRuntime) -> Result<(), Fail> {
+    for &(domains, profile, wanted, is_whole) in &MAPS {
+        let map = map_of(rt.alloc(), domains, profile)?;
+        holds_at(&rt, map.as_slice() == wanted.as_bytes(), &wanted);
+        let requests = requests_of_map(rt.alloc(), &map)?;
+        let is_back = requests == frames_of(rt.alloc(), b'S', domains)?;
+        is_equal_at(&rt, &is_back, &is_whole, &wanted);
     }
     Ok(())
 }
