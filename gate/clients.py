@@ -63,10 +63,10 @@ class Told(unittest.TestResult):
 
 
 def go_tests():
-    """How many tests of the client in Go passed and failed."""
+    """How many tests of the client in Go passed and failed; or nothing, if they are left out."""
     if not shutil.which("go"):
         print("the client in Go: left out, since this machine has no go", flush=True)
-        return 0, 0
+        return None
     with tempfile.TemporaryDirectory(prefix="go-tests-") as home:
         env = {"HOME": home, **os.environ, "CGO_ENABLED": "0", "GOFLAGS": ""}
         words = ["go", "test", "-count=1", f"-timeout={SECONDS}s", "-v", "."]
@@ -93,8 +93,12 @@ def main():
     load.loadTestsFromName("test_hopslintel").run(told)
     faulthandler.cancel_dump_traceback_later()
     in_go = go_tests()
-    failed = len(told.errors) + len(told.failures) + in_go[1]
-    print(f"{told.passed + in_go[0]} passed, {failed} failed")
+    left_out = len(told.skipped) + (in_go is None)
+    if left_out:
+        print(f"{left_out} left out")
+    in_python = told.passed, len(told.errors) + len(told.failures)
+    passed, failed = map(sum, zip(in_python, in_go or (0, 0)))
+    print(f"{passed} passed, {failed} failed")
     return 1 if failed else 0
 
 
