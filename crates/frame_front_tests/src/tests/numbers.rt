@@ -1,4 +1,4 @@
-//! The numbers of errors, by which clients know them, and where a refused document is at fault.
+//! The numbers of errors, by which clients know them, and the place for which a document is refused.
 use frame_front::{DumpError, FrontError, Refusal};
 use spiffe_doc::{DocError, NameError};
 use std::test::Fail;
