@@ -1,4 +1,6 @@
 //! Comparisons. A failure tells what was found and what was wanted.
+ghost use Rattle.std.specs.Prelude.{◌≡◌, true, false, OnOk, OnErr};
+
 use std::fmt::Debug;
 use std::test::Fail;
 
@@ -23,7 +25,10 @@ pub fn is_equal_at<T: PartialEq + Debug, C: Debug>(
 }
 
 /// Fails unless it is so.
-pub fn holds(is_so: bool) -> Result<(), Fail> {
+pub fn holds(is_so: bool) -> Result<(), Fail>
+    ensures ok { OnOk result (is_so ≡ true) }
+    ensures err { OnErr result (is_so ≡ false) }
+{
     if is_so {
         return Ok(());
     }
@@ -31,7 +36,10 @@ pub fn holds(is_so: bool) -> Result<(), Fail> {
 }
 
 /// Fails unless it is so in this case.
-pub fn holds_at<C: Debug>(is_so: bool, case: &C) -> Result<(), Fail> {
+pub fn holds_at<C: Debug>(is_so: bool, case: &C) -> Result<(), Fail>
+    ensures ok { OnOk result (is_so ≡ true) }
+    ensures err { OnErr result (is_so ≡ false) }
+{
     if is_so {
         return Ok(());
     }

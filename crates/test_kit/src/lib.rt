@@ -1,6 +1,6 @@
 //! What the test crates share: comparisons that tell what was found, and a language of words for operations and replies.
 //!
-//! It is for tests: no program uses it. Its functions are proved to be safe, and promise nothing else.
+//! It is for tests: no program uses it. Its functions are proved to be safe, and only `holds` and `holds_at` promise more.
 #![tactic(auto)]
 
 mod compare;
