@@ -46,11 +46,11 @@ fn full_documents(rt: HostRuntime) -> Result<(), AllocError> {
     Ok(())
 }
 
-const K0: &str =
+const FIRST_KEY: &str =
     "{\"use\":\"jwt-svid\",\"kty\":\"RSA\",\"n\":\"AQAB\",\"e\":\"AQAB\",\"kid\":\"k0\"}";
 
 /// Another key by its key id.
-const OTHER_K0: &str =
+const OTHER_KEY: &str =
     "{\"use\":\"jwt-svid\",\"kty\":\"RSA\",\"n\":\"AQAC\",\"e\":\"AQAB\",\"kid\":\"k0\"}";
 
 const Z: &str =
@@ -61,19 +61,19 @@ const GREATEST: &str = "],\"spiffe_sequence\":18446744073709551615}";
 
 /// How many keys a document has, what follows them, an entry, and why it is not appended.
 static REFUSED: [(usize, &str, &str, AppendError); 10] = [
-    (1, "],\"spiffe_sequence\":9}", K0, AppendError::Present),
+    (1, "],\"spiffe_sequence\":9}", FIRST_KEY, AppendError::Present),
     (
         1,
         "],\"spiffe_sequence\":9}",
-        OTHER_K0,
+        OTHER_KEY,
         AppendError::KidTaken,
     ),
     (1024, "]}", Z, AppendError::TooMany),
-    (1024, GREATEST, K0, AppendError::Present),
-    (1024, GREATEST, OTHER_K0, AppendError::KidTaken),
+    (1024, GREATEST, FIRST_KEY, AppendError::Present),
+    (1024, GREATEST, OTHER_KEY, AppendError::KidTaken),
     (1024, GREATEST, Z, AppendError::TooMany),
-    (1, GREATEST, K0, AppendError::Present),
-    (1, GREATEST, OTHER_K0, AppendError::KidTaken),
+    (1, GREATEST, FIRST_KEY, AppendError::Present),
+    (1, GREATEST, OTHER_KEY, AppendError::KidTaken),
     (1, GREATEST, Z, AppendError::SequenceFull),
     (0, GREATEST, Z, AppendError::SequenceFull),
 ];
@@ -121,7 +121,7 @@ fn the_longest_canonical_texts(rt: HostRuntime) -> Result<(), DocError> {
         let document = format!(in alloc; "{{\"keys\":[{entry}[\"{der}\"]}}{rest}")?;
         let long = bundle(alloc, &document)?;
         is_equal_at(&rt, &long.text_len(), &len, &rest);
-        refuses(&rt, alloc, &long, K0, wanted)?;
+        refuses(&rt, alloc, &long, FIRST_KEY, wanted)?;
     }
     Ok(())
 }
