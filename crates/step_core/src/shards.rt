@@ -63,10 +63,7 @@ impl Shards {
             Op::Get(domain) => self.get(&domain),
             op => match shard_of(&op, self.shards.len()) {
                 Some(place) => self.step(place, op),
-                None => {
-                    drop(op);
-                    self.fetch_all()
-                }
+                None => self.fetch_all(),
             },
         }
     }
