@@ -61,7 +61,7 @@ def outcome_of(check):
     try:
         with AFTERWARDS:
             return None, check() or ""
-    except Exception as error:  # pylint: disable=broad-except
+    except Exception as error:
         return what_went_wrong(error), ""
     finally:
         faulthandler.cancel_dump_traceback_later()
@@ -96,7 +96,7 @@ class Beside:
     def run(self, does, *given):
         try:
             does(*given)
-        except BaseException as error:  # pylint: disable=broad-except
+        except BaseException as error:
             self.raised = error
 
     def tell(self, kind, _error, _trace):
@@ -235,17 +235,16 @@ class Lasting(Server):
 
     def stop(self):
         """Ends its input, after which it ends by itself."""
-        os.close(self.hold)
+        if self.hold is not None:
+            os.close(self.hold)
         self.hold = None
 
     def end(self, *why):
-        if self.hold is not None:
-            self.stop()
+        self.stop()
         super().end(*why)
 
     def ended(self):
-        if self.hold is not None:
-            self.stop()
+        self.stop()
         return super().ended()
 
     def kilobytes(self):

@@ -60,7 +60,7 @@ def swept(run, shim):
     """How many growths the run has, and what went wrong: also if it could not be run."""
     try:
         return sweep(run, shim)
-    except Exception as error:  # pylint: disable=broad-except
+    except Exception as error:
         return 0, what_went_wrong(error)
 
 

@@ -343,7 +343,7 @@ def flood_beside_others():
     assert grown < 20_000, f"the server has grown by {grown} kB"
     status, out, _ = server.ended()
     assert status == 0 and out.endswith("domains 0\n"), (status, out)
-    return f"; another one was {answered_soon(took)}, and the server has grown by {grown} kB"
+    return f"; another one was {answered_soon(took)}, and the server has grown by {max(grown, 0)} kB"
 
 
 def send_gets(server, until):

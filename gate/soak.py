@@ -304,7 +304,7 @@ def main():
                   f"memory has grown by {soak.server.kilobytes() - memory} kB; the operations of each round are linearizable")
             soak.end()
             rounds += 1
-    except Exception as error:  # pylint: disable=broad-except
+    except Exception as error:
         failed = 1
         print(f"FAILED: {what_went_wrong(error)}")
     print(f"{rounds} passed, {failed} failed")
