@@ -8,13 +8,9 @@ use refresher::{ListError, Sender, Server, Target, Told, read_list, write_outcom
 use spiffe_doc::{DocError, NameError, TrustDomain, read_document};
 use std::alloc::Global;
 use std::fmt::Debug;
+use std::io;
 use std::process::Abort;
 use std::test::Fail;
-
-/// What was found is what is wanted.
-fn is_equal<T: PartialEq + Debug>(rt: &impl Abort, found: &T, wanted: &T) {
-    assert!(rt; *found == *wanted, "{found:?}, and not {wanted:?}");
-}
 
 /// What was found in this case is what is wanted.
 fn is_equal_at<T: PartialEq + Debug, C: Debug>(rt: &impl Abort, found: &T, wanted: &T, case: &C) {
@@ -24,9 +20,9 @@ fn is_equal_at<T: PartialEq + Debug, C: Debug>(rt: &impl Abort, found: &T, wante
     );
 }
 
-/// It is so.
-fn holds(rt: &impl Abort, is_so: bool) {
-    assert!(rt; is_so);
+/// It is so in this case.
+fn holds_at<C: Debug>(rt: &impl Abort, is_so: bool, case: &C) {
+    assert!(rt; is_so, "{case:?}");
 }
 
 /// How many relationships a list has, or why it is refused.
@@ -34,133 +30,199 @@ fn count_of(alloc: Global, list: &[u8]) -> Result<usize, ListError> {
     Ok(read_list(alloc, list)?.len())
 }
 
+static LISTS: [(&[u8], Result<usize, ListError>); 20] = [
+    (b"", Ok(0)),
+    (b"\n\n  \t\r\n", Ok(0)),
+    (b"# a https://x.example https_web", Ok(0)),
+    (b"a https://x.example https_web", Ok(1)),
+    (b"a https://x.example https_web\n", Ok(1)),
+    (
+        b"a https://x.example https_web\r\nb https://x.example https_web\r\n",
+        Ok(2),
+    ),
+    (b" a\t https://x.example  https_web # not b", Ok(1)),
+    (b"a https://x.example#b https_web", Ok(1)),
+    (
+        b"a https://x.example https_web#",
+        Err(ListError::BadRelationship(RelationError::BadProfile, 1)),
+    ),
+    (b"a https://x.example https_spiffe spiffe://a/b", Ok(1)),
+    (b"a https://x.example https_web ignored", Ok(1)),
+    (b"a", Err(ListError::BadLine(1))),
+    (b"a https://x.example", Err(ListError::BadLine(1))),
+    (
+        b"\na https://x.example https_web b c",
+        Err(ListError::BadLine(2)),
+    ),
+    (
+        b"a https://x.example https_web\n\n#\na https://y.example https_web",
+        Err(ListError::BadLine(4)),
+    ),
+    (
+        b"a https://x.example https_web\n\xff",
+        Err(ListError::BadLine(2)),
+    ),
+    (
+        b"A https://x.example https_web",
+        Err(ListError::BadRelationship(RelationError::Domain(NameError::BadChar(0)), 1)),
+    ),
+    (
+        b"\na http://x.example https_web",
+        Err(ListError::BadRelationship(RelationError::BadUrl, 2)),
+    ),
+    (
+        b"a https://x.example https_spiffe",
+        Err(ListError::BadRelationship(RelationError::NoEndpointId, 1)),
+    ),
+    (
+        b"a https://x.example https_web\na http://x.example https_web",
+        Err(ListError::BadRelationship(RelationError::BadUrl, 2)),
+    ),
+];
+
 #[test]
 fn lists(rt: HostRuntime) {
-    let bad = |line| Err(ListError::BadLine(line));
-    let refused = |error, line| Err(ListError::BadRelationship(error, line));
-    let rows: [(&[u8], Result<usize, ListError>); 20] = [
-        (b"", Ok(0)),
-        (b"\n\n  \t\r\n", Ok(0)),
-        (b"# a https://x.example https_web", Ok(0)),
-        (b"a https://x.example https_web", Ok(1)),
-        (b"a https://x.example https_web\n", Ok(1)),
-        (
-            b"a https://x.example https_web\r\nb https://x.example https_web\r\n",
-            Ok(2),
-        ),
-        (b" a\t https://x.example  https_web # not b", Ok(1)),
-        (b"a https://x.example#b https_web", Ok(1)),
-        (
-            b"a https://x.example https_web#",
-            refused(RelationError::BadProfile, 1),
-        ),
-        (b"a https://x.example https_spiffe spiffe://a/b", Ok(1)),
-        (b"a https://x.example https_web ignored", Ok(1)),
-        (b"a", bad(1)),
-        (b"a https://x.example", bad(1)),
-        (b"\na https://x.example https_web b c", bad(2)),
-        (
-            b"a https://x.example https_web\n\n#\na https://y.example https_web",
-            bad(4),
-        ),
-        (b"a https://x.example https_web\n\xff", bad(2)),
-        (
-            b"A https://x.example https_web",
-            refused(RelationError::Domain(NameError::BadChar(0)), 1),
-        ),
-        (
-            b"\na http://x.example https_web",
-            refused(RelationError::BadUrl, 2),
-        ),
-        (
-            b"a https://x.example https_spiffe",
-            refused(RelationError::NoEndpointId, 1),
-        ),
-        (
-            b"a https://x.example https_web\na http://x.example https_web",
-            refused(RelationError::BadUrl, 2),
-        ),
-    ];
-    for (list, count) in rows {
-        is_equal_at(&rt, &count_of(rt.alloc(), list), &count, &list);
+    for &(list, wanted) in &LISTS {
+        is_equal_at(&rt, &count_of(rt.alloc(), list), &wanted, &list);
     }
 }
 
-/// The line of what a refresh at 1000 came to.
+/// What a refresh came to.
+#[derive(Clone, Copy)]
+enum Came {
+    Stored,
+    Unchanged,
+    Refused(MapRefusal),
+    Bad(DocError),
+    NoAnswer,
+    Asked(AskError),
+}
+
+fn what_of(came: Came) -> What {
+    match came {
+        Came::Stored => What::Taken(Reply::Stored),
+        Came::Unchanged => What::Taken(Reply::Unchanged),
+        Came::Refused(why) => What::Taken(Reply::Refused(why)),
+        Came::Bad(error) => What::BadDocument(error),
+        Came::NoAnswer => What::NoAnswer,
+        Came::Asked(error) => What::Asked(error),
+    }
+}
+
+/// What a refresh came to, whether the bundle took all authorities from a domain, a remark, and the line.
+static LINES: [(Came, bool, Option<&str>, &str); 12] = [
+    (
+        Came::Stored,
+        false,
+        None,
+        "1000 a.example stored due 1300\n",
+    ),
+    (
+        Came::Unchanged,
+        false,
+        None,
+        "1000 a.example unchanged due 1300\n",
+    ),
+    (
+        Came::Refused(MapRefusal::Stale(7)),
+        false,
+        None,
+        "1000 a.example refused 31 7 due 1300\n",
+    ),
+    (
+        Came::Bad(DocError::NotJson),
+        false,
+        None,
+        "1000 a.example bad document 11 due 1300\n",
+    ),
+    (
+        Came::Bad(DocError::BadX5c(2)),
+        false,
+        None,
+        "1000 a.example bad document 18 at 2 due 1300\n",
+    ),
+    (
+        Came::NoAnswer,
+        false,
+        None,
+        "1000 a.example no answer due 1300\n",
+    ),
+    (
+        Came::Asked(AskError::Held {
+            shard: 3,
+            revision: 5,
+        }),
+        false,
+        None,
+        "1000 a.example given up held 3 5 due 1300\n",
+    ),
+    (
+        Came::Asked(AskError::Moved {
+            shard: 3,
+            first: 5,
+            second: 6,
+        }),
+        false,
+        None,
+        "1000 a.example given up moved 3 5 6 due 1300\n",
+    ),
+    (
+        Came::Asked(AskError::Worn { shard: 3 }),
+        false,
+        None,
+        "1000 a.example given up worn 3 due 1300\n",
+    ),
+    (
+        Came::Asked(AskError::GateShut),
+        false,
+        None,
+        "1000 a.example given up refused 56 due 1300\n",
+    ),
+    (
+        Came::Stored,
+        true,
+        None,
+        "1000 a.example stored empty due 1300\n",
+    ),
+    (
+        Came::NoAnswer,
+        false,
+        Some("it is not a file"),
+        "1000 a.example no answer due 1300 (it is not a file)\n",
+    ),
+];
+
+/// The line of what a refresh at 1000 came to, of a domain that is refreshed again at 1300.
 fn line_of(
     alloc: Global,
-    what: &What,
+    came: Came,
+    domain: &TrustDomain,
     has_emptied: bool,
     remark: Option<&'static str>,
-) -> Result<String, Fail> {
-    let mut line = Vec::new(alloc);
+) -> io::Result<Vec<u8>> {
     let told = Told {
         now: 1000,
         due: 1300,
-        domain: &TrustDomain::parse(alloc, "a.example")?,
+        domain,
         stored: "stored",
         has_emptied,
         remark,
     };
-    if write_outcome(&mut line, what, &told).is_err() {
-        return Err(Fail::from("out of memory"));
-    }
-    match String::from_utf8(line) {
-        Ok(text) => Ok(text),
-        Err(_) => Err(Fail::from("a line is text")),
-    }
+    let mut line = Vec::new(alloc);
+    let what = what_of(came);
+    let written = write_outcome(&mut line, &what, &told);
+    drop(what);
+    written?;
+    Ok(line)
 }
 
 #[test]
 fn lines(rt: HostRuntime) -> Result<(), Fail> {
-    let rows = [
-        (What::Taken(Reply::Stored), "stored"),
-        (What::Taken(Reply::Unchanged), "unchanged"),
-        (
-            What::Taken(Reply::Refused(MapRefusal::Stale(7))),
-            "refused 31 7",
-        ),
-        (What::BadDocument(DocError::NotJson), "bad document 11"),
-        (
-            What::BadDocument(DocError::BadX5c(2)),
-            "bad document 18 at 2",
-        ),
-        (What::NoAnswer, "no answer"),
-        (
-            What::Asked(AskError::Held {
-                shard: 3,
-                revision: 5,
-            }),
-            "given up held 3 5",
-        ),
-        (
-            What::Asked(AskError::Moved {
-                shard: 3,
-                first: 5,
-                second: 6,
-            }),
-            "given up moved 3 5 6",
-        ),
-        (What::Asked(AskError::Worn { shard: 3 }), "given up worn 3"),
-        (What::Asked(AskError::GateShut), "given up refused 56"),
-    ];
-    for (what, words) in rows {
-        let line = line_of(rt.alloc(), &what, false, None)?;
-        let wanted = format!(in rt.alloc(); "1000 a.example {words} due 1300\n")?;
-        is_equal(&rt, &line, &wanted);
+    let domain = TrustDomain::parse(rt.alloc(), "a.example")?;
+    for &(came, has_emptied, remark, wanted) in &LINES {
+        let line = line_of(rt.alloc(), came, &domain, has_emptied, remark)?;
+        is_equal_at(&rt, &line.as_slice(), &wanted.as_bytes(), &wanted);
     }
-    let emptied = line_of(rt.alloc(), &What::Taken(Reply::Stored), true, None)?;
-    is_equal(
-        &rt,
-        &emptied.as_str(),
-        &"1000 a.example stored empty due 1300\n",
-    );
-    let remarked = line_of(rt.alloc(), &What::NoAnswer, false, Some("it is not a file"))?;
-    is_equal(
-        &rt,
-        &remarked.as_str(),
-        &"1000 a.example no answer due 1300 (it is not a file)\n",
-    );
     Ok(())
 }
 
@@ -173,71 +235,66 @@ fn set(alloc: Global, domain: &str, document: &[u8]) -> Result<Op, Fail> {
 const FULL: &[u8] =
     b"{\"keys\":[{\"use\":\"jwt-svid\",\"kty\":\"RSA\",\"kid\":\"k\",\"n\":\"AQAB\",\"e\":\"AQAB\"}]}";
 
+/// A document, and whether its bundle takes all authorities from a domain.
+static SENT: [(&[u8], bool); 2] = [(FULL, false), (b"{\"keys\": []}", true)];
+
 #[test]
 fn senders(rt: HostRuntime) -> Result<(), Fail> {
-    let alloc = rt.alloc();
-    let mut out = Counted::new(Vec::new(alloc));
-    let mut sender = Sender::new(alloc, &mut out);
-    holds(
-        &rt,
-        matches!(sender.ask(set(alloc, "a", FULL)?), Ok(Reply::Stored)),
-    );
-    holds(&rt, !sender.has_emptied());
-    holds(
-        &rt,
-        matches!(
-            sender.ask(set(alloc, "a", b"{\"keys\": []}")?),
-            Ok(Reply::Stored)
-        ),
-    );
-    holds(&rt, sender.has_emptied() && sender.fault().is_none());
-    holds(
-        &rt,
-        out.end
-            .as_slice()
-            .ends_with(b"\x00\x00\x00\x0eS\x01a{\"keys\":[]}"),
-    );
-    let mut short = Counted::new(FaultyWriter::new(alloc, 5));
-    let mut sender = Sender::new(alloc, &mut short);
-    let answer = sender.ask(set(alloc, "a", FULL)?);
-    holds(&rt, matches!(answer, Err(AskError::GateShut)));
-    is_equal(
-        &rt,
-        &sender.fault(),
-        &Some(Fault::Front(FrontError::WriteFault)),
-    );
+    let mut out = Counted::new(Vec::new(rt.alloc()));
+    let mut sender = Sender::new(rt.alloc(), &mut out);
+    for &(document, has_emptied) in &SENT {
+        let op = set(rt.alloc(), "a", document)?;
+        let is_stored = matches!(sender.ask(op), Ok(Reply::Stored));
+        let told = (is_stored, sender.has_emptied(), sender.fault());
+        is_equal_at(&rt, &told, &(true, has_emptied, None), &document);
+    }
+    let end = b"\x00\x00\x00\x0eS\x01a{\"keys\":[]}".as_slice();
+    holds_at(&rt, out.end.as_slice().ends_with(end), &end);
     Ok(())
 }
 
-/// The server asks for what stands there before it sets a bundle with no authorities.
+#[test]
+fn a_sender_whose_write_fails(rt: HostRuntime) -> Result<(), Fail> {
+    let op = set(rt.alloc(), "a", FULL)?;
+    let mut short = Counted::new(FaultyWriter::new(rt.alloc(), 5));
+    let mut sender = Sender::new(rt.alloc(), &mut short);
+    let is_shut = matches!(sender.ask(op), Err(AskError::GateShut));
+    let told = (is_shut, sender.fault());
+    let wanted = (true, Some(Fault::Front(FrontError::WriteFault)));
+    is_equal_at(&rt, &told, &wanted, &"after 5 bytes");
+    Ok(())
+}
+
+/// A document, the replies, and whether its bundle takes all authorities from a domain. The server asks for what stands
+/// there before it sets a bundle with no authorities.
+static SERVED: [(&[u8], &[u8], bool); 4] = [
+    (FULL, b"\x00\x00\x00\x01s", false),
+    (
+        b"{\"keys\":[]}",
+        b"\x00\x00\x00\x01\x1e\x00\x00\x00\x01s",
+        false,
+    ),
+    (
+        b"{\"keys\":[]}",
+        b"\x00\x00\x00\x0cf{\"keys\":[]}\x00\x00\x00\x01s",
+        false,
+    ),
+    (
+        b"{\"keys\":[]}",
+        b"\x00\x00\x00\x4af{\"keys\":[{\"e\":\"AQAB\",\"kid\":\"k\",\"kty\":\"RSA\",\"n\":\"AQAB\",\"use\":\"jwt-svid\"}]}\x00\x00\x00\x01s",
+        true,
+    ),
+];
+
 #[test]
 fn servers(rt: HostRuntime) -> Result<(), Fail> {
-    let alloc = rt.alloc();
-    let full: &[u8] =
-        b"\x00\x00\x00\x4af{\"keys\":[{\"e\":\"AQAB\",\"kid\":\"k\",\"kty\":\"RSA\",\"n\":\"AQAB\",\"use\":\"jwt-svid\"}]}\x00\x00\x00\x01s";
-    let rows: [(&[u8], &[u8], bool); 4] = [
-        (FULL, b"\x00\x00\x00\x01s", false),
-        (
-            b"{\"keys\":[]}",
-            b"\x00\x00\x00\x01\x1e\x00\x00\x00\x01s",
-            false,
-        ),
-        (
-            b"{\"keys\":[]}",
-            b"\x00\x00\x00\x0cf{\"keys\":[]}\x00\x00\x00\x01s",
-            false,
-        ),
-        (b"{\"keys\":[]}", full, true),
-    ];
-    for (document, replies, has_emptied) in rows {
-        let writer = Counted::new(Vec::new(alloc));
-        let mut server = Server::new(Client::new(alloc, Counted::new(replies), writer));
-        holds(
-            &rt,
-            matches!(server.ask(set(alloc, "a", document)?), Ok(Reply::Stored)),
-        );
-        is_equal(&rt, &server.has_emptied(), &has_emptied);
-        holds(&rt, server.fault().is_none());
+    for &(document, replies, has_emptied) in &SERVED {
+        let op = set(rt.alloc(), "a", document)?;
+        let writer = Counted::new(Vec::new(rt.alloc()));
+        let mut server = Server::new(Client::new(rt.alloc(), Counted::new(replies), writer));
+        let is_stored = matches!(server.ask(op), Ok(Reply::Stored));
+        let told = (is_stored, server.has_emptied(), server.fault());
+        is_equal_at(&rt, &told, &(true, has_emptied, None), &document);
     }
     Ok(())
 }
