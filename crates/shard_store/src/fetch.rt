@@ -191,8 +191,8 @@ fn read_round(
     }
 }
 
-/// Reads each shard, in order.
-pub(crate) fn collect_all(
+// Reads each shard, in order.
+fn collect_all(
     alloc: Global,
     shards: &ShardTable,
     seat: &mut StoreSeat,

@@ -21,8 +21,6 @@ mod recall;
 mod rule;
 mod seated;
 mod store;
-#[cfg(test)]
-mod tests;
 
 pub use change::{Change, Seen};
 pub use close::CloseError;

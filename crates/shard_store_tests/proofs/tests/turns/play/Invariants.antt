@@ -1,6 +1,0 @@
-use Rattle.std.proofs.Common.{◌≡◌}
-use Rattle.shard_store.specs.Pass.{IsOf}
-use Rattle.shard_store_tests.proofs.tests.turns.play.Given as goal
-
-abbrev pub invariant-loop-row : goal.invariant-loop-row
-invariant-loop-row l = IsOf l.p l.store × IsOf l.q l.store
