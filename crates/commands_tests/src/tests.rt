@@ -1,36 +1,38 @@
 //! The commands over memory: what comes in, what goes out, the fault line and the status.
-ghost use Rattle.std.specs.Prelude.{◌<◌, ◌≤◌};
-
 mod dumps;
 mod ends;
 mod lines;
 mod sessions;
 mod traces;
 
-use commands::{migrate_over, run_over, trace_over};
+use commands::{decode_over, encode_over, explain_over, migrate_over, run_over, trace_over};
 use frame_front::Counted;
-use std::alloc::Global;
-use std::fmt::Debug;
-use std::io::Read;
-use std::process::Abort;
+use frame_lines::{TextError, TextSource};
+use std::alloc::{AllocError, Global};
+use std::test::Fail;
+use test_kit::ends::{Left, Sink, Source};
 
-/// What was found in this case is what is wanted.
-fn is_equal_at<T: PartialEq + Debug, C: Debug>(rt: &impl Abort, found: &T, wanted: &T, case: &C) {
-    assert!(rt;
-        *found == *wanted,
-        "{case:?}: {found:?}, and not {wanted:?}"
-    );
+/// A command, with its settings.
+#[derive(Clone, Copy)]
+enum Command {
+    /// Over so many shards, of so many reads at most.
+    Run(usize, u64),
+    /// Over so many shards, of so many rounds at most.
+    Trace(usize, usize),
+    /// The same, with a picture.
+    Picture(usize, usize),
+    Migrate,
+    Encode,
+    Decode,
+    /// Of this text.
+    Explain(&'static str),
 }
 
-/// It is so.
-fn holds(rt: &impl Abort, is_so: bool) {
-    assert!(rt; is_so);
-}
+/// A command over four shards, of as many reads as there are.
+const RUN: Command = Command::Run(4, 1_000_000);
 
-/// It is so in this case.
-fn holds_at<C: Debug>(rt: &impl Abort, is_so: bool, case: &C) {
-    assert!(rt; is_so, "{case:?}");
-}
+/// A command, its input, and what it leaves: its output, its fault line and its status.
+type Row = (Command, &'static [u8], &'static [u8], &'static str, u8);
 
 const FIRST_RUN: &[u8] = b"\x00\x00\x00\x0eS\x01a{\"keys\":[]}\x00\x00\x00\x03G\x01a";
 
@@ -42,64 +44,92 @@ const DUMP_OF_ONE: &[u8] =
 /// What `DUMP_OF_ONE` is migrated to.
 const MIGRATED: &[u8] = b"\x00\x00\x00\x02V\x02\x00\x00\x00\x0fC\x01a\x00{\"keys\":[]}";
 
-/// What a command leaves: its output, its fault line and its status.
+/// The empty document, under the name `empty`.
 #[derive(Drop)]
-struct Left {
-    output: Vec<u8>,
-    faults: Vec<u8>,
-    status: u8,
+struct Empty;
+
+impl TextSource for Empty {
+    ghost gives = { λ texts name text. Unit {0} };
+
+    fn text(&self, alloc: Global, name: &[u8]) -> Result<Vec<u8>, TextError> {
+        if name != b"empty".as_slice() {
+            return Err(TextError::Unreadable);
+        }
+        match Vec::from_slice(alloc, b"{\"keys\":[]}") {
+            Ok(text) => Ok(text),
+            Err(AllocError) => Err(TextError::Memory),
+        }
+    }
 }
 
-fn run<R: Read + Drop>(alloc: Global, reader: R, shards: usize, turns: u64) -> Left
-    requires some { 0 < shards }
-    requires few { turns ≤ 1000000000 }
-{
+/// What a command leaves of these ends.
+fn left_by(alloc: Global, command: Command, reader: Source<'_>, out: Sink, err: Sink) -> Left {
     let mut reader = Counted::new(reader);
-    let mut out = Counted::new(Vec::new(alloc));
-    let mut err = Counted::new(Vec::new(alloc));
-    let status = run_over(alloc, &mut reader, &mut out, &mut err, shards, turns);
+    let mut out = Counted::new(out);
+    let mut err = Counted::new(err);
+    let status = match command {
+        Command::Run(shards, turns) => run_over(
+            alloc,
+            &mut reader,
+            &mut out,
+            &mut err,
+            shards.max(1),
+            turns.min(1_000_000_000),
+        ),
+        Command::Trace(shards, rounds) => trace_over(
+            alloc,
+            &mut reader,
+            &mut out,
+            &mut err,
+            shards.max(1),
+            rounds.max(1),
+            false,
+        ),
+        Command::Picture(shards, rounds) => trace_over(
+            alloc,
+            &mut reader,
+            &mut out,
+            &mut err,
+            shards.max(1),
+            rounds.max(1),
+            true,
+        ),
+        Command::Migrate => migrate_over(alloc, &mut reader, &mut out, &mut err),
+        Command::Encode => encode_over(alloc, &Empty, &mut reader, &mut out, &mut err),
+        Command::Decode => decode_over(alloc, &mut reader, &mut out, &mut err),
+        Command::Explain(text) => explain_over(text, &mut out, &mut err),
+    };
     Left {
-        output: out.end,
-        faults: err.end,
+        output: out.end.into_taken(),
+        faults: err.end.into_taken(),
         status,
     }
 }
 
-fn migrate<R: Read + Drop>(alloc: Global, reader: R) -> Left {
-    let mut reader = Counted::new(reader);
-    let mut out = Counted::new(Vec::new(alloc));
-    let mut err = Counted::new(Vec::new(alloc));
-    let status = migrate_over(alloc, &mut reader, &mut out, &mut err);
-    Left {
-        output: out.end,
-        faults: err.end,
-        status,
-    }
+/// Fails unless the command leaves this of what the reader gives. The case is told then.
+fn leaves(
+    alloc: Global,
+    command: Command,
+    reader: Source<'_>,
+    row: (&[u8], &[u8], &str, u8),
+) -> Result<(), Fail> {
+    let (case, output, faults, status) = row;
+    let left = left_by(alloc, command, reader, Sink::new(alloc), Sink::new(alloc));
+    left.is(case, output, faults, status)
 }
 
-/// A trace over 4 shards, of 4 rounds at most.
-fn trace<R: Read + Drop>(alloc: Global, reader: R) -> Left {
-    let mut reader = Counted::new(reader);
-    let mut out = Counted::new(Vec::new(alloc));
-    let mut err = Counted::new(Vec::new(alloc));
-    let status = trace_over(alloc, &mut reader, &mut out, &mut err, 4, 4, false);
-    Left {
-        output: out.end,
-        faults: err.end,
-        status,
+#[test]
+fn commands_answer(rt: HostRuntime) -> Result<(), Fail> {
+    for rows in [
+        dumps::ROWS.as_slice(),
+        lines::ROWS.as_slice(),
+        sessions::ROWS.as_slice(),
+        traces::ROWS.as_slice(),
+    ] {
+        for &(command, input, output, faults, status) in rows {
+            let row = (input, output, faults, status);
+            leaves(rt.alloc(), command, Source::new(input), row)?;
+        }
     }
-}
-
-fn left_is(rt: &impl Abort, left: &Left, output: &[u8], faults: &str, status: u8) {
-    holds_at(
-        rt,
-        left.output.as_slice() == output,
-        &left.output.as_slice(),
-    );
-    holds_at(
-        rt,
-        left.faults.as_slice() == faults.as_bytes(),
-        &left.faults.as_slice(),
-    );
-    holds_at(rt, left.status == status, &left.status);
+    Ok(())
 }

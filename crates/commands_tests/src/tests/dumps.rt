@@ -1,146 +1,80 @@
 //! Dumps, and what they are migrated to.
-use super::{DUMP_OF_ONE, MIGRATED, holds, left_is, migrate, run, trace};
-use std::alloc::{AllocError, Global};
-use std::io;
-use std::io::Read;
+use super::{Command, DUMP_OF_ONE, MIGRATED, RUN, Row, left_by};
+use std::alloc::Global;
+use std::test::Fail;
+use test_kit::ends::{Sink, Source};
+use test_kit::holds;
+use test_kit::protocol::{FETCH_ALL, Part, text_of};
 
-#[test]
-fn migrates(rt: HostRuntime) {
-    let none: &[u8] = b"\x00\x00\x00\x09a\x00\x00\x00\x00\x00\x00\x00\x00";
-    left_is(&rt, &migrate(rt.alloc(), DUMP_OF_ONE), MIGRATED, "", 0);
-    left_is(
-        &rt,
-        &migrate(rt.alloc(), none),
+pub(super) static ROWS: [Row; 6] = [
+    (Command::Migrate, DUMP_OF_ONE, MIGRATED, "", 0),
+    (
+        Command::Migrate,
+        b"\x00\x00\x00\x09a\x00\x00\x00\x00\x00\x00\x00\x00",
         b"\x00\x00\x00\x02V\x02",
         "",
         0,
-    );
-    let rows: [(&[u8], &str); 4] = [
-        (b"", "fault 63 0\n"),
-        (
-            b"\x00\x00\x00\x09a\x00\x00\x00\x00\x00\x00\x00\x01",
-            "fault 63 1\n",
-        ),
-        (
-            b"\x00\x00\x00\x09a\x00\x00\x00\x00\x00\x00\x00\x00\x00\x00\x00\x0ei\x01a{\"keys\":[]}",
-            "fault 63 1\n",
-        ),
-        (
-            b"\x00\x00\x00\x09a\x00\x00\x00\x00\x00\x00\x00\x02\x00\x00\x00\x0ei\x01b{\"keys\":[]}\x00\x00\x00\x0ei\x01a{\"keys\":[]}",
-            "fault 63 2\n",
-        ),
-    ];
-    for (dump, faults) in rows {
-        left_is(&rt, &migrate(rt.alloc(), dump), b"", faults, 1);
-    }
+    ),
+    (Command::Migrate, b"", b"", "fault 63 0\n", 1),
+    (
+        Command::Migrate,
+        b"\x00\x00\x00\x09a\x00\x00\x00\x00\x00\x00\x00\x01",
+        b"",
+        "fault 63 1\n",
+        1,
+    ),
+    (
+        Command::Migrate,
+        b"\x00\x00\x00\x09a\x00\x00\x00\x00\x00\x00\x00\x00\x00\x00\x00\x0ei\x01a{\"keys\":[]}",
+        b"",
+        "fault 63 1\n",
+        1,
+    ),
+    (
+        Command::Migrate,
+        b"\x00\x00\x00\x09a\x00\x00\x00\x00\x00\x00\x00\x02\x00\x00\x00\x0ei\x01b{\"keys\":[]}\x00\x00\x00\x0ei\x01a{\"keys\":[]}",
+        b"",
+        "fault 63 2\n",
+        1,
+    ),
+];
+
+/// Requests that set 301 domains and fetch them. One has a document of over 10,000 bytes.
+static SETS: [Part; 5] = [
+    (
+        b"\x00\x00\x00\x26S\x05d####{\"keys\":[],\"spiffe_sequence\":1}",
+        300,
+    ),
+    (
+        b"\x00\x00\x2a\x2fS\x04long{\"keys\":[{\"e\":\"AQAB\",\"kid\":\"k\",\"kty\":\"RSA\",\"n\":\"AQAB\",\"use\":\"jwt-svid\"}",
+        1,
+    ),
+    (
+        b",{\"e\":\"AQAB\",\"kid\":\"k####\",\"kty\":\"RSA\",\"n\":\"AQAB\",\"use\":\"jwt-svid\"}",
+        160,
+    ),
+    (b"]}", 1),
+    (FETCH_ALL, 1),
+];
+
+/// The output of a command that ends well.
+fn output_of(alloc: Global, command: Command, input: &[u8]) -> Result<Vec<u8>, Fail> {
+    let (out, err) = (Sink::new(alloc), Sink::new(alloc));
+    let left = left_by(alloc, command, Source::new(input), out, err);
+    holds(left.status == 0)?;
+    Ok(left.output)
 }
 
-/// A reader that never ends, and gives so many bytes at each read.
-#[derive(Drop)]
-struct Endless {
-    size: usize,
-}
-
-impl Read for Endless {
-    fn read(&mut self, buf: &mut [u8]) -> io::Result<usize> {
-        let size = self.size.min(buf.len());
-        let (front, _) = buf.split_at_mut(size);
-        front.fill(b'a');
-        Ok(size)
-    }
-}
-
-// An input over 16,777,216 bytes is too long; one that comes byte by byte uses up its reads.
+// What is set and fetched is migrated, and what that gives is run over another number of shards and shows the same dump.
 #[test]
-fn limits_its_input(rt: HostRuntime) {
-    left_is(
-        &rt,
-        &migrate(rt.alloc(), Endless { size: 4096 }),
-        b"",
-        "fault 71\n",
-        1,
-    );
-    left_is(
-        &rt,
-        &migrate(rt.alloc(), Endless { size: 1 }),
-        b"",
-        "fault 55\n",
-        1,
-    );
-    left_is(
-        &rt,
-        &trace(rt.alloc(), Endless { size: 4096 }),
-        b"",
-        "fault 71\n",
-        1,
-    );
-    left_is(
-        &rt,
-        &trace(rt.alloc(), Endless { size: 1 }),
-        b"",
-        "fault 55\n",
-        1,
-    );
-}
-
-/// Adds a request that sets the bundle of a trust domain.
-fn put_set(stream: &mut Vec<u8>, name: &str, document: &str) -> Result<(), AllocError> {
-    let size = name.len().saturating_add(document.len()).saturating_add(2);
-    stream.extend_from_slice(&u32::try_from(size).unwrap_or(0).to_be_bytes())?;
-    stream.extend_from_slice(&[b'S', u8::try_from(name.len()).unwrap_or(0)])?;
-    stream.extend_from_slice(name.as_bytes())?;
-    stream.extend_from_slice(document.as_bytes())?;
-    Ok(())
-}
-
-/// A document of over 10,000 bytes: eight JWT authorities, each with a modulus of 1,023 bytes.
-fn long_document(alloc: Global) -> Result<String, AllocError> {
-    let mut modulus = String::new(alloc);
-    for _ in 0..341 {
-        modulus.push_str("AQAB")?;
-    }
-    let mut document = String::from_str(alloc, "{\"keys\":[")?;
-    for number in 0..8 {
-        let comma = if number == 0 { "" } else { "," };
-        let entry = format!(in alloc;
-            "{comma}{{\"e\":\"AQAB\",\"kid\":\"k{number}\",\"kty\":\"RSA\",\"n\":\"{modulus}\",\"use\":\"jwt-svid\"}}"
-        )?;
-        document.push_str(entry.as_str())?;
-    }
-    document.push_str("]}")?;
-    Ok(document)
-}
-
-// 301 domains, one of them with a long document, are set and fetched; the dump is migrated, and what that gives is run
-// over another number of shards and shows the same dump.
-#[test]
-fn dumps_are_stored_again(rt: HostRuntime) -> Result<(), AllocError> {
+fn dumps_are_stored_again(rt: HostRuntime) -> Result<(), Fail> {
     let alloc = rt.alloc();
-    let fetch_all: &[u8] = b"\x00\x00\x00\x01F";
-    let mut sets = Vec::new(alloc);
-    for number in 0..300 {
-        let name = format!(in alloc; "d{number}")?;
-        put_set(
-            &mut sets,
-            name.as_str(),
-            "{\"keys\":[],\"spiffe_sequence\":1}",
-        )?;
-    }
-    put_set(&mut sets, "long", long_document(alloc)?.as_str())?;
-    sets.extend_from_slice(fetch_all)?;
-    let first = run(alloc, sets.as_slice(), 4, 1_000_000);
-    holds(&rt, first.status == 0);
-    let dump = first.output.as_slice().get(5 * 301..).unwrap_or(b"");
-    let head: &[u8] = b"\x00\x00\x00\x09a\x00\x00\x00\x00\x00\x00\x01\x2d";
-    holds(&rt, dump.starts_with(head));
-    holds(&rt, dump.len() > 20_000);
-    let requests = migrate(alloc, dump);
-    holds(&rt, requests.status == 0);
-    let mut again = requests.output;
-    again.extend_from_slice(fetch_all)?;
-    let second = run(alloc, again.as_slice(), 256, 1_000_000);
-    holds(&rt, second.status == 0);
-    let same = second.output.as_slice().get(6 + 5 * 301..).unwrap_or(b"");
-    holds(&rt, same == dump);
-    Ok(())
+    let first = output_of(alloc, RUN, &text_of(alloc, &SETS)?)?;
+    let dump = first.as_slice().get(5 * 301..).unwrap_or(b"");
+    holds(dump.starts_with(b"\x00\x00\x00\x09a\x00\x00\x00\x00\x00\x00\x01\x2d"))?;
+    holds(dump.len() > 20_000)?;
+    let mut requests = output_of(alloc, Command::Migrate, dump)?;
+    requests.extend_from_slice(FETCH_ALL)?;
+    let second = output_of(alloc, Command::Run(256, 1_000_000), &requests)?;
+    holds(second.as_slice().get(6 + 5 * 301..) == Some(dump))
 }

@@ -1,177 +1,80 @@
-//! Ends that fail, and what the commands then leave.
-use super::{DUMP_OF_ONE, FIRST_REPLIES, FIRST_RUN, Left, MIGRATED, left_is};
-use commands::{migrate_over, run_over, trace_over};
-use frame_front::{Counted, FaultyReader, FaultyWriter};
-use std::alloc::{AllocError, Global};
-use std::io;
-use std::io::{ErrorKind, Read, Write};
+//! Ends that fail, inputs that do not end, and what the commands then leave.
+use super::lines::GET_A;
+use super::{Command, DUMP_OF_ONE, FIRST_REPLIES, FIRST_RUN, MIGRATED, RUN, leaves, left_by};
+use std::alloc::Global;
+use std::test::Fail;
+use test_kit::ends::{Sink, Source};
 
-#[derive(Clone, Copy, Debug)]
-enum Command {
-    Run,
-    Trace,
-    Migrate,
-}
+/// A command, an input, how much of it is read before a read fails, what the command has written then, and all of its output.
+type Row = (Command, &'static [u8], usize, &'static [u8], &'static [u8]);
 
-/// A command, an input and the output.
-const COMMANDS: [(Command, &[u8], &[u8]); 3] = [
-    (Command::Run, FIRST_RUN, FIRST_REPLIES),
-    (Command::Trace, b"step 1\n", b"order\n"),
-    (Command::Migrate, DUMP_OF_ONE, MIGRATED),
+/// Only `run`, `encode` and `decode` have written what they read.
+static ROWS: [Row; 5] = [
+    (RUN, FIRST_RUN, 18, b"\x00\x00\x00\x01s", FIRST_REPLIES),
+    (Command::Trace(4, 3), b"step 1\n", 3, b"", b"order\n"),
+    (Command::Migrate, DUMP_OF_ONE, 18, b"", MIGRATED),
+    (
+        Command::Encode,
+        b"get a\nget b\n",
+        7,
+        GET_A,
+        b"\x00\x00\x00\x03G\x01a\x00\x00\x00\x03G\x01b",
+    ),
+    (
+        Command::Decode,
+        FIRST_RUN,
+        20,
+        b"set a {\"keys\":[]}\n",
+        b"set a {\"keys\":[]}\nget a\n",
+    ),
 ];
 
-/// A command over these ends: its status, and what its writers are then.
-fn program<R: Read + Drop, W: Write, E: Write>(
+/// Fails unless a writer that takes any prefix of the output, and no more, is fault 54.
+fn tells_its_writer(
     alloc: Global,
     command: Command,
-    reader: R,
-    out: W,
-    err: E,
-) -> (u8, W, E) {
-    let mut reader = Counted::new(reader);
-    let mut out = Counted::new(out);
-    let mut err = Counted::new(err);
-    let status = match command {
-        Command::Run => run_over(alloc, &mut reader, &mut out, &mut err, 4, 1_000_000),
-        Command::Trace => trace_over(alloc, &mut reader, &mut out, &mut err, 4, 3, false),
-        Command::Migrate => migrate_over(alloc, &mut reader, &mut out, &mut err),
-    };
-    (status, out.end, err.end)
-}
-
-fn left_by<R: Read + Drop>(alloc: Global, command: Command, reader: R) -> Left {
-    let (status, output, faults) = program(
-        alloc,
-        command,
-        reader,
-        Vec::new(alloc),
-        Vec::new(alloc),
-    );
-    Left {
-        output,
-        faults,
-        status,
-    }
-}
-
-// A reader that fails is fault 53; only a session has answered what came before.
-#[test]
-fn readers_that_fail(rt: HostRuntime) -> Result<(), AllocError> {
-    let alloc = rt.alloc();
-    let rows: [(Command, &[u8], usize, &[u8]); 3] = [
-        (Command::Run, FIRST_RUN, 18, b"\x00\x00\x00\x01s"),
-        (Command::Migrate, DUMP_OF_ONE, 18, b""),
-        (Command::Trace, b"step 1\n", 3, b""),
-    ];
-    for (command, input, good, output) in rows {
-        let reader = FaultyReader::new(Vec::from_slice(alloc, input)?, good);
-        left_is(
-            &rt,
-            &left_by(alloc, command, reader),
-            output,
-            "fault 53\n",
-            1,
-        );
+    input: &[u8],
+    output: &[u8],
+) -> Result<(), Fail> {
+    for room in 0..output.len() {
+        let (front, _) = output.split_at(room);
+        let (out, err) = (Sink::with_room(alloc, room), Sink::new(alloc));
+        let left = left_by(alloc, command, Source::new(input), out, err);
+        left.is(input, front, "fault 54\n", 1)?;
     }
     Ok(())
 }
 
-// A writer that takes less than all is fault 54, and a prefix of the output is written.
+// A reader that fails is fault 53, and a writer fault 54. An interrupted read or write has failed: it is not made again. A
+// line that standard error does not take is dropped, and the status stays.
 #[test]
-fn writers_that_fail(rt: HostRuntime) -> Result<(), AllocError> {
+fn ends_that_fail(rt: HostRuntime) -> Result<(), Fail> {
     let alloc = rt.alloc();
-    for (command, input, output) in COMMANDS {
-        for room in 0..output.len() {
-            let (front, _) = output.split_at(room);
-            let out = FaultyWriter::new(alloc, room);
-            let (status, out, faults) = program(alloc, command, input, out, Vec::new(alloc));
-            let left = Left {
-                output: out.taken,
-                faults,
-                status,
-            };
-            left_is(&rt, &left, front, "fault 54\n", 1);
-        }
-        left_is(&rt, &left_by(alloc, command, input), output, "", 0);
+    for &(command, input, good, before, output) in &ROWS {
+        let reader = Source::broken(input, good);
+        leaves(alloc, command, reader, (input, before, "fault 53\n", 1))?;
+        let reader = Source::interrupted(input);
+        leaves(alloc, command, reader, (input, b"", "fault 53\n", 1))?;
+        tells_its_writer(alloc, command, input, output)?;
+        let (out, err) = (Sink::interrupted(alloc), Sink::new(alloc));
+        let left = left_by(alloc, command, Source::new(input), out, err);
+        left.is(input, b"", "fault 54\n", 1)?;
+        let (out, err) = (Sink::new(alloc), Sink::with_room(alloc, 3));
+        let left = left_by(alloc, command, Source::new(b"\x00\x00\x00\x00"), out, err);
+        left.is(input, b"", "fau", 1)?;
+        leaves(alloc, command, Source::new(input), (input, output, "", 0))?;
     }
-    Ok(())
+    tells_its_writer(alloc, Command::Explain("31 Stale\n"), b"", b"31 Stale\n")
 }
 
-// A line that standard error does not take is dropped, and the status stays.
+// An input over 16,777,216 bytes is too long; one that comes byte by byte uses up its reads.
 #[test]
-fn standard_error_that_fails(rt: HostRuntime) -> Result<(), AllocError> {
-    let alloc = rt.alloc();
-    for (command, _, _) in COMMANDS {
-        let input: &[u8] = b"\x00\x00\x00\x00";
-        let err = FaultyWriter::new(alloc, 3);
-        let (status, output, err) = program(alloc, command, input, Vec::new(alloc), err);
-        let left = Left {
-            output,
-            faults: err.taken,
-            status,
-        };
-        left_is(&rt, &left, b"", "fau", 1);
-    }
-    Ok(())
-}
-
-/// An end whose first call is interrupted; those after it go on.
-#[derive(Drop)]
-struct Interrupted<E> {
-    end: E,
-    is_over: bool,
-}
-
-impl<E> Interrupted<E> {
-    fn new(end: E) -> Interrupted<E> {
-        Interrupted {
-            end,
-            is_over: false,
+fn limits_its_input(rt: HostRuntime) -> Result<(), Fail> {
+    for &command in &[Command::Migrate, Command::Trace(4, 4)] {
+        for &(letters, faults) in &[(4096, "fault 71\n"), (1, "fault 55\n")] {
+            let reader = Source::endless(letters);
+            leaves(rt.alloc(), command, reader, (b"a", b"", faults, 1))?;
         }
-    }
-
-    fn pass(&mut self) -> io::Result<()> {
-        if self.is_over {
-            return Ok(());
-        }
-        self.is_over = true;
-        Err(io::Error::from(ErrorKind::Interrupted))
-    }
-}
-
-impl<R: Read> Read for Interrupted<R> {
-    fn read(&mut self, buf: &mut [u8]) -> io::Result<usize> {
-        self.pass()?;
-        self.end.read(buf)
-    }
-}
-
-impl<W: Write> Write for Interrupted<W> {
-    fn write(&mut self, buf: &[u8]) -> io::Result<usize> {
-        self.pass()?;
-        self.end.write(buf)
-    }
-
-    fn flush(&mut self) -> io::Result<()> {
-        self.end.flush()
-    }
-}
-
-// An interrupted read or write has failed, whatever the command: it is not made again.
-#[test]
-fn interrupted_calls_have_failed(rt: HostRuntime) -> Result<(), AllocError> {
-    let alloc = rt.alloc();
-    for (command, input, _) in COMMANDS {
-        let out = Interrupted::new(Vec::new(alloc));
-        let (status, out, faults) = program(alloc, command, input, out, Vec::new(alloc));
-        let left = Left {
-            output: out.end,
-            faults,
-            status,
-        };
-        left_is(&rt, &left, b"", "fault 54\n", 1);
-        let left = left_by(alloc, command, Interrupted::new(input));
-        left_is(&rt, &left, b"", "fault 53\n", 1);
     }
     Ok(())
 }

@@ -1,52 +1,31 @@
 //! Sessions: what comes in, and what goes out.
-ghost use Rattle.std.specs.Prelude.{◌<◌};
+use super::{Command, FIRST_REPLIES, FIRST_RUN, MIGRATED, RUN, Row, leaves};
+use std::test::Fail;
+use test_kit::ends::Source;
 
-use super::{FIRST_REPLIES, FIRST_RUN, MIGRATED, left_is, run};
-use std::alloc::Global;
-use std::io;
-use std::io::Read;
-use std::process::Abort;
-
-#[test]
-fn runs(rt: HostRuntime) {
-    let none: &[u8] = b"";
-    left_is(
-        &rt,
-        &run(rt.alloc(), FIRST_RUN, 4, 1_000_000),
-        FIRST_REPLIES,
-        "",
-        0,
-    );
-    left_is(&rt, &run(rt.alloc(), none, 4, 1_000_000), b"", "", 0);
-    let rows: [(&[u8], &[u8], &str); 3] = [
-        (b"\x00\x00\x00\x00", b"", "fault 50\n"),
-        (b"\x00\x10\x01\xa9", b"", "fault 50\n"),
-        (
-            b"\x00\x00\x00\x03G\x01a\x00",
-            b"\x00\x00\x00\x01\x1e",
-            "fault 52\n",
-        ),
-    ];
-    for (input, output, faults) in rows {
-        left_is(
-            &rt,
-            &run(rt.alloc(), input, 4, 1_000_000),
-            output,
-            faults,
-            1,
-        );
-    }
-    left_is(
-        &rt,
-        &run(rt.alloc(), FIRST_RUN, 4, 1),
+pub(super) static ROWS: [Row; 6] = [
+    (RUN, FIRST_RUN, FIRST_REPLIES, "", 0),
+    (RUN, b"", b"", "", 0),
+    (RUN, b"\x00\x00\x00\x00", b"", "fault 50\n", 1),
+    (RUN, b"\x00\x10\x01\xa9", b"", "fault 50\n", 1),
+    (
+        RUN,
+        b"\x00\x00\x00\x03G\x01a\x00",
+        b"\x00\x00\x00\x01\x1e",
+        "fault 52\n",
+        1,
+    ),
+    (
+        Command::Run(4, 1),
+        FIRST_RUN,
         FIRST_REPLIES,
         "fault 55\n",
         1,
-    );
-}
+    ),
+];
 
 /// Sessions: what comes in, and what goes out.
-const SESSIONS: [(&[u8], &[u8]); 10] = [
+static SESSIONS: [(&[u8], &[u8]); 10] = [
     (FIRST_RUN, FIRST_REPLIES),
     (MIGRATED, b"\x00\x00\x00\x02v\x02\x00\x00\x00\x01s"),
     (
@@ -85,60 +64,31 @@ const SESSIONS: [(&[u8], &[u8]); 10] = [
     ),
 ];
 
-/// A reader that gives its bytes in two pieces.
-#[derive(Drop)]
-struct TwoPieces {
-    first: &'static [u8],
-    second: &'static [u8],
-}
-
-impl Read for TwoPieces {
-    fn read(&mut self, buf: &mut [u8]) -> io::Result<usize> {
-        let size = self.first.len().min(buf.len());
-        let (given, left) = self.first.split_at(size);
-        let (front, _) = buf.split_at_mut(size);
-        front.copy_from_slice(given);
-        self.first = left;
-        if left.is_empty() {
-            self.first = self.second;
-            self.second = b"";
-        }
-        Ok(size)
-    }
-}
-
-/// Runs the sessions over so many shards, and the first run in two pieces, cut after each of its bytes in turn.
-fn same_bytes(rt: &impl Abort, alloc: Global, shards: usize)
-    requires { 0 < shards }
-{
-    for (input, output) in SESSIONS {
-        left_is(rt, &run(alloc, input, shards, 1_000_000), output, "", 0);
-    }
-    let (front, _) = FIRST_RUN.split_at(24);
-    left_is(
-        rt,
-        &run(alloc, front, shards, 1_000_000),
-        b"\x00\x00\x00\x01s",
-        "fault 52\n",
-        1,
-    );
-    for cut in 1..25 {
-        let (first, second) = FIRST_RUN.split_at(cut);
-        let reader = TwoPieces { first, second };
-        left_is(
-            rt,
-            &run(alloc, reader, shards, 1_000_000),
-            FIRST_REPLIES,
-            "",
-            0,
-        );
-    }
-}
-
-// However many shards there are, the same bytes come back.
+// However many shards there are, the same bytes come back; and wherever the first run is cut in two.
 #[test]
-fn any_number_of_shards(rt: HostRuntime) {
-    same_bytes(&rt, rt.alloc(), 1);
-    same_bytes(&rt, rt.alloc(), 4);
-    same_bytes(&rt, rt.alloc(), 256);
+fn any_number_of_shards(rt: HostRuntime) -> Result<(), Fail> {
+    for &shards in &[1, 4, 256] {
+        let command = Command::Run(shards, 1_000_000);
+        for &(input, output) in &SESSIONS {
+            leaves(
+                rt.alloc(),
+                command,
+                Source::new(input),
+                (input, output, "", 0),
+            )?;
+        }
+        let (front, _) = FIRST_RUN.split_at(24);
+        let row: (&[u8], &[u8], &str, u8) = (front, b"\x00\x00\x00\x01s", "fault 52\n", 1);
+        leaves(rt.alloc(), command, Source::new(front), row)?;
+        for size in 1..25 {
+            let reader = Source::in_two(FIRST_RUN, size);
+            leaves(
+                rt.alloc(),
+                command,
+                reader,
+                (FIRST_RUN, FIRST_REPLIES, "", 0),
+            )?;
+        }
+    }
+    Ok(())
 }
