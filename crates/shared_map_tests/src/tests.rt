@@ -3,18 +3,15 @@
 //!
 //! A map is dropped by a call of `drop`, before anything may fail: where a scope drops it, the prover follows all its parts on
 //! each way out.
-mod copies;
+mod changes;
 mod levels;
-mod memory;
-mod names;
 
 use shared_map::{Shared, SharedMap};
 use spiffe_doc::{NameError, TrustDomain};
 use std::alloc::{AllocError, Global};
 use std::collections::BTreeMap;
-use std::fmt::Debug;
-use std::process::Abort;
 use std::test::Fail;
+use test_kit::{holds, holds_at, is_equal, is_equal_at};
 
 /// What stands under a name.
 #[derive(Clone, Debug, PartialEq, Eq, Drop)]
@@ -26,24 +23,20 @@ impl Shared for Number {
     }
 }
 
-/// What was found is what is wanted.
-fn is_equal<T: PartialEq + Debug>(rt: &impl Abort, found: &T, wanted: &T) {
-    assert!(rt; *found == *wanted, "{found:?}, and not {wanted:?}");
+/// How many places there are, each of which has a number below this one, in any of some orders.
+const PLACES: u64 = 9000;
+
+/// The number at a place in the order of this step, which has no divisor in common with the number of places.
+fn number_at(place: u64, step: u64) -> u64 {
+    place.saturating_mul(step) % PLACES
 }
 
-/// It is so.
-fn holds(rt: &impl Abort, is_so: bool) {
-    assert!(rt; is_so);
-}
-
-/// A name that the number stands for, short or over 24 bytes. The names are in another order than the numbers: those below the
-/// prime 10,007 have different places.
+/// A name that the number stands for, short or over 24 bytes.
 fn name(alloc: Global, number: u64) -> Result<TrustDomain, Fail> {
-    let mixed = number.saturating_mul(6_180) % 10_007;
     let text = if number % 5 == 0 {
-        format!(in alloc; "{mixed}.a-name-of-over-24-bytes.example")?
+        format!(in alloc; "{number}.a-name-of-over-24-bytes.example")?
     } else {
-        format!(in alloc; "{mixed}.example")?
+        format!(in alloc; "{number}.example")?
     };
     match TrustDomain::parse(alloc, text.as_str()) {
         Ok(name) => Ok(name),
@@ -52,72 +45,39 @@ fn name(alloc: Global, number: u64) -> Result<TrustDomain, Fail> {
     }
 }
 
-/// Puts a value under the name of a number.
-fn insert(alloc: Global, map: &mut SharedMap<Number>, number: u64, value: u64) -> Result<(), Fail> {
-    let name = name(alloc, number)?;
-    Ok(map.insert(name, Number(value))?)
-}
-
-/// Removes the name of a number.
-fn remove(alloc: Global, map: &mut SharedMap<Number>, number: u64) -> Result<(), Fail> {
-    let name = name(alloc, number)?;
-    Ok(map.remove(&name)?)
-}
-
-/// What stands under the name of a number.
-fn found(alloc: Global, map: &SharedMap<Number>, number: u64) -> Result<Option<u64>, Fail> {
-    let name = name(alloc, number)?;
-    Ok(map.get(&name).map(|value| value.0))
-}
-
-fn fill(alloc: Global, map: &mut SharedMap<Number>, count: u64) -> Result<(), Fail> {
-    for number in 0..count {
-        insert(alloc, map, number, number)?;
+/// A plain map gets a value under the name.
+fn put_plain(
+    plain: &mut BTreeMap<TrustDomain, u64>,
+    name: TrustDomain,
+    value: u64,
+) -> Result<(), Fail> {
+    match plain.insert(name, value) {
+        Ok(_) => Ok(()),
+        Err(_) => Err(Fail::from(AllocError)),
     }
-    Ok(())
-}
-
-/// A map with these numbers, each under its name.
-fn filled(alloc: Global, count: u64) -> Result<SharedMap<Number>, Fail> {
-    let mut map = SharedMap::new(alloc);
-    match fill(alloc, &mut map, count) {
-        Ok(()) => Ok(map),
-        Err(error) => {
-            drop(map);
-            Err(error)
-        }
-    }
-}
-
-fn fill_plain(alloc: Global, map: &mut BTreeMap<TrustDomain, u64>, count: u64) -> Result<(), Fail> {
-    for number in 0..count {
-        let name = name(alloc, number)?;
-        if map.insert(name, number).is_err() {
-            return Err(Fail::from(AllocError));
-        }
-    }
-    Ok(())
-}
-
-/// A plain map with these numbers, each under its name.
-fn plain(alloc: Global, count: u64) -> Result<BTreeMap<TrustDomain, u64>, Fail> {
-    let mut map = BTreeMap::new(alloc);
-    fill_plain(alloc, &mut map, count)?;
-    Ok(map)
 }
 
 /// Both hold the same, in the same order.
-fn are_same(rt: &impl Abort, map: &SharedMap<Number>, wanted: &BTreeMap<TrustDomain, u64>) {
-    is_equal(rt, &map.len(), &wanted.len());
-    let mut others = wanted.iter();
-    for (name, number) in map.iter() {
-        match others.next() {
-            Some((other, wanted)) => {
-                holds(rt, *name == *other);
-                is_equal(rt, &number.0, wanted);
-            }
-            None => holds(rt, false),
-        }
+fn are_same(map: &SharedMap<Number>, plain: &BTreeMap<TrustDomain, u64>) -> Result<(), Fail> {
+    is_equal(&map.len(), &plain.len())?;
+    let mut entries = map.iter();
+    for (name, &value) in plain.iter() {
+        let wanted = Number(value);
+        is_equal_at(&map.get(name), &Some(&wanted), &value)?;
+        let is_next = entries.next() == Some((name, &wanted));
+        holds_at(is_next, &value)?;
     }
-    holds(rt, others.next().is_none());
+    holds(entries.next().is_none())
+}
+
+fn sent<T: Send + Sync>(value: T) -> T {
+    value
+}
+
+#[test]
+fn a_map_can_be_sent(rt: HostRuntime) -> Result<(), Fail> {
+    let map: SharedMap<Number> = sent(SharedMap::new(rt.alloc()));
+    let count = map.len();
+    drop(map);
+    is_equal(&count, &0)
 }

@@ -1,46 +1,9 @@
-//! Maps that get one level after another, beside a list of the same in order.
+//! Maps that get one level after another: with 9,000 names there are over 31 groups, so that a map has all its levels.
 use crate::tests::*;
 
-/// So many names that there are over 31 groups: the map then has all its levels.
-const COUNT: u64 = 9000;
-
-/// The number at a place in one of the orders of all numbers.
-fn number_at(place: u64, step: u64) -> u64 {
-    place.saturating_mul(step) % COUNT
-}
-
-/// A name whose order is the number's.
-fn numbered(alloc: Global, number: u64) -> Result<TrustDomain, Fail> {
-    let text = format!(in alloc; "{}.example", number.saturating_add(10_000))?;
-    match TrustDomain::parse(alloc, text.as_str()) {
-        Ok(name) => Ok(name),
-        Err(NameError::Memory) => Err(Fail::from(AllocError)),
-        Err(_) => Err(Fail::from("no name")),
-    }
-}
-
-/// The map has these numbers in this order, each under its name, and no others.
-fn has_these(
-    rt: &impl Abort,
-    alloc: Global,
-    map: &SharedMap<Number>,
-    wanted: &[u64],
-) -> Result<(), Fail> {
-    is_equal(rt, &map.len(), &wanted.len());
-    let mut entries = map.iter();
-    for number in wanted {
-        let wanted = numbered(alloc, *number)?;
-        is_equal(rt, &map.get(&wanted), &Some(&Number(*number)));
-        match entries.next() {
-            Some((name, found)) => {
-                holds(rt, *name == wanted);
-                is_equal(rt, &found.0, number);
-            }
-            None => holds(rt, false),
-        }
-    }
-    holds(rt, entries.next().is_none());
-    Ok(())
+/// The name at a place, in the order of the step. The names of numbers from 10,000 on have the order of these.
+fn name_at(alloc: Global, place: u64, step: u64) -> Result<TrustDomain, Fail> {
+    name(alloc, number_at(place, step).saturating_add(10_000))
 }
 
 /// All small sizes are looked at, and some of the others.
@@ -48,72 +11,41 @@ fn is_looked_at(size: u64) -> bool {
     size < 40 || size % 300 == 0
 }
 
-/// All numbers come, in the order of this step.
-fn grow(
-    rt: &impl Abort,
-    alloc: Global,
-    map: &mut SharedMap<Number>,
-    wanted: &mut Vec<u64>,
-    step: u64,
-) -> Result<(), Fail> {
-    for place in 0..COUNT {
-        let number = number_at(place, step);
-        map.insert(numbered(alloc, number)?, Number(number))?;
-        wanted.push(number)?;
-        if is_looked_at(place) {
-            wanted.sort_unstable();
-            has_these(rt, alloc, map, wanted)?;
-        }
-    }
-    wanted.sort_unstable();
-    Ok(())
-}
-
-/// All numbers go again.
-fn shrink(
-    rt: &impl Abort,
-    alloc: Global,
-    map: &mut SharedMap<Number>,
-    wanted: &mut Vec<u64>,
-) -> Result<(), Fail> {
-    for place in 0..COUNT {
-        let number = number_at(place, 4999);
-        map.remove(&numbered(alloc, number)?)?;
-        wanted.retain(|other| *other != number);
-        if is_looked_at(COUNT - 1 - place) {
-            has_these(rt, alloc, map, wanted)?;
-        }
-    }
-    Ok(())
-}
-
-/// The empty map grows in the order of this step, and shrinks again.
+/// All names come to both, in the order of this step, and go again in another one.
 fn grow_and_shrink(
-    rt: &impl Abort,
     alloc: Global,
     map: &mut SharedMap<Number>,
+    plain: &mut BTreeMap<TrustDomain, u64>,
     step: u64,
 ) -> Result<(), Fail> {
-    let mut wanted = Vec::new(alloc);
-    grow(rt, alloc, map, &mut wanted, step)?;
-    shrink(rt, alloc, map, &mut wanted)?;
-    is_equal(rt, &map.len(), &0);
-    Ok(())
-}
-
-/// The same of a new map.
-fn is_in_order(rt: &impl Abort, alloc: Global, step: u64) -> Result<(), Fail> {
-    let mut map = SharedMap::new(alloc);
-    let is_so = grow_and_shrink(rt, alloc, &mut map, step);
-    drop(map);
-    is_so
+    for place in 0..PLACES {
+        map.insert(name_at(alloc, place, step)?, Number(place))?;
+        put_plain(plain, name_at(alloc, place, step)?, place)?;
+        if is_looked_at(place) {
+            are_same(map, plain)?;
+        }
+    }
+    for place in 0..PLACES {
+        let name = name_at(alloc, place, 4999)?;
+        map.remove(&name)?;
+        plain.remove(&name);
+        if is_looked_at(PLACES - 1 - place) {
+            are_same(map, plain)?;
+        }
+    }
+    is_equal(&map.len(), &0)
 }
 
 #[test]
 fn a_map_with_any_number_of_levels_is_a_list_in_order(rt: HostRuntime) -> Result<(), Fail> {
     // in order, the other way round, and mixed
-    for step in [1, COUNT - 1, 3677] {
-        is_in_order(&rt, rt.alloc(), step)?;
+    for step in [1, PLACES - 1, 3677] {
+        let mut map = SharedMap::new(rt.alloc());
+        let mut plain = BTreeMap::new(rt.alloc());
+        let are_so = grow_and_shrink(rt.alloc(), &mut map, &mut plain, step);
+        drop(plain);
+        drop(map);
+        are_so?;
     }
     Ok(())
 }
