@@ -1,13 +1,12 @@
 //! Shards of one caller answer alike, however many they are.
-use super::{answer_text, is_equal, operation};
-use map_core::{Ask, AskError, Op, Reply};
+use map_core::Op;
 use std::alloc::Global;
-use std::process::Abort;
 use std::test::Fail;
 use step_core::{Event, Shards, Trace, run_events};
+use test_kit::{Shown, is_equal, operation, play};
 
 /// What is asked, and what is answered.
-const ROWS: &[(&str, &str)] = &[
+static ROWS: [(&str, &str); 13] = [
     ("fetch", "all 0"),
     ("set a {\"keys\":[]}", "stored"),
     ("get a", "found {\"keys\":[]}"),
@@ -35,43 +34,17 @@ const ROWS: &[(&str, &str)] = &[
     ),
 ];
 
-/// The answer is that of the row.
-fn judge(alloc: Global, row: (&str, &str), answer: &Result<Reply, AskError>) -> Result<(), Fail> {
-    let (line, expected) = row;
-    let text = answer_text(alloc, answer)?;
-    if text.as_str() != expected {
-        return Err(Fail::from(format!(in alloc; "{line}: {text}, and not {expected}")?));
+#[test]
+fn shards_answer_alike(rt: HostRuntime) -> Result<(), Fail> {
+    for &shards in &[1, 4, 256] {
+        let mut shards = Shards::new(rt.alloc(), shards)?;
+        play(rt.alloc(), Shown::Whole, &mut shards, &ROWS)?;
     }
     Ok(())
-}
-
-fn play<A: Ask>(alloc: Global, map: &mut A) -> Result<(), Fail> {
-    for (line, expected) in ROWS {
-        judge(alloc, (line, expected), &map.ask(operation(alloc, line)?))?;
-    }
-    Ok(())
-}
-
-#[test]
-fn one_shard(rt: HostRuntime) -> Result<(), Fail> {
-    let mut shards = Shards::new(rt.alloc(), 1)?;
-    play(rt.alloc(), &mut shards)
-}
-
-#[test]
-fn four_shards(rt: HostRuntime) -> Result<(), Fail> {
-    let mut shards = Shards::new(rt.alloc(), 4)?;
-    play(rt.alloc(), &mut shards)
-}
-
-#[test]
-fn all_shards(rt: HostRuntime) -> Result<(), Fail> {
-    let mut shards = Shards::new(rt.alloc(), 256)?;
-    play(rt.alloc(), &mut shards)
 }
 
 fn set_operation(alloc: Global, sequence: u64) -> Result<Op, Fail> {
-    let line = format!(in alloc; "set a {{\"keys\":[],\"spiffe_sequence\":{sequence}}}")?;
+    let line = format!(in alloc; "set a {sequence}")?;
     operation(alloc, line.as_str())
 }
 
@@ -101,17 +74,17 @@ fn restless(alloc: Global, count: u64) -> Result<Vec<Event>, Fail> {
 }
 
 /// The order of 14,286 rounds holds the writers alone.
-fn holds_writers(rt: &impl Abort, trace: &Trace) {
-    is_equal(rt, &(trace.ops.len(), trace.order.len()), &(28_572, 14_286));
+fn holds_writers(trace: &Trace) -> Result<(), Fail> {
+    is_equal(&(trace.ops.len(), trace.order.len()), &(28_572, 14_286))?;
     for (place, number) in trace.order.iter().enumerate() {
-        is_equal(rt, number, &(2 * place + 1));
+        is_equal(number, &(2 * place + 1))?;
     }
+    Ok(())
 }
 
 /// 100,002 events, of seven four a fetch-all's. Each round is thrown away, so the order holds the writers alone.
 #[test]
 fn many_rounds_are_thrown_away(rt: HostRuntime) -> Result<(), Fail> {
     let events = restless(rt.alloc(), 14_286)?;
-    holds_writers(&rt, &run_events(rt.alloc(), 1, 1, &events)?);
-    Ok(())
+    holds_writers(&run_events(rt.alloc(), 1, 1, &events)?)
 }

@@ -1,31 +1,29 @@
 //! Single shards and tasks, step by step.
-ghost use Rattle.std.specs.Prelude.{◌<◌};
-
-use super::{answer_text, contents_text, is_equal, operation};
 use map_core::{AskError, Contents, Op, Reply};
 use spiffe_doc::TrustDomain;
-use std::alloc::Global;
-use std::process::Abort;
+use std::alloc::{AllocError, Global};
 use std::sync::Arc;
 use std::test::Fail;
 use step_core::home::home;
 use step_core::{Answer, Shard, Task, Want};
+use test_kit::{Shown, answer_text, contents_text, is_equal, is_equal_at, operation};
+
+/// A name, how many shards there are, and which of them is its home.
+static HOMES: [(&str, usize, usize); 6] = [
+    ("example.org", 2, 0),
+    ("example.org", 16, 2),
+    ("a", 2, 1),
+    ("b", 2, 0),
+    ("a", 1, 0),
+    ("zz", 256, 244),
+];
 
 #[test]
 fn names_have_homes(rt: HostRuntime) -> Result<(), Fail> {
-    let rows = [
-        ("example.org", 2, 0),
-        ("example.org", 16, 2),
-        ("a", 2, 1),
-        ("b", 2, 0),
-        ("a", 1, 0),
-        ("zz", 256, 244),
-    ];
-    for (name, shards, expected) in &rows {
+    for &(name, shards, wanted) in &HOMES {
         let domain = TrustDomain::parse(rt.alloc(), name)?;
-        let shards: usize = *shards;
-        if shards == 0 || home(&domain, shards) != *expected {
-            return Err(Fail::from(*name));
+        if shards == 0 || home(&domain, shards) != wanted {
+            return Err(Fail::from(name));
         }
     }
     Ok(())
@@ -36,7 +34,7 @@ type Row<'a> = (&'a str, &'a str, u64);
 
 /// What the shard answers to the operation of a line.
 fn step_text(alloc: Global, shard: &mut Shard, line: &str) -> Result<String, Fail> {
-    answer_text(alloc, &shard.step(operation(alloc, line)?))
+    Ok(answer_text(alloc, Shown::Whole, &shard.step(operation(alloc, line)?))?)
 }
 
 /// The shard answers a row.
@@ -52,14 +50,14 @@ fn play_step(alloc: Global, shard: &mut Shard, row: &Row) -> Result<(), Fail> {
     Ok(())
 }
 
-fn same_contents(alloc: Global, first: &Contents, second: &Contents) -> Result<bool, Fail> {
-    let first = contents_text(alloc, first)?;
-    let second = contents_text(alloc, second)?;
+fn same_contents(alloc: Global, first: &Contents, second: &Contents) -> Result<bool, AllocError> {
+    let first = contents_text(alloc, Shown::Whole, first)?;
+    let second = contents_text(alloc, Shown::Whole, second)?;
     Ok(first.as_str() == second.as_str())
 }
 
 /// Share gives what look gives.
-fn shares_its_look(alloc: Global, shard: &Shard) -> Result<bool, Fail> {
+fn shares_its_look(alloc: Global, shard: &Shard) -> Result<bool, AllocError> {
     let (looked, contents) = shard.look();
     let (shared, version) = shard.share()?;
     Ok(same_contents(alloc, contents, &version)? && shared == looked)
@@ -89,9 +87,9 @@ fn play_beside(
     shard: &mut Shard,
     row: &Row,
 ) -> Result<(), Fail> {
-    let before = contents_text(alloc, version)?;
+    let before = contents_text(alloc, Shown::Whole, version)?;
     play_row(alloc, shard, row)?;
-    let after = contents_text(alloc, version)?;
+    let after = contents_text(alloc, Shown::Whole, version)?;
     if after.as_str() != before.as_str() {
         let (line, _, _) = *row;
         return Err(Fail::from(format!(in alloc; "{line}: a shared version has changed")?));
@@ -108,72 +106,53 @@ fn play_shared(alloc: Global, shard: &mut Shard, rows: &[Row]) -> Result<(), Fai
     Ok(())
 }
 
-fn play_alone(alloc: Global, rows: &[Row]) -> Result<(), Fail> {
-    let mut shard = Shard::new(alloc)?;
-    play(alloc, &mut shard, rows)
-}
-
-/// Plays the rows on a new shard that nobody shares, and on one whose versions are shared.
-fn play_new(alloc: Global, rows: &[Row]) -> Result<(), Fail> {
-    play_alone(alloc, rows)?;
-    let mut shard = Shard::new(alloc)?;
-    play_shared(alloc, &mut shard, rows)
-}
-
-#[test]
-fn a_revision_counts_changes(rt: HostRuntime) -> Result<(), Fail> {
-    let rows = [
-        ("set a {\"keys\":[],\"spiffe_sequence\":5}", "stored", 1),
-        (
-            "set a {\"keys\":[],\"spiffe_sequence\":4}",
-            "refused 31 5",
-            1,
-        ),
-        (
-            "set a {\"keys\":[{\"kty\":\"RSA\",\"use\":\"jwt-svid\",\"kid\":\"k\",\"n\":\"AQAB\",\"e\":\"AQAB\"}],\"spiffe_sequence\":5}",
-            "stored",
-            2,
-        ),
-        (
-            "set a {\"keys\":[{\"kty\":\"RSA\",\"use\":\"jwt-svid\",\"kid\":\"k\",\"n\":\"AQAB\",\"e\":\"AQAB\"}],\"spiffe_sequence\":5}",
-            "unchanged",
-            2,
-        ),
-        ("set a {\"keys\":[]}", "stored", 3),
-        ("get a", "found {\"keys\":[]}", 3),
-        ("remove a", "removed", 4),
-        ("remove a", "refused 30", 4),
-        ("set a {\"keys\":[]}", "stored", 5),
-    ];
-    play_new(rt.alloc(), &rows)
-}
+/// A revision counts changes.
+const CHANGES: &[Row<'static>] = &[
+    ("set a {\"keys\":[],\"spiffe_sequence\":5}", "stored", 1),
+    (
+        "set a {\"keys\":[],\"spiffe_sequence\":4}",
+        "refused 31 5",
+        1,
+    ),
+    (
+        "set a {\"keys\":[{\"kty\":\"RSA\",\"use\":\"jwt-svid\",\"kid\":\"k\",\"n\":\"AQAB\",\"e\":\"AQAB\"}],\"spiffe_sequence\":5}",
+        "stored",
+        2,
+    ),
+    (
+        "set a {\"keys\":[{\"kty\":\"RSA\",\"use\":\"jwt-svid\",\"kid\":\"k\",\"n\":\"AQAB\",\"e\":\"AQAB\"}],\"spiffe_sequence\":5}",
+        "unchanged",
+        2,
+    ),
+    ("set a {\"keys\":[]}", "stored", 3),
+    ("get a", "found {\"keys\":[]}", 3),
+    ("remove a", "removed", 4),
+    ("remove a", "refused 30", 4),
+    ("set a {\"keys\":[]}", "stored", 5),
+];
 
 /// A removed domain remembers its sequence, and the revision counts what the mark lets through.
-#[test]
-fn a_mark_lets_few_changes_through(rt: HostRuntime) -> Result<(), Fail> {
-    let rows = [
-        ("set a {\"keys\":[],\"spiffe_sequence\":5}", "stored", 1),
-        ("remove a", "removed", 2),
-        ("get a", "refused 30", 2),
-        (
-            "set a {\"keys\":[],\"spiffe_sequence\":4}",
-            "refused 31 5",
-            2,
-        ),
-        (
-            "append a {\"kty\":\"RSA\",\"use\":\"jwt-svid\",\"kid\":\"k\",\"n\":\"AQAB\",\"e\":\"AQAB\"}",
-            "refused 30",
-            2,
-        ),
-        ("remove a", "refused 30", 2),
-        ("set a {\"keys\":[],\"spiffe_sequence\":5}", "stored", 3),
-        ("remove a", "removed", 4),
-        ("set a {\"keys\":[]}", "stored", 5),
-        ("remove a", "removed", 6),
-        ("set a {\"keys\":[],\"spiffe_sequence\":1}", "stored", 7),
-    ];
-    play_new(rt.alloc(), &rows)
-}
+const MARKS: &[Row<'static>] = &[
+    ("set a {\"keys\":[],\"spiffe_sequence\":5}", "stored", 1),
+    ("remove a", "removed", 2),
+    ("get a", "refused 30", 2),
+    (
+        "set a {\"keys\":[],\"spiffe_sequence\":4}",
+        "refused 31 5",
+        2,
+    ),
+    (
+        "append a {\"kty\":\"RSA\",\"use\":\"jwt-svid\",\"kid\":\"k\",\"n\":\"AQAB\",\"e\":\"AQAB\"}",
+        "refused 30",
+        2,
+    ),
+    ("remove a", "refused 30", 2),
+    ("set a {\"keys\":[],\"spiffe_sequence\":5}", "stored", 3),
+    ("remove a", "removed", 4),
+    ("set a {\"keys\":[]}", "stored", 5),
+    ("remove a", "removed", 6),
+    ("set a {\"keys\":[],\"spiffe_sequence\":1}", "stored", 7),
+];
 
 /// Each operation on one name, with an authority of either kind.
 const OPERATIONS: &[Row<'static>] = &[
@@ -217,38 +196,46 @@ const OPERATIONS: &[Row<'static>] = &[
     ),
 ];
 
-#[test]
-fn each_operation_is_a_step(rt: HostRuntime) -> Result<(), Fail> {
-    play_new(rt.alloc(), OPERATIONS)
-}
+/// A worn shard changes no more.
+const WORN: &[Row<'static>] = &[
+    ("set a {\"keys\":[]}", "worn 0", 4611686018427387904),
+    ("get a", "refused 30", 4611686018427387904),
+];
 
-/// Plays the rows on an empty shard of this revision.
-fn play_worn(alloc: Global, revision: u64, rows: &[Row]) -> Result<(), Fail> {
+/// A shard with one revision left changes once.
+const NEARLY_WORN: &[Row<'static>] = &[
+    ("set a {\"keys\":[]}", "stored", 4611686018427387904),
+    ("set a {\"keys\":[]}", "unchanged", 4611686018427387904),
+    ("remove a", "worn 0", 4611686018427387904),
+    ("get a", "found {\"keys\":[]}", 4611686018427387904),
+];
+
+/// Rows that are played on an empty shard of this revision.
+static SHARDS: [(u64, &[Row<'static>]); 5] = [
+    (0, CHANGES),
+    (0, MARKS),
+    (0, OPERATIONS),
+    (4611686018427387904, WORN),
+    (4611686018427387903, NEARLY_WORN),
+];
+
+/// Plays the rows on a shard that nobody shares, and on one whose versions are shared.
+fn play_both(alloc: Global, revision: u64, rows: &[Row]) -> Result<(), Fail> {
     if revision > 4611686018427387904 {
         return Err(Fail::from("no shard has this revision"));
     }
     let mut shard = Shard::with(alloc, revision, Contents::new(alloc))?;
-    play(alloc, &mut shard, rows)
+    play(alloc, &mut shard, rows)?;
+    let mut shard = Shard::with(alloc, revision, Contents::new(alloc))?;
+    play_shared(alloc, &mut shard, rows)
 }
 
 #[test]
-fn a_worn_shard_changes_no_more(rt: HostRuntime) -> Result<(), Fail> {
-    let rows = [
-        ("set a {\"keys\":[]}", "worn 0", 4611686018427387904),
-        ("get a", "refused 30", 4611686018427387904),
-    ];
-    play_worn(rt.alloc(), 4611686018427387904, &rows)
-}
-
-#[test]
-fn a_shard_with_one_revision_left_changes_once(rt: HostRuntime) -> Result<(), Fail> {
-    let rows = [
-        ("set a {\"keys\":[]}", "stored", 4611686018427387904),
-        ("set a {\"keys\":[]}", "unchanged", 4611686018427387904),
-        ("remove a", "worn 0", 4611686018427387904),
-        ("get a", "found {\"keys\":[]}", 4611686018427387904),
-    ];
-    play_worn(rt.alloc(), 4611686018427387903, &rows)
+fn a_shard_answers(rt: HostRuntime) -> Result<(), Fail> {
+    for &(revision, rows) in &SHARDS {
+        play_both(rt.alloc(), revision, rows)?;
+    }
+    Ok(())
 }
 
 /// The version of the shard after a row.
@@ -271,21 +258,94 @@ fn a_shared_version_stays(rt: HostRuntime) -> Result<(), Fail> {
     ];
     play(alloc, &mut shard, &rows)?;
     is_equal(
-        &rt,
         &(first.len(), second.len(), shard.look().1.len()),
         &(1, 2, 1),
-    );
-    Ok(())
+    )
 }
 
-fn seen(alloc: Global, revision: u64) -> Result<Answer, Fail> {
-    let (_, contents) = Shard::new(alloc)?.share()?;
-    Ok(Answer::Seen { revision, contents })
+/// What a task is given.
+#[derive(Clone, Copy)]
+enum Given {
+    Seen(u64),
+    Revision(u64),
+    Unchanged,
+    Memory,
 }
 
-fn give_seen(alloc: Global, task: &mut Task, revision: u64) -> Result<(), Fail> {
-    task.give(seen(alloc, revision)?);
-    Ok(())
+fn answer_of(alloc: Global, given: Given) -> Result<Answer, AllocError> {
+    match given {
+        Given::Seen(revision) => {
+            let (_, contents) = Shard::new(alloc)?.share()?;
+            Ok(Answer::Seen { revision, contents })
+        }
+        Given::Revision(revision) => Ok(Answer::Revision(revision)),
+        Given::Unchanged => Ok(Answer::Replied(Ok(Reply::Unchanged))),
+        Given::Memory => Ok(Answer::Replied(Err(AskError::Memory))),
+    }
+}
+
+/// A task over so many shards and rounds, what it wants and is given at each step, and its reply.
+#[derive(Clone, Copy)]
+struct Tasked<'a> {
+    line: &'a str,
+    shards: usize,
+    rounds: usize,
+    steps: &'a [(Want, Given)],
+    reply: &'a str,
+}
+
+static TASKS: [Tasked; 3] = [
+    // The second round reads both shards again, though the first one had not moved.
+    Tasked {
+        line: "fetch",
+        shards: 2,
+        rounds: 2,
+        steps: &[
+            (Want::Collect(0), Given::Seen(3)),
+            (Want::Collect(1), Given::Seen(4)),
+            (Want::Confirm(0), Given::Revision(3)),
+            (Want::Confirm(1), Given::Revision(5)),
+            (Want::Collect(0), Given::Seen(3)),
+            (Want::Collect(1), Given::Seen(5)),
+            (Want::Confirm(0), Given::Revision(3)),
+            (Want::Confirm(1), Given::Revision(5)),
+        ],
+        reply: "all 0",
+    },
+    // The last shard that moved is named.
+    Tasked {
+        line: "fetch",
+        shards: 1,
+        rounds: 2,
+        steps: &[
+            (Want::Collect(0), Given::Seen(0)),
+            (Want::Confirm(0), Given::Revision(1)),
+            (Want::Collect(0), Given::Seen(7)),
+            (Want::Confirm(0), Given::Revision(9)),
+        ],
+        reply: "moved 0 7 9",
+    },
+    // An operation on a name is one step of its shard. What a task does not want changes nothing.
+    Tasked {
+        line: "get a",
+        shards: 2,
+        rounds: 1,
+        steps: &[
+            (Want::Do(1), Given::Revision(0)),
+            (Want::Do(1), Given::Seen(0)),
+            (Want::Do(1), Given::Unchanged),
+            (Want::Done, Given::Memory),
+        ],
+        reply: "unchanged",
+    },
+];
+
+fn give(alloc: Global, task: &mut Task, steps: &[(Want, Given)]) -> Result<(), Fail> {
+    for &(want, given) in steps {
+        is_equal(&task.wants(), &want)?;
+        task.give(answer_of(alloc, given)?);
+    }
+    is_equal(&task.wants(), &Want::Done)
 }
 
 /// The text of the reply of a task that is done; out of memory is an error here.
@@ -296,32 +356,25 @@ fn reply_of(alloc: Global, task: Task) -> Result<String, Fail> {
     }
     match task.reply() {
         Err(AskError::Memory) => Err(Fail::from("out of memory")),
-        answer => answer_text(alloc, &answer),
+        answer => Ok(answer_text(alloc, Shown::Whole, &answer)?),
     }
 }
 
-/// A round over two shards, of these revisions, the second of which is at another when it is confirmed.
-fn give_round(
-    rt: &impl Abort,
-    alloc: Global,
-    task: &mut Task,
-    revisions: (u64, u64, u64),
-) -> Result<(), Fail> {
-    let (first, second, now) = revisions;
-    is_equal(rt, &task.wants(), &Want::Collect(0));
-    give_seen(alloc, task, first)?;
-    is_equal(rt, &task.wants(), &Want::Collect(1));
-    give_seen(alloc, task, second)?;
-    is_equal(rt, &task.wants(), &Want::Confirm(0));
-    task.give(Answer::Revision(first));
-    is_equal(rt, &task.wants(), &Want::Confirm(1));
-    task.give(Answer::Revision(now));
-    Ok(())
+/// The task of an operation.
+fn begin(alloc: Global, row: &Tasked) -> Result<Task, Fail> {
+    if row.shards == 0 || row.rounds == 0 {
+        return Err(Fail::from("a task has a shard and a round"));
+    }
+    let op = operation(alloc, row.line)?;
+    let task = Task::begin(alloc, &op, row.shards, row.rounds);
+    drop(op);
+    Ok(task?)
 }
 
-/// The text of the reply of a task, once all was given; why it was not, if something failed.
-fn reply_once(alloc: Global, task: Task, given: Result<(), Fail>) -> Result<String, Fail> {
-    match given {
+/// The text of the reply of the task, once all was given.
+fn reply_to(alloc: Global, row: &Tasked) -> Result<String, Fail> {
+    let mut task = begin(alloc, row)?;
+    match give(alloc, &mut task, row.steps) {
         Ok(()) => reply_of(alloc, task),
         Err(error) => {
             drop(task);
@@ -330,70 +383,11 @@ fn reply_once(alloc: Global, task: Task, given: Result<(), Fail>) -> Result<Stri
     }
 }
 
-/// A task of a fetch-all.
-fn fetch_all(alloc: Global, shards: usize, rounds: usize) -> Result<Task, Fail>
-    requires shards { 0 < shards }
-    requires rounds { 0 < rounds }
-{
-    let op = Op::FetchAll;
-    let task = Task::begin(alloc, &op, shards, rounds);
-    drop(op);
-    Ok(task?)
-}
-
-fn give_rounds(rt: &impl Abort, alloc: Global, task: &mut Task) -> Result<(), Fail> {
-    for revisions in [(3, 4, 5), (3, 5, 5)] {
-        give_round(rt, alloc, task, revisions)?;
+#[test]
+fn tasks_want_what_they_are_given(rt: HostRuntime) -> Result<(), Fail> {
+    for row in &TASKS {
+        let reply = reply_to(rt.alloc(), row)?;
+        is_equal_at(&reply.as_str(), &row.reply, &row.line)?;
     }
-    Ok(())
-}
-
-/// A fetch-all over two shards: the second round reads both again, though the first shard had not moved.
-#[test]
-fn a_fetch_all_wants_all_again(rt: HostRuntime) -> Result<(), Fail> {
-    let mut task = fetch_all(rt.alloc(), 2, 2)?;
-    let given = give_rounds(&rt, rt.alloc(), &mut task);
-    let text = reply_once(rt.alloc(), task, given)?;
-    is_equal(&rt, &text.as_str(), &"all 0");
-    Ok(())
-}
-
-fn give_moves(alloc: Global, task: &mut Task) -> Result<(), Fail> {
-    for (first, second) in [(0, 1), (7, 9)] {
-        give_seen(alloc, task, first)?;
-        task.give(Answer::Revision(second));
-    }
-    Ok(())
-}
-
-#[test]
-fn a_fetch_all_names_the_last_shard_that_moved(rt: HostRuntime) -> Result<(), Fail> {
-    let mut task = fetch_all(rt.alloc(), 1, 2)?;
-    let given = give_moves(rt.alloc(), &mut task);
-    let text = reply_once(rt.alloc(), task, given)?;
-    is_equal(&rt, &text.as_str(), &"moved 0 7 9");
-    Ok(())
-}
-
-/// Gives what the task does not want first, and then twice what it wants.
-fn give_replies(rt: &impl Abort, alloc: Global, task: &mut Task) -> Result<(), Fail> {
-    task.give(Answer::Revision(0));
-    give_seen(alloc, task, 0)?;
-    is_equal(rt, &task.wants(), &Want::Do(1));
-    task.give(Answer::Replied(Ok(Reply::Unchanged)));
-    task.give(Answer::Replied(Err(AskError::Memory)));
-    Ok(())
-}
-
-/// One on a name is a step of its shard; what it does not want changes nothing.
-#[test]
-fn an_operation_on_a_name_is_one_step(rt: HostRuntime) -> Result<(), Fail> {
-    let op = operation(rt.alloc(), "get a")?;
-    let task = Task::begin(rt.alloc(), &op, 2, 1);
-    drop(op);
-    let mut task = task?;
-    let given = give_replies(&rt, rt.alloc(), &mut task);
-    let text = reply_once(rt.alloc(), task, given)?;
-    is_equal(&rt, &text.as_str(), &"unchanged");
     Ok(())
 }
