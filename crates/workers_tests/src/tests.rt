@@ -3,21 +3,11 @@ mod ends;
 mod read_only;
 
 use map_core::{Ask, AskError, Op, Reply};
-use spiffe_doc::TrustDomain;
-use std::fmt::Debug;
-use std::process::Abort;
+use std::alloc::Global;
 use std::test::Fail;
-use workers::{Retrying, SessionFault};
-
-/// What was found is what is wanted.
-fn is_equal<T: PartialEq + Debug>(rt: &impl Abort, found: &T, wanted: &T) {
-    assert!(rt; *found == *wanted, "{found:?}, and not {wanted:?}");
-}
-
-/// It is so.
-fn holds(rt: &impl Abort, is_so: bool) {
-    assert!(rt; is_so);
-}
+use std::time::Clock;
+use test_kit::{Shown, is_equal_at, play_line};
+use workers::Retrying;
 
 /// Answers so often that another caller is in the way, and counts what it is asked.
 #[derive(Drop)]
@@ -47,47 +37,49 @@ impl Ask for Busy {
     }
 }
 
-// Each row: what is answered how often, how often it may be asked again, the number of the last answer, and how often it
-// was asked for that.
-#[test]
-fn transient_answers_are_asked_again(rt: HostRuntime) -> Result<(), Fail> {
-    let held = AskError::Held {
-        shard: 1,
-        revision: 2,
+const HELD: AskError = AskError::Held {
+    shard: 1,
+    revision: 2,
+};
+
+const MOVED: AskError = AskError::Moved {
+    shard: 1,
+    first: 2,
+    second: 3,
+};
+
+/// What is answered how often, how often it may be asked again, the last answer, and how often it was asked for that.
+type Row<'a> = (AskError, u64, u64, &'a str, u64);
+
+static ROWS: [Row<'static>; 7] = [
+    (HELD, 0, 5, "stored", 1),
+    (HELD, 3, 5, "stored", 4),
+    (MOVED, 5, 5, "stored", 6),
+    (HELD, 6, 5, "held 1 2", 6),
+    (MOVED, 1, 0, "moved 1 2 3", 1),
+    (AskError::Worn { shard: 1 }, 1, 5, "worn 1", 1),
+    (AskError::GateShut, 1, 5, "shut", 1),
+];
+
+fn is_asked_so<C: Clock>(
+    alloc: Global,
+    clock: &C,
+    (answer, left, retries, last, asked): Row<'_>,
+) -> Result<(), Fail> {
+    let busy = Busy {
+        answer,
+        left,
+        asked: 0,
     };
-    let moved = AskError::Moved {
-        shard: 1,
-        first: 2,
-        second: 3,
-    };
-    let worn = AskError::Worn { shard: 1 };
-    let rows = [
-        (held, 0, 5, 0, 1),
-        (held, 3, 5, 0, 4),
-        (moved, 5, 5, 0, 6),
-        (held, 6, 5, 42, 6),
-        (moved, 1, 0, 41, 1),
-        (worn, 1, 5, 40, 1),
-        (AskError::GateShut, 1, 5, 56, 1),
-    ];
-    for (answer, left, retries, last, asked) in rows {
-        let busy = Busy {
-            answer,
-            left,
-            asked: 0,
-        };
-        let mut ask = Retrying::new(busy, &rt, retries);
-        let name = TrustDomain::parse(rt.alloc(), "a")?;
-        let number = ask
-            .ask(Op::Get(name))
-            .map_or_else(|error| error.number(), |_| 0);
-        is_equal(&rt, &number, &last);
-        is_equal(&rt, &ask.ask.asked, &asked);
-    }
-    Ok(())
+    let mut ask = Retrying::new(busy, clock, retries);
+    play_line(alloc, Shown::Counted, &mut ask, ("get a", last))?;
+    is_equal_at(&ask.ask.asked, &asked, &last)
 }
 
 #[test]
-fn a_listener_that_fails_has_a_number(rt: HostRuntime) {
-    is_equal(&rt, &SessionFault::Listen.number(), &57);
+fn transient_answers_are_asked_again(rt: HostRuntime) -> Result<(), Fail> {
+    for &row in &ROWS {
+        is_asked_so(rt.alloc(), &rt, row)?;
+    }
+    Ok(())
 }
