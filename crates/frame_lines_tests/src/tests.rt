@@ -7,8 +7,6 @@ mod streams;
 
 use frame_lines::{TextError, TextSource};
 use std::alloc::{AllocError, Global};
-use std::fmt::Debug;
-use std::process::Abort;
 
 /// One text, whose name is `doc`, one that is longer than a frame, `long`, and one for which there is no memory, `huge`.
 #[derive(Drop)]
@@ -39,17 +37,4 @@ fn longer_than_a_frame(alloc: Global) -> Result<Vec<u8>, AllocError> {
         text.push(b'.')?;
     }
     Ok(text)
-}
-
-/// What was found in this case is what is wanted.
-fn is_equal_at<T: PartialEq + Debug, C: Debug>(rt: &impl Abort, found: &T, wanted: &T, case: &C) {
-    assert!(rt;
-        *found == *wanted,
-        "{case:?}: {found:?}, and not {wanted:?}"
-    );
-}
-
-/// It is so in this case.
-fn holds_at<C: Debug>(rt: &impl Abort, is_so: bool, case: &C) {
-    assert!(rt; is_so, "{case:?}");
 }

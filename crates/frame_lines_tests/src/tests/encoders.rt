@@ -1,8 +1,9 @@
 //! Streams of lines become frames.
-use super::{OneText, holds_at, is_equal_at};
+use super::OneText;
 use frame_lines::{EncodeError, Encoder};
 use std::alloc::Global;
 use std::test::Fail;
+use test_kit::{holds_at, is_equal_at};
 
 /// The frames of a stream in pieces of this size, and how it ends.
 fn encoded(
@@ -34,88 +35,81 @@ fn encode_kept(alloc: Global, encoder: &mut Encoder, out: &mut Vec<u8>) -> Resul
 
 const GET_A: &[u8] = b"\x00\x00\x00\x03G\x01a";
 
-#[test]
-fn pieces_do_not_matter(rt: HostRuntime) -> Result<(), Fail> {
-    let alloc = rt.alloc();
-    let rows: [(&[u8], &[u8], Result<(), EncodeError>); 9] = [
-        (b"", b"", Ok(())),
-        (b"get a\n", GET_A, Ok(())),
-        (b"get a", GET_A, Ok(())),
-        (b"# a comment\n\n#\nget a\n# the end", GET_A, Ok(())),
-        (
-            b"get a\nfetch\n",
-            b"\x00\x00\x00\x03G\x01a\x00\x00\x00\x01F",
-            Ok(()),
-        ),
-        (
-            b"get a\nfetch all\nget a\n",
-            GET_A,
-            Err(EncodeError::BadLine(2)),
-        ),
-        (b"get a\nfetch all", GET_A, Err(EncodeError::BadLine(2))),
-        (b"get a\r\n", b"\x00\x00\x00\x04G\x02a\r", Ok(())),
-        (b"\n\n #\n", b"", Err(EncodeError::BadLine(3))),
-    ];
-    for (stream, frames, ended) in rows {
-        for size in 1..9 {
-            let (out, end) = encoded(alloc, stream, size)?;
-            is_equal_at(&rt, &out.as_slice(), &frames, &(stream, size));
-            is_equal_at(&rt, &end, &ended, &(stream, size));
-        }
-    }
-    Ok(())
-}
-
 const SET_A: &[u8] = b"\x00\x00\x00\x06S\x01a{\n}";
 
+/// A stream of lines, the frames that it becomes, and how it ends, in pieces of any size.
+static STREAMS: [(&[u8], &[u8], Result<(), EncodeError>); 18] = [
+    (b"", b"", Ok(())),
+    (b"get a\n", GET_A, Ok(())),
+    (b"get a", GET_A, Ok(())),
+    (b"# a comment\n\n#\nget a\n# the end", GET_A, Ok(())),
+    (
+        b"get a\nfetch\n",
+        b"\x00\x00\x00\x03G\x01a\x00\x00\x00\x01F",
+        Ok(()),
+    ),
+    (
+        b"get a\nfetch all\nget a\n",
+        GET_A,
+        Err(EncodeError::BadLine(2)),
+    ),
+    (b"get a\nfetch all", GET_A, Err(EncodeError::BadLine(2))),
+    (b"get a\r\n", b"\x00\x00\x00\x04G\x02a\r", Ok(())),
+    (b"\n\n #\n", b"", Err(EncodeError::BadLine(3))),
+    // Texts that are named.
+    (b"set a @doc\n", SET_A, Ok(())),
+    (b"set a @doc", SET_A, Ok(())),
+    (
+        b"setif a absent @doc",
+        b"\x00\x00\x00\x07C\x01a\x00{\n}",
+        Ok(()),
+    ),
+    (b"append a @doc", b"\x00\x00\x00\x06A\x01a{\n}", Ok(())),
+    (b"get @doc", b"\x00\x00\x00\x06G\x04@doc", Ok(())),
+    (
+        b"set a @doc\nset a @\n",
+        SET_A,
+        Err(EncodeError::Unreadable(2)),
+    ),
+    (b"#\nset a @dog", b"", Err(EncodeError::Unreadable(2))),
+    (b"set a @huge\n", b"", Err(EncodeError::Memory)),
+    (b"get a\nset a @long\n", GET_A, Err(EncodeError::BadLine(2))),
+];
+
 #[test]
-fn a_text_that_is_named_is_in_the_frame(rt: HostRuntime) -> Result<(), Fail> {
-    let alloc = rt.alloc();
-    let rows: [(&[u8], &[u8], Result<(), EncodeError>); 8] = [
-        (b"set a @doc\n", SET_A, Ok(())),
-        (b"set a @doc", SET_A, Ok(())),
-        (
-            b"setif a absent @doc",
-            b"\x00\x00\x00\x07C\x01a\x00{\n}",
-            Ok(()),
-        ),
-        (b"append a @doc", b"\x00\x00\x00\x06A\x01a{\n}", Ok(())),
-        (b"get @doc", b"\x00\x00\x00\x06G\x04@doc", Ok(())),
-        (
-            b"set a @doc\nset a @\n",
-            SET_A,
-            Err(EncodeError::Unreadable(2)),
-        ),
-        (b"#\nset a @dog", b"", Err(EncodeError::Unreadable(2))),
-        (b"set a @huge\n", b"", Err(EncodeError::Memory)),
-    ];
-    for (stream, frames, ended) in rows {
+fn lines_become_frames(rt: HostRuntime) -> Result<(), Fail> {
+    for &(stream, frames, ended) in &STREAMS {
         for size in 1..9 {
-            let (out, end) = encoded(alloc, stream, size)?;
-            is_equal_at(&rt, &out.as_slice(), &frames, &(stream, size));
-            is_equal_at(&rt, &end, &ended, &(stream, size));
+            let (out, end) = encoded(rt.alloc(), stream, size)?;
+            is_equal_at(&(out.as_slice(), end), &(frames, ended), &(stream, size))?;
         }
     }
-    let (out, end) = encoded(alloc, b"get a\nset a @long\n", 64)?;
-    is_equal_at(&rt, &out.as_slice(), &GET_A, &"before a long text");
-    is_equal_at(&rt, &end, &Err(EncodeError::BadLine(2)), &"a long text");
     Ok(())
 }
+
+/// How a comment of so many bytes ends.
+static COMMENTS: [(usize, Result<(), EncodeError>); 2] = [
+    (1_049_300, Ok(())),
+    (1_049_301, Err(EncodeError::BadLine(1))),
+];
 
 #[test]
 fn a_line_may_be_so_long(rt: HostRuntime) -> Result<(), Fail> {
-    let alloc = rt.alloc();
-    let mut line = Vec::from_slice(alloc, b"#")?;
-    for _ in 0..1_049_299 {
-        line.push(b'.')?;
+    for &(length, wanted) in &COMMENTS {
+        let line = "#".repeat(rt.alloc(), length)?;
+        let (_, end) = encoded(rt.alloc(), line.as_bytes(), 4096)?;
+        is_equal_at(&end, &wanted, &length)?;
     }
-    let (_, end) = encoded(alloc, line.as_slice(), 4096)?;
-    is_equal_at(&rt, &end, &Ok(()), &"1,049,300 bytes");
-    line.push(b'.')?;
-    let (_, end) = encoded(alloc, line.as_slice(), 4096)?;
-    is_equal_at(&rt, &end, &Err(EncodeError::BadLine(1)), &"1,049,301 bytes");
     Ok(())
 }
+
+/// What each step appends, and whether it took a line.
+static TAKEN: [(&[u8], Result<bool, EncodeError>); 4] = [
+    (b"", Ok(true)),
+    (GET_A, Ok(true)),
+    (b"\x00\x00\x00\x01F", Ok(true)),
+    (b"", Ok(false)),
+];
 
 #[test]
 fn lines_are_taken_one_at_a_time(rt: HostRuntime) -> Result<(), Fail> {
@@ -123,16 +117,9 @@ fn lines_are_taken_one_at_a_time(rt: HostRuntime) -> Result<(), Fail> {
     let mut out = Vec::new(alloc);
     let mut encoder = Encoder::new(alloc)?;
     encoder.feed(b"# none\nget a\nfetch\nget b")?;
-    let rows: [(&[u8], Result<bool, EncodeError>); 4] = [
-        (b"", Ok(true)),
-        (GET_A, Ok(true)),
-        (b"\x00\x00\x00\x01F", Ok(true)),
-        (b"", Ok(false)),
-    ];
-    for (frame, taken) in rows {
+    for &(frame, taken) in &TAKEN {
         let next = encoder.encode_next(alloc, &OneText, &mut out);
-        is_equal_at(&rt, &next, &taken, &frame);
-        is_equal_at(&rt, &out.as_slice(), &frame, &taken);
+        is_equal_at(&(out.as_slice(), next), &(frame, taken), &frame)?;
         out.clear();
     }
     Ok(())
@@ -144,16 +131,11 @@ fn a_refused_growth_leaves_whole_frames(rt: HostRuntime) -> Result<(), Fail> {
     let mut out = Vec::new(alloc);
     let mut encoder = Encoder::new(alloc)?;
     encoder.feed(b"get a\nfetch\n")?;
-    match encode_kept(alloc, &mut encoder, &mut out) {
-        Ok(()) => {
-            let wanted = b"\x00\x00\x00\x03G\x01a\x00\x00\x00\x01F".as_slice();
-            is_equal_at(&rt, &out.as_slice(), &wanted, &"both frames");
-        }
-        Err(error) => {
-            is_equal_at(&rt, &error, &EncodeError::Memory, &"a refused growth");
-            let is_whole = out.is_empty() || out.as_slice() == GET_A;
-            holds_at(&rt, is_whole, &out);
-        }
-    }
-    Ok(())
+    let ended = encode_kept(alloc, &mut encoder, &mut out);
+    let is_so = match ended {
+        Ok(()) => out.as_slice() == b"\x00\x00\x00\x03G\x01a\x00\x00\x00\x01F".as_slice(),
+        Err(EncodeError::Memory) => out.is_empty() || out.as_slice() == GET_A,
+        Err(_) => false,
+    };
+    holds_at(is_so, &(ended, out.as_slice()))
 }

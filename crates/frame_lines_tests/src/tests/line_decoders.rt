@@ -1,8 +1,8 @@
 //! Lines that come in pieces.
-use super::{holds_at, is_equal_at};
 use frame_lines::LineDecoder;
 use std::alloc::Global;
 use std::test::Fail;
+use test_kit::{holds_at, is_equal_at};
 
 /// The lines of a stream in pieces of this size, one after the other, each with a bar behind it; and then what is kept.
 fn lines_of(alloc: Global, stream: &[u8], size: usize) -> Result<Vec<u8>, Fail> {
@@ -24,24 +24,25 @@ fn lines_of(alloc: Global, stream: &[u8], size: usize) -> Result<Vec<u8>, Fail> 
     Ok(lines)
 }
 
+/// A stream and its lines, in pieces of any size.
+static LINES: [(&[u8], &[u8]); 6] = [
+    (b"", b""),
+    (b"\n", b"|"),
+    (b"get a\nget b\n", b"get a|get b|"),
+    (b"get a\n\n\nget b", b"get a|||get b"),
+    (
+        b"a longer line that has no end",
+        b"a longer line that has no end",
+    ),
+    (b"\xff\x00\nget a\r\n", b"\xff\x00|get a\r|"),
+];
+
 #[test]
 fn pieces_do_not_matter(rt: HostRuntime) -> Result<(), Fail> {
-    let alloc = rt.alloc();
-    let rows: [(&[u8], &[u8]); 6] = [
-        (b"", b""),
-        (b"\n", b"|"),
-        (b"get a\nget b\n", b"get a|get b|"),
-        (b"get a\n\n\nget b", b"get a|||get b"),
-        (
-            b"a longer line that has no end",
-            b"a longer line that has no end",
-        ),
-        (b"\xff\x00\nget a\r\n", b"\xff\x00|get a\r|"),
-    ];
-    for (stream, wanted) in rows {
+    for &(stream, wanted) in &LINES {
         for size in 1..8 {
-            let found = lines_of(alloc, stream, size)?;
-            is_equal_at(&rt, &found.as_slice(), &wanted, &(stream, size));
+            let found = lines_of(rt.alloc(), stream, size)?;
+            is_equal_at(&found.as_slice(), &wanted, &(stream, size))?;
         }
     }
     Ok(())
@@ -49,18 +50,15 @@ fn pieces_do_not_matter(rt: HostRuntime) -> Result<(), Fail> {
 
 #[test]
 fn a_long_line_is_searched_once(rt: HostRuntime) -> Result<(), Fail> {
-    let alloc = rt.alloc();
-    let mut decoder = LineDecoder::new(alloc)?;
-    for _ in 0..20_000 {
+    let mut decoder = LineDecoder::new(rt.alloc())?;
+    for count in 0..20_000 {
         decoder.feed(b"a piece without its end ")?;
-        holds_at(&rt, decoder.next_line().is_none(), &"no line feed");
+        holds_at(decoder.next_line().is_none(), &count)?;
     }
     decoder.feed(b"\n")?;
     is_equal_at(
-        &rt,
         &decoder.next_line(),
         &Some(480_000),
         &"20,000 pieces of 24 bytes",
-    );
-    Ok(())
+    )
 }

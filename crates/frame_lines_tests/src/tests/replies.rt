@@ -1,11 +1,11 @@
 //! Replies: lines, and the payloads that they are.
-use super::{holds_at, is_equal_at};
 use frame_lines::{Detail, PayloadError, ReplyForm, put_line_of, reply_of_line, reply_of_payload};
 use std::alloc::{AllocError, Global};
 use std::test::Fail;
+use test_kit::{holds_at, is_equal_at};
 
 /// Lines and their payloads, as docs/FORMATS.md has them.
-const PAYLOADS: [(&[u8], &[u8]); 27] = [
+static PAYLOADS: [(&[u8], &[u8]); 27] = [
     (b"stored", b"s"),
     (b"unchanged", b"u"),
     (b"removed", b"d"),
@@ -55,128 +55,121 @@ fn line_of(alloc: Global, form: &ReplyForm<'_>) -> Result<Option<Vec<u8>>, Alloc
 }
 
 #[test]
-fn payloads_become_lines(rt: HostRuntime) -> Result<(), Fail> {
-    let alloc = rt.alloc();
-    for (line, payload) in PAYLOADS {
+fn payloads_become_lines_and_lines_payloads(rt: HostRuntime) -> Result<(), Fail> {
+    for &(line, payload) in &PAYLOADS {
         let form = reply_of_payload(payload).ok_or("the payload is a reply")?;
-        let found = line_of(alloc, &form)?.ok_or("the reply has a line")?;
-        is_equal_at(&rt, &found.as_slice(), &line, &payload);
+        is_equal_at(&reply_of_line(line), &Some(form), &line)?;
+        let found = line_of(rt.alloc(), &form)?.ok_or("the reply has a line")?;
+        is_equal_at(&found.as_slice(), &line, &payload)?;
     }
     Ok(())
 }
 
-#[test]
-fn lines_are_read_as_their_payloads(rt: HostRuntime) {
-    for (line, payload) in PAYLOADS {
-        is_equal_at(&rt, &reply_of_line(line), &reply_of_payload(payload), &line);
-    }
-}
+static NOT_LINES: [&[u8]; 20] = [
+    b"",
+    b"stored ",
+    b"Stored",
+    b"appended",
+    b"appended 07",
+    b"appended none",
+    b"found",
+    b"all",
+    b"all -1",
+    b"bundle a",
+    b"version 3",
+    b"refused",
+    b"refused 2",
+    b"refused 30 1",
+    b"refused 31",
+    b"refused 3 4294967296",
+    b"refused 36 none 1",
+    b"moved 0 2",
+    b"held 4294967296 1",
+    b"set a {}",
+];
+
+static NOT_PAYLOADS: [&[u8]; 16] = [
+    b"",
+    b"s\x00",
+    b"p",
+    b"p\x02",
+    b"p\x01\x00\x00\x00\x07",
+    b"a\x00",
+    b"i",
+    b"i\x02a",
+    b"v\x03",
+    b"\x02",
+    b"\x03",
+    b"\x1e\x00",
+    b"\x1f",
+    b"\x24\x03",
+    b"\x29\x00\x00\x00\x00",
+    b"S\x01a{}",
+];
+
+/// Replies without a line.
+static FORMS: [ReplyForm<'static>; 7] = [
+    ReplyForm::Found(b"{\n}"),
+    ReplyForm::Bundle(b"a b", b"{}"),
+    ReplyForm::Bundle(b"a\n", b"{}"),
+    ReplyForm::Bundle(b"a", b"{}\n"),
+    ReplyForm::Refused(2, Detail::Nothing),
+    ReplyForm::Refused(30, Detail::Place(0)),
+    ReplyForm::Refused(31, Detail::Nothing),
+];
 
 #[test]
-fn lines_that_are_no_replies(rt: HostRuntime) {
-    let lines: [&[u8]; 20] = [
-        b"",
-        b"stored ",
-        b"Stored",
-        b"appended",
-        b"appended 07",
-        b"appended none",
-        b"found",
-        b"all",
-        b"all -1",
-        b"bundle a",
-        b"version 3",
-        b"refused",
-        b"refused 2",
-        b"refused 30 1",
-        b"refused 31",
-        b"refused 3 4294967296",
-        b"refused 36 none 1",
-        b"moved 0 2",
-        b"held 4294967296 1",
-        b"set a {}",
-    ];
-    for line in lines {
-        holds_at(&rt, reply_of_line(line).is_none(), &line);
+fn what_is_no_reply(_rt: HostRuntime) -> Result<(), Fail> {
+    for &line in &NOT_LINES {
+        holds_at(reply_of_line(line).is_none(), &line)?;
     }
+    for &payload in &NOT_PAYLOADS {
+        holds_at(reply_of_payload(payload).is_none(), &payload)?;
+    }
+    for form in &FORMS {
+        holds_at(form.line_head().is_none(), form)?;
+    }
+    Ok(())
 }
 
-#[test]
-fn payloads_that_are_no_replies(rt: HostRuntime) {
-    let payloads: [&[u8]; 16] = [
-        b"",
-        b"s\x00",
-        b"p",
-        b"p\x02",
-        b"p\x01\x00\x00\x00\x07",
-        b"a\x00",
-        b"i",
-        b"i\x02a",
-        b"v\x03",
-        b"\x02",
-        b"\x03",
-        b"\x1e\x00",
-        b"\x1f",
-        b"\x24\x03",
-        b"\x29\x00\x00\x00\x00",
-        b"S\x01a{}",
-    ];
-    for payload in payloads {
-        holds_at(&rt, reply_of_payload(payload).is_none(), &payload);
-    }
-}
-
-#[test]
-fn replies_without_a_line(rt: HostRuntime) {
-    let forms = [
-        ReplyForm::Found(b"{\n}"),
-        ReplyForm::Bundle(b"a b", b"{}"),
-        ReplyForm::Bundle(b"a\n", b"{}"),
-        ReplyForm::Bundle(b"a", b"{}\n"),
-        ReplyForm::Refused(2, Detail::Nothing),
-        ReplyForm::Refused(30, Detail::Place(0)),
-        ReplyForm::Refused(31, Detail::Nothing),
-    ];
-    for form in forms {
-        holds_at(&rt, form.line_head().is_none(), &form);
-    }
-}
+/// Requests and replies, and the line of each, if it has one.
+static BOTH: [(&[u8], Result<&[u8], PayloadError>); 10] = [
+    (b"G\x01a", Ok(b"get a\n")),
+    (b"f{}", Ok(b"found {}\n")),
+    (b"\x16", Ok(b"memory\n")),
+    (b"F", Ok(b"fetch\n")),
+    (b"V\x02", Ok(b"version 2\n")),
+    (b"v\x02", Ok(b"version 2\n")),
+    (b"", Err(PayloadError::NoLine)),
+    (b"X", Err(PayloadError::NoLine)),
+    (b"G\x03a b", Err(PayloadError::NoLine)),
+    (b"f{\n}", Err(PayloadError::NoLine)),
+];
 
 #[test]
 fn requests_and_replies_become_lines(rt: HostRuntime) -> Result<(), Fail> {
-    let alloc = rt.alloc();
-    let mut out = Vec::new(alloc);
-    for payload in [
-        b"G\x01a".as_slice(),
-        b"f{}",
-        b"\x16",
-        b"F",
-        b"V\x02",
-        b"v\x02",
-    ] {
+    let mut out = Vec::new(rt.alloc());
+    for &(payload, wanted) in &BOTH {
         let put = put_line_of(payload, &mut out);
-        holds_at(&rt, put == Ok(()), &payload);
+        let found = match put {
+            Ok(()) => Ok(out.as_slice()),
+            Err(error) => Err(error),
+        };
+        is_equal_at(&found, &wanted, &payload)?;
+        holds_at(put.is_ok() || out.is_empty(), &payload)?;
+        out.clear();
     }
-    let lines = b"get a\nfound {}\nmemory\nfetch\nversion 2\nversion 2\n".as_slice();
-    is_equal_at(&rt, &out.as_slice(), &lines, &"all lines");
-    for payload in [b"".as_slice(), b"X", b"G\x03a b", b"f{\n}"] {
-        let put = put_line_of(payload, &mut out);
-        holds_at(&rt, put == Err(PayloadError::NoLine), &payload);
-    }
-    is_equal_at(&rt, &out.as_slice(), &lines, &"nothing more");
     Ok(())
 }
 
 #[test]
 fn a_refused_growth_appends_nothing(rt: HostRuntime) -> Result<(), Fail> {
-    let alloc = rt.alloc();
-    let mut out = Vec::from_slice(alloc, b"before ")?;
+    let mut out = Vec::from_slice(rt.alloc(), b"before ")?;
     let put = put_line_of(b"f{\"keys\":[]}", &mut out);
     if put == Err(PayloadError::Memory) {
-        is_equal_at(&rt, &out.as_slice(), &b"before ".as_slice(), &put);
+        is_equal_at(&out.as_slice(), &b"before ".as_slice(), &put)?;
         put_line_of(b"f{\"keys\":[]}", &mut out)?;
     }
     let wanted = b"before found {\"keys\":[]}\n".as_slice();
-    is_equal_at(&rt, &out.as_slice(), &wanted, &put);
-    Ok(())
+    is_equal_at(&out.as_slice(), &wanted, &put)
 }

@@ -1,8 +1,8 @@
 //! Requests: lines, and the frames that they become.
-use super::{holds_at, is_equal_at};
 use frame_lines::{RequestForm, request_of_line, request_of_payload};
 use std::alloc::{AllocError, Global};
 use std::test::Fail;
+use test_kit::{holds_at, is_equal_at};
 
 /// The frame of a request. None if none carries it.
 fn frame_of(alloc: Global, form: &RequestForm<'_>) -> Result<Option<Vec<u8>>, AllocError> {
@@ -25,7 +25,7 @@ fn line_of(alloc: Global, form: &RequestForm<'_>) -> Result<Option<Vec<u8>>, All
 }
 
 /// Lines and their frames, as docs/FORMATS.md has them.
-const FRAMES: [(&[u8], &[u8]); 13] = [
+static FRAMES: [(&[u8], &[u8]); 13] = [
     (
         b"set a {\"keys\":[]}",
         b"\x00\x00\x00\x0eS\x01a{\"keys\":[]}",
@@ -54,145 +54,117 @@ const FRAMES: [(&[u8], &[u8]); 13] = [
 ];
 
 #[test]
-fn lines_become_frames(rt: HostRuntime) -> Result<(), Fail> {
-    let alloc = rt.alloc();
-    for (line, frame) in FRAMES {
+fn lines_become_frames_and_frames_lines(rt: HostRuntime) -> Result<(), Fail> {
+    for &(line, frame) in &FRAMES {
         let form = request_of_line(line).ok_or("the line is a request")?;
-        let found = frame_of(alloc, &form)?.ok_or("the request has a frame")?;
-        is_equal_at(&rt, &found.as_slice(), &frame, &line);
-    }
-    Ok(())
-}
-
-#[test]
-fn frames_become_lines(rt: HostRuntime) -> Result<(), Fail> {
-    let alloc = rt.alloc();
-    for (line, frame) in FRAMES {
+        let found = frame_of(rt.alloc(), &form)?.ok_or("the request has a frame")?;
+        is_equal_at(&found.as_slice(), &frame, &line)?;
         let (_, payload) = frame.split_at_checked(4).ok_or("a frame has a length")?;
         let form = request_of_payload(payload).ok_or("the payload is a request")?;
-        let found = line_of(alloc, &form)?.ok_or("the request has a line")?;
-        is_equal_at(&rt, &found.as_slice(), &line, &frame);
+        let found = line_of(rt.alloc(), &form)?.ok_or("the request has a line")?;
+        is_equal_at(&found.as_slice(), &line, &frame)?;
     }
     Ok(())
 }
 
-#[test]
-fn lines_that_are_no_requests(rt: HostRuntime) {
-    let lines: [&[u8]; 23] = [
-        b"",
-        b" ",
-        b"set",
-        b"set a",
-        b"setif a absent",
-        b"setif a 07 {}",
-        b"setif a +7 {}",
-        b"setif a -1 {}",
-        b"setif a  {}",
-        b"setif a 18446744073709551616 {}",
-        b"setif a Absent {}",
-        b"append a",
-        b"get",
-        b"get a b",
-        b"get a ",
-        b"remove a ",
-        b"fetch ",
-        b"fetch a",
-        b"version",
-        b"version 3",
-        b"version 01",
-        b"Get a",
-        b" get a",
-    ];
-    for line in lines {
-        holds_at(&rt, request_of_line(line).is_none(), &line);
-    }
-}
+static NOT_LINES: [&[u8]; 23] = [
+    b"",
+    b" ",
+    b"set",
+    b"set a",
+    b"setif a absent",
+    b"setif a 07 {}",
+    b"setif a +7 {}",
+    b"setif a -1 {}",
+    b"setif a  {}",
+    b"setif a 18446744073709551616 {}",
+    b"setif a Absent {}",
+    b"append a",
+    b"get",
+    b"get a b",
+    b"get a ",
+    b"remove a ",
+    b"fetch ",
+    b"fetch a",
+    b"version",
+    b"version 3",
+    b"version 01",
+    b"Get a",
+    b" get a",
+];
+
+static NOT_PAYLOADS: [&[u8]; 14] = [
+    b"",
+    b"G",
+    b"G\x02a",
+    b"G\x01ab",
+    b"S",
+    b"S\x01",
+    b"F\x00",
+    b"V",
+    b"V\x00",
+    b"V\x03",
+    b"V\x01\x01",
+    b"C\x01a",
+    b"C\x01a\x01\x00\x00\x00\x00\x00\x00\x07",
+    b"C\x01a\x03{}",
+];
+
+/// Requests without a line.
+static NO_LINES: [&[u8]; 8] = [
+    b"S\x01a@doc",
+    b"A\x01a@",
+    b"C\x01a\x02@{}",
+    b"G\x03a b",
+    b"G\x02a\n",
+    b"S\x01a{\n}",
+    b"A\x01a{}\n",
+    b"C\x01a\x00\n",
+];
 
 #[test]
-fn payloads_that_are_no_requests(rt: HostRuntime) {
-    let payloads: [&[u8]; 14] = [
-        b"",
-        b"G",
-        b"G\x02a",
-        b"G\x01ab",
-        b"S",
-        b"S\x01",
-        b"F\x00",
-        b"V",
-        b"V\x00",
-        b"V\x03",
-        b"V\x01\x01",
-        b"C\x01a",
-        b"C\x01a\x01\x00\x00\x00\x00\x00\x00\x07",
-        b"C\x01a\x03{}",
-    ];
-    for payload in payloads {
-        holds_at(&rt, request_of_payload(payload).is_none(), &payload);
+fn what_is_no_request(_rt: HostRuntime) -> Result<(), Fail> {
+    for &line in &NOT_LINES {
+        holds_at(request_of_line(line).is_none(), &line)?;
     }
-}
-
-#[test]
-fn requests_without_a_line(rt: HostRuntime) -> Result<(), Fail> {
-    let payloads: [&[u8]; 8] = [
-        b"S\x01a@doc",
-        b"A\x01a@",
-        b"C\x01a\x02@{}",
-        b"G\x03a b",
-        b"G\x02a\n",
-        b"S\x01a{\n}",
-        b"A\x01a{}\n",
-        b"C\x01a\x00\n",
-    ];
-    for payload in payloads {
+    for &payload in &NOT_PAYLOADS {
+        holds_at(request_of_payload(payload).is_none(), &payload)?;
+    }
+    for &payload in &NO_LINES {
         let form = request_of_payload(payload).ok_or("the payload is a request")?;
-        holds_at(&rt, form.line_head().is_none(), &payload);
+        holds_at(form.line_head().is_none(), &payload)?;
     }
     Ok(())
+}
+
+/// A `setif` of a name of so many bytes.
+fn set_if(alloc: Global, length: usize) -> Result<String, AllocError> {
+    let name = "a".repeat(alloc, length)?;
+    format!(in alloc; "setif {name} 18446744073709551615 {{}}")
 }
 
 #[test]
 fn the_longest_name(rt: HostRuntime) -> Result<(), Fail> {
-    let alloc = rt.alloc();
-    let mut line = Vec::from_slice(alloc, b"setif ")?;
-    for _ in 0..255 {
-        line.push(b'a')?;
-    }
-    line.extend_from_slice(b" 18446744073709551615 {}")?;
-    let form = request_of_line(line.as_slice()).ok_or("the line is a request")?;
-    let written = line_of(alloc, &form)?.ok_or("the request has a line")?;
-    is_equal_at(
-        &rt,
-        &written.as_slice(),
-        &line.as_slice(),
-        &"a name of 255 bytes",
-    );
-    let frame = frame_of(alloc, &form)?.ok_or("the request has a frame")?;
-    is_equal_at(
-        &rt,
-        &frame.len(),
-        &(4 + 2 + 255 + 9 + 2),
-        &"a name of 255 bytes",
-    );
-    line.insert(6, b'a').ok().ok_or("out of memory")?;
-    holds_at(
-        &rt,
-        request_of_line(line.as_slice()).is_none(),
-        &"a name of 256 bytes",
-    );
-    Ok(())
+    let line = set_if(rt.alloc(), 255)?;
+    let form = request_of_line(line.as_bytes()).ok_or("the line is a request")?;
+    let written = line_of(rt.alloc(), &form)?.ok_or("the request has a line")?;
+    is_equal_at(&written.as_slice(), &line.as_bytes(), &"255 bytes")?;
+    let frame = frame_of(rt.alloc(), &form)?.ok_or("the request has a frame")?;
+    is_equal_at(&frame.len(), &(4 + 2 + 255 + 9 + 2), &"255 bytes")?;
+    let line = set_if(rt.alloc(), 256)?;
+    holds_at(request_of_line(line.as_bytes()).is_none(), &"256 bytes")
 }
+
+/// How many spaces a document has, and whether a frame carries the request.
+static LONGEST: [(usize, bool); 2] = [(1_048_997, true), (1_048_998, false)];
 
 #[test]
 fn the_longest_payload(rt: HostRuntime) -> Result<(), Fail> {
-    let alloc = rt.alloc();
-    let mut line = Vec::from_slice(alloc, b"set a ")?;
-    for _ in 0..1_048_997 {
-        line.push(b' ')?;
+    for &(spaces, has_frame) in &LONGEST {
+        let document = " ".repeat(rt.alloc(), spaces)?;
+        let line = format!(in rt.alloc(); "set a {document}")?;
+        let form = request_of_line(line.as_bytes()).ok_or("the line is a request")?;
+        is_equal_at(&form.frame_head().is_some(), &has_frame, &spaces)?;
     }
-    let form = request_of_line(line.as_slice()).ok_or("the line is a request")?;
-    holds_at(&rt, form.frame_head().is_some(), &"1,049,000 bytes");
-    line.push(b' ')?;
-    let form = request_of_line(line.as_slice()).ok_or("the line is a request")?;
-    holds_at(&rt, form.frame_head().is_none(), &"1,049,001 bytes");
     Ok(())
 }
