@@ -8,33 +8,38 @@ mod growths;
 mod imports;
 
 use bundle_map::Profile;
-use dump_commands::{check_over, digest_over, import_over, map_over, pem_over};
+use dump_commands::{check_over, diff_over, digest_over, import_over, map_over, pem_over};
 use frame_front::Counted;
 use frame_lines::{TextError, TextSource};
 use spiffe_doc::TrustDomain;
 use std::alloc::Global;
-use std::fmt::Debug;
-use std::io;
-use std::io::{Read, Write};
-use std::process::Abort;
 use std::test::Fail;
-
-/// It is so in this case.
-fn holds_at<C: Debug>(rt: &impl Abort, is_so: bool, case: &C) {
-    assert!(rt; is_so, "{case:?}");
-}
+use test_kit::ends::{Left, Sink, Source};
 
 /// A command, with what its command line names.
-#[derive(Clone, Copy, Debug)]
-enum Command<'a> {
-    Map(&'a [&'a str], Profile),
+#[derive(Clone, Copy)]
+enum Command {
+    Map(&'static [&'static str], Profile),
     Import,
-    Pem(&'a str),
+    Pem(&'static str),
     Digest,
-    Check(&'a [&'a str]),
+    Check(&'static [&'static str]),
+    /// To this dump, or to one that cannot be read.
+    Diff(Option<&'static [u8]>),
 }
 
-/// The texts of some files. Two others have none.
+/// A command, its input, and what it leaves: its output, its fault line and its status.
+type Row = (Command, &'static [u8], &'static [u8], &'static str, u8);
+
+/// Files and their texts.
+static FILES: [(&[u8], &[u8]); 4] = [
+    (b"whole.json", examples::WHOLE),
+    (b"part.json", examples::PART),
+    (b"twice.json", examples::TWICE),
+    (b"array.json", b"[]"),
+];
+
+/// The texts of these files. For that of `huge.json` there is no memory, and others cannot be read.
 #[derive(Drop)]
 struct Texts;
 
@@ -42,38 +47,43 @@ impl TextSource for Texts {
     ghost gives = { λ texts name text. Unit {0} };
 
     fn text(&self, alloc: Global, name: &[u8]) -> Result<Vec<u8>, TextError> {
-        let text = match name {
-            b"whole.json" => examples::WHOLE,
-            b"part.json" => examples::PART,
-            b"twice.json" => examples::TWICE,
-            b"array.json" => "[]",
-            b"huge.json" => return Err(TextError::Memory),
-            _ => return Err(TextError::Unreadable),
-        };
-        match Vec::from_slice(alloc, text.as_bytes()) {
-            Ok(text) => Ok(text),
-            Err(_) => Err(TextError::Memory),
+        for &(file, text) in &FILES {
+            if file == name {
+                return match Vec::from_slice(alloc, text) {
+                    Ok(text) => Ok(text),
+                    Err(_) => Err(TextError::Memory),
+                };
+            }
         }
+        if name == b"huge.json".as_slice() {
+            return Err(TextError::Memory);
+        }
+        Err(TextError::Unreadable)
     }
 }
 
-/// A command over these ends: its status, and what its writers are then.
-fn program<R: Read + Drop, W: Write + Drop, E: Write + Drop>(
+fn domains_of(alloc: Global, names: &[&str]) -> Result<Vec<TrustDomain>, Fail> {
+    let mut domains = Vec::new(alloc);
+    for name in names {
+        domains.push(TrustDomain::parse(alloc, name)?)?;
+    }
+    Ok(domains)
+}
+
+/// What a command leaves of these ends.
+fn left_by(
     alloc: Global,
-    command: Command<'_>,
-    reader: R,
-    out: W,
-    err: E,
-) -> Result<(u8, W, E), Fail> {
+    command: Command,
+    reader: Source<'_>,
+    out: Sink,
+    err: Sink,
+) -> Result<Left, Fail> {
     let mut reader = Counted::new(reader);
     let mut out = Counted::new(out);
     let mut err = Counted::new(err);
     let status = match command {
         Command::Map(names, profile) => {
-            let mut domains = Vec::new(alloc);
-            for name in names {
-                domains.push(TrustDomain::parse(alloc, name)?)?;
-            }
+            let domains = domains_of(alloc, names)?;
             map_over(
                 alloc,
                 domains.as_slice(),
@@ -92,58 +102,51 @@ fn program<R: Read + Drop, W: Write + Drop, E: Write + Drop>(
         Command::Check(files) => {
             check_over(alloc, &Texts, files, &mut reader, &mut out, &mut err)
         }
+        Command::Diff(new) => {
+            let new = match new {
+                Some(new) => Source::new(new),
+                None => Source::broken(b"", 0),
+            };
+            let mut new = Counted::new(new);
+            diff_over(alloc, &mut reader, &mut new, &mut out, &mut err)
+        }
     };
-    Ok((status, out.end, err.end))
-}
-
-/// What a command leaves: its output, its fault line and its status.
-#[derive(Debug, Drop)]
-struct Left {
-    output: Vec<u8>,
-    faults: Vec<u8>,
-    status: u8,
-}
-
-fn left_by<R: Read + Drop>(alloc: Global, command: Command<'_>, reader: R) -> Result<Left, Fail> {
-    let (status, output, faults) = program(
-        alloc,
-        command,
-        reader,
-        Vec::new(alloc),
-        Vec::new(alloc),
-    )?;
     Ok(Left {
-        output,
-        faults,
+        output: out.end.into_taken(),
+        faults: err.end.into_taken(),
         status,
     })
 }
 
-fn left_is(rt: &impl Abort, left: &Left, output: &[u8], faults: &str, status: u8) {
-    holds_at(
-        rt,
-        left.output.as_slice() == output,
-        &left.output.as_slice(),
-    );
-    holds_at(
-        rt,
-        left.faults.as_slice() == faults.as_bytes(),
-        &left.faults.as_slice(),
-    );
-    holds_at(rt, left.status == status, &left.status);
+/// Fails unless the command leaves this of what the reader gives. The case is told then.
+fn leaves(
+    alloc: Global,
+    command: Command,
+    reader: Source<'_>,
+    row: (&[u8], &[u8], &str, u8),
+) -> Result<(), Fail> {
+    let (case, output, faults, status) = row;
+    let left = left_by(alloc, command, reader, Sink::new(alloc), Sink::new(alloc))?;
+    left.is(case, output, faults, status)
 }
 
-/// A reader that never ends, and gives so many bytes at each read.
-#[derive(Drop)]
-struct Endless {
-    size: usize,
-}
-
-impl Read for Endless {
-    fn read(&mut self, buf: &mut [u8]) -> io::Result<usize> {
-        let size = self.size.min(buf.len());
-        let (front, _) = buf.split_at_mut(size);
-        front.fill(b'a');
-        Ok(size)
+#[test]
+fn commands_answer(rt: HostRuntime) -> Result<(), Fail> {
+    for rows in [
+        checks::ROWS.as_slice(),
+        imports::ROWS.as_slice(),
+        changes::ROWS.as_slice(),
+    ] {
+        for &(command, input, output, faults, status) in rows {
+            let row = (input, output, faults, status);
+            leaves(rt.alloc(), command, Source::new(input), row)?;
+        }
     }
+    for &(dump, rows) in &dumps::DUMPS {
+        for &(command, output, faults, status) in rows {
+            let row = (dump, output, faults, status);
+            leaves(rt.alloc(), command, Source::new(dump), row)?;
+        }
+    }
+    Ok(())
 }
