@@ -209,16 +209,19 @@ static ENTRIES: [(Parts, Outcome); 47] = [
     ),
 ];
 
+/// How many authorities were read: one or none.
+fn count_of(read: Option<Authority>) -> usize {
+    let count = usize::from(read.is_some());
+    drop(read);
+    count
+}
+
 /// How many authorities an entry gives by itself, or why it is refused.
 fn outcome(alloc: Global, entry: &str) -> Outcome {
-    let read = read_entry(alloc, entry.as_bytes());
-    let outcome = match &read {
-        Ok(Some(_)) => Ok(1),
-        Ok(None) => Ok(0),
-        Err(refusal) => Err(*refusal),
-    };
-    drop(read);
-    outcome
+    match read_entry(alloc, entry.as_bytes()) {
+        Ok(read) => Ok(count_of(read)),
+        Err(refusal) => Err(refusal),
+    }
 }
 
 #[test]

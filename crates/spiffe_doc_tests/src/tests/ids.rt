@@ -1,4 +1,4 @@
-use super::{Parts, holds_at, is_equal_at, text_of};
+use super::{Parts, is_equal_at, text_of};
 use spiffe_doc::{IdError, NameError, SpiffeId, TrustDomain};
 use std::alloc::{AllocError, Global};
 use std::process::Abort;
@@ -57,10 +57,13 @@ static IN_ORDER: [(&str, &str); 12] = [
 /// The one name is below the other, of which a copy is made.
 fn is_below(rt: &impl Abort, lower: &TrustDomain, higher: &TrustDomain) -> Result<(), AllocError> {
     let copy: TrustDomain = higher.copy()?;
-    holds_at(rt, lower < higher, &higher.as_str());
-    holds_at(rt, higher > lower, &higher.as_str());
-    holds_at(rt, lower != higher, &higher.as_str());
-    holds_at(rt, copy == *higher, &higher.as_str());
+    let orders = (
+        lower < higher,
+        higher > lower,
+        lower != higher,
+        copy == *higher,
+    );
+    is_equal_at(rt, &orders, &(true, true, true, true), &higher.as_str());
     is_equal_at(rt, &copy.as_str(), &higher.as_str(), &"a copy");
     Ok(())
 }

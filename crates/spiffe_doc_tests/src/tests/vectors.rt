@@ -1,5 +1,5 @@
 //! Real bundles, with certificates and keys, and small ones, and their canonical texts as another program made them.
-use super::{bundle, holds_at, is_equal_at};
+use super::{bundle, is_equal_at};
 use spiffe_doc::{Bundle, DocError, read_document, write_document, write_entry};
 use std::alloc::{AllocError, Global};
 use std::process::Abort;
@@ -157,7 +157,11 @@ fn front_of(alloc: Global, bundle: &Bundle) -> Result<Vec<u8>, AllocError> {
 /// The bundle is as the row says, and its canonical text reads back as it.
 fn is_read(rt: &impl Abort, alloc: Global, read: &Bundle, row: &Row<'_>) -> Result<(), DocError> {
     let &(document, text, sequence, refresh_hint, count) = row;
-    is_equal_at(rt, &read.text(), &text.as_bytes(), &document);
+    let written = write_document(alloc, read)?;
+    let front = front_of(alloc, read)?;
+    let is_again = read_document(alloc, &written)? == *read;
+    let texts = (read.text(), written.as_slice());
+    is_equal_at(rt, &texts, &(text.as_bytes(), text.as_bytes()), &document);
     is_equal_at(
         rt,
         &(
@@ -169,12 +173,8 @@ fn is_read(rt: &impl Abort, alloc: Global, read: &Bundle, row: &Row<'_>) -> Resu
         &(sequence, refresh_hint, count, text.len()),
         &document,
     );
-    let written = write_document(alloc, read)?;
-    is_equal_at(rt, &written.as_slice(), &text.as_bytes(), &document);
-    let front = front_of(alloc, read)?;
-    holds_at(rt, text.as_bytes().starts_with(&front), &document);
-    let again = read_document(alloc, &written)?;
-    holds_at(rt, again == *read, &document);
+    let is_so = (is_again, text.as_bytes().starts_with(&front));
+    is_equal_at(rt, &is_so, &(true, true), &document);
     Ok(())
 }
 
