@@ -1,10 +1,10 @@
 //! Lines, and the events that they are.
-use super::is_equal_at;
 use map_core::{Expect, Op};
 use spiffe_doc::{Authority, Bundle, TrustDomain};
 use std::alloc::{AllocError, Global};
 use std::test::Fail;
 use step_core::{Event, Why};
+use test_kit::is_equal_at;
 use trace_lines::{LinesError, read_events};
 
 fn bundle_words(alloc: Global, bundle: &Bundle) -> Result<String, AllocError> {
@@ -56,7 +56,7 @@ fn event_words(alloc: Global, event: &Event) -> Result<String, AllocError> {
 }
 
 /// Lines, each the only one of its input, and what happens.
-const LINES: [(&str, &str); 17] = [
+static LINES: [(&str, &str); 17] = [
     ("begin 1 set a {\"keys\":[]}", "1 sets a to 0 authorities"),
     (
         "begin 4294967295 set a.example {\"keys\":[],\"spiffe_sequence\":7}\n",
@@ -103,19 +103,20 @@ const LINES: [(&str, &str); 17] = [
 #[test]
 fn a_line_is_an_event(rt: HostRuntime) -> Result<(), Fail> {
     let alloc = rt.alloc();
-    for (line, wanted) in LINES {
+    for &(line, wanted) in &LINES {
         let events = read_events(alloc, line.as_bytes())?;
-        is_equal_at(&rt, &events.len(), &1, &line);
-        for event in &events {
-            let words = event_words(alloc, event)?;
-            is_equal_at(&rt, &words.as_str(), &wanted, &line);
-        }
+        let words = match events.as_slice() {
+            [event] => event_words(alloc, event)?,
+            _ => return Err(Fail::from(line)),
+        };
+        drop(events);
+        is_equal_at(&words.as_str(), &wanted, &line)?;
     }
     Ok(())
 }
 
 /// Inputs, and how many events they have or the number of their first line that is not an event.
-const INPUTS: [(&[u8], Result<usize, LinesError>); 42] = [
+static INPUTS: [(&[u8], Result<usize, LinesError>); 42] = [
     (b"", Ok(0)),
     (b"step 1", Ok(1)),
     (b"step 1\n", Ok(1)),
@@ -174,24 +175,21 @@ const INPUTS: [(&[u8], Result<usize, LinesError>); 42] = [
 
 #[test]
 fn the_first_line_that_is_no_event_is_told(rt: HostRuntime) -> Result<(), Fail> {
-    let alloc = rt.alloc();
-    for (input, wanted) in INPUTS {
-        let found = match read_events(alloc, input) {
+    for &(input, wanted) in &INPUTS {
+        let found = match read_events(rt.alloc(), input) {
             Ok(events) => Ok(events.len()),
             Err(error) => Err(error),
         };
-        is_equal_at(&rt, &found, &wanted, &input);
+        is_equal_at(&found, &wanted, &input)?;
     }
     Ok(())
 }
 
 #[test]
 fn a_refused_growth_gives_no_events(rt: HostRuntime) -> Result<(), Fail> {
-    let alloc = rt.alloc();
     let input = b"begin 1 set a-name-of-over-24-bytes.example {\"keys\":[]}\nstep 1\nend 1\n";
-    match read_events(alloc, input.as_slice()) {
-        Ok(events) => is_equal_at(&rt, &events.len(), &3, &"all lines"),
-        Err(error) => is_equal_at(&rt, &error, &LinesError::Memory, &"a refused growth"),
+    match read_events(rt.alloc(), input.as_slice()) {
+        Ok(events) => is_equal_at(&events.len(), &3, &"all lines"),
+        Err(error) => is_equal_at(&error, &LinesError::Memory, &"a refused growth"),
     }
-    Ok(())
 }

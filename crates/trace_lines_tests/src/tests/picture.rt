@@ -1,14 +1,13 @@
 //! Runs, and their pictures drawn by hand.
-use super::is_equal_at;
-use super::printed::{RACE, RACE_TRACE, trace_of};
+use super::printed::{RACE, RACE_TRACE, race, trace_of};
 use frame_front::{Counted, FaultyWriter, FrontError};
 use std::alloc::Global;
-use std::process::Abort;
 use std::test::Fail;
 use step_core::{Trace, run_events};
+use test_kit::is_equal_at;
 use trace_lines::{put_picture, read_events};
 
-const LEGEND: &[u8] = b"\
+static LEGEND: &[u8] = b"\
 A row for each caller, a column for each event, counted from 0.
 [ an operation begins   ] it ends   - it is open   . no operation is open
 order: each operation at a moment when it can take effect, by the last digit of
@@ -40,51 +39,57 @@ fn page(alloc: Global, picture: &[u8], text: &[u8]) -> Result<Vec<u8>, Fail> {
     Ok(page)
 }
 
-fn is_drawn(
-    rt: &impl Abort,
-    alloc: Global,
-    lines: &[u8],
-    shards: usize,
-    picture: &[u8],
-    text: &[u8],
-) -> Result<(), Fail> {
-    let events = read_events(alloc, lines)?;
-    let trace = run_events(alloc, shards.max(1), 2, events.as_slice())?;
-    let out = drawn(alloc, events.len(), &trace)?;
-    let page = page(alloc, picture, text)?;
-    is_equal_at(rt, &out.as_slice(), &page.as_slice(), &shards);
-    Ok(())
-}
-
-#[test]
-fn a_race_is_drawn(rt: HostRuntime) -> Result<(), Fail> {
-    is_drawn(&rt, rt.alloc(), RACE, 2, RACE_PICTURE, RACE_TRACE)
-}
-
-#[test]
-fn nothing_is_drawn_of_no_events(rt: HostRuntime) -> Result<(), Fail> {
-    is_drawn(&rt, rt.alloc(), b"", 1, b"", b"order\n")
-}
-
-// The get is given up, and the set is under way and has written.
-#[test]
-fn what_does_not_end_is_drawn(rt: HostRuntime) -> Result<(), Fail> {
-    let lines =
-        b"step 7\nbegin 4294967295 get a\nquit 4294967295 memory\nbegin 7 set a {\"keys\":[]}\nstep 7\nend 9\n";
-    let picture = b"\
+/// Lines, how many shards there are, the picture, and the text below it.
+static DRAWN: [(&[u8], usize, &[u8], &[u8]); 3] = [
+    (RACE, 2, RACE_PICTURE, RACE_TRACE),
+    (b"", 1, b"", b"order\n"),
+    // The get is given up, and the set is under way and has written.
+    (
+        b"step 7\nbegin 4294967295 get a\nquit 4294967295 memory\nbegin 7 set a {\"keys\":[]}\nstep 7\nend 9\n",
+        1,
+        b"\
 event             0
 caller 4294967295 .[]...
 caller 7          ...[--
 order             ...1..
 
-";
-    let text = b"\
+",
+        b"\
 record 0 caller 4294967295 first 1 last 2 reply memory
 record 1 caller 7 first 3 last - reply -
 order 1
-";
-    is_drawn(&rt, rt.alloc(), lines, 1, picture, text)
+",
+    ),
+];
+
+/// The picture of the run of these lines, over so many shards and two rounds.
+fn drawn_run(alloc: Global, lines: &[u8], shards: usize) -> Result<Vec<u8>, Fail> {
+    let events = read_events(alloc, lines)?;
+    let trace = run_events(alloc, shards.max(1), 2, events.as_slice())?;
+    drawn(alloc, events.len(), &trace)
 }
+
+#[test]
+fn runs_are_drawn(rt: HostRuntime) -> Result<(), Fail> {
+    let alloc = rt.alloc();
+    for &(lines, shards, picture, text) in &DRAWN {
+        let out = drawn_run(alloc, lines, shards)?;
+        let page = page(alloc, picture, text)?;
+        is_equal_at(&out.as_slice(), &page.as_slice(), &lines)?;
+    }
+    Ok(())
+}
+
+static BANDS: &[u8] = b"\
+event             0        10        20        30        40        50
+caller 12         ...........................................................[
+order             ............................................................
+
+event            60        70
+caller 12         ]..........
+order             ...........
+
+";
 
 // An operation from the last column of a band to the first of the next.
 #[test]
@@ -95,35 +100,31 @@ fn a_long_run_has_bands(rt: HostRuntime) -> Result<(), Fail> {
         entry.caller = 12;
         entry.first = 59;
     }
-    let out = drawn(alloc, 71, &trace)?;
-    let picture = b"\
-event             0        10        20        30        40        50
-caller 12         ...........................................................[
-order             ............................................................
-
-event            60        70
-caller 12         ]..........
-order             ...........
-
-";
+    let out = drawn(alloc, 71, &trace);
+    drop(trace);
+    let out = out?;
     let text = b"record 0 caller 12 first 59 last 60 reply -\norder\n";
-    let page = page(alloc, picture, text)?;
-    is_equal_at(&rt, &out.as_slice(), &page.as_slice(), &"71 events");
+    let page = page(alloc, BANDS, text)?;
+    is_equal_at(&out.as_slice(), &page.as_slice(), &"71 events")
+}
+
+/// A writer that fails has a front of the page.
+fn draws_fronts(alloc: Global, trace: &Trace, page: &[u8]) -> Result<(), Fail> {
+    for room in 0..page.len() {
+        let mut out = Counted::new(FaultyWriter::new(alloc, room));
+        let ended = put_picture(&mut out, 15, trace);
+        let (front, _) = page.split_at(room);
+        is_equal_at(&ended, &Err(FrontError::WriteFault), &room)?;
+        is_equal_at(&out.end.taken.as_slice(), &front, &room)?;
+    }
     Ok(())
 }
 
 #[test]
 fn a_writer_that_fails_has_a_front_of_a_picture(rt: HostRuntime) -> Result<(), Fail> {
-    let alloc = rt.alloc();
-    let events = read_events(alloc, RACE)?;
-    let trace = run_events(alloc, 2, 2, events.as_slice())?;
-    let page = page(alloc, RACE_PICTURE, RACE_TRACE)?;
-    for room in 0..page.len() {
-        let mut out = Counted::new(FaultyWriter::new(alloc, room));
-        let ended = put_picture(&mut out, 15, &trace);
-        is_equal_at(&rt, &ended, &Err(FrontError::WriteFault), &room);
-        let (front, _) = page.as_slice().split_at(room);
-        is_equal_at(&rt, &out.end.taken.as_slice(), &front, &room);
-    }
-    Ok(())
+    let page = page(rt.alloc(), RACE_PICTURE, RACE_TRACE)?;
+    let trace = race(rt.alloc())?;
+    let is_so = draws_fronts(rt.alloc(), &trace, page.as_slice());
+    drop(trace);
+    is_so
 }

@@ -1,17 +1,53 @@
 //! Runs, and what is printed of them.
-use super::is_equal_at;
 use frame_front::{Counted, FaultyWriter, FrontError};
 use map_core::{AskError, Expect, MapRefusal, Op, Reply, Snapshot};
 use spiffe_doc::{TrustDomain, read_document};
 use std::alloc::Global;
-use std::process::Abort;
 use std::test::Fail;
 use step_core::{OpRecord, Trace, run_events};
+use test_kit::is_equal_at;
 use trace_lines::{put_trace, read_events};
 
-const DOCUMENT: &[u8] = b"{\"spiffe_sequence\": 3, \"keys\": []}";
+/// What an operation was answered: nothing yet, a reply that takes no memory, a bundle by its document, all of these
+/// domains with theirs, or an error.
+#[derive(Clone, Copy)]
+enum Answer<'a> {
+    Nothing,
+    Stored,
+    Unchanged,
+    Removed,
+    Appended(Option<u64>),
+    Found(&'a [u8]),
+    All(&'a [(&'a str, &'a [u8])]),
+    Refused(MapRefusal),
+    Failed(AskError),
+}
 
-/// A trace of one operation, with this reply.
+fn snapshot(alloc: Global, documents: &[(&str, &[u8])]) -> Result<Snapshot, Fail> {
+    let mut pairs = Vec::new(alloc);
+    for &(name, document) in documents {
+        let domain = TrustDomain::parse(alloc, name)?;
+        pairs.push((domain, read_document(alloc, document)?))?;
+    }
+    Ok(Snapshot::from_pairs(alloc, pairs)?)
+}
+
+fn reply(alloc: Global, answer: Answer) -> Result<Option<Result<Reply, AskError>>, Fail> {
+    let reply = match answer {
+        Answer::Nothing => return Ok(None),
+        Answer::Failed(error) => return Ok(Some(Err(error))),
+        Answer::Stored => Reply::Stored,
+        Answer::Unchanged => Reply::Unchanged,
+        Answer::Removed => Reply::Removed,
+        Answer::Appended(sequence) => Reply::Appended(sequence),
+        Answer::Refused(why) => Reply::Refused(why),
+        Answer::Found(document) => Reply::Found(read_document(alloc, document)?),
+        Answer::All(documents) => Reply::All(snapshot(alloc, documents)?),
+    };
+    Ok(Some(Ok(reply)))
+}
+
+/// A trace of one operation of caller 4,294,967,295, with this reply and no order.
 pub(super) fn trace_of(
     alloc: Global,
     last: Option<u64>,
@@ -32,20 +68,6 @@ pub(super) fn trace_of(
     })
 }
 
-/// A reply with two bundles.
-fn all_of_two(alloc: Global) -> Result<Reply, Fail> {
-    let mut pairs = Vec::new(alloc);
-    pairs.push((
-        TrustDomain::parse(alloc, "a")?,
-        read_document(alloc, b"{\"keys\":[]}")?,
-    ))?;
-    pairs.push((
-        TrustDomain::parse(alloc, "b.example")?,
-        read_document(alloc, DOCUMENT)?,
-    ))?;
-    Ok(Reply::All(Snapshot::from_pairs(alloc, pairs)?))
-}
-
 /// The output of a trace.
 fn printed(alloc: Global, trace: &Trace) -> Result<Vec<u8>, Fail> {
     let mut out = Counted::new(Vec::new(alloc));
@@ -53,115 +75,113 @@ fn printed(alloc: Global, trace: &Trace) -> Result<Vec<u8>, Fail> {
     Ok(out.end)
 }
 
-fn is_told(
-    rt: &impl Abort,
-    alloc: Global,
-    reply: Option<Result<Reply, AskError>>,
-    wanted: &str,
-) -> Result<(), Fail> {
-    let trace = trace_of(alloc, Some(18446744073709551615), reply)?;
+const DOCUMENT: &[u8] = b"{\"spiffe_sequence\": 3, \"keys\": []}";
+
+/// What an operation was answered, and what is printed of it.
+static ANSWERS: [(Answer, &str); 23] = [
+    (Answer::Nothing, "-"),
+    (Answer::Stored, "stored"),
+    (Answer::Unchanged, "unchanged"),
+    (Answer::Removed, "removed"),
+    (Answer::Appended(None), "appended -"),
+    (
+        Answer::Appended(Some(18446744073709551615)),
+        "appended 18446744073709551615",
+    ),
+    (
+        Answer::Found(DOCUMENT),
+        "found {\"keys\":[],\"spiffe_sequence\":3}",
+    ),
+    (Answer::All(&[]), "all 0"),
+    (
+        Answer::All(&[("a", b"{\"keys\":[]}"), ("b.example", DOCUMENT)]),
+        "all 2 a {\"keys\":[]} b.example {\"keys\":[],\"spiffe_sequence\":3}",
+    ),
+    (Answer::Refused(MapRefusal::NoDomain), "refused 30"),
+    (Answer::Refused(MapRefusal::Stale(7)), "refused 31 7"),
+    (Answer::Refused(MapRefusal::KidTaken), "refused 32"),
+    (Answer::Refused(MapRefusal::TooMany), "refused 33"),
+    (Answer::Refused(MapRefusal::TooLong), "refused 34"),
+    (Answer::Refused(MapRefusal::SequenceFull), "refused 35"),
+    (
+        Answer::Refused(MapRefusal::NotExpected(Expect::Absent)),
+        "refused 36 absent",
+    ),
+    (
+        Answer::Refused(MapRefusal::NotExpected(Expect::Unnumbered)),
+        "refused 36 none",
+    ),
+    (
+        Answer::Refused(MapRefusal::NotExpected(Expect::Sequence(0))),
+        "refused 36 0",
+    ),
+    (Answer::Failed(AskError::Memory), "memory"),
+    (Answer::Failed(AskError::Worn { shard: 255 }), "worn 255"),
+    (
+        Answer::Failed(AskError::Moved {
+            shard: 1,
+            first: 2,
+            second: 18446744073709551615,
+        }),
+        "moved 1 2 18446744073709551615",
+    ),
+    (
+        Answer::Failed(AskError::Held {
+            shard: 0,
+            revision: 9,
+        }),
+        "held 0 9",
+    ),
+    (Answer::Failed(AskError::GateShut), "shut"),
+];
+
+fn is_printed(alloc: Global, answer: Answer, wanted: &str) -> Result<(), Fail> {
+    let trace = trace_of(alloc, Some(18446744073709551615), reply(alloc, answer)?)?;
+    let out = printed(alloc, &trace)?;
+    drop(trace);
     let line = format!(in alloc;
         "record 0 caller 4294967295 first 0 last 18446744073709551615 reply {wanted}\norder\n"
     )?;
-    let out = printed(alloc, &trace)?;
-    is_equal_at(rt, &out.as_slice(), &line.as_bytes(), &wanted);
-    Ok(())
+    is_equal_at(&out.as_slice(), &line.as_bytes(), &wanted)
 }
 
 #[test]
-fn replies_are_told(rt: HostRuntime) -> Result<(), Fail> {
-    let alloc = rt.alloc();
-    let found = Reply::Found(read_document(alloc, DOCUMENT)?);
-    is_told(&rt, alloc, None, "-")?;
-    is_told(&rt, alloc, Some(Ok(Reply::Stored)), "stored")?;
-    is_told(&rt, alloc, Some(Ok(Reply::Unchanged)), "unchanged")?;
-    is_told(&rt, alloc, Some(Ok(Reply::Removed)), "removed")?;
-    is_told(&rt, alloc, Some(Ok(Reply::Appended(None))), "appended -")?;
-    is_told(
-        &rt,
-        alloc,
-        Some(Ok(Reply::Appended(Some(18446744073709551615)))),
-        "appended 18446744073709551615",
-    )?;
-    is_told(
-        &rt,
-        alloc,
-        Some(Ok(found)),
-        "found {\"keys\":[],\"spiffe_sequence\":3}",
-    )?;
-    is_told(
-        &rt,
-        alloc,
-        Some(Ok(Reply::All(Snapshot::from_pairs(alloc, Vec::new(alloc))?))),
-        "all 0",
-    )?;
-    is_told(
-        &rt,
-        alloc,
-        Some(Ok(all_of_two(alloc)?)),
-        "all 2 a {\"keys\":[]} b.example {\"keys\":[],\"spiffe_sequence\":3}",
-    )
-}
-
-#[test]
-fn refusals_and_errors_are_told(rt: HostRuntime) -> Result<(), Fail> {
-    let alloc = rt.alloc();
-    let refusals = [
-        (MapRefusal::NoDomain, "refused 30"),
-        (MapRefusal::Stale(7), "refused 31 7"),
-        (MapRefusal::KidTaken, "refused 32"),
-        (MapRefusal::TooMany, "refused 33"),
-        (MapRefusal::TooLong, "refused 34"),
-        (MapRefusal::SequenceFull, "refused 35"),
-        (MapRefusal::NotExpected(Expect::Absent), "refused 36 absent"),
-        (
-            MapRefusal::NotExpected(Expect::Unnumbered),
-            "refused 36 none",
-        ),
-        (MapRefusal::NotExpected(Expect::Sequence(0)), "refused 36 0"),
-    ];
-    for (refusal, wanted) in refusals {
-        is_told(&rt, alloc, Some(Ok(Reply::Refused(refusal))), wanted)?;
-    }
-    let errors = [
-        (AskError::Memory, "memory"),
-        (AskError::Worn { shard: 255 }, "worn 255"),
-        (
-            AskError::Moved {
-                shard: 1,
-                first: 2,
-                second: 18446744073709551615,
-            },
-            "moved 1 2 18446744073709551615",
-        ),
-        (
-            AskError::Held {
-                shard: 0,
-                revision: 9,
-            },
-            "held 0 9",
-        ),
-        (AskError::GateShut, "shut"),
-    ];
-    for (error, wanted) in errors {
-        is_told(&rt, alloc, Some(Err(error)), wanted)?;
+fn answers_are_printed(rt: HostRuntime) -> Result<(), Fail> {
+    for &(answer, wanted) in &ANSWERS {
+        is_printed(rt.alloc(), answer, wanted)?;
     }
     Ok(())
+}
+
+/// Numbers in the order, how many times they stand there, and what is printed of them once.
+static ORDERS: [(&[usize], usize, &str); 3] = [
+    (&[], 1, ""),
+    (&[0, 12], 1, " 0 12"),
+    (&[18446744073709551615], 5000, " 18446744073709551615"),
+];
+
+/// What is printed of an operation that has not ended, with the numbers in the order so many times.
+fn printed_order(alloc: Global, numbers: &[usize], times: usize) -> Result<Vec<u8>, Fail> {
+    let mut trace = trace_of(alloc, None, None)?;
+    for _ in 0..times {
+        trace.order.extend_from_slice(numbers)?;
+    }
+    let out = printed(alloc, &trace);
+    drop(trace);
+    out
 }
 
 #[test]
 fn what_has_not_ended_has_a_dash(rt: HostRuntime) -> Result<(), Fail> {
     let alloc = rt.alloc();
-    let mut trace = trace_of(alloc, None, None)?;
-    trace.order.push(0)?;
-    trace.order.push(12)?;
-    let out = printed(alloc, &trace)?;
-    is_equal_at(
-        &rt,
-        &out.as_slice(),
-        &b"record 0 caller 4294967295 first 0 last - reply -\norder 0 12\n".as_slice(),
-        &"an operation under way",
-    );
+    for &(numbers, times, text) in &ORDERS {
+        let out = printed_order(alloc, numbers, times)?;
+        let order = text.repeat(alloc, times)?;
+        let wanted = format!(in alloc;
+            "record 0 caller 4294967295 first 0 last - reply -\norder{order}\n"
+        )?;
+        is_equal_at(&out.as_slice(), &wanted.as_bytes(), &text)?;
+    }
     Ok(())
 }
 
@@ -172,50 +192,32 @@ pub(super) const RACE: &[u8] =
 pub(super) const RACE_TRACE: &[u8] =
     b"record 0 caller 1 first 0 last 14 reply all 2 a {\"keys\":[]} b {\"keys\":[]}\nrecord 1 caller 2 first 2 last 4 reply stored\nrecord 2 caller 2 first 5 last 7 reply stored\norder 1 2 0\n";
 
-#[test]
-fn a_race_is_printed(rt: HostRuntime) -> Result<(), Fail> {
-    let alloc = rt.alloc();
+/// The trace of the race, over two shards and two rounds.
+pub(super) fn race(alloc: Global) -> Result<Trace, Fail> {
     let events = read_events(alloc, RACE)?;
-    let trace = run_events(alloc, 2, 2, events.as_slice())?;
-    let out = printed(alloc, &trace)?;
-    is_equal_at(
-        &rt,
-        &out.as_slice(),
-        &RACE_TRACE,
-        &"two shards and two rounds",
-    );
-    Ok(())
+    let trace = run_events(alloc, 2, 2, events.as_slice());
+    drop(events);
+    Ok(trace?)
 }
 
-#[test]
-fn a_writer_that_fails_has_a_front(rt: HostRuntime) -> Result<(), Fail> {
-    let alloc = rt.alloc();
-    let events = read_events(alloc, RACE)?;
-    let trace = run_events(alloc, 2, 2, events.as_slice())?;
+/// A writer that fails has a front of the text.
+fn prints_fronts(alloc: Global, trace: &Trace) -> Result<(), Fail> {
+    let out = printed(alloc, trace)?;
+    is_equal_at(&out.as_slice(), &RACE_TRACE, &"a race")?;
     for room in 0..RACE_TRACE.len() {
         let mut out = Counted::new(FaultyWriter::new(alloc, room));
-        let ended = put_trace(&mut out, &trace);
-        is_equal_at(&rt, &ended, &Err(FrontError::WriteFault), &room);
+        let ended = put_trace(&mut out, trace);
         let (front, _) = RACE_TRACE.split_at(room);
-        is_equal_at(&rt, &out.end.taken.as_slice(), &front, &room);
+        is_equal_at(&ended, &Err(FrontError::WriteFault), &room)?;
+        is_equal_at(&out.end.taken.as_slice(), &front, &room)?;
     }
     Ok(())
 }
 
 #[test]
-fn long_texts_are_printed_whole(rt: HostRuntime) -> Result<(), Fail> {
-    let alloc = rt.alloc();
-    let mut trace = trace_of(alloc, None, None)?;
-    let mut wanted = Vec::from_slice(
-        alloc,
-        b"record 0 caller 4294967295 first 0 last - reply -\norder",
-    )?;
-    for _ in 0..5000 {
-        trace.order.push(18446744073709551615)?;
-        wanted.extend_from_slice(b" 18446744073709551615")?;
-    }
-    wanted.extend_from_slice(b"\n")?;
-    let out = printed(alloc, &trace)?;
-    is_equal_at(&rt, &out.as_slice(), &wanted.as_slice(), &"5000 numbers");
-    Ok(())
+fn a_race_is_printed(rt: HostRuntime) -> Result<(), Fail> {
+    let trace = race(rt.alloc())?;
+    let is_so = prints_fronts(rt.alloc(), &trace);
+    drop(trace);
+    is_so
 }
