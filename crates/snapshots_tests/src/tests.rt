@@ -8,34 +8,27 @@ use map_core::AskError;
 use snapshots::{FetchError, Folder, FolderError, SnapshotError, fetch, update};
 use spiffe_doc::{Bundle, TrustDomain, read_document};
 use std::alloc::{AllocError, Global};
-use std::fmt::Debug;
 use std::io;
-use std::io::Write;
-use std::process::Abort;
 use std::test::Fail;
-
-/// What was found is what is wanted.
-fn is_equal<T: PartialEq + Debug>(rt: &impl Abort, found: &T, wanted: &T) {
-    assert!(rt; *found == *wanted, "{found:?}, and not {wanted:?}");
-}
+use test_kit::{holds_at, is_equal_at};
 
 /// A folder that keeps a line for each deed, and refuses one after so many.
 #[derive(Drop)]
 struct Told {
     alloc: Global,
     lines: String,
-    left: u32,
-    /// The files of the current snapshot, as lines.
-    current: String,
+    left: usize,
+    /// The deeds by which the current snapshot came.
+    current: &'static [&'static str],
 }
 
 impl Told {
-    fn new(alloc: Global, left: u32) -> Told {
+    fn new(alloc: Global, left: usize, current: &'static [&'static str]) -> Told {
         Told {
             alloc,
             lines: String::new(alloc),
             left,
-            current: String::new(alloc),
+            current,
         }
     }
 
@@ -50,6 +43,15 @@ impl Told {
             Ok(()) => Ok(()),
             Err(_) => Err(FolderError::Memory),
         }
+    }
+
+    /// Whether these are its deeds, and no others.
+    fn has_done(&self, deeds: &[&str]) -> bool {
+        let mut lines = self.lines.as_str();
+        for deed in deeds {
+            lines = lines.strip_prefix(deed).unwrap_or("another deed");
+        }
+        lines.is_empty()
     }
 }
 
@@ -69,7 +71,7 @@ impl Folder for Told {
 
     fn holds(&self, name: &str, bytes: &[u8]) -> Result<bool, FolderError> {
         match line_of(self.alloc, name, bytes) {
-            Ok(line) => Ok(self.current.as_str().contains(line.as_str())),
+            Ok(line) => Ok(self.current.contains(&line.as_str())),
             Err(_) => Err(FolderError::Memory),
         }
     }
@@ -90,97 +92,139 @@ impl Folder for Told {
     }
 }
 
-/// A domain and a bundle without authorities, of this sequence.
-fn domain(alloc: Global, name: &str, sequence: u64) -> Result<(TrustDomain, Bundle), Fail> {
-    let document = format!(in alloc; r#"{{"keys":[],"spiffe_sequence":{sequence}}}"#)?;
-    let bundle = read_document(alloc, document.as_bytes())?;
-    Ok((TrustDomain::parse(alloc, name)?, bundle))
-}
+const SEVEN: &str = r#"{"keys":[],"spiffe_sequence":7}"#;
 
-/// A domain with a certificate of three bytes, 1, 2 and 3: `AQID` in base64.
+const EIGHT: &str = r#"{"keys":[],"spiffe_sequence":8}"#;
+
+const NINE: &str = r#"{"keys":[],"spiffe_sequence":9}"#;
+
+/// A certificate of three bytes, 1, 2 and 3: `AQID` in base64.
 const X509: &str =
     r#"{"keys":[{"use":"x509-svid","kty":"RSA","n":"AQAB","e":"AQAB","x5c":["AQID"]}]}"#;
 
-/// A snapshot is a map, two files of each domain, and then it is shown.
+/// The deeds for `a` of sequence 7.
+const ONE: &[&str] = &[
+    "begin\n",
+    "put map {\"trust_domains\":{\"a\":{\"keys\":[],\"spiffe_sequence\":7}}}\n\n",
+    "put a.json {\"keys\":[],\"spiffe_sequence\":7}\n",
+    "put a.pem \n",
+    "show\n",
+];
+
+/// The deeds for `a` of sequence 7 and `b` of sequence 8.
+const TWO: &[&str] = &[
+    "begin\n",
+    "put map {\"trust_domains\":{\"a\":{\"keys\":[],\"spiffe_sequence\":7},\"b\":{\"keys\":[],\"spiffe_sequence\":8}}}\n\n",
+    "put a.json {\"keys\":[],\"spiffe_sequence\":7}\n",
+    "put a.pem \n",
+    "put b.json {\"keys\":[],\"spiffe_sequence\":8}\n",
+    "put b.pem \n",
+    "show\n",
+];
+
+/// Names and documents, the deeds by which the current snapshot came, whether there is a new one, and the deeds for it.
+type Row = (
+    &'static [(&'static str, &'static str)],
+    &'static [&'static str],
+    bool,
+    &'static [&'static str],
+);
+
+/// A snapshot is a map, two files of each domain, and then it is shown. If each file is as it was, nothing is done; if one is
+/// not, all are written.
+static ROWS: [Row; 6] = [
+    (
+        &[(".", SEVEN), ("map", EIGHT)],
+        &[],
+        true,
+        &[
+            "begin\n",
+            "put map {\"trust_domains\":{\".\":{\"keys\":[],\"spiffe_sequence\":7},\"map\":{\"keys\":[],\"spiffe_sequence\":8}}}\n\n",
+            "put ..json {\"keys\":[],\"spiffe_sequence\":7}\n",
+            "put ..pem \n",
+            "put map.json {\"keys\":[],\"spiffe_sequence\":8}\n",
+            "put map.pem \n",
+            "show\n",
+        ],
+    ),
+    (
+        &[("a", X509)],
+        &[],
+        true,
+        &[
+            "begin\n",
+            "put map {\"trust_domains\":{\"a\":{\"keys\":[{\"e\":\"AQAB\",\"kty\":\"RSA\",\"n\":\"AQAB\",\"use\":\"x509-svid\",\"x5c\":[\"AQID\"]}]}}}\n\n",
+            "put a.json {\"keys\":[{\"e\":\"AQAB\",\"kty\":\"RSA\",\"n\":\"AQAB\",\"use\":\"x509-svid\",\"x5c\":[\"AQID\"]}]}\n",
+            "put a.pem -----BEGIN CERTIFICATE-----\nAQID\n-----END CERTIFICATE-----\n\n",
+            "show\n",
+        ],
+    ),
+    (&[("a", SEVEN), ("b", EIGHT)], &[], true, TWO),
+    (&[("a", SEVEN), ("b", EIGHT)], TWO, false, &[]),
+    (
+        &[("a", SEVEN), ("b", NINE)],
+        TWO,
+        true,
+        &[
+            "begin\n",
+            "put map {\"trust_domains\":{\"a\":{\"keys\":[],\"spiffe_sequence\":7},\"b\":{\"keys\":[],\"spiffe_sequence\":9}}}\n\n",
+            "put a.json {\"keys\":[],\"spiffe_sequence\":7}\n",
+            "put a.pem \n",
+            "put b.json {\"keys\":[],\"spiffe_sequence\":9}\n",
+            "put b.pem \n",
+            "show\n",
+        ],
+    ),
+    (&[("a", SEVEN)], &[], true, ONE),
+];
+
+fn domains_of(
+    alloc: Global,
+    documents: &[(&str, &str)],
+) -> Result<Vec<(TrustDomain, Bundle)>, Fail> {
+    let mut domains = Vec::new(alloc);
+    for &(name, document) in documents {
+        let bundle = read_document(alloc, document.as_bytes())?;
+        domains.push((TrustDomain::parse(alloc, name)?, bundle))?;
+    }
+    Ok(domains)
+}
+
+/// What an update of the folder to these domains and documents gives.
+fn updated(
+    alloc: Global,
+    folder: &mut Told,
+    documents: &[(&str, &str)],
+) -> Result<Result<bool, SnapshotError>, Fail> {
+    let domains = domains_of(alloc, documents)?;
+    Ok(update(alloc, folder, domains.as_slice()))
+}
+
 #[test]
-fn whole_snapshots(rt: HostRuntime) -> Result<(), Fail> {
+fn snapshots_are_written(rt: HostRuntime) -> Result<(), Fail> {
     let alloc = rt.alloc();
-    let domains = vec![in alloc; domain(alloc, ".", 7)?, domain(alloc, "map", 8)?]?;
-    let mut folder = Told::new(alloc, 100);
-    is_equal(
-        &rt,
-        &update(alloc, &mut folder, domains.as_slice()),
-        &Ok(true),
-    );
-    let wanted = "begin\n\
-        put map {\"trust_domains\":{\".\":{\"keys\":[],\"spiffe_sequence\":7},\"map\":{\"keys\":[],\"spiffe_sequence\":8}}}\n\n\
-        put ..json {\"keys\":[],\"spiffe_sequence\":7}\n\
-        put ..pem \n\
-        put map.json {\"keys\":[],\"spiffe_sequence\":8}\n\
-        put map.pem \n\
-        show\n";
-    is_equal(&rt, &folder.lines.as_str(), &wanted);
+    for &(documents, current, is_new, deeds) in &ROWS {
+        let mut folder = Told::new(alloc, 100, current);
+        let found = updated(alloc, &mut folder, documents)?;
+        is_equal_at(&found, &Ok(is_new), &deeds)?;
+        holds_at(folder.has_done(deeds), &folder.lines)?;
+    }
     Ok(())
 }
 
-/// A certificate is in the file of PEM.
-#[test]
-fn certificates(rt: HostRuntime) -> Result<(), Fail> {
-    let alloc = rt.alloc();
-    let bundle = read_document(alloc, X509.as_bytes())?;
-    let domains = vec![in alloc; (TrustDomain::parse(alloc, "a")?, bundle)]?;
-    let mut folder = Told::new(alloc, 100);
-    is_equal(
-        &rt,
-        &update(alloc, &mut folder, domains.as_slice()),
-        &Ok(true),
-    );
-    let pem = "put a.pem -----BEGIN CERTIFICATE-----\nAQID\n-----END CERTIFICATE-----\n\nshow\n";
-    assert!(&rt; folder.lines.as_str().ends_with(pem), "{}", folder.lines);
-    Ok(())
-}
-
-/// If each file is as it was, nothing is done; if one is not, all are written.
-#[test]
-fn equal_bytes(rt: HostRuntime) -> Result<(), Fail> {
-    let alloc = rt.alloc();
-    let old = vec![in alloc; domain(alloc, "a", 7)?, domain(alloc, "b", 8)?]?;
-    let mut folder = Told::new(alloc, 100);
-    is_equal(&rt, &update(alloc, &mut folder, old.as_slice()), &Ok(true));
-    folder.current = folder.lines;
-    folder.lines = String::new(alloc);
-    is_equal(&rt, &update(alloc, &mut folder, old.as_slice()), &Ok(false));
-    is_equal(&rt, &folder.lines.as_str(), &"");
-    let new = vec![in alloc; domain(alloc, "a", 7)?, domain(alloc, "b", 9)?]?;
-    is_equal(&rt, &update(alloc, &mut folder, new.as_slice()), &Ok(true));
-    let (first, last) = ("begin\n", "put b.pem \nshow\n");
-    assert!(&rt;
-        folder.lines.as_str().starts_with(first),
-        "{}",
-        folder.lines
-    );
-    assert!(&rt; folder.lines.as_str().ends_with(last), "{}", folder.lines);
-    Ok(())
-}
+static DEEDS: &[&str] = ONE;
 
 /// Whichever deed fails, nothing comes after it, and nothing is shown.
 #[test]
 fn folders_that_fail(rt: HostRuntime) -> Result<(), Fail> {
     let alloc = rt.alloc();
-    let domains = vec![in alloc; domain(alloc, "a", 7)?]?;
-    for left in 0..5 {
-        let mut folder = Told::new(alloc, left);
-        let updated = update(alloc, &mut folder, domains.as_slice());
-        is_equal(&rt, &updated, &Err(SnapshotError::Folder));
-        assert!(&rt; !folder.lines.as_str().contains("show"), "{}", folder.lines);
-        is_equal(&rt, &folder.left, &0);
+    for left in 0..DEEDS.len() {
+        let mut folder = Told::new(alloc, left, &[]);
+        let found = updated(alloc, &mut folder, &[("a", SEVEN)])?;
+        is_equal_at(&found, &Err(SnapshotError::Folder), &left)?;
+        let (deeds, _) = DEEDS.split_at(left);
+        holds_at(folder.left == 0 && folder.has_done(deeds), &folder.lines)?;
     }
-    let mut folder = Told::new(alloc, 5);
-    is_equal(
-        &rt,
-        &update(alloc, &mut folder, domains.as_slice()),
-        &Ok(true),
-    );
     Ok(())
 }
 
@@ -188,98 +232,81 @@ fn folders_that_fail(rt: HostRuntime) -> Result<(), Fail> {
 #[test]
 fn long_names(rt: HostRuntime) -> Result<(), Fail> {
     let alloc = rt.alloc();
-    let mut name = String::new(alloc);
-    for _ in 0..250 {
-        name.push('z')?;
+    for &(size, wanted) in &[(250, Ok(true)), (251, Err(SnapshotError::LongName(1)))] {
+        let name = "z".repeat(alloc, size)?;
+        let mut folder = Told::new(alloc, 100, &[]);
+        let found = updated(alloc, &mut folder, &[("a", SEVEN), (name.as_str(), SEVEN)])?;
+        is_equal_at(&found, &wanted, &size)?;
+        holds_at(folder.lines.is_empty() == wanted.is_err(), &size)?;
     }
-    let short = vec![in alloc; domain(alloc, "a", 7)?, domain(alloc, name.as_str(), 7)?]?;
-    let mut folder = Told::new(alloc, 100);
-    is_equal(
-        &rt,
-        &update(alloc, &mut folder, short.as_slice()),
-        &Ok(true),
-    );
-    name.push('z')?;
-    let long = vec![in alloc; domain(alloc, "a", 7)?, domain(alloc, name.as_str(), 7)?]?;
-    let mut folder = Told::new(alloc, 100);
-    let updated = update(alloc, &mut folder, long.as_slice());
-    is_equal(&rt, &updated, &Err(SnapshotError::LongName(1)));
-    is_equal(&rt, &folder.lines.as_str(), &"");
     Ok(())
 }
 
-/// A writer that takes all and keeps nothing, so that it takes no memory.
-#[derive(Drop)]
-struct Nowhere;
+const ALL_OF_ONE: &[u8] = b"\0\0\0\x09a\0\0\0\0\0\0\0\x01\0\0\0\x0ei\x01a{\"keys\":[]}";
 
-impl Write for Nowhere {
-    fn write(&mut self, buf: &[u8]) -> io::Result<usize> {
-        Ok(buf.len())
-    }
+/// A reply, how many of its bytes are sent, and what a fetch gives: how many domains, or why none.
+static REPLIES: [(&[u8], usize, Result<usize, FetchError>); 8] = [
+    (b"\0\0\0\x09a\0\0\0\0\0\0\0\0", 13, Ok(0)),
+    (ALL_OF_ONE, 31, Ok(1)),
+    (
+        ALL_OF_ONE,
+        30,
+        Err(FetchError::Ended(ClientError::Truncated)),
+    ),
+    (
+        ALL_OF_ONE,
+        13,
+        Err(FetchError::Ended(ClientError::Truncated)),
+    ),
+    (b"", 0, Err(FetchError::Ended(ClientError::Truncated))),
+    (
+        b"\0\0\0\0",
+        4,
+        Err(FetchError::Ended(ClientError::BadLength)),
+    ),
+    (
+        b"\0\0\0\x01s",
+        5,
+        Err(FetchError::Ended(ClientError::BadReply)),
+    ),
+    (
+        b"\0\0\0\x01\x16",
+        5,
+        Err(FetchError::Refused(AskError::Memory)),
+    ),
+];
 
-    fn flush(&mut self) -> io::Result<()> {
-        Ok(())
-    }
-}
-
-/// What a fetch gives of these bytes that a server sends: how many domains, or why none.
+/// What a fetch gives of these bytes that a server sends.
 fn fetched(alloc: Global, reply: &[u8]) -> Result<usize, FetchError> {
-    let mut client = Client::new(alloc, Counted::new(reply), Counted::new(Nowhere));
+    let mut client = Client::new(alloc, Counted::new(reply), Counted::new(io::sink()));
     Ok(fetch(&mut client)?.len())
 }
 
 /// Replies, whole and torn off, and refusals.
 #[test]
-fn replies(rt: HostRuntime) {
-    let alloc = rt.alloc();
-    let one = b"\0\0\0\x09a\0\0\0\0\0\0\0\x01\0\0\0\x0ei\x01a{\"keys\":[]}";
-    let ended = |why| Err(FetchError::Ended(why));
-    let rows: [(&[u8], Result<usize, FetchError>); 8] = [
-        (b"\0\0\0\x09a\0\0\0\0\0\0\0\0", Ok(0)),
-        (one, Ok(1)),
-        (&one[..one.len() - 1], ended(ClientError::Truncated)),
-        (&one[..13], ended(ClientError::Truncated)),
-        (b"", ended(ClientError::Truncated)),
-        (b"\0\0\0\0", ended(ClientError::BadLength)),
-        (b"\0\0\0\x01s", ended(ClientError::BadReply)),
-        (
-            b"\0\0\0\x01\x16",
-            Err(FetchError::Refused(AskError::Memory)),
-        ),
-    ];
-    for (reply, wanted) in rows {
-        is_equal(&rt, &fetched(alloc, reply), &wanted);
+fn replies(rt: HostRuntime) -> Result<(), Fail> {
+    for (reply, size, wanted) in &REPLIES {
+        let (sent, _) = reply.split_at(reply.len().min(*size));
+        is_equal_at(&fetched(rt.alloc(), sent), wanted, reply)?;
     }
+    Ok(())
 }
 
 /// If memory runs out, nothing is shown, and no domains are given.
 #[test]
 fn a_refused_growth_shows_nothing(rt: HostRuntime) -> Result<(), Fail> {
     let alloc = rt.alloc();
-    let bundle = read_document(alloc, X509.as_bytes())?;
-    let domains = vec![in alloc; (TrustDomain::parse(alloc, "a")?, bundle)]?;
-    let mut folder = Told::new(alloc, 100);
-    match update(alloc, &mut folder, domains.as_slice()) {
-        Ok(is_new) => {
-            is_equal(&rt, &is_new, &true);
-            assert!(&rt;
-                folder.lines.as_str().ends_with("show\n"),
-                "{}",
-                folder.lines
-            );
-        }
-        Err(error) => {
-            is_equal(&rt, &error, &SnapshotError::Memory);
-            assert!(&rt; !folder.lines.as_str().contains("show"), "{}", folder.lines);
-        }
-    }
-    match fetched(
-        alloc,
-        b"\0\0\0\x09a\0\0\0\0\0\0\0\x01\0\0\0\x0ei\x01a{\"keys\":[]}",
-    ) {
-        Ok(count) => is_equal(&rt, &count, &1),
-        Err(FetchError::Refused(why)) => is_equal(&rt, &why, &AskError::Memory),
-        Err(FetchError::Ended(why)) => is_equal(&rt, &why, &ClientError::Memory),
-    }
-    Ok(())
+    let mut folder = Told::new(alloc, 100, &[]);
+    let found = updated(alloc, &mut folder, &[("a", X509)])?;
+    let is_told = match found {
+        Ok(is_new) => is_new && folder.lines.as_str().ends_with("show\n"),
+        Err(error) => { error == SnapshotError::Memory && !folder.lines.as_str().contains("show") }
+    };
+    holds_at(is_told, &folder.lines)?;
+    let is_given = match fetched(alloc, ALL_OF_ONE) {
+        Ok(count) => count == 1,
+        Err(FetchError::Refused(why)) => why == AskError::Memory,
+        Err(FetchError::Ended(why)) => why == ClientError::Memory,
+    };
+    holds_at(is_given, &"a fetch")
 }
