@@ -68,10 +68,13 @@ impl Contents {
     {
         match op {
             Op::Set(domain, bundle) => Ok(self.set(domain, bundle)?),
-            op => {
-                let outcome = self.outcome(&op)?;
-                Ok(self.settle(op.into_domain(), outcome)?)
-            }
+            op => match self.outcome(&op) {
+                Ok(outcome) => Ok(self.settle(op.into_domain(), outcome)?),
+                Err(AllocError) => {
+                    drop(op);
+                    Err(AskError::Memory)
+                }
+            },
         }
     }
 
@@ -96,13 +99,24 @@ impl Contents {
         if !outcome.is_change() {
             return Ok((outcome.into_reply(), None));
         }
-        let mut after = self.copy()?;
+        let Ok((mut after, domain)) = self.copy_for(op) else {
+            drop(outcome);
+            return Err(AllocError);
+        };
+        let reply = after.settle(domain, outcome)?;
+        Ok((reply, Some(after)))
+    }
+
+    /// The same map, and the name that the operation is on.
+    fn copy_for(&self, op: &Op) -> Result<(Contents, Option<TrustDomain>), AllocError>
+        ensures copy { IfOk result (λ made. made.0 ≡ self.now) }
+        ensures domain { IfOk result (λ made. made.1 ≡ domain_of op.now) }
+    {
         let domain = match op.domain() {
             Some(domain) => Some(domain.copy()?),
             None => None,
         };
-        let reply = after.settle(domain, outcome)?;
-        Ok((reply, Some(after)))
+        Ok((self.copy()?, domain))
     }
 
     /// Whether the operation would change the map. A bundle is compared and an authority is appended to a copy, which
@@ -112,10 +126,10 @@ impl Contents {
         ensures always { carries_nothing op.now ≡ true → result ≡ Ok (is_change (ask self.now op.now).reply) }
     {
         match op {
-            Op::Remove(domain) => Ok(table::remove(self.at(domain)).is_change()),
+            Op::Remove(domain) => Ok(table::remove(self.at(domain)).into_is_change()),
             Op::Get(_) => Ok(false),
             Op::FetchAll => Ok(false),
-            _ => Ok(self.outcome(op)?.is_change()),
+            _ => Ok(self.outcome(op)?.into_is_change()),
         }
     }
 

@@ -81,7 +81,10 @@ impl Op {
         match self {
             Op::Set(domain, _) => Some(domain),
             Op::SetIf(domain, _, _) => Some(domain),
-            Op::Append(domain, _) => Some(domain),
+            Op::Append(domain, authority) => {
+                drop(authority);
+                Some(domain)
+            }
             Op::Remove(domain) => Some(domain),
             Op::Get(domain) => Some(domain),
             Op::FetchAll => None,

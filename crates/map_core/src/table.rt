@@ -33,6 +33,15 @@ impl RowEffect {
         }
     }
 
+    /// The same, if that is all that is wanted.
+    pub(crate) fn into_is_change(self) -> bool
+        ensures { result ≡ is_change (reply_of self) }
+    {
+        let is_change = self.is_change();
+        drop(self);
+        is_change
+    }
+
     /// The reply.
     pub(crate) fn into_reply(self) -> Reply
         ensures { result ≡ reply_of self }

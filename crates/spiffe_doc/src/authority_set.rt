@@ -61,6 +61,7 @@ impl<'a> AuthoritySet<'a> {
     {
         let admitted = self.admits(place, &authority, &entry, kid);
         let Ok(true) = admitted else {
+            drop(authority);
             return admitted.and(Ok(()));
         };
         self.add(authority, entry, kid)?;

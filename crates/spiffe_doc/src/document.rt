@@ -109,7 +109,9 @@ fn read_with<A: Allocator + Copy>(
     }
     let tree = read_tree(trees, bytes, scratch)?;
     let room = bytes.len().min(MOST_ROOM);
-    let (sequence, refresh_hint, set) = read_parts(alloc, room, &tree)?;
+    let parts = read_parts(alloc, room, &tree);
+    drop(tree);
+    let (sequence, refresh_hint, set) = parts?;
     match bundle_from(alloc, sequence, refresh_hint, set.authorities, set.text)? {
         Some(bundle) => Ok(bundle),
         None => Err(DocError::TooLong),
@@ -171,9 +173,12 @@ fn take_entry<'a, A: Allocator>(
 {
     match judge(alloc, place, entry)? {
         Some(authority) => {
-            let text = Octets::new(text_from_entry(alloc, entry, &authority)?);
+            let Ok(text) = text_from_entry(alloc, entry, &authority) else {
+                drop(authority);
+                return Err(DocError::Memory);
+            };
             let kid = kid_from_entry(entry, &authority);
-            set.admit(place, authority, text, &kid)
+            set.admit(place, authority, Octets::new(text), &kid)
         }
         None => Ok(()),
     }

@@ -288,13 +288,27 @@ fn authority_for<A: Allocator>(
     ensures { Gives DocError.Memory result (judged.authority_for place key_use key (tree_data entry.now)) }
 {
     match key_use {
-        KeyUse::X509 => match certificate(alloc, entry)? {
-            Some(der) => Ok(Authority::X509 { key, der }),
-            None => Err(DocError::BadX5c(place)),
+        KeyUse::X509 => match certificate(alloc, entry) {
+            Ok(Some(der)) => Ok(Authority::X509 { key, der }),
+            Ok(None) => {
+                drop(key);
+                Err(DocError::BadX5c(place))
+            }
+            Err(why) => {
+                drop(key);
+                Err(why)
+            }
         },
-        KeyUse::Jwt => match key_id(alloc, entry)? {
-            Some(kid) => Ok(Authority::Jwt { kid, key }),
-            None => Err(DocError::BadKid(place)),
+        KeyUse::Jwt => match key_id(alloc, entry) {
+            Ok(Some(kid)) => Ok(Authority::Jwt { kid, key }),
+            Ok(None) => {
+                drop(key);
+                Err(DocError::BadKid(place))
+            }
+            Err(why) => {
+                drop(key);
+                Err(why)
+            }
         },
     }
 }

@@ -203,7 +203,7 @@ impl Driver {
             task,
             place: 0,
         };
-        self.callers.insert(caller, running)?;
+        drop(self.callers.insert(caller, running)?);
         Ok(())
     }
 
@@ -217,7 +217,7 @@ impl Driver {
             return Ok(());
         };
         if running.task.is_done() {
-            self.callers.insert(caller, running)?;
+            drop(self.callers.insert(caller, running)?);
             return Ok(());
         }
         let number = running.number;
@@ -226,6 +226,7 @@ impl Driver {
         let answer = observe(&mut self.shards, &self.ops[number].op, want)?;
         running.task.give(answer);
         if running.task.is_out_of_memory() {
+            drop(running);
             return Err(AllocError);
         }
         let has_point = running.task.has_point();
@@ -237,7 +238,7 @@ impl Driver {
             running.place,
         )?;
         mark(&mut self.ops, number, running.task.has_written());
-        self.callers.insert(caller, running)?;
+        drop(self.callers.insert(caller, running)?);
         Ok(())
     }
 
@@ -251,7 +252,7 @@ impl Driver {
             return Ok(());
         };
         if running.task.is_done() {
-            self.callers.insert(caller, running)?;
+            drop(self.callers.insert(caller, running)?);
             return Ok(());
         }
         let number = running.number;
@@ -259,6 +260,7 @@ impl Driver {
         repoint(&mut self.points, had_point, false, number, running.place)?;
         mark(&mut self.ops, number, false);
         finish(&mut self.ops, number, now, Err(refusal_of(why)));
+        drop(running);
         Ok(())
     }
 
@@ -272,7 +274,7 @@ impl Driver {
             return Ok(());
         };
         if !running.task.is_done() {
-            self.callers.insert(caller, running)?;
+            drop(self.callers.insert(caller, running)?);
             return Ok(());
         }
         finish(&mut self.ops, running.number, now, running.task.reply());

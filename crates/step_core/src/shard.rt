@@ -1,7 +1,8 @@
 //! One shard: a part of the map, and how often it was changed.
-ghost use Rattle.std.specs.Prelude.{◌≡◌, ◌<◌, ◌≤◌, ◌⊎◌, ℕ, length, IfOk, IfErr, OnOk, OnErr, Ok, Err};
+ghost use Rattle.std.specs.Prelude.{◌≡◌, ◌<◌, ◌≤◌, ◌⊎◌, ℕ, length, IfOk, IfErr, OnOk, OnErr, Ok, Err, false};
 ghost use Rattle.std.specs.Arc.{arc_value};
 ghost use Rattle.map_core.specs.PlainMap.{ask};
+ghost use Rattle.map_core.specs.Reply.{is_change};
 ghost use Rattle.map_core.specs.declared.op.Op.TheVariants.{Get};
 ghost use Rattle.step_core.specs.Shard.{fresh_shard, last_revision, of_shard, reading, step_on};
 
@@ -90,8 +91,9 @@ impl Shard {
         ensures refused { IfErr result (λ e. (e ≡ AskError.Memory) ⊎ ((step_on self.old op).answer ≡ Err e)) }
         ensures err { OnErr result (self.new ≡ self.old) }
     {
-        if self.revision == LAST_REVISION && self.version.would_change(&op)? {
-            return Err(AskError::Worn { shard: 0 });
+        if let Err(why) = self.refuse_worn(&op) {
+            drop(op);
+            return Err(why);
         }
         let alloc = self.alloc;
         let reply = ask_version(alloc, &mut self.version, op)?;
@@ -99,6 +101,17 @@ impl Shard {
             self.revision += 1;
         }
         Ok(reply)
+    }
+
+    // Refuses an operation that would change a shard of the last revision.
+    fn refuse_worn(&self, op: &Op) -> Result<(), AskError>
+        ensures taken { OnOk result (self.now.revision ≡ last_revision → is_change (ask self.now.part op.now).reply ≡ false) }
+        ensures refused { IfErr result (λ e. (e ≡ AskError.Memory) ⊎ ((step_on self.now op.now).answer ≡ Err e)) }
+    {
+        if self.revision == LAST_REVISION && self.version.would_change(op)? {
+            return Err(AskError::Worn { shard: 0 });
+        }
+        Ok(())
     }
 }
 
@@ -112,7 +125,9 @@ fn ask_version(alloc: Global, version: &mut Arc<Contents>, op: Op) -> Result<Rep
     if let Some(contents) = Arc::get_mut(version) {
         return contents.ask(op);
     }
-    ask_shared(alloc, version, &op)
+    let reply = ask_shared(alloc, version, &op);
+    drop(op);
+    reply
 }
 
 // Asks a version that others share too: it stays, and if the operation would change it, another one takes its place.
@@ -125,6 +140,7 @@ fn ask_shared(alloc: Global, version: &mut Arc<Contents>, op: &Op) -> Result<Rep
     let (reply, after) = version.asked(op)?;
     if let Some(after) = after {
         let Ok(after) = Arc::new(alloc, after) else {
+            drop(reply);
             return Err(AskError::Memory);
         };
         *version = after;

@@ -63,7 +63,10 @@ impl Shards {
             Op::Get(domain) => self.get(&domain),
             op => match shard_of(&op, self.shards.len()) {
                 Some(place) => self.step(place, op),
-                None => self.fetch_all(),
+                None => {
+                    drop(op);
+                    self.fetch_all()
+                }
             },
         }
     }

@@ -58,6 +58,7 @@ impl<'a, A: Ask, G: Gate> Ask for Gated<'a, A, G> {
     /// Asks once if the gate is open; else nothing is asked.
     fn ask(&mut self, op: Op) -> Result<Reply, AskError> {
         if !self.enters() {
+            drop(op);
             return Err(AskError::GateShut);
         }
         let answer = self.ask.ask(op);

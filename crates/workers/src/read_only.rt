@@ -41,6 +41,7 @@ impl<A: Ask> Ask for ReadOnly<A> {
         if is_read(&op) {
             self.ask.ask(op)
         } else {
+            drop(op);
             Err(AskError::GateShut)
         }
     }

@@ -54,10 +54,12 @@ impl<'a, A: Ask, C: Clock> Ask for Retrying<'a, A, C> {
     fn ask(&mut self, op: Op) -> Result<Reply, AskError> {
         for _ in 0..self.retries {
             let Ok(copy) = op.copy() else {
+                drop(op);
                 return Err(AskError::Memory);
             };
             let answer = self.ask.ask(copy);
             if !may_change(&answer) {
+                drop(op);
                 return answer;
             }
             thread::sleep(self.clock, Duration::from_micros(PAUSE));

@@ -8,8 +8,8 @@ use Rattle.map_core.proofs.contents.Contents.would_change.Goals as goal
 pub returns-in-Remove : goal.returns-in-Remove
 unfolding meaning
 returns-in-Remove c =
-    let told : c.is_change.result ≡ is_change (ask c.args.self.now c.args.op.now).reply =
-    c.is_change.ensures ∙ ap is_change (row_reply c.args.self.now c.args.op.now c.in-Remove.domain remove c.remove.result _ (ap meaning c.in-Remove.is) c.at.ensures c.remove.ensures) in
+    let told : c.into_is_change.result ≡ is_change (ask c.args.self.now c.args.op.now).reply =
+    c.into_is_change.ensures ∙ ap is_change (row_reply c.args.self.now c.args.op.now c.in-Remove.domain remove c.remove.result _ (ap meaning c.in-Remove.is) c.at.ensures c.remove.ensures) in
     record { told = told; always = λ h. ap (λ (b : Bool). Ok b) told }
 
 pub returns-in-Get : goal.returns-in-Get

@@ -8,7 +8,7 @@ use Rattle.map_core.specs.PlainMap.{PlainMap, ask}
 use Rattle.map_core.proofs.MapLaws.{ask_keeps}
 use Rattle.step_core.specs.Shard.{last_revision, step_on}
 use Rattle.step_core.proofs.shard.Shard.step.Goals as goal
-use Rattle.step_core.proofs.shard.Shard.step.Goals.{then-is_change, else-is_change, else-self-eq-LAST_REVISION-via-then-self-eq-LAST_REVISION+in_ok-would_change+else-branch, else-self-eq-LAST_REVISION-via-else-self-eq-LAST_REVISION}
+use Rattle.step_core.proofs.shard.Shard.step.Goals.{then-is_change, else-is_change}
 
 -- what a step that changes leaves
 written : (revision : ℕ) (part new : PlainMap) (op : Op) (reply : Reply) → reply ≡ (ask part op).reply → new ≡ (ask part op).map → true ≡ is_change reply → revision ≢ last_revision
@@ -34,11 +34,9 @@ returns-clause-shard c =
     let revision = c.self.inside.revision in
     let part : PlainMap = arc_value c.self.inside.version in
     let new : PlainMap = arc_value c.ask_version.new.version in
+    let taken : revision ≡ last_revision → is_change (ask part op).reply ≡ false = rw (← c.self.view_is) at c.in_default.ensures.taken in
     let low : true ≡ is_change c.in_ok-reply.reply → revision ≢ last_revision =
-    (λ change. elim c.else-self-eq-LAST_REVISION.branch [
-      | else-self-eq-LAST_REVISION-via-then-self-eq-LAST_REVISION+in_ok-would_change+else-branch w ↦ (λ is. not_both (change ∙ ap is_change c.in_ok-reply.ensures.reply ∙ ap (λ (m : PlainMap). is_change (ask m op).reply) (sym w.deref.ensures) ∙ sym w.in_ok-would_change.ensures.told ∙ w.if-branch.false))
-      | else-self-eq-LAST_REVISION-via-else-self-eq-LAST_REVISION w ↦ w.if-self-eq-LAST_REVISION.false
-    ]) in
+    (λ change is. not_both (change ∙ ap is_change c.in_ok-reply.ensures.reply ∙ taken is)) in
     rw (← c.self.view_is) (elim c.if-is_change.branch [
       | then-is_change w ↦ w.self-is ∙ written revision part new op c.in_ok-reply.reply c.in_ok-reply.ensures.reply c.in_ok-reply.ensures.left w.if-is_change.ensures (low w.if-is_change.ensures)
       | else-is_change w ↦ w.self-is ∙ left revision part new op c.in_ok-reply.reply c.in_ok-reply.ensures.reply c.in_ok-reply.ensures.left w.if-is_change.ensures
