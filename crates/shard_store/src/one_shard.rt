@@ -132,15 +132,21 @@ fn try_held(
         let revision = word / 2;
         return Ok(Attempt::Replied(reply, Some(LastRead { revision, version })));
     };
+    drop(version);
     if word / 2 >= LAST_REVISION {
+        drop((reply, next));
         return Err(AskError::Worn { shard });
     }
     let Ok(next) = Arc::new(alloc, next) else {
+        drop(reply);
         return Err(AskError::Memory);
     };
     match store_version(shards, seat, shard, word, next, op) {
         Ok(()) => Ok(Attempt::Replied(reply, None)),
-        Err(found) => Ok(Attempt::Blocked(found)),
+        Err(found) => {
+            drop(reply);
+            Ok(Attempt::Blocked(found))
+        }
     }
 }
 

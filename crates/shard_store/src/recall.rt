@@ -173,7 +173,9 @@ fn get_name(
         (IsRefusedAt seat.old.table_id.slots (Get domain.now) seat.old.me.0.seen seat.new.me.0.seen) }
 {
     let op = Op::Get(domain.copy()?);
-    ask_name(alloc, shards, seat, last_reads, tries, shard, &op)
+    let answer = ask_name(alloc, shards, seat, last_reads, tries, shard, &op);
+    drop(op);
+    answer
 }
 
 // Answers a get to a viewer by what was read of the shard last, if that is still the shard's part.

@@ -140,8 +140,15 @@ impl Store {
         ensures answer { StoreAnswer self.now op pass.old.seen result pass.new.seen }
     {
         match shard_of(&op, self.shards.slot_count()) {
-            Some(shard) => self.ask_on_name(pass, shard, &op),
-            None => self.ask_on_all(pass),
+            Some(shard) => {
+                let answer = self.ask_on_name(pass, shard, &op);
+                drop(op);
+                answer
+            }
+            None => {
+                drop(op);
+                self.ask_on_all(pass)
+            }
         }
     }
 

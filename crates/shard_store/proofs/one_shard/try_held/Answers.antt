@@ -10,8 +10,8 @@ use Rattle.shard_store.proofs.Promise.{later_then, seen_as, missed_then, at_slot
 use Rattle.shard_store.proofs.LastReads.{halved, none_here, read_here}
 use Rattle.shard_store.proofs.one_shard.try_held.Goals as goal
 
-pub returns-clause-tried : goal.returns-clause-tried
-returns-clause-tried c = let s = c.args.seat.now.me.0.seen in let u = c.read_version.new.seat.me.0.seen in let x = c.store_version.new.seat.me.0.seen in
+pub returns-in-Err-clause-tried : goal.returns-in-Err-clause-tried
+returns-in-Err-clause-tried c = let s = c.args.seat.now.me.0.seen in let u = c.read_version.new.seat.me.0.seen in let x = c.store_version.new.seat.me.0.seen in
     let f = c.in-Err.ensures.written in let read = c.read_version.ensures.seat in let l : IsLater u s = seen_as s u read.2 in
     (later_then s u x l f.0, missed_then _ _ _ s u x l (at_slots (λ k. Missed k.slots c.args.shard u c.in-Err.found x) _ _ (sym read.0.0) f.1))
 
