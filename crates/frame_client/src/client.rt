@@ -121,7 +121,9 @@ impl<R: Read, W: Write> Ask for Client<R, W> {
     ghost answers_plainly = { client_shows_nothing };
 
     fn ask(&mut self, op: Op) -> Result<Reply, AskError> {
-        self.ask_lent(&op)
+        let answer = self.ask_lent(&op);
+        drop(op);
+        answer
     }
 }
 

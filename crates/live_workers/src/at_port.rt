@@ -41,6 +41,7 @@ impl<A: Ask> Ask for AtPort<A> {
 
     fn ask(&mut self, op: Op) -> Result<Reply, AskError> {
         if self.reads_only && !is_read(&op) {
+            drop(op);
             return Err(AskError::GateShut);
         }
         self.ask.ask(op)

@@ -86,7 +86,9 @@ impl<W: Write> Ask for Sender<'_, W> {
     ghost answers_plainly = { λ old op result new m shown answer. absurd (shows_none m shown) };
 
     fn ask(&mut self, op: Op) -> Result<Reply, AskError> {
-        self.send(&op)
+        let answer = self.send(&op);
+        drop(op);
+        answer
     }
 }
 
@@ -158,7 +160,13 @@ impl<R: Read, W: Write> Ask for Server<R, W> {
     ghost answers_plainly = { λ old op result new m shown answer. absurd (shows_none m shown) };
 
     fn ask(&mut self, op: Op) -> Result<Reply, AskError> {
-        self.has_emptied = self.empties(&op)?;
+        match self.empties(&op) {
+            Ok(empties) => self.has_emptied = empties,
+            Err(why) => {
+                drop(op);
+                return Err(why);
+            }
+        }
         self.client.ask(op)
     }
 }
