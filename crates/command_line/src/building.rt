@@ -33,19 +33,13 @@ fn placed<'a>(alloc: Global, verb: Verb) -> Result<Command<'a>, AllocError> {
 
 /// The command of a row, with its arguments.
 pub fn command_of<'a>(alloc: Global, row: &Row) -> Result<Command<'a>, AllocError> {
-    let mut command = noted(Command::new(alloc, row.name).about(row.about), row.notes);
+    let mut command = Command::new(alloc, row.name)
+        .about(row.about)
+        .after_help(row.notes);
     for argument in row.arguments {
         command = command.arg(arg_of(alloc, argument))?;
     }
     Ok(command)
-}
-
-/// A command with notes at the end of its help, if it has any.
-fn noted<'a>(command: Command<'a>, notes: Option<&'static str>) -> Command<'a> {
-    match notes {
-        Some(notes) => command.after_help(notes),
-        None => command,
-    }
 }
 
 /// The argument of a row.

@@ -13,7 +13,7 @@ use crate::texts;
 pub struct Row {
     pub name: &'static str,
     pub about: &'static str,
-    pub notes: Option<&'static str>,
+    pub notes: &'static str,
     pub arguments: &'static [Argument],
 }
 
@@ -88,49 +88,49 @@ impl Verb {
 static RUN: Row = Row {
     name: "run",
     about: "Answers requests on standard input, over an empty store, on standard output",
-    notes: Some(texts::FRAMES),
+    notes: texts::FRAMES,
     arguments: &[SHARDS, TURNS],
 };
 
 static ASK: Row = Row {
     name: "ask",
     about: "Asks a server, and writes its replies",
-    notes: Some(texts::ASKING),
+    notes: texts::ASKING,
     arguments: &[ASKED_PORT, RETRY, RAW, REQUEST],
 };
 
 static ENCODE: Row = Row {
     name: "encode",
     about: "Turns lines into frames of requests",
-    notes: Some(texts::LINES),
+    notes: texts::LINES,
     arguments: &[],
 };
 
 static DECODE: Row = Row {
     name: "decode",
     about: "Turns frames of requests and replies into lines",
-    notes: Some(texts::REPLIES),
+    notes: texts::REPLIES,
     arguments: &[],
 };
 
 static EXPLAIN: Row = Row {
     name: "explain",
     about: "Tells what the number of a refusal or a fault means, and what to do about it",
-    notes: None,
+    notes: "",
     arguments: &[NUMBER],
 };
 
 static REFRESH: Row = Row {
     name: "refresh",
     about: "Sets the bundles of a list of trust domains, out of a folder of documents",
-    notes: Some(texts::RELATIONSHIPS),
+    notes: texts::RELATIONSHIPS,
     arguments: &[RELATIONSHIPS, DOCUMENTS, NOW, AT_LEAST, REFRESHED_PORT],
 };
 
 static SERVE: Row = Row {
     name: "serve",
     about: "Answers requests at a port of this machine, over a store that its workers share",
-    notes: Some(texts::SERVING),
+    notes: texts::SERVING,
     arguments: &[
         UNTIL_EOF,
         LOG,
@@ -151,69 +151,69 @@ static SERVE: Row = Row {
 static SNAPSHOT: Row = Row {
     name: "snapshot",
     about: "Writes the bundles of a server as files, all as they stood at one moment",
-    notes: Some(texts::SNAPSHOTS),
+    notes: texts::SNAPSHOTS,
     arguments: &[ASKED_PORT, OUT, EVERY],
 };
 
 static CHECK: Row = Row {
     name: "check",
     about: "Tells what is kept of bundle documents, what is ignored and why, and what is wrong",
-    notes: Some(texts::REPORTS),
+    notes: texts::REPORTS,
     arguments: &[FILES],
 };
 
 static MAP: Row = Row {
     name: "map",
     about: "Turns a dump into one SPIFFE bundle map, the file that gRPC and Envoy read",
-    notes: Some(texts::MAPS),
+    notes: texts::MAPS,
     arguments: &[X509, NAMES],
 };
 
 static IMPORT: Row = Row {
     name: "import",
     about: "Turns a SPIFFE bundle map into requests that set each bundle",
-    notes: Some(texts::IMPORTS),
+    notes: texts::IMPORTS,
     arguments: &[],
 };
 
 static PEM: Row = Row {
     name: "pem",
     about: "Writes the X.509 authorities of a trust domain of a dump as PEM",
-    notes: Some(texts::CERTIFICATES),
+    notes: texts::CERTIFICATES,
     arguments: &[NAME],
 };
 
 static DIFF: Row = Row {
     name: "diff",
     about: "Tells what changed from one dump to another",
-    notes: Some(texts::CHANGES),
+    notes: texts::CHANGES,
     arguments: &[OLD, NEW],
 };
 
 static DIGEST: Row = Row {
     name: "digest",
     about: "Writes the SHA-256 of a dump: it is equal for equal maps",
-    notes: Some(texts::DIGESTS),
+    notes: texts::DIGESTS,
     arguments: &[],
 };
 
 static MIGRATE: Row = Row {
     name: "migrate",
     about: "Turns a dump, the frames of a reply to F, into requests that store it again",
-    notes: Some(texts::MIGRATIONS),
+    notes: texts::MIGRATIONS,
     arguments: &[],
 };
 
 static TRACE: Row = Row {
     name: "trace",
     about: "Runs events on standard input over an empty store, and explains every reply by one order",
-    notes: Some(texts::EVENTS),
+    notes: texts::EVENTS,
     arguments: &[SHARDS, ROUNDS, PICTURE],
 };
 
 static RACE: Row = Row {
     name: "race",
     about: "Counts the maps that never were that a naive reader shows, and a fetch-all",
-    notes: Some(texts::RACE),
+    notes: texts::RACE,
     arguments: &[SECONDS],
 };

@@ -1,7 +1,7 @@
 //! What the numbers of refusals and faults mean, and what to do about them.
 
 /// What is known of the numbers, in their order.
-const EXPLANATIONS: [(u64, &str); 50] = [
+static EXPLANATIONS: [(u64, &str); 50] = [
     (
         1,
         "\

@@ -12,6 +12,7 @@ mod explanations;
 mod ranges;
 mod reading;
 mod refusal;
+mod serving;
 mod settings;
 mod texts;
 mod wanted;

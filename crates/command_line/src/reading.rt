@@ -1,16 +1,13 @@
 //! How the command line is read.
-ghost use Rattle.std.specs.Prelude.{◌≡◌, ◌<◌, ◌≤◌, IfOk, IfSome};
+ghost use Rattle.std.specs.Prelude.{IfOk};
 ghost use Rattle.command_line.specs.Settings.{AreSettings};
 
 use crate::building::program;
 use crate::commands::{VERBS, Verb};
 use crate::explanations::explanation;
-use crate::ranges::{
-    AT_LEAST, CONNECTIONS, IDLE, MAX_OPEN, RETRIES, RETRY, ROUNDS, SECONDS, SHARDS, TRIES, TURNS,
-    WORKERS,
-};
+use crate::ranges::{AT_LEAST, RETRY, ROUNDS, SECONDS, SHARDS, TURNS};
 use crate::refusal::{name_refusal, refusal};
-use crate::settings::Settings;
+use crate::serving::serving_of;
 use crate::wanted::{Inquiry, Refreshing, Snapshotting, Wanted};
 use clap::{ArgMatches, Error};
 use spiffe_doc::{NameError, TrustDomain};
@@ -42,15 +39,8 @@ fn wanted_of<'a>(alloc: Global, verb: Verb, answers: &ArgMatches<'a>) -> Result<
     ensures { IfOk result AreSettings }
 {
     match verb {
-        Verb::Run => Ok(Wanted::Run {
-            shards: SHARDS.of(answers, "shards") as usize,
-            turns: TURNS.of(answers, "turns"),
-        }),
-        Verb::Trace => Ok(Wanted::Trace {
-            shards: SHARDS.of(answers, "shards") as usize,
-            rounds: ROUNDS.of(answers, "rounds") as usize,
-            picture: answers.get_flag("picture"),
-        }),
+        Verb::Run => Ok(session_of(answers)),
+        Verb::Trace => Ok(trace_of(answers)),
         Verb::Encode => Ok(Wanted::Encode),
         Verb::Decode => Ok(Wanted::Decode),
         Verb::Import => Ok(Wanted::Import),
@@ -92,6 +82,25 @@ fn words_of<'a>(
         words.push(*word)?;
     }
     Ok(words)
+}
+
+fn session_of<'a>(answers: &ArgMatches<'a>) -> Wanted<'a>
+    ensures { AreSettings result }
+{
+    Wanted::Run {
+        shards: SHARDS.of(answers, "shards") as usize,
+        turns: TURNS.of(answers, "turns"),
+    }
+}
+
+fn trace_of<'a>(answers: &ArgMatches<'a>) -> Wanted<'a>
+    ensures { AreSettings result }
+{
+    Wanted::Trace {
+        shards: SHARDS.of(answers, "shards") as usize,
+        rounds: ROUNDS.of(answers, "rounds") as usize,
+        picture: answers.get_flag("picture"),
+    }
 }
 
 fn inquiry_of<'a>(alloc: Global, answers: &ArgMatches<'a>) -> Result<Inquiry<'a>, AllocError> {
@@ -166,58 +175,5 @@ fn snapshotting_of<'a>(answers: &ArgMatches<'a>) -> Snapshotting<'a> {
         port: port_of(answers),
         folder: text_of(answers, "out"),
         every: answers.get_one::<u64>("every"),
-    }
-}
-
-fn serving_of<'a>(alloc: Global, verb: Verb, answers: &ArgMatches<'a>) -> Result<Wanted<'a>, Error>
-    ensures { IfOk result AreSettings }
-{
-    match connections_of(text_of(answers, "connections")) {
-        Ok(connections) => Ok(Wanted::Serve {
-            port: port_of(answers),
-            load: answers.get_str("load"),
-            log: answers.get_flag("log"),
-            settings: settings_of(answers, connections),
-        }),
-        Err(NoCount) => Err(refusal(
-            alloc,
-            verb,
-            "--connections takes a number in 1..=1000, or `unlimited`",
-        )),
-    }
-}
-
-/// The text is not a number of connections.
-struct NoCount;
-
-/// How many connections each worker serves; without a number there is no end of them.
-fn connections_of(text: &str) -> Result<Option<u64>, NoCount>
-    ensures { IfOk result (λ count. IfSome count (λ n. (0 < n) × (n ≤ 1000))) }
-{
-    if text == "unlimited" {
-        return Ok(None);
-    }
-    match text.parse::<u64>() {
-        Ok(count) if CONNECTIONS.has(count) => Ok(Some(count)),
-        _ => Err(NoCount),
-    }
-}
-
-fn settings_of(answers: &ArgMatches<'_>, connections: Option<u64>) -> Settings
-    ensures connections { result.connections ≡ connections }
-    ensures limits { (result.rounds ≤ 16) × (result.tries ≤ 1000000) × (result.most_open ≤ 1000000) }
-    ensures times { (result.retries ≤ 1000000) × (0 < result.idle) × (result.idle ≤ 86400) }
-{
-    Settings {
-        workers: WORKERS.of(answers, "workers"),
-        connections,
-        most_open: MAX_OPEN.of(answers, "max-open"),
-        read_port: answers.get_one::<u16>("read-port"),
-        until_eof: answers.get_flag("until-eof"),
-        shards: SHARDS.of(answers, "shards") as usize,
-        rounds: ROUNDS.of(answers, "rounds"),
-        retries: RETRIES.of(answers, "retries"),
-        idle: IDLE.of(answers, "idle"),
-        tries: TRIES.of(answers, "tries"),
     }
 }
