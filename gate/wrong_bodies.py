@@ -29,8 +29,9 @@ PAIR = re.compile(r"^(file|old|new): ?(.*)$", re.M)
 PARTS = ("src", "specs", "proofs")
 FUNCTION = re.compile(r"^( *)(?:pub(?:\([a-z]+\))? )?(?:const )?fn (\w+)")
 
-# What a check says of a function that is not proved, and of a text that it can't read.
-NOT_PROVED = re.compile(r"^fn (\S+): (?:not proved|no proof)", re.M)
+# What a check says of a function that is not proved, and of a text that it can't read. (A function that only has no proof because
+# it calls one that is not proved has not been looked at.)
+NOT_PROVED = re.compile(r"^fn (\S+): (?:not proved|no proof(?!: it calls))", re.M)
 UNREAD = re.compile(r"^\S+: error\[|^(?:\./)?(?:src|specs)/\S+: error|\berror\[[\w-]+\]", re.M)
 # A proof file that names what a wrong body took away: a refusal that says little of the contract.
 NAMES = re.compile(r"^(?:note: )?(?:\./)?proofs/(\S+?):.*(?:has no field|is not in scope|has no `|was not admitted)", re.M)
