@@ -40,12 +40,7 @@ fn show(alloc: Global, map: &Contents, name: &str, notes: &mut Notes) -> Result<
 
 /// A name, whether the viewer has room, how a get of it is answered, and what the viewer has noted.
 static ROWS: [(&str, bool, &str, &[u8]); 3] = [
-    (
-        "a",
-        true,
-        "shown",
-        b"{\"keys\":[],\"spiffe_sequence\":5}",
-    ),
+    ("a", true, "shown", b"{\"keys\":[],\"spiffe_sequence\":5}"),
     ("a", false, "found 5/0", b""),
     ("b", true, "refused 30", b""),
 ];

@@ -153,7 +153,11 @@ fn joins(
     play(alloc, Shown::Counted, second, row.second)?;
     play_last(alloc, first.copy()?, row.copy)?;
     is_equal(&union_text(alloc, first, second)?.as_str(), &row.all)?;
-    play_last(alloc, union_of(alloc, first, second)?.into_contents()?, row.joined)
+    play_last(
+        alloc,
+        union_of(alloc, first, second)?.into_contents()?,
+        row.joined,
+    )
 }
 
 #[test]
