@@ -1,3 +1,4 @@
-module hopslintel
+module hopslintel.example/hopslintel
 
+// What Debian 12 has.
 go 1.19

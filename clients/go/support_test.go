@@ -1,0 +1,207 @@
+// SPDX-License-Identifier: Apache-2.0
+
+package hopslintel
+
+// What the tests share: documents, the program, and servers that fail. The tests ask the built program, whose path is in
+// BUNDLED, and servers that answer as none should. What they expect stands in docs/FORMATS.md, or was made by another
+// program: each NAME.canonical in gate/bundles.
+
+import (
+	"bufio"
+	"context"
+	"errors"
+	"io"
+	"net"
+	"os"
+	"os/exec"
+	"reflect"
+	"strings"
+	"sync"
+	"testing"
+	"time"
+)
+
+const bundles = "../../gate/bundles"
+
+var (
+	empty = []byte(`{"keys":[]}`)
+	third = []byte(`{"keys":[],"spiffe_sequence":3}`)
+	key   = []byte(`{"use":"jwt-svid","kty":"RSA","kid":"k","n":"AQAB","e":"AQAB"}`)
+)
+
+func soon(t testing.TB) context.Context {
+	ctx, cancel := context.WithTimeout(context.Background(), time.Minute)
+	t.Cleanup(cancel)
+	return ctx
+}
+
+func program(t testing.TB) string {
+	path := os.Getenv("BUNDLED")
+	if path == "" {
+		t.Fatal("BUNDLED has to be the path of the program")
+	}
+	return path
+}
+
+// serve starts the program behind a port, and gives what stands in its line after "listening".
+func serve(t testing.TB, options ...string) []string {
+	words := append([]string{"serve", "--port", "0", "--workers", "2", "--connections", "unlimited"}, options...)
+	server := exec.Command(program(t), words...)
+	output, err := server.StdoutPipe()
+	check(t, err)
+	check(t, server.Start())
+	t.Cleanup(func() {
+		server.Process.Kill()
+		server.Wait()
+	})
+	line, err := bufio.NewReader(output).ReadString('\n')
+	check(t, err)
+	return strings.Fields(line)[1:]
+}
+
+func dial(t testing.TB, port string, options ...Option) *Client {
+	client, err := Dial(soon(t), "127.0.0.1:"+port, options...)
+	check(t, err)
+	t.Cleanup(func() { client.Close() })
+	return client
+}
+
+func check(t testing.TB, err error) {
+	t.Helper()
+	if err != nil {
+		t.Fatal(err)
+	}
+}
+
+func equal(t testing.TB, found, wanted any) {
+	t.Helper()
+	if !reflect.DeepEqual(found, wanted) {
+		t.Fatalf("%v, and not %v", found, wanted)
+	}
+}
+
+// is wants the error to be each of these.
+func is(t testing.TB, err error, wanted ...error) {
+	t.Helper()
+	for _, it := range wanted {
+		if !errors.Is(err, it) {
+			t.Fatalf("%v, and not %v", err, it)
+		}
+	}
+}
+
+func isNot(t testing.TB, err error, unwanted ...error) {
+	t.Helper()
+	for _, it := range unwanted {
+		if errors.Is(err, it) {
+			t.Fatalf("%v is %v", err, it)
+		}
+	}
+}
+
+func framed(payloads ...string) string {
+	var stream []byte
+	for _, payload := range payloads {
+		stream = appendFrame(stream, []byte(payload))
+	}
+	return string(stream)
+}
+
+// The payloads of some requests, and replies to them.
+const (
+	getA    = "G\x01a"
+	removeA = "R\x01a"
+	setA    = "S\x01a{\"keys\":[]}"
+	stays   = "stays" // nothing comes, until the client ends the connection
+	leaves  = ""      // nothing comes, and the server ends the connection
+)
+
+func found(text string) string { return framed("f" + text) }
+
+// server answers each request of a connection by the next reply of its list, and then ends it. It takes as many
+// connections as there are lists, one after the other; nobody listens once the last one is taken.
+type server struct {
+	listener net.Listener
+	sessions [][]string
+	lock     sync.Mutex
+	asked    [][]string
+	came     chan string
+}
+
+func answer(t testing.TB, sessions ...[]string) *server {
+	listener, err := net.Listen("tcp", "127.0.0.1:0")
+	check(t, err)
+	s := &server{listener: listener, sessions: sessions, came: make(chan string, 1000)}
+	ended := make(chan struct{})
+	go func() {
+		defer close(ended)
+		s.run()
+	}()
+	t.Cleanup(func() {
+		listener.Close()
+		<-ended
+	})
+	return s
+}
+
+func (s *server) run() {
+	for number, replies := range s.sessions {
+		stream, err := s.listener.Accept()
+		if err != nil {
+			return // it was closed
+		}
+		if number == len(s.sessions)-1 {
+			s.listener.Close()
+		}
+		s.lock.Lock()
+		s.asked = append(s.asked, nil)
+		s.lock.Unlock()
+		s.serve(stream, replies)
+	}
+}
+
+func (s *server) serve(stream net.Conn, replies []string) {
+	defer stream.Close()
+	for _, reply := range replies {
+		payload, err := readFrame(stream)
+		if err != nil {
+			return // the client is gone
+		}
+		s.lock.Lock()
+		s.asked[len(s.asked)-1] = append(s.asked[len(s.asked)-1], string(payload))
+		s.lock.Unlock()
+		s.came <- string(payload)
+		if reply == stays {
+			io.Copy(io.Discard, stream)
+			return
+		}
+		stream.Write([]byte(reply))
+	}
+}
+
+// requests are those of each connection, so far.
+func (s *server) requests() [][]string {
+	s.lock.Lock()
+	defer s.lock.Unlock()
+	return append([][]string{}, s.asked...)
+}
+
+func (s *server) dial(t testing.TB, options ...Option) *Client {
+	_, port, err := net.SplitHostPort(s.listener.Addr().String())
+	check(t, err)
+	return dial(t, port, options...)
+}
+
+// beside runs the functions in goroutines, and waits for them.
+func beside(t testing.TB, does ...func() error) {
+	t.Helper()
+	failed := make(chan error, len(does))
+	for _, it := range does {
+		go func(does func() error) { failed <- does() }(it)
+	}
+	for range does {
+		if err := <-failed; err != nil {
+			t.Error(err)
+		}
+	}
+}
