@@ -3,8 +3,8 @@
 
 usage: gate/clients.py   (over the program that rt ci or rt run has built in crates/bundled/out/)
 
-Neither the tests nor the exchanges take what they expect from the program. Those of the client in Go are left out if the
-machine has no go.
+Neither the tests nor the exchanges take what they expect from the program. What of them a machine has no program for, such
+as go, is left out.
 """
 import faulthandler
 import os
@@ -62,24 +62,54 @@ class Told(unittest.TestResult):
         return test.id().rpartition(".")[2].replace("test_", "", 1)
 
 
-def go_tests():
-    """How many tests of the client in Go passed and failed; or nothing, if they are left out."""
-    if not shutil.which("go"):
-        print("the client in Go: left out, since this machine has no go", flush=True)
-        return None
-    with tempfile.TemporaryDirectory(prefix="go-tests-") as home:
-        env = {"HOME": home, **os.environ, "CGO_ENABLED": "0", "GOFLAGS": ""}
-        words = ["go", "test", "-count=1", f"-timeout={SECONDS}s", "-v", "."]
+class InGo:
+    """What is checked of the clients in Go, over the go of this machine: how many checks passed and failed, and how many
+    were left out."""
+
+    def __init__(self):
+        self.passed = self.failed = self.left_out = 0
+
+    def leave_out(self, what, why):
+        self.left_out += 1
+        print(f"{what}: left out, since this machine has no {why}", flush=True)
+
+    def count(self, name, wrong=""):
+        self.passed, self.failed = self.passed + (not wrong), self.failed + bool(wrong)
+        print(f"{name}: FAILED: {wrong[-2000:]}" if wrong else f"{name}: as it should be", flush=True)
+
+    def run(self):
+        if not shutil.which("go"):
+            self.leave_out("the client in Go", "go")
+            return
+        with tempfile.TemporaryDirectory(prefix="go-tests-") as home:
+            self.env = {"HOME": home, **os.environ, "GOFLAGS": "", "CGO_ENABLED": "0"}
+            self.is_formatted()
+            self.is_vetted_and_tested("go", f"{ROOT}/clients/go")
+
+    def is_formatted(self):
+        status, said = self.said("gofmt", "-l", f"{ROOT}/clients/go")
+        self.count("gofmt", said or ("gofmt failed" if status else ""))
+
+    def is_vetted_and_tested(self, name, folder):
+        status, said = self.said("go", "vet", ".", cwd=folder)
+        self.count(f"{name} vet", said or ("go vet failed" if status else ""))
+        race = []
+        if shutil.which("gcc"):
+            race, self.env["CGO_ENABLED"] = ["-race"], "1"
+        else:
+            self.leave_out(f"{name} test with the race detector", "gcc")
+        status, said = self.said("go", "test", "-count=1", f"-timeout={SECONDS}s", "-v", *race, ".", cwd=folder)
+        for test in re.findall(r"^--- PASS: (\w+)", said, re.M):
+            self.count(f"{name} {test}")
+        skipped = re.findall(r"^--- SKIP: (\w+)", said, re.M)
+        if status or skipped or "--- PASS" not in said:
+            self.count(f"{name} test", said)
+
+    def said(self, *words, cwd=ROOT):
+        """The status of a command, and what it says."""
         how = {"stdout": subprocess.PIPE, "stderr": subprocess.STDOUT, "stdin": subprocess.DEVNULL, "text": True}
-        ran = subprocess.run(words, cwd=f"{ROOT}/clients/go", env=env, **how)
-    passed = re.findall(r"^--- PASS: (\w+)", ran.stdout, re.M)
-    failed = re.findall(r"^--- FAIL: (\w+)", ran.stdout, re.M)
-    for name in passed:
-        print(f"go {name}: as it should be", flush=True)
-    if ran.returncode or failed or not passed:
-        print(f"go test: FAILED: {ran.stdout[-2000:]}", flush=True)
-        return len(passed), max(len(failed), 1)
-    return len(passed), 0
+        ran = subprocess.run(words, cwd=cwd, env=self.env, **how)
+        return ran.returncode, ran.stdout
 
 
 def main():
@@ -92,13 +122,13 @@ def main():
     load.loadTestsFromTestCase(Exchanges).run(told)
     load.loadTestsFromName("test_hopslintel").run(told)
     faulthandler.cancel_dump_traceback_later()
-    in_go = go_tests()
-    left_out = len(told.skipped) + (in_go is None)
+    in_go = InGo()
+    in_go.run()
+    left_out = len(told.skipped) + in_go.left_out
     if left_out:
         print(f"{left_out} left out")
-    in_python = told.passed, len(told.errors) + len(told.failures)
-    passed, failed = map(sum, zip(in_python, in_go or (0, 0)))
-    print(f"{passed} passed, {failed} failed")
+    failed = len(told.errors) + len(told.failures) + in_go.failed
+    print(f"{told.passed + in_go.passed} passed, {failed} failed")
     return 1 if failed else 0
 
 

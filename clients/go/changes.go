@@ -1,0 +1,89 @@
+// SPDX-License-Identifier: Apache-2.0
+
+package hopslintel
+
+import (
+	"bytes"
+	"context"
+	"errors"
+	"os"
+	"time"
+)
+
+// Changes are what changed from one fetch-all to the next.
+type Changes struct {
+	// Bundles are all of them, as they stood at one moment.
+	Bundles Bundles
+	// Added are those of trust domains that had none.
+	Added Bundles
+	// Changed are those that took the place of others.
+	Changed Bundles
+	// Removed has the trust domains that have no bundle any more, in order.
+	Removed []string
+}
+
+// ChangesBetween gives what changed from the bundles before to those after. Canonical texts are equal if and only if the
+// bundles are.
+func ChangesBetween(before, after Bundles) Changes {
+	changes := Changes{Bundles: after, Added: Bundles{}, Changed: Bundles{}}
+	for name, text := range after {
+		if old, ok := before[name]; !ok {
+			changes.Added[name] = text
+		} else if !bytes.Equal(old, text) {
+			changes.Changed[name] = text
+		}
+	}
+	for _, name := range before.Names() {
+		if _, ok := after[name]; !ok {
+			changes.Removed = append(changes.Removed, name)
+		}
+	}
+	return changes
+}
+
+func (c Changes) areNone() bool {
+	return len(c.Added)+len(c.Changed)+len(c.Removed) == 0
+}
+
+// Follow makes a fetch-all again and again, this interval apart, and gives the function what changed from one to the next.
+// What comes first is what is there, all of it as added, even if it is nothing; after that the function is called only if
+// something changed.
+//
+// It ends with the first error of the function, with the context, with Close, or with a fetch-all that fails. If onError
+// is given, a fault of the moment goes to that, and the next fetch-all comes after the interval: no connection, no answer
+// within the client's time, or an answer that gave up. The bundles of before stay in use for so long.
+func (c *Client) Follow(ctx context.Context, interval time.Duration, changed func(Changes) error, onError func(error)) error {
+	var before Bundles
+	for {
+		bundles, err := c.FetchAll(ctx)
+		if err != nil {
+			if ended := c.ended(ctx); ended != nil {
+				return ended
+			}
+			if onError == nil || !c.isOfTheMoment(err) {
+				return err
+			}
+			onError(err)
+		} else {
+			changes := ChangesBetween(before, bundles)
+			if before == nil || !changes.areNone() {
+				if err := changed(changes); err != nil {
+					return err
+				}
+			}
+			before = bundles
+		}
+		if err := c.wait(ctx, interval); err != nil {
+			return err
+		}
+	}
+}
+
+// isOfTheMoment tells whether the same request may have an answer next time.
+func (c *Client) isOfTheMoment(err error) bool {
+	var given *GivenUpError
+	if errors.As(err, &given) {
+		return true
+	}
+	return c.dial != nil && (errors.Is(err, ErrDisconnected) || errors.Is(err, os.ErrDeadlineExceeded))
+}
