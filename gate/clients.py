@@ -17,10 +17,12 @@ import unittest
 
 sys.dont_write_bytecode = True
 
-from checks import ROOT, bytes_of, program, run_words  # noqa: E402
+from checks import BUNDLES, ROOT, bytes_of, program, run_words  # noqa: E402
 
 SECONDS = 600
 LETTERS = set(b"SARGFVC")
+# Where Debian's packages of Go put their sources, and that of go-spiffe among them.
+GO_SOURCES, GO_SPIFFE = "/usr/share/gocode", "github.com/spiffe/go-spiffe"
 
 
 class Exchanges(unittest.TestCase):
@@ -85,10 +87,23 @@ class InGo:
             self.env = {"HOME": home, **os.environ, "GOFLAGS": "", "CGO_ENABLED": "0"}
             self.is_formatted()
             self.is_vetted_and_tested("go", f"{ROOT}/clients/go")
+            self.follows_for_go_spiffe(home)
 
     def is_formatted(self):
         status, said = self.said("gofmt", "-l", f"{ROOT}/clients/go")
         self.count("gofmt", said or ("gofmt failed" if status else ""))
+
+    def follows_for_go_spiffe(self, home):
+        """The module for go-spiffe, over the go-spiffe that Debian installs as sources and without go.mod files."""
+        installed = [it for it in [*os.environ.get("GOPATH", "").split(":"), GO_SOURCES] if os.path.isdir(f"{it}/src/{GO_SPIFFE}")]
+        if not installed:
+            self.leave_out("the source for go-spiffe", "go-spiffe")
+            return
+        # The two modules, as they would lie among those sources.
+        folder = f"{home}/sources/src/hopslintel.example/hopslintel"
+        shutil.copytree(f"{ROOT}/clients/go", folder, ignore=lambda at, names: [it for it in names if at == f"{ROOT}/clients/go" and it.endswith("_test.go")])
+        self.env.update(GO111MODULE="off", GOPATH=f"{home}/sources:{installed[0]}", BUNDLES=BUNDLES)
+        self.is_vetted_and_tested("go-spiffe", f"{folder}/spiffe")
 
     def is_vetted_and_tested(self, name, folder):
         status, said = self.said("go", "vet", ".", cwd=folder)

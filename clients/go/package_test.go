@@ -22,11 +22,14 @@ func read(t testing.TB, path string) string {
 }
 
 func TestLicense(t *testing.T) {
-	equal(t, read(t, "LICENSE"), read(t, "../../LICENSE"))
-	files, err := filepath.Glob("*.go")
-	check(t, err)
-	for _, file := range files {
-		equal(t, strings.HasPrefix(read(t, file), "// SPDX-License-Identifier: Apache-2.0\n"), true)
+	for _, folder := range []string{".", "spiffe"} {
+		equal(t, read(t, filepath.Join(folder, "LICENSE")), read(t, "../../LICENSE"))
+		files, err := filepath.Glob(filepath.Join(folder, "*.go"))
+		check(t, err)
+		equal(t, len(files) > 2, true)
+		for _, file := range files {
+			equal(t, strings.HasPrefix(read(t, file), "// SPDX-License-Identifier: Apache-2.0\n"), true)
+		}
 	}
 }
 
