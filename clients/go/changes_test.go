@@ -93,7 +93,7 @@ func TestFollowEnds(t *testing.T) {
 	// The client's own time is one of the moment.
 	server := answer(t, []string{stays}, []string{framed(count(0))})
 	timeouts := 0
-	err := server.dial(t, WithTimeout(50*time.Millisecond)).Follow(soon(t), time.Millisecond,
+	err := server.dial(t, WithTimeout(2*short)).Follow(soon(t), time.Millisecond,
 		func(Changes) error { return io.EOF }, func(err error) { is(t, err, os.ErrDeadlineExceeded); timeouts++ })
 	equal(t, err, io.EOF)
 	equal(t, timeouts, 1)

@@ -12,9 +12,12 @@ import (
 	"time"
 )
 
+// short is long enough for a request to be sent.
+const short = 250 * time.Millisecond
+
 // brief is a context whose time is over soon.
 func brief(t testing.TB) context.Context {
-	ctx, cancel := context.WithTimeout(context.Background(), 50*time.Millisecond)
+	ctx, cancel := context.WithTimeout(context.Background(), short)
 	t.Cleanup(cancel)
 	return ctx
 }
@@ -60,7 +63,7 @@ func TestTheWaitForOthersEnds(t *testing.T) {
 	err := client.Remove(brief(t), "a")
 	is(t, err, context.DeadlineExceeded)
 	isNot(t, err, os.ErrDeadlineExceeded, ErrInDoubt, ErrDisconnected)
-	client.timeout = 50 * time.Millisecond
+	client.timeout = short
 	err = client.Remove(soon(t), "a")
 	is(t, err, os.ErrDeadlineExceeded)
 	isNot(t, err, context.DeadlineExceeded, ErrInDoubt, ErrDisconnected)
@@ -108,8 +111,8 @@ func TestTimeouts(t *testing.T) {
 		option Option
 		wanted error
 	}{
-		{context.Background(), WithTimeout(50 * time.Millisecond), os.ErrDeadlineExceeded},
-		{soon(t), WithTimeout(50 * time.Millisecond), os.ErrDeadlineExceeded},
+		{context.Background(), WithTimeout(short), os.ErrDeadlineExceeded},
+		{soon(t), WithTimeout(short), os.ErrDeadlineExceeded},
 		{nil, WithTimeout(0), context.DeadlineExceeded},
 		{nil, WithTimeout(time.Minute), context.DeadlineExceeded},
 		{cancelled, WithTimeout(0), context.Canceled},
@@ -120,7 +123,7 @@ func TestTimeouts(t *testing.T) {
 			row.ctx = brief(t)
 		}
 		if row.ctx == cancelled {
-			time.AfterFunc(50*time.Millisecond, cancel)
+			time.AfterFunc(short, cancel)
 		}
 		err := client.Remove(row.ctx, "a")
 		is(t, err, row.wanted, ErrInDoubt)
@@ -145,7 +148,7 @@ func TestDrippingReplies(t *testing.T) {
 			time.Sleep(time.Millisecond)
 		}
 	}()
-	_, err := NewClient(ours, WithTimeout(50*time.Millisecond)).Get(soon(t), "a")
+	_, err := NewClient(ours, WithTimeout(short)).Get(soon(t), "a")
 	is(t, err, os.ErrDeadlineExceeded)
 }
 
@@ -164,14 +167,22 @@ func TestTheTimeOfRetries(t *testing.T) {
 	for number := range replies {
 		replies[number] = framed(held)
 	}
-	client := answer(t, replies).dial(t, WithRetries(len(replies)), WithTimeout(100*time.Millisecond))
-	start := time.Now()
-	_, err := client.Get(soon(t), "a")
-	equal(t, errors.Is(err, ErrHeld) || errors.Is(err, os.ErrDeadlineExceeded), true)
+	start, answers := time.Now(), 0
+	// (the time may also be over inside a try)
+	for tries := 0; tries < 20 && answers == 0; tries++ {
+		client := answer(t, replies).dial(t, WithRetries(len(replies)), WithTimeout(100*time.Millisecond))
+		_, err := client.Get(soon(t), "a")
+		if errors.Is(err, ErrHeld) {
+			answers++
+		} else {
+			is(t, err, os.ErrDeadlineExceeded)
+		}
+	}
+	equal(t, answers, 1)
 	equal(t, time.Since(start) < 20*time.Second, true)
 	ctx, cancel := context.WithCancel(context.Background())
-	client = answer(t, replies).dial(t, WithRetries(len(replies)))
-	time.AfterFunc(50*time.Millisecond, cancel)
+	client := answer(t, replies).dial(t, WithRetries(len(replies)))
+	time.AfterFunc(short, cancel)
 	is(t, client.Remove(ctx, "a"), context.Canceled)
 }
 
@@ -183,7 +194,7 @@ func TestDialsEnd(t *testing.T) {
 	}
 	_, err := DialFunc(brief(t), never)
 	is(t, err, context.DeadlineExceeded)
-	_, err = DialFunc(soon(t), never, WithTimeout(50*time.Millisecond))
+	_, err = DialFunc(soon(t), never, WithTimeout(short))
 	is(t, err, os.ErrDeadlineExceeded)
 	client := answer(t, []string{leaves}).dial(t)
 	is(t, client.Remove(soon(t), "a"), ErrInDoubt)
@@ -196,9 +207,33 @@ func TestDialsEnd(t *testing.T) {
 		<-dialing
 		client.Close()
 	}()
+	start := time.Now()
 	err = client.Remove(soon(t), "a")
 	is(t, err, ErrClosed, net.ErrClosed)
 	isNot(t, err, ErrInDoubt)
+	equal(t, time.Since(start) < 20*time.Second, true)
+}
+
+// stuck is a stream whose read nothing ends.
+type stuck struct{ net.Conn }
+
+func (stuck) Close() error { return nil }
+
+// Calls that wait end with Close and with their contexts even if the one whose turn it is does not.
+func TestAStuckStream(t *testing.T) {
+	ours, theirs := net.Pipe()
+	client := NewClient(stuck{ours}, WithTimeout(0))
+	ended := make(chan error, 1)
+	go func() {
+		_, err := client.Get(context.Background(), "a")
+		ended <- err
+	}()
+	readFrame(theirs)
+	is(t, client.Remove(brief(t), "a"), context.DeadlineExceeded)
+	time.AfterFunc(short, func() { client.Close() })
+	is(t, client.Remove(soon(t), "a"), ErrClosed)
+	theirs.Close()
+	is(t, <-ended, ErrClosed)
 }
 
 // After Close all calls are ErrClosed at once: later ones, those that wait, and the one whose turn it is.

@@ -139,7 +139,7 @@ func TestTheTimeOfAPipeline(t *testing.T) {
 	for place := range first {
 		first[place] = found("x")
 	}
-	client := answer(t, append(first, stays)).dial(t, WithTimeout(50*time.Millisecond))
+	client := answer(t, append(first, stays)).dial(t, WithTimeout(time.Second))
 	replies := 0
 	err := client.Pipeline(soon(t), requests, func(int, Reply) error { replies++; return nil })
 	is(t, err, os.ErrDeadlineExceeded)
