@@ -60,9 +60,12 @@ func serve(t testing.TB, options ...string) []string {
 }
 
 func dial(t testing.TB, port string, options ...Option) *Client {
-	client, err := Dial(soon(t), "127.0.0.1:"+port, options...)
+	client, err := Dial(soon(t), "127.0.0.1:"+port)
 	check(t, err)
 	t.Cleanup(func() { client.Close() })
+	for _, option := range options { // now, so that a short time is that of calls, and not of this one
+		option(client)
+	}
 	return client
 }
 
