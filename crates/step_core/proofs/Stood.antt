@@ -1,5 +1,5 @@
 -- What is confirmed has stood since it was read.
-use Rattle.std.proofs.Common.{◌≡◌, ◌≢◌, ℕ, ◌+◌, ◌<◌, ◌≤◌, ◌==◌, Bool, true, false, cond, List, [], ◌∷◌, ◌++◌, length, Ok, Err, ◌⊎◌, inl, inr, ⊎_elim, arith, refl, sym, ap, subst, ◌∙◌}
+use Rattle.std.proofs.Common.{◌≡◌, ℕ, ◌+◌, ◌<◌, ◌≤◌, ◌==◌, Bool, true, false, cond, List, [], ◌∷◌, ◌++◌, length, Ok, Err, ◌⊎◌, inl, inr, ⊎_elim, arith, refl, sym, ap, subst, ◌∙◌}
 use Rattle.map_core.specs.declared.op.Op.{Op}
 use Rattle.map_core.specs.declared.reply.AskError.TheVariants.{Moved}
 use Rattle.step_core.specs.declared.event.Event.{Event}
@@ -69,7 +69,7 @@ turn_keeps n rounds s op round k v (Collecting now readings) h =
 turn_keeps n rounds s op round k v (Confirming now readings j) h = confirm_keeps n rounds round k now v readings j (s j).revision h
 turn_keeps n rounds s op round k v (Done reply) h = tt
 
--- along events that begin nothing of the caller
+-- along events that begin nothing of the caller: one that it asks to begin while it is not idle does not fit
 module _ (n rounds round k : ℕ) (v : ShardVersion) (c : ℕ) where
   moved_keeps : (w : World) (other : ℕ) (t : Turn) → (other ≡ c → Kept round k v t.phase) → Kept round k v (w.phases c) → Kept round k v ((after_turn w other t).phases c)
   moved_keeps w other t own h =
@@ -89,13 +89,13 @@ module _ (n rounds round k : ℕ) (v : ShardVersion) (c : ℕ) where
   idle_keeps true w other h = moved_keeps w other (to_phase w Idle) (λ is. tt) h
   idle_keeps false w other h = h
 
-  begin_keeps : (b : Bool) (w : World) (other : ℕ) (op : Op) (phase : Phase) → other ≢ c → Kept round k v (w.phases c) → Kept round k v ((let x : World = cond b (with_operation w other op phase) w in x).phases c)
-  begin_keeps true w other op phase ne h = moved_keeps w other (to_phase w phase) (λ is. absurd (ne is)) h
-  begin_keeps false w other op phase ne h = h
+  begin_keeps : (b : Bool) (w : World) (other : ℕ) (op : Op) (phase : Phase) → (other ≡ c → b ≡ false) → Kept round k v (w.phases c) → Kept round k v ((let x : World = cond b (with_operation w other op phase) w in x).phases c)
+  begin_keeps true w other op phase not h = moved_keeps w other (to_phase w phase) (λ is. let never : true ≡ false = not is in cc) h
+  begin_keeps false w other op phase not h = h
 
-  events_keep : (events : List Event) (w : World) → BeginsNothing c events → Kept round k v (w.phases c) → Kept round k v ((world_from n rounds w events).phases c)
+  events_keep : (events : List Event) (w : World) → BeginsNothing n rounds w c events → Kept round k v (w.phases c) → Kept round k v ((world_from n rounds w events).phases c)
   events_keep [] w b h = h
-  events_keep (Begin other op ∷ events) w b h = events_keep events (next n rounds w (Begin other op)) b.1 (begin_keeps (is_idle (w.phases other)) w other op (start_phase n op) b.0 h)
+  events_keep (Begin other op ∷ events) w b h = events_keep events (next n rounds w (Begin other op)) b.1 (begin_keeps (is_idle (w.phases other)) w other op (start_phase n op) (λ is. subst (λ (x : ℕ). is_idle (w.phases x) ≡ false) (sym is) (b.0 is)) h)
   events_keep (Step other ∷ events) w b h = events_keep events (next n rounds w (Step other)) b (step_keeps w other h)
   events_keep (Quit other reason ∷ events) w b h = events_keep events (next n rounds w (Quit other reason)) b (idle_keeps (is_open (w.phases other)) w other h)
   events_keep (End other ∷ events) w b h = events_keep events (next n rounds w (End other)) b (idle_keeps (is_done (w.phases other)) w other h)
@@ -128,9 +128,10 @@ step_shard n rounds w c round readings is =
 
 pub confirmed_stood : (n rounds : ℕ) (start : World) (c round : ℕ) (readings all : List ShardVersion) (before after : List Event) →
     let shard = length readings in
-    let middle = world_from n rounds (next n rounds start (Step c)) before in
+    let read = next n rounds start (Step c) in
+    let middle = world_from n rounds read before in
     let later = world_from n rounds middle after in
-    start.phases c ≡ Collecting round readings → BeginsNothing c (before ++ after) → later.phases c ≡ Confirming round all shard
+    start.phases c ≡ Collecting round readings → BeginsNothing n rounds read c (before ++ after) → later.phases c ≡ Confirming round all shard
     → (reading all shard).revision ≡ (later.shards shard).revision → (middle.shards shard).part ≡ (reading all shard).part
 confirmed_stood n rounds start c round readings all before after is nothing confirming same =
     let shard = length readings in

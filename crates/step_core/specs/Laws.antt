@@ -1,5 +1,5 @@
 -- The laws of the machine, for every list of events.
-use Rattle.std.specs.Prelude.{◌≡◌, ◌≢◌, ℕ, ◌<◌, ◌≤◌, not, Bool, true, false, cond, List, [], ◌∷◌, ◌++◌, map, filter, length, Some, None, Ok, IsPermutation}
+use Rattle.std.specs.Prelude.{◌≡◌, ℕ, ◌<◌, ◌≤◌, not, Bool, true, false, cond, List, [], ◌∷◌, ◌++◌, map, filter, length, Some, None, Ok, IsPermutation}
 use Rattle.std.specs.FinMap as finite
 use Rattle.map_core.specs.declared.op.Op.{Op}
 use Rattle.map_core.specs.declared.op.Op.TheVariants.{FetchAll}
@@ -11,7 +11,7 @@ use Rattle.step_core.specs.declared.event.Event.{Event}
 use Rattle.step_core.specs.declared.event.Event.TheVariants.{Begin, Step}
 use Rattle.step_core.specs.World.{World, next, fresh_world, world_from}
 use Rattle.step_core.specs.Shard.{ShardVersion, reading}
-use Rattle.step_core.specs.Phase.{Collecting, Confirming}
+use Rattle.step_core.specs.Phase.{Collecting, Confirming, is_idle}
 use Rattle.step_core.specs.Run.{run_of, order_of}
 use Rattle.step_core.specs.Trace.{records_of}
 use Rattle.step_core.specs.Linearization.{Operation, HavePoints, GiveReplies}
@@ -78,19 +78,20 @@ HoldsBetween =
     ((start.shards shard).revision ≤ (later.shards shard).revision)
     × ((start.shards shard).revision ≡ (later.shards shard).revision → (middle.shards shard).part ≡ (start.shards shard).part)
 
--- no event of the list begins an operation of the caller
-abbrev pub BeginsNothing : ℕ → List Event → Type 0
-BeginsNothing c [] = Unit {0}
-BeginsNothing c (Begin other op ∷ events) = (other ≢ c) × BeginsNothing c events
-BeginsNothing c (event ∷ events) = BeginsNothing c events
+-- No event of the list, from this world on, begins an operation of the caller: it may ask to begin one, but it is not idle then.
+abbrev pub BeginsNothing : ℕ → ℕ → World → ℕ → List Event → Type 0
+BeginsNothing n rounds w c [] = Unit {0}
+BeginsNothing n rounds w c (Begin other op ∷ events) = (other ≡ c → is_idle (w.phases c) ≡ false) × BeginsNothing n rounds (next n rounds w (Begin other op)) c events
+BeginsNothing n rounds w c (event ∷ events) = BeginsNothing n rounds (next n rounds w event) c events
 
--- Where a caller reads a shard, and later in that round comes to confirm it and finds the revision that it read, the shard has held the
--- part that was read at every moment between.
+-- Where a caller reads a shard, and later in that round of the same operation comes to confirm it and finds the revision that it read, the
+-- shard has held the part that was read at every moment between, whatever the events are, those that do not fit among them.
 abbrev pub ConfirmedStood : Type 0
 ConfirmedStood =
     (n rounds : ℕ) (start : World) (c round : ℕ) (readings all : List ShardVersion) (before after : List Event) →
     let shard = length readings in
-    let middle = world_from n rounds (next n rounds start (Step c)) before in
+    let read = next n rounds start (Step c) in
+    let middle = world_from n rounds read before in
     let later = world_from n rounds middle after in
-    start.phases c ≡ Collecting round readings → BeginsNothing c (before ++ after) → later.phases c ≡ Confirming round all shard
+    start.phases c ≡ Collecting round readings → BeginsNothing n rounds read c (before ++ after) → later.phases c ≡ Confirming round all shard
     → (reading all shard).revision ≡ (later.shards shard).revision → (middle.shards shard).part ≡ (reading all shard).part
