@@ -158,6 +158,8 @@ SHOWN = [
     ("snapshot --help", "shown snapshot-7 domains 2"),
     ("explain 73", "over 250 bytes"),
     ("serve --help", "worker 0 set a.example none to 7"),
+    ("serve --help", "each worker serves many clients beside each other"),
+    ("serve --help", "--turns <READS>"),
 ]
 
 REFRESH = "refresh --relationships list --documents folder"
@@ -212,7 +214,15 @@ REFUSED = [
     ("snapshot --port 1 --out a --every 86401", "86401 is not in 1..=86400"),
     ("serve", "--port <PORT>"),
     ("serve --port 1 --workers 65", "65 is not in 1..=64"),
+    ("serve --port 1 --turns 0", "0 is not in 1..=1000000000"),
+    ("serve --port 1 --connections unlimited --turns 1000000001", "1000000001 is not in 1..=1000000000"),
     ("serve --port 1 --connections 0", "--connections takes a number in 1..=1000, or `unlimited`"),
+    ("serve --port 1 --connections 1001", "--connections takes a number in 1..=1000, or `unlimited`"),
+    ("serve --port 1 --max-open 1000", "--max-open, --read-port, --until-eof and --idle belong to --connections unlimited"),
+    ("serve --port 1 --connections 1 --read-port 0", "belong to --connections unlimited"),
+    ("serve --port 1 --until-eof --connections 1000", "belong to --connections unlimited"),
+    ("serve --port 1 --idle 60", "belong to --connections unlimited"),
+    ("serve --port 1 --connections unlimited --idle 0", "0 is not in 1..=86400"),
     ("run --version", "unexpected argument '--version'"),
     ("run --shards \udcff", "error: an argument is not UTF-8"),
     ("\udcff", "try '--help'"),

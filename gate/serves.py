@@ -124,7 +124,7 @@ def ports_and_outputs():
 
 def silent_clients(env=None, threads=2):
     """A client that is silent inside a frame is given up. One that is silent between frames for longer than that is not."""
-    server = Server("--workers", "1", "--connections", "3", "--idle", "3", env=env)
+    server = Server("--workers", "1", "--connections", "unlimited", "--idle", "3", "--log", env=env)
     with server.connect() as patient:
         patient.sendall(SET_A)
         assert received(patient, len(STORED)) == STORED
@@ -139,7 +139,9 @@ def silent_clients(env=None, threads=2):
                 assert rest_of(silent) == b""
         patient.sendall(GET_A)
         assert received(patient, len(FOUND)) == FOUND
-    assert server.ended() == (0, "served 3\ndomains 1\n", 2 * "fault 53\n"), "ended otherwise"
+    told = ["set a none to unnumbered", *2 * ["session fault 53"], "session ended after 4 replies"]
+    wanted = "".join(f"worker 0 {line}\n" for line in told)
+    wait_until(lambda: server.said() == wanted, "each end is told")
 
 
 def silent_clients_without_threads():
@@ -149,12 +151,14 @@ def silent_clients_without_threads():
 
 def client_that_never_reads():
     """A client that asks for more than the sockets hold, and reads nothing, is given up."""
-    server = Server("--workers", "1", "--connections", "2", "--idle", "1")
+    server = Lasting("--workers", "1", "--idle", "1", "--log")
     with server.connect() as stream:
         stream.sendall(named(b"S", "a", bytes_of(REAL)) + TOO_MANY * GET_A)
         wait_until_it_writes(stream)
         assert server.ask(GET_A) == frame(b"f" + canonical("many"))
-        assert server.ended() == (0, "served 2\ndomains 1\n", "fault 54\n"), "ended otherwise"
+        wait_until(lambda: server.said().endswith("worker 0 session fault 54\n"), "the client is given up")
+        status, out, err = server.ended()
+        assert (status, out) == (0, "served 2\ndomains 1\n") and err.endswith("session fault 54\nfault 54\n"), (status, out, err)
 
 
 def wait_until_it_writes(stream):

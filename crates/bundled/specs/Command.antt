@@ -8,6 +8,7 @@ use Rattle.command_line.specs.declared.wanted.Wanted.TheVariants.{Run, Ask, Enco
 use Rattle.commands.specs.declared.fault.Fault.{Fault}
 use Rattle.commands.specs.declared.fault.Fault.TheVariants.{Front}
 use Rattle.commands.specs.Fault.{fault_line}
+use Rattle.command_line.specs.Serving.{stops_at_end}
 use Rattle.command_line.specs.Settings.{AreSettings}
 use Rattle.commands.specs.Streams.{Streams, End, EndsWith, Tells}
 use Rattle.commands.specs.Run.{Runs}
@@ -60,7 +61,7 @@ Does (Race seconds) status old new = RaceRun status old new
 Does (Refresh wanted) status old new = RefreshRun status old new
 Does (Snapshot wanted) status old new = SnapshotRun status old new
 Does (Serve port load log settings) status old new =
-    (settings.until_eof ≡ false → new.input ≡ old.input) × ServeCommand load settings status old.output new.output old.error new.error
+    (stops_at_end settings.connections ≡ false → new.input ≡ old.input) × ServeCommand load settings status old.output new.output old.error new.error
 
 -- some text is written; a front of it if the writer failed; nothing if memory ran out
 abbrev pub WritesText : Result (Unit {0}) Fault → End → End → Type 0

@@ -1,5 +1,6 @@
 -- What the command line may ask for.
-use Rattle.std.specs.Prelude.{◌<◌, ◌≤◌, IfSome}
+use Rattle.std.specs.Prelude.{◌<◌, ◌≤◌}
+use Rattle.command_line.specs.Serving.{AreConnections, IsLimit}
 use Rattle.command_line.specs.declared.wanted.Wanted.{Wanted}
 use Rattle.command_line.specs.declared.wanted.Wanted.TheVariants.{Run, Ask, Encode, Decode, Explain, Check, Map, Import, Pem, Diff, Digest, Trace, Migrate, Race, Refresh, Snapshot, Serve}
 
@@ -21,7 +22,7 @@ AreSettings Migrate = Unit {0}
 AreSettings (Race seconds) = (0 < seconds) × (seconds ≤ 60)
 AreSettings (Refresh wanted) = Unit {0}
 AreSettings (Snapshot wanted) = Unit {0}
-AreSettings (Serve port load log settings) = (0 < settings.workers) × (settings.workers ≤ 64) × IfSome settings.connections (λ n. (0 < n) × (n ≤ 1000))
+AreSettings (Serve port load log settings) = (0 < settings.workers) × (settings.workers ≤ 64)
+    × AreConnections settings.connections × IsLimit settings.connections settings.turns
     × (0 < settings.shards) × (settings.shards ≤ 256) × (0 < settings.rounds) × (settings.rounds ≤ 16)
-    × (settings.retries ≤ 1000000) × (0 < settings.idle) × (settings.idle ≤ 86400)
-    × (0 < settings.tries) × (settings.tries ≤ 1000000) × (0 < settings.most_open) × (settings.most_open ≤ 1000000)
+    × (0 < settings.tries) × (settings.tries ≤ 1000000) × (settings.retries ≤ 1000000)

@@ -17,6 +17,8 @@ pub enum Kind {
     Switch,
     /// `--name VALUE`: a number within a range, with a default.
     Number(&'static str, Number),
+    /// `--name VALUE`: such a number, which may be left out; its default is then up to other answers.
+    OptionalNumber(&'static str, Number),
     /// `--name VALUE`: such a number, or a word in its place. So any text is taken, and judged as it is read.
     NumberOrWord(&'static str, Number),
     /// `--name VALUE`, which may be left out.

@@ -25,6 +25,13 @@ pub const TURNS: Argument = Argument {
     help: "How many reads a session may make",
 };
 
+/// The same of `serve`, whose two forms have each a default of its own.
+pub const SERVED_TURNS: Argument = Argument {
+    name: "turns",
+    kind: Kind::OptionalNumber("READS", ranges::TURNS),
+    help: "How many reads a session may make; by default 1000000, and without limit if connections are unlimited",
+};
+
 pub const PICTURE: Argument = Argument {
     name: "picture",
     kind: Kind::Switch,
@@ -112,7 +119,7 @@ pub const EVERY: Argument = Argument {
 pub const UNTIL_EOF: Argument = Argument {
     name: "until-eof",
     kind: Kind::Switch,
-    help: "Stop at the end of standard input, and not before",
+    help: "If connections are unlimited: stop at the end of standard input",
 };
 
 pub const LOG: Argument = Argument {
@@ -136,25 +143,25 @@ pub const WORKERS: Argument = Argument {
 pub const READ_PORT: Argument = Argument {
     name: "read-port",
     kind: Kind::Optional("PORT", FREE_PORT),
-    help: "A second port, where clients may read and change nothing; 0 takes one that is free",
+    help: "If connections are unlimited: a second port, where clients may only read; 0 takes one that is free",
 };
 
 pub const CONNECTIONS: Argument = Argument {
     name: "connections",
     kind: Kind::NumberOrWord("COUNT", ranges::CONNECTIONS),
-    help: "How many connections each worker takes before it ends: 1..=1000, or unlimited",
+    help: "How many clients each worker serves one after the other, 1..=1000; or unlimited: many beside each other",
 };
 
 pub const MAX_OPEN: Argument = Argument {
     name: "max-open",
     kind: Kind::Number("COUNT", ranges::MAX_OPEN),
-    help: "How many connections may be open at once; others wait to be taken",
+    help: "If connections are unlimited: how many may be open at once; others wait to be taken",
 };
 
 pub const IDLE: Argument = Argument {
     name: "idle",
     kind: Kind::Number("SECONDS", ranges::IDLE),
-    help: "How long a client may be silent inside a request, or take nothing of a reply",
+    help: "If connections are unlimited: how long a client may be silent inside a request, or take nothing of a reply",
 };
 
 pub const LOAD: Argument = Argument {

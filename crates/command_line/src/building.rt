@@ -51,6 +51,9 @@ fn arg_of<'a>(alloc: Global, argument: &Argument) -> Arg<'a> {
         Kind::Number(value, number) => option(arg, name, value)
             .value_parser(ValueParser::Unsigned(number.least, number.most))
             .default_value(number.text),
+        Kind::OptionalNumber(value, number) => option(arg, name, value).value_parser(
+            ValueParser::Unsigned(number.least, number.most),
+        ),
         Kind::NumberOrWord(value, number) => option(arg, name, value).default_value(number.text),
         Kind::Optional(value, parser) => option(arg, name, value).value_parser(parser),
         Kind::Required(value, parser) => option(arg, name, value)

@@ -3,8 +3,8 @@ use crate::argument::Argument;
 use crate::arguments::{
     ASKED_PORT, AT_LEAST, CONNECTIONS, DOCUMENTS, EVERY, FILES, IDLE, LISTENED_PORT, LOAD, LOG,
     MAX_OPEN, NAME, NAMES, NEW, NOW, NUMBER, OLD, OUT, PICTURE, RAW, READ_PORT, REFRESHED_PORT,
-    RELATIONSHIPS, REQUEST, RETRIES, RETRY, ROUNDS, SECONDS, SHARDS, TRIES, TURNS, UNTIL_EOF,
-    WORKERS, X509,
+    RELATIONSHIPS, REQUEST, RETRIES, RETRY, ROUNDS, SECONDS, SERVED_TURNS, SHARDS, TRIES, TURNS,
+    UNTIL_EOF, WORKERS, X509,
 };
 use crate::texts;
 
@@ -132,19 +132,20 @@ static SERVE: Row = Row {
     about: "Answers requests at a port of this machine, over a store that its workers share",
     notes: texts::SERVING,
     arguments: &[
-        UNTIL_EOF,
-        LOG,
         LISTENED_PORT,
-        WORKERS,
-        READ_PORT,
         CONNECTIONS,
-        MAX_OPEN,
-        IDLE,
+        SERVED_TURNS,
+        WORKERS,
         LOAD,
+        LOG,
         SHARDS,
         ROUNDS,
         TRIES,
         RETRIES,
+        MAX_OPEN,
+        READ_PORT,
+        UNTIL_EOF,
+        IDLE,
     ],
 };
 

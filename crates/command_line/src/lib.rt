@@ -4,6 +4,7 @@
 //! place: help, the version, or why the arguments are refused.
 #![tactic(auto)]
 
+mod answers;
 mod argument;
 mod arguments;
 mod building;
@@ -18,5 +19,5 @@ mod texts;
 mod wanted;
 
 pub use reading::wanted_by;
-pub use settings::Settings;
+pub use settings::{Connections, Lasting, Settings};
 pub use wanted::{Inquiry, Refreshing, Snapshotting, Wanted};

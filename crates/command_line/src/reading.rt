@@ -2,6 +2,7 @@
 ghost use Rattle.std.specs.Prelude.{IfOk};
 ghost use Rattle.command_line.specs.Settings.{AreSettings};
 
+use crate::answers::{port_of, text_of, words_of};
 use crate::building::program;
 use crate::commands::{VERBS, Verb};
 use crate::explanations::explanation;
@@ -59,29 +60,6 @@ fn wanted_of<'a>(alloc: Global, verb: Verb, answers: &ArgMatches<'a>) -> Result<
             seconds: SECONDS.of(answers, "seconds"),
         }),
     }
-}
-
-/// The text of an argument that has to be given.
-fn text_of<'a>(answers: &ArgMatches<'a>, name: &str) -> &'a str {
-    answers.get_str(name).unwrap_or_default()
-}
-
-/// The port of an argument that has to be given.
-fn port_of(answers: &ArgMatches<'_>) -> u16 {
-    answers.get_one::<u16>("port").unwrap_or(0)
-}
-
-/// The words of an argument.
-fn words_of<'a>(
-    alloc: Global,
-    answers: &ArgMatches<'a>,
-    name: &str,
-) -> Result<Vec<&'a str>, AllocError> {
-    let mut words = Vec::new(alloc);
-    for word in answers.get_strs(name).unwrap_or_default() {
-        words.push(*word)?;
-    }
-    Ok(words)
 }
 
 fn session_of<'a>(answers: &ArgMatches<'a>) -> Wanted<'a>

@@ -1,14 +1,24 @@
 //! How the settings of a server are read.
 ghost use Rattle.std.specs.Prelude.{◌≡◌, ◌<◌, ◌≤◌, IfOk, IfSome};
+ghost use Rattle.std.specs.List.{list_any};
+ghost use Rattle.command_line.specs.Answers.{is_given as stands_there};
+ghost use Rattle.command_line.specs.Serving.{AreConnections, FitsForm, IsLimit, lasting_options};
 ghost use Rattle.command_line.specs.Settings.{AreSettings};
 
+use crate::answers::{is_given, port_of};
 use crate::commands::Verb;
-use crate::ranges::{CONNECTIONS, IDLE, MAX_OPEN, RETRIES, ROUNDS, SHARDS, TRIES, WORKERS};
+use crate::ranges;
 use crate::refusal::refusal;
-use crate::settings::Settings;
+use crate::settings::{Connections, Lasting, Settings};
 use crate::wanted::Wanted;
 use clap::{ArgMatches, Error};
 use std::alloc::Global;
+
+const NO_COUNT: &str = "--connections takes a number in 1..=1000, or `unlimited`";
+
+const OTHER_FORM: &str =
+    "--max-open, --read-port, --until-eof and --idle belong to --connections unlimited: \
+with a number of connections each worker serves one client after the other";
 
 /// A server, by the answers of `serve`.
 pub fn serving_of<'a>(
@@ -18,52 +28,95 @@ pub fn serving_of<'a>(
 ) -> Result<Wanted<'a>, Error>
     ensures { IfOk result AreSettings }
 {
-    match connections_of(answers.get_str("connections").unwrap_or_default()) {
+    match connections_of(answers) {
         Ok(connections) => Ok(Wanted::Serve {
-            port: answers.get_one::<u16>("port").unwrap_or(0),
+            port: port_of(answers),
             load: answers.get_str("load"),
             log: answers.get_flag("log"),
             settings: settings_of(answers, connections),
         }),
-        Err(NoCount) => Err(refusal(
-            alloc,
-            verb,
-            "--connections takes a number in 1..=1000, or `unlimited`",
-        )),
+        Err(reason) => Err(refusal(alloc, verb, reason)),
     }
 }
 
-/// The text is not a number of connections.
-struct NoCount;
-
-/// How many connections each worker serves; without a number there is no end of them.
-fn connections_of(text: &str) -> Result<Option<u64>, NoCount>
-    ensures { IfOk result (λ count. IfSome count (λ n. (0 < n) × (n ≤ 1000))) }
+/// Which connections each worker takes; or why the answers are refused.
+fn connections_of(answers: &ArgMatches<'_>) -> Result<Connections, &'static str>
+    ensures range { IfOk result AreConnections }
+    ensures fits { IfOk result (FitsForm answers.now) }
 {
+    let text = answers.get_str("connections").unwrap_or_default();
     if text == "unlimited" {
-        return Ok(None);
+        return Ok(Connections::Unlimited(lasting_of(answers)));
     }
+    let Some(count) = count_of(text) else {
+        return Err(NO_COUNT);
+    };
+    if asks_to_last(answers) {
+        return Err(OTHER_FORM);
+    }
+    Ok(Connections::Each(count))
+}
+
+/// The number of connections that the text is, if it is one.
+fn count_of(text: &str) -> Option<u64>
+    ensures { IfSome result (λ count. (0 < count) × (count ≤ 1000)) }
+{
     match text.parse::<u64>() {
-        Ok(count) if CONNECTIONS.has(count) => Ok(Some(count)),
-        _ => Err(NoCount),
+        Ok(count) if ranges::CONNECTIONS.has(count) => Some(count),
+        _ => None,
     }
 }
 
-fn settings_of(answers: &ArgMatches<'_>, connections: Option<u64>) -> Settings
-    ensures connections { result.connections ≡ connections }
-    ensures limits { (result.rounds ≤ 16) × (result.tries ≤ 1000000) × (result.most_open ≤ 1000000) }
-    ensures times { (result.retries ≤ 1000000) × (0 < result.idle) × (result.idle ≤ 86400) }
+/// Whether an option of a server that lasts stands on the line.
+fn asks_to_last(answers: &ArgMatches<'_>) -> bool
+    ensures { result ≡ list_any (stands_there answers.now) lasting_options }
 {
-    Settings {
-        workers: WORKERS.of(answers, "workers"),
-        connections,
-        most_open: MAX_OPEN.of(answers, "max-open"),
+    is_given(answers, "max-open")
+        || is_given(answers, "read-port")
+        || is_given(answers, "until-eof")
+        || is_given(answers, "idle")
+}
+
+fn lasting_of(answers: &ArgMatches<'_>) -> Lasting
+    ensures { (result.most_open ≤ 1000000) × (result.idle ≤ 86400) }
+{
+    Lasting {
+        most_open: ranges::MAX_OPEN.of(answers, "max-open"),
         read_port: answers.get_one::<u16>("read-port"),
         until_eof: answers.get_flag("until-eof"),
-        shards: SHARDS.of(answers, "shards") as usize,
-        rounds: ROUNDS.of(answers, "rounds"),
-        retries: RETRIES.of(answers, "retries"),
-        idle: IDLE.of(answers, "idle"),
-        tries: TRIES.of(answers, "tries"),
+        idle: ranges::IDLE.of(answers, "idle"),
+    }
+}
+
+/// How many reads a session may make. A server that lasts sets no limit if none is given.
+fn turns_of(answers: &ArgMatches<'_>, connections: Connections) -> u64
+    ensures limit { IsLimit connections result }
+    ensures some { 0 < result }
+{
+    match connections {
+        Connections::Each(_) => ranges::TURNS.of(answers, "turns"),
+        Connections::Unlimited(_) => {
+            if is_given(answers, "turns") {
+                ranges::TURNS.of(answers, "turns")
+            } else {
+                u64::MAX
+            }
+        }
+    }
+}
+
+fn settings_of(answers: &ArgMatches<'_>, connections: Connections) -> Settings
+    ensures connections { result.connections ≡ connections }
+    ensures turns { IsLimit connections result.turns }
+    ensures limits { (result.rounds ≤ 16) × (result.tries ≤ 1000000) × (result.retries ≤ 1000000) }
+{
+    Settings {
+        workers: ranges::WORKERS.of(answers, "workers"),
+        connections,
+        turns: turns_of(answers, connections),
+        shards: ranges::SHARDS.of(answers, "shards") as usize,
+        rounds: ranges::ROUNDS.of(answers, "rounds"),
+        tries: ranges::TRIES.of(answers, "tries"),
+        retries: ranges::RETRIES.of(answers, "retries"),
     }
 }

@@ -175,10 +175,14 @@ and 42 are told and tried again; any other fault ends the command, with status 1
 folder.";
 
 pub const SERVING: &str = "\
-Each worker is a thread, and serves many connections beside each other. All workers share one store, which is empty at
-the start, or holds what --load gives it: a dump, judged whole and stored before the port is listened at. A connection
-carries the frames that `run` reads and writes; see bundled run --help. At the port of --read-port gets and fetch-alls
-are answered, and what would change a bundle is refused with 56.
+With a number of --connections each worker serves so many clients one after the other, and then the server ends. With
+--connections unlimited it lasts, and each worker serves many clients beside each other: --max-open, --read-port,
+--until-eof and --idle belong to this form only.
+
+Each worker is a thread. All share one store, which is empty at the start, or holds what --load gives it: a dump, judged
+whole and stored before the port is listened at. A connection carries the frames that `run` reads and writes; see
+bundled run --help. At the port of --read-port gets and fetch-alls are answered, and what would change a bundle is
+refused with 56.
 
 On standard output come `listening PORT` before the first connection is taken, with `read-only PORT` on the same line if
 there is such a port, and at the end `served N`, how many connections were served, and `domains M`, how many domains

@@ -1,5 +1,5 @@
 //! Command lines: which command they want, with which settings.
-use command_line::{Settings, Wanted, wanted_by};
+use command_line::{Connections, Settings, Wanted, wanted_by};
 use spiffe_doc::TrustDomain;
 use std::alloc::{AllocError, Global};
 use std::process::Abort;
@@ -37,6 +37,7 @@ fn told_map(alloc: Global, names: &[TrustDomain], x509: bool) -> Result<String, 
     told(alloc, "map", texts.as_slice(), &[Some(u64::from(x509))])
 }
 
+/// Those of a server end with its form: how many connections each worker takes, or the numbers of one that lasts.
 fn told_server(
     alloc: Global,
     port: u16,
@@ -44,21 +45,43 @@ fn told_server(
     log: bool,
     settings: &Settings,
 ) -> Result<String, AllocError> {
+    let texts = [load.unwrap_or("-"), form_of(settings.connections)];
     let numbers = [
-        Some(u64::from(port)),
-        settings.read_port.map(u64::from),
-        Some(u64::from(log)),
-        Some(settings.workers),
-        settings.connections,
-        Some(u64::from(settings.until_eof)),
-        Some(settings.shards as u64),
-        Some(settings.rounds),
-        Some(settings.tries),
-        Some(settings.retries),
-        Some(settings.idle),
-        Some(settings.most_open),
+        u64::from(port),
+        u64::from(log),
+        settings.workers,
+        settings.turns,
+        settings.shards as u64,
+        settings.rounds,
+        settings.tries,
+        settings.retries,
     ];
-    told(alloc, "serve", &[load.unwrap_or("-")], &numbers)
+    let mut all = Vec::new(alloc);
+    for number in numbers {
+        all.push(Some(number))?;
+    }
+    push_form(&mut all, settings.connections)?;
+    told(alloc, "serve", &texts, all.as_slice())
+}
+
+fn form_of(connections: Connections) -> &'static str {
+    match connections {
+        Connections::Each(_) => "each",
+        Connections::Unlimited(_) => "unlimited",
+    }
+}
+
+fn push_form(numbers: &mut Vec<Option<u64>>, connections: Connections) -> Result<(), AllocError> {
+    match connections {
+        Connections::Each(count) => numbers.push(Some(count))?,
+        Connections::Unlimited(lasting) => {
+            numbers.push(Some(lasting.most_open))?;
+            numbers.push(lasting.read_port.map(u64::from))?;
+            numbers.push(Some(u64::from(lasting.until_eof)))?;
+            numbers.push(Some(lasting.idle))?;
+        }
+    }
+    Ok(())
 }
 
 fn told_wanted(alloc: Global, wanted: &Wanted<'_>) -> Result<String, AllocError> {
@@ -186,11 +209,8 @@ fn reads_the_commands_over_lines_and_dumps(rt: HostRuntime) -> Result<(), AllocE
     are_wanted(&rt, rt.alloc(), &OVER_LINES_AND_DUMPS, ' ')
 }
 
-const NO_COUNT: &str =
-    "error: --connections takes a number in 1..=1000, or `unlimited`\n\nUsage: serve [OPTIONS] --port <PORT>\n\nFor more information, try '--help'.\n";
-
 /// The numbers that a line gives or leaves to their defaults, of which no reply tells.
-static NUMBERS: [Line; 21] = [
+static NUMBERS: [Line; 14] = [
     ("run", "run|4|1000000"),
     ("run --turns 7", "run|4|7"),
     ("run --turns=1000000000", "run|4|1000000000"),
@@ -209,25 +229,6 @@ static NUMBERS: [Line; 21] = [
     ("demo race", "race|5"),
     ("demo race --seconds=60", "race|60"),
     ("migrate", "migrate"),
-    (
-        "serve --port 0",
-        "serve|-|0|-|0|2|1|0|4|3|1000|1000|60|1000",
-    ),
-    (
-        "serve --port=65535 --workers=64 --connections=1000 --shards=256 --rounds=16 --tries=1000000 --retries=1000000 --idle=86400 --load=dumps/a --log --max-open=1000000 --read-port=8444",
-        "serve|dumps/a|65535|8444|1|64|1000|0|256|16|1000000|1000000|86400|1000000",
-    ),
-    (
-        "serve --port 1 --workers 65",
-        "error: invalid value '65' for '--workers <COUNT>': 65 is not in 1..=64\n\nFor more information, try '--help'.\n",
-    ),
-    (
-        "serve --port=1 --connections=unlimited --until-eof",
-        "serve|-|1|-|0|2|-|1|4|3|1000|1000|60|1000",
-    ),
-    ("serve --port 1 --connections 0", NO_COUNT),
-    ("serve --port 1 --connections 1001", NO_COUNT),
-    ("serve --port 1 --connections many", NO_COUNT),
     ("--version", "bundled 1.0.0\n"),
     (
         "run --turns 0",
@@ -238,6 +239,65 @@ static NUMBERS: [Line; 21] = [
 #[test]
 fn reads_the_command_line(rt: HostRuntime) -> Result<(), AllocError> {
     are_wanted(&rt, rt.alloc(), &NUMBERS, ' ')
+}
+
+const NO_COUNT: &str =
+    "error: --connections takes a number in 1..=1000, or `unlimited`\n\nUsage: serve [OPTIONS] --port <PORT>\n\nFor more information, try '--help'.\n";
+
+const OTHER_FORM: &str =
+    "error: --max-open, --read-port, --until-eof and --idle belong to --connections unlimited: with a number of connections each worker serves one client after the other\n\nUsage: serve [OPTIONS] --port <PORT>\n\nFor more information, try '--help'.\n";
+
+/// The two forms of a server. What belongs to the one that lasts is refused in the other, also if it is the default.
+static SERVERS: [Line; 17] = [
+    (
+        "serve --port 0",
+        "serve|-|each|0|0|2|1000000|4|3|1000|1000|1",
+    ),
+    (
+        "serve --port=65535 --workers=64 --connections=1000 --turns=1000000000 --shards=256 --rounds=16 --tries=1000000 --retries=1000000 --load=dumps/a --log",
+        "serve|dumps/a|each|65535|1|64|1000000000|256|16|1000000|1000000|1000",
+    ),
+    (
+        "serve --port 1 --turns 1",
+        "serve|-|each|1|0|2|1|4|3|1000|1000|1",
+    ),
+    (
+        "serve --port=1 --connections=unlimited",
+        "serve|-|unlimited|1|0|2|18446744073709551615|4|3|1000|1000|1000|-|0|60",
+    ),
+    (
+        "serve --port=1 --connections unlimited --max-open=1000000 --read-port=8444 --until-eof --idle=86400 --turns=1000000 --log --load=a",
+        "serve|a|unlimited|1|1|2|1000000|4|3|1000|1000|1000000|8444|1|86400",
+    ),
+    (
+        "serve --port=1 --connections unlimited --max-open=1 --read-port=0 --idle=1",
+        "serve|-|unlimited|1|0|2|18446744073709551615|4|3|1000|1000|1|0|0|1",
+    ),
+    ("serve --port 1 --connections 0", NO_COUNT),
+    ("serve --port 1 --connections 1001", NO_COUNT),
+    ("serve --port 1 --connections many", NO_COUNT),
+    ("serve --port 1 --connections 0 --idle 1", NO_COUNT),
+    ("serve --port 1 --max-open 1000", OTHER_FORM),
+    ("serve --port 1 --read-port 0", OTHER_FORM),
+    ("serve --port 1 --until-eof", OTHER_FORM),
+    ("serve --port 1 --connections 1000 --idle 60", OTHER_FORM),
+    (
+        "serve --port 1 --workers 65",
+        "error: invalid value '65' for '--workers <COUNT>': 65 is not in 1..=64\n\nFor more information, try '--help'.\n",
+    ),
+    (
+        "serve --port 1 --turns 0",
+        "error: invalid value '0' for '--turns <READS>': 0 is not in 1..=1000000000\n\nFor more information, try '--help'.\n",
+    ),
+    (
+        "serve --port 1 --connections unlimited --turns 1000000001",
+        "error: invalid value '1000000001' for '--turns <READS>': 1000000001 is not in 1..=1000000000\n\nFor more information, try '--help'.\n",
+    ),
+];
+
+#[test]
+fn reads_both_forms_of_a_server(rt: HostRuntime) -> Result<(), AllocError> {
+    are_wanted(&rt, rt.alloc(), &SERVERS, ' ')
 }
 
 /// Which snapshots are wanted.

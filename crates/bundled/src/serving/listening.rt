@@ -5,6 +5,7 @@ ghost use Rattle.shard_store.specs.Pass.{IsOf};
 ghost use Rattle.live_workers.specs.Workers.{AllServed};
 ghost use Rattle.workers.specs.Closing.{AreAll, ranges_of};
 ghost use Rattle.server.specs.Serve.{always_open, EndsEarly, ServeCommand, ServeRun};
+ghost use Rattle.command_line.specs.Serving.{stops_at_end};
 ghost use Rattle.commands.specs.Fault.{fault_line};
 ghost use Rattle.commands.specs.Streams.{Tells, end_of};
 ghost use Rattle.commands.specs.declared.fault.Fault.TheVariants.{Front, Listen};
@@ -13,7 +14,7 @@ ghost use Rattle.frame_front.specs.declared.error.FrontError.TheVariants.{Memory
 use crate::serving::incoming::{Incoming, PORT, Port};
 use crate::serving::shared::{Seat, Shared, Watch};
 use crate::serving::ticks::{TICKS_A_SECOND, Ticker, Ticks};
-use command_line::Settings;
+use command_line::{Connections, Lasting, Settings};
 use commands::Fault;
 use frame_front::{Counted, FrontError};
 use live_workers::run_arrivals;
@@ -155,7 +156,7 @@ fn incoming_of<'a, C: Clock>(
 ) -> Result<Vec<Incoming<'a, C>>, Fault>
     ensures { IfOk result (λ all. vec_len all ≡ vec_len polls) }
 {
-    let left = settings.connections.unwrap_or(u64::MAX);
+    let left = most_taken(settings.connections);
     let mut all = Vec::new(alloc);
     for poll in polls {
         let worker = all.len();
@@ -168,9 +169,32 @@ fn incoming_of<'a, C: Clock>(
     Ok(all)
 }
 
+/// How many connections each worker takes.
+fn most_taken(connections: Connections) -> u64 {
+    match connections {
+        Connections::Each(count) => count,
+        Connections::Unlimited(_) => u64::MAX,
+    }
+}
+
+/// What a server that lasts is asked for, or what stands for it in one that does not.
+fn lasting_of(connections: Connections) -> Lasting
+    ensures { result.until_eof ≡ stops_at_end connections }
+{
+    match connections {
+        Connections::Each(_) => Lasting {
+            most_open: 1000,
+            read_port: None,
+            until_eof: false,
+            idle: 60,
+        },
+        Connections::Unlimited(lasting) => lasting,
+    }
+}
+
 /// How many ticks a client may owe something.
-fn most_silent_of(settings: Settings) -> u64 {
-    settings.idle.saturating_mul(TICKS_A_SECOND)
+fn most_silent_of(lasting: Lasting) -> u64 {
+    lasting.idle.saturating_mul(TICKS_A_SECOND)
 }
 
 /// What the threads of a server run over.
@@ -208,7 +232,7 @@ fn run_workers<R: Threads + Clock + Sync, L: Log + Sync>(
     } = crew;
     let (rt, alloc, store, shared, log) = (host.rt, host.alloc, host.store, host.shared, host.log);
     let retries = host.settings.retries;
-    let most_silent = most_silent_of(host.settings);
+    let most_silent = most_silent_of(lasting_of(host.settings.connections));
     let run = || -> Result<Vec<Worked>, AllocError>
         requires same { vec_len passes ≡ vec_len incoming }
         requires own { All (λ pass. IsOf pass store.now) passes.items }
@@ -260,9 +284,9 @@ fn serve_all<R: Threads + Clock + Sync, I: Read, L: Log + Sync>(
     requires same { vec_len crew.passes ≡ vec_len crew.incoming }
     requires own { All (λ pass. IsOf pass host.now.store.now) crew.passes.items }
     ensures served { IfOk result (λ all. AllServed always_open host.now.store.now 0 crew.entry.passes.items all.items) }
-    ensures read { host.now.settings.until_eof ≡ false → input.new ≡ input.old }
+    ensures read { stops_at_end host.now.settings.connections ≡ false → input.new ≡ input.old }
 {
-    if !host.settings.until_eof {
+    if !lasting_of(host.settings.connections).until_eof {
         return run_workers(host, crew);
     }
     let shared = host.shared;
@@ -301,7 +325,7 @@ fn serve_on<
     ensures run { EndsEarly (Front Memory) result (end_of W.contents out.old) (end_of W.contents out.new) (end_of E.contents err.old) (end_of E.contents err.new)
         ⊎ ServeRun set_up.store set_up.passes.items result (end_of W.contents out.old) (end_of W.contents out.new)
         (end_of E.contents err.old) (end_of E.contents err.new) }
-    ensures read { settings.until_eof ≡ false → input.new ≡ input.old }
+    ensures read { stops_at_end settings.connections ≡ false → input.new ≡ input.old }
 {
     let before = err.faults();
     let SetUp { store, passes } = set_up;
@@ -319,7 +343,8 @@ fn serve_on<
         ticker,
         ticks,
     } = waits;
-    let shared = Shared::new(seats, settings.most_open, ticks);
+    let most_open = lasting_of(settings.connections).most_open;
+    let shared = Shared::new(seats, most_open, ticks);
     let incoming = match incoming_of(alloc, rt, &shared, listeners, polls, settings) {
         Ok(incoming) => incoming,
         Err(fault) => return tell_early(fault, err),
@@ -406,9 +431,10 @@ fn serve_at<
     ensures run { EndsEarly (Front Memory) result (end_of W.contents out.old) (end_of W.contents out.new) (end_of E.contents err.old) (end_of E.contents err.new)
         ⊎ ServeRun set_up.store set_up.passes.items result (end_of W.contents out.old) (end_of W.contents out.new)
         (end_of E.contents err.old) (end_of E.contents err.new) }
-    ensures read { settings.until_eof ≡ false → input.new ≡ input.old }
+    ensures read { stops_at_end settings.connections ≡ false → input.new ≡ input.old }
 {
-    match listeners_or_told(host, port, settings.read_port, err) {
+    let read_port = lasting_of(settings.connections).read_port;
+    match listeners_or_told(host, port, read_port, err) {
         Ok(listeners) => serve_on(
             host, alloc, &listeners, settings, set_up, input, out, err, log,
         ),
@@ -438,7 +464,7 @@ pub fn serve_over<
     requires { err.old.faults < 2 ^ 64 - 1 }
     ensures run { ServeCommand load.entry settings result (end_of W.contents out.old) (end_of W.contents out.new)
         (end_of E.contents err.old) (end_of E.contents err.new) }
-    ensures read { settings.until_eof ≡ false → input.new ≡ input.old }
+    ensures read { stops_at_end settings.connections ≡ false → input.new ≡ input.old }
 {
     let requests = match requests_of(alloc, host, load) {
         Ok(requests) => requests,
