@@ -1,4 +1,4 @@
--- What a refresh does to a plain map, by what was fetched.
+-- What a refresh does to a map, by what was fetched.
 use Rattle.std.proofs.Common.{◌≡◌, ◌≢◌, ◌⊎◌, ℕ, ◌<◌, ◌≤◌, nat_lt, Bool, true, false, cond, List, Option, Some, None, Result, Ok, Err, alloc_error, arith, refl, sym, ap, subst, ◌∙◌, inl, inr}
 use Rattle.std.proofs.lemmas.Bool.Decides.{nat_tests}
 use Rattle.std.specs.declared.alloc.AllocError.{AllocError}
@@ -8,6 +8,7 @@ use Rattle.spiffe_doc.specs.Authority.{BundleValue}
 use Rattle.spiffe_doc.specs.Document.{document}
 use Rattle.spiffe_doc.specs.Equal.{bundle_eq}
 use Rattle.spiffe_doc.specs.Private.Equality.{bundle_decides}
+use Rattle.map_core.specs.declared.op.Op.{Op}
 use Rattle.map_core.specs.declared.op.Op.TheVariants.{Set}
 use Rattle.map_core.specs.declared.held.Holding.{Holding}
 use Rattle.map_core.specs.declared.held.Holding.TheVariants.{Mark, Published}
@@ -16,7 +17,7 @@ use Rattle.map_core.specs.declared.reply.Reply.TheVariants.{Stored, Unchanged, R
 use Rattle.map_core.specs.declared.reply.MapRefusal.TheVariants.{Stale}
 use Rattle.map_core.specs.declared.reply.AskError.{AskError}
 use Rattle.map_core.specs.declared.reply.AskError.TheVariants.{Memory}
-use Rattle.map_core.specs.Ask.{ContentsAnswer}
+use Rattle.map_core.specs.Ask.{ContentsAnswer, PlainAnswer}
 use Rattle.map_core.specs.Name.{Name}
 use Rattle.map_core.specs.Reply.{is_change}
 use Rattle.map_core.specs.Table.{Effect as Row, keep, store, store_after, is_lower, set, meaning}
@@ -26,7 +27,7 @@ use Rattle.refresh.specs.declared.outcome.Outcome.{Outcome}
 use Rattle.refresh.specs.declared.outcome.What.TheVariants.{Taken}
 use Rattle.refresh.specs.Relationship.{RelationshipValue}
 use Rattle.refresh.specs.Due.{due_after}
-use Rattle.refresh.specs.Refresh.{Follows, Judges, Sets, comes_to, outcome_of}
+use Rattle.refresh.specs.Refresh.{Follows, IsStored, Judges, KeepsUnlessStored, Sets, comes_to, outcome_of}
 use Rattle.refresh.specs.Laws.{LeavesMap, EqualIsUnchanged, OlderIsRefused, OnlyStoredChanges, OthersStay, DueIsLater}
 
 -- ---- due times
@@ -131,23 +132,31 @@ row_is b (Some (Published c)) =
     ⊎ (is_change (let o : Row = cond t (keep Unchanged (Some (Published c))) (store_after c.sequence b (Some (Published c))) in o).reply ≡ false))
     [ true ↦ inr refl | false ↦ after_is c.sequence b (Some (Published c)) ]
 
-told_changes : (now : ℕ) (hint : Option ℕ) (m : PlainMap) (d : Name) (b : BundleValue) (answer : Result Reply AskError) (n : PlainMap) (result : Result Outcome AllocError)
-    → ContentsAnswer m (Set d b) answer n → result ≡ outcome_of now hint answer → (result ≡ comes_to now hint (Taken Stored)) ⊎ (n ≡ m)
-told_changes now hint m d b (Err e) n result h t = inr h.1
-told_changes now hint m d b (Ok given) n result h t =
-    let same : (ask m (Set d b)).reply ≡ (set b (finite.get m d)).reply = set_reply m d b (finite.get m d) refl in
-    elim (row_is b (finite.get m d)) [
-      | inl is ↦ inl (t ∙ ap (λ (x : Reply). comes_to now hint (Taken x)) (h.0 ∙ (same ∙ is)))
-      | inr keeps ↦ inr (h.1 ∙ ask_keeps m (Set d b) (ap is_change same ∙ keeps))
-    ]
+module _ {A : Type 0} (answers : A → Op → Result Reply AskError → A → Type 0) (shows : A → Option PlainMap)
+    (plainly : (old : A) (op : Op) (result : Result Reply AskError) (new : A) (m : PlainMap) → shows old ≡ Some m → answers old op result new → PlainAnswer m op result (shows new)) where
+  -- a Set is answered by Stored, or the map that is shown stays
+  answer_keeps : (now : ℕ) (hint : Option ℕ) (d : Name) (b : BundleValue) (m : PlainMap) (answer : Result Reply AskError) (shown : Option PlainMap)
+      → PlainAnswer m (Set d b) answer shown → IsStored (outcome_of now hint answer) ⊎ (shown ≡ Some m)
+  answer_keeps now hint d b m (Err e) shown h = inr h
+  answer_keeps now hint d b m (Ok given) shown h =
+      let same : (ask m (Set d b)).reply ≡ (set b (finite.get m d)).reply = set_reply m d b (finite.get m d) refl in
+      elim (row_is b (finite.get m d)) [
+        | inl is ↦ inl (ap Taken (h.0 ∙ (same ∙ is)))
+        | inr keeps ↦ inr (h.1 ∙ ap Some (ask_keeps m (Set d b) (ap is_change same ∙ keeps)))
+      ]
 
-judged_changes : (r : RelationshipValue) (now : ℕ) (judged : Result BundleValue DocError) (m : PlainMap) (result : Result Outcome AllocError) (n : PlainMap)
-    → Judges ContentsAnswer r now judged m result n → ((hint : Option ℕ) × (result ≡ comes_to now hint (Taken Stored))) ⊎ (n ≡ m)
-judged_changes r now (Err why) m result n h = inr h.1
-judged_changes r now (Ok b) m result n (inr h) = inr h.1
-judged_changes r now (Ok b) m result n (inl h) =
-    elim (told_changes now b.refresh_hint m r.domain b h.0 n result h.1 h.2) [ inl is ↦ inl (b.refresh_hint, is) | inr same ↦ inr same ]
+  pub set_keeps : (r : RelationshipValue) (now : ℕ) (b : BundleValue) (before : A) (result : Result Outcome AllocError) (after : A)
+      → Sets answers r now b before result after → KeepsUnlessStored shows before result after
+  set_keeps r now b before result after (inr h) m shown = inr (ap shows h.1 ∙ shown)
+  set_keeps r now b before result after (inl h) m shown =
+      subst (λ (came : Result Outcome AllocError). IsStored came ⊎ (shows after ≡ Some m)) (sym h.2)
+      (answer_keeps now b.refresh_hint r.domain b m h.0 (shows after) (plainly before (Set r.domain b) h.0 after m shown h.1))
 
-pub only_stored_changes : OnlyStoredChanges
-only_stored_changes r now None m result n h = inr h.1
-only_stored_changes r now (Some bytes) m result n h = judged_changes r now (document bytes) m result n h
+  judged_keeps : (r : RelationshipValue) (now : ℕ) (judged : Result BundleValue DocError) (before : A) (result : Result Outcome AllocError) (after : A)
+      → Judges answers r now judged before result after → KeepsUnlessStored shows before result after
+  judged_keeps r now (Ok b) before result after h m shown = set_keeps r now b before result after h m shown
+  judged_keeps r now (Err why) before result after h m shown = inr (ap shows h.1 ∙ shown)
+
+  pub only_stored_changes : OnlyStoredChanges answers shows
+  only_stored_changes r now None before result after h m shown = inr (ap shows h.1 ∙ shown)
+  only_stored_changes r now (Some bytes) before result after h m shown = judged_keeps r now (document bytes) before result after h m shown

@@ -7,8 +7,10 @@ use Rattle.spiffe_doc.specs.Document.{document}
 use Rattle.map_core.specs.declared.op.Op.{Op}
 use Rattle.map_core.specs.declared.op.Op.TheVariants.{Set}
 use Rattle.map_core.specs.declared.reply.Reply.{Reply}
+use Rattle.map_core.specs.declared.reply.Reply.TheVariants.{Stored}
 use Rattle.map_core.specs.declared.reply.AskError.{AskError}
 use Rattle.map_core.specs.declared.reply.AskError.TheVariants.{Memory}
+use Rattle.map_core.specs.PlainMap.{PlainMap}
 use Rattle.refresh.specs.declared.outcome.Outcome.{Outcome}
 use Rattle.refresh.specs.declared.outcome.What.{What}
 use Rattle.refresh.specs.declared.outcome.What.TheVariants.{Taken, BadDocument, NoAnswer, Asked}
@@ -48,3 +50,12 @@ abbrev pub Refreshes : {S A : Type 0} → (S → RelationshipValue → Option (L
     → (A → Op → Result Reply AskError → A → Type 0) → RelationshipValue → ℕ → S × A → Result Outcome AllocError → S × A → Type 0
 Refreshes fetches answers r now before result after =
     (fetched : Option (List ℕ)) × fetches before.0 r fetched after.0 × Follows answers r now fetched before.1 result after.1
+
+-- what a refresh came to if a bundle was stored
+abbrev pub IsStored : Result Outcome AllocError → Type 0
+IsStored (Ok outcome) = outcome.what ≡ Taken Stored
+IsStored (Err error) = ⊥
+
+-- The map that is shown, if one is, stays as it is unless a bundle was stored.
+abbrev pub KeepsUnlessStored : {A : Type 0} → (A → Option PlainMap) → A → Result Outcome AllocError → A → Type 0
+KeepsUnlessStored shows before result after = (m : PlainMap) → shows before ≡ Some m → IsStored result ⊎ (shows after ≡ Some m)

@@ -1,6 +1,8 @@
 //! What follows from the definitions. Each law is the contract of a function that does nothing.
 ghost use Rattle.refresh.specs.Laws.{DueIsLater, EqualIsUnchanged, OlderIsRefused, OnlyStoredChanges, OthersStay};
 
+use map_core::Ask;
+
 /// A due time is never before now, and later unless now is the end of time.
 pub fn due_is_later()
     ensures { DueIsLater }
@@ -21,7 +23,7 @@ pub fn older_is_refused()
     ensures { OlderIsRefused }
 {}
 
-/// A refresh of a plain map changes it only if it comes to Stored.
-pub fn only_stored_changes()
-    ensures { OnlyStoredChanges }
+/// A refresh over whoever shows a map changes that map only if it comes to Stored, whatever was fetched.
+pub fn only_stored_changes<A: Ask>()
+    ensures { OnlyStoredChanges A.answers A.shows }
 {}

@@ -1,7 +1,7 @@
 //! One refresh: a fetch, a reading, and at most one Set.
 ghost use Rattle.std.specs.Prelude.{◌≡◌};
 ghost use Rattle.refresh.specs.Due.{due_after};
-ghost use Rattle.refresh.specs.Refresh.{Refreshes, Sets};
+ghost use Rattle.refresh.specs.Refresh.{KeepsUnlessStored, Refreshes, Sets};
 
 use crate::due::next_due;
 use crate::relationship::Relationship;
@@ -43,7 +43,7 @@ impl Outcome {
 
 /// Refreshes the bundle of one relationship: fetches its document once, reads it, and asks one Set of the
 /// relationship's trust domain. The next refresh is due by the refresh hint of a document that was read, else after
-/// 300 seconds. Only `Taken(Stored)` has changed anything besides the source. Out of memory, while the document is
+/// 300 seconds. Only `Taken(Stored)` has changed the map that is shown, if one is. Out of memory, while the document is
 /// read or the map is asked, is the error, and then nothing besides the source has changed.
 pub fn refresh_once<S: Source, A: Ask>(
     alloc: Global,
@@ -52,7 +52,8 @@ pub fn refresh_once<S: Source, A: Ask>(
     relationship: &Relationship,
     now: u64,
 ) -> Result<Outcome, AllocError>
-    ensures { Refreshes S.fetches A.answers relationship.now now (source.old, ask.old) result (source.new, ask.new) }
+    ensures refreshes { Refreshes S.fetches A.answers relationship.now now (source.old, ask.old) result (source.new, ask.new) }
+    ensures kept { KeepsUnlessStored A.shows ask.old result ask.new }
 {
     let Ok(document) = source.fetch(relationship) else {
         return Ok(Outcome::at(now, None, What::NoAnswer));

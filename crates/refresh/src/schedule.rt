@@ -1,7 +1,7 @@
 //! When each of many relationships is due.
 ghost use Rattle.std.specs.Prelude.{◌≡◌, ◌<◌, length, slice_get, slice_index, slice_set, replicate, MatchOption, MatchResult, IfOk, IfSome, Some};
 ghost use Rattle.refresh.specs.Relationship.{RelationshipValue};
-ghost use Rattle.refresh.specs.Refresh.{Refreshes};
+ghost use Rattle.refresh.specs.Refresh.{KeepsUnlessStored, Refreshes};
 ghost use Rattle.refresh.specs.Schedule.{IsNext};
 
 use crate::outcome::{Outcome, refresh_once};
@@ -97,6 +97,7 @@ pub fn refresh_at<S: Source, A: Ask>(
     requires { place < length schedule.old.relationships }
     ensures refreshes { (r : RelationshipValue) × (slice_get schedule.old.relationships place ≡ Some r)
         × Refreshes S.fetches A.answers r now (source.old, ask.old) result (source.new, ask.new) }
+    ensures kept { KeepsUnlessStored A.shows ask.old result ask.new }
     ensures due { MatchResult result
         (λ outcome. schedule.new ≡ record schedule.old { due_times = slice_set schedule.old.due_times place outcome.due })
         (λ _. schedule.new ≡ schedule.old) }
