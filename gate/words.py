@@ -1,5 +1,6 @@
 #!/usr/bin/env python3
-"""Finds phrases that a reader of the field would stumble over: in docs, and in comments of code and definitions.
+"""Finds phrases that a reader of the field would stumble over: in docs, and in comments of code and definitions. And names in the
+code of the store that threads share by which a thread would wait: no call of it does.
 
 usage: gate/words.py   (prints each place; the words to use instead stand in CONTRIBUTING.md)
 """
@@ -21,6 +22,9 @@ PHRASES = {
     r"\bno such (number|request|text)\b": "not such a ..",
 }
 COMMENT = {".rt": re.compile(r"//[/!]?(.*)"), ".antt": re.compile(r"--(.*)")}
+# Where no thread waits for another, and the names of locks and of what else waits.
+NO_LOCKS = "crates/shard_store/"
+LOCKS = re.compile(r"\b(\w*Mutex\w*|RwLock\w*|Condvar|Barrier|Once\w*|LazyLock|(try_)?lock|park\w*|Wait|wait\w*|mpsc)\b")
 # The file that names the phrases, to say what is said instead.
 GLOSSARY = "CONTRIBUTING.md"
 
@@ -32,6 +36,13 @@ def texts(file, line):
         return re.sub(r"`[^`]*`|\[[^\]]*\]\([^)]*\)", "", line)
     found = COMMENT[kind].search(line) if kind in COMMENT else None
     return re.sub(r"`[^`]*`", "", found[1]) if found else ""
+
+
+def lock_in(file, line):
+    """The name in a line of code by which a thread would wait for another, if there is one."""
+    comment = COMMENT.get(os.path.splitext(file)[1]) if file.startswith(NO_LOCKS) else None
+    found = comment and LOCKS.search(comment.sub("", line))
+    return found and found[0]
 
 
 def files():
@@ -49,6 +60,9 @@ def main():
     for file in files():
         with open(f"{ROOT}/{file}", encoding="utf-8") as it:
             for number, line in enumerate(it, 1):
+                if lock := lock_in(file, line):
+                    bad += 1
+                    print(f"{file}:{number}: no call of this crate waits, and here is {lock}: {line.strip()[:120]}")
                 for phrase, better in PHRASES.items():
                     if re.search(phrase, texts(file, line), re.I):
                         bad += 1
