@@ -150,8 +150,7 @@ SHOWN = [
     ("explain 31", "lower than the stored one"),
     ("trace --help", "--rounds <COUNT>"),
     ("trace --help", "--picture"),
-    ("demo --help", "race"),
-    ("demo race --help", "--seconds <SECONDS>"),
+    ("race --help", "--seconds <SECONDS>"),
     ("migrate --help", "bundled migrate < dump"),
     ("refresh --help", "--relationships <FILE>"),
     ("refresh --help", "1000 a.example sent due 1300"),
@@ -194,10 +193,10 @@ REFUSED = [
     ("trace --rounds 17", "17 is not in 1..=16"),
     ("trace --rounds 1.5", "invalid value '1.5' for '--rounds <COUNT>'"),
     ("trace --turns 3", "unexpected argument '--turns'"),
-    ("demo", "requires a subcommand"),
-    ("demo rally", "unrecognized subcommand 'rally'"),
-    ("demo race --seconds 0", "0 is not in 1..=60"),
-    ("demo race --seconds 61", "61 is not in 1..=60"),
+    ("demo race", "unrecognized subcommand 'demo'"),
+    ("race rally", "unexpected argument 'rally'"),
+    ("race --seconds 0", "0 is not in 1..=60"),
+    ("race --seconds 61", "61 is not in 1..=60"),
     ("migrate --shards 1", "unexpected argument '--shards'"),
     ("refresh", "--relationships <FILE>"),
     ("refresh --relationships list", "--documents <FOLDER>"),
@@ -263,7 +262,7 @@ def refuses_other_lines():
 
 def races():
     """For a second: a fetch-all shows no map that never was. What a naive reader shows is up to the threads."""
-    status, output, told = ran("demo race --seconds 1")
+    status, output, told = ran("race --seconds 1")
     assert (status, told) == (0, b""), (status, output, told)
     counts = re.search(rb"^fetch-all: ([0-9]+) readings, 0 of them maps that never were\n\Z", output, re.M)
     assert counts and int(counts[1]) > 0, output

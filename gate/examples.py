@@ -58,7 +58,7 @@ def counted(line):
 
 def alike(commands, lines):
     """Lines that the commands print, in the form in which they are the same at each run."""
-    if any("demo race" in it for it in commands):
+    if any("bundled race" in it for it in commands):
         # (a naive reader may be lucky, and then has no first wrong map)
         return [counted(it) for it in lines if "the first: " not in it]
     return lines

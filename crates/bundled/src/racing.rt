@@ -1,4 +1,4 @@
-//! The command `demo race`: readers beside writers that do not rest.
+//! The command `race`: readers beside writers that do not rest.
 ghost use Rattle.std.specs.Prelude.{◌≡◌, ◌<◌, ◌-◌, ◌^◌};
 ghost use Rattle.bundled.specs.Race.{RaceRun, Raced, race_status};
 ghost use Rattle.commands.specs.Streams.{End, end_of};

@@ -1,6 +1,6 @@
 //! The commands and their arguments, as `clap` knows them.
 use crate::argument::{Argument, Kind};
-use crate::commands::{Row, VERBS, Verb};
+use crate::commands::{Row, VERBS};
 use crate::texts::FRAMES;
 use clap::builder::ValueParser;
 use clap::{Arg, ArgAction, Command};
@@ -14,21 +14,9 @@ pub fn program<'a>(alloc: Global) -> Result<Command<'a>, AllocError> {
         .after_help(FRAMES)
         .subcommand_required(true);
     for &verb in &VERBS {
-        program = program.subcommand(placed(alloc, verb)?)?;
+        program = program.subcommand(command_of(alloc, verb.row())?)?;
     }
     Ok(program)
-}
-
-/// A command in its place: itself, or the group that it belongs to.
-fn placed<'a>(alloc: Global, verb: Verb) -> Result<Command<'a>, AllocError> {
-    let command = command_of(alloc, verb.row())?;
-    match verb {
-        Verb::Race => Command::new(alloc, "demo")
-            .about("Shows what the store is for")
-            .subcommand_required(true)
-            .subcommand(command),
-        _ => Ok(command),
-    }
 }
 
 /// The command of a row, with its arguments.

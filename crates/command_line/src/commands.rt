@@ -214,7 +214,7 @@ static TRACE: Row = Row {
 
 static RACE: Row = Row {
     name: "race",
-    about: "Counts the maps that never were that a naive reader shows, and a fetch-all",
+    about: "Shows why a fetch-all matters: counts the maps that never were of a naive reader, and of a fetch-all",
     notes: texts::RACE,
     arguments: &[SECONDS],
 };

@@ -19,14 +19,9 @@ pub fn wanted_by<'a>(alloc: Global, words: &'a [String]) -> Result<Wanted<'a>, E
     ensures { IfOk result AreSettings }
 {
     let matches = program(alloc)?.try_get_matches_from(words)?;
-    let (name, answers) = asked(&matches);
+    // (`clap` has seen that there is a command.)
+    let (name, answers) = matches.subcommand().unwrap_or(("run", &matches));
     wanted_of(alloc, verb_of(name), answers)
-}
-
-/// The command that is asked for, with its answers: the last one on the line. (`clap` has seen that there is one.)
-fn asked<'m, 'a>(matches: &'m ArgMatches<'a>) -> (&'a str, &'m ArgMatches<'a>) {
-    let (name, answers) = matches.subcommand().unwrap_or(("run", matches));
-    answers.subcommand().unwrap_or((name, answers))
 }
 
 /// The command of this name.

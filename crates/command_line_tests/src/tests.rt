@@ -226,8 +226,8 @@ static NUMBERS: [Line; 14] = [
     ("trace", "trace|4|3|0"),
     ("trace --shards=1 --rounds=16", "trace|1|16|0"),
     ("trace --picture", "trace|4|3|1"),
-    ("demo race", "race|5"),
-    ("demo race --seconds=60", "race|60"),
+    ("race", "race|5"),
+    ("race --seconds=60", "race|60"),
     ("migrate", "migrate"),
     ("--version", "bundled 1.0.0\n"),
     (
