@@ -1,6 +1,7 @@
 -- What is kept of one end of a session more.
-use Rattle.std.proofs.Common.{◌≡◌, ℕ, zero, suc, ◌+◌, ◌≤◌, ◌&&◌, List, [], ◌∷◌, ◌++◌, length, take, Bool, true, false, refl, sym, ap, ◌∙◌, arith, append-nil, Result, Ok, Err}
+use Rattle.std.proofs.Common.{◌≡◌, ℕ, zero, suc, ◌+◌, ◌<◌, ◌≤◌, ◌&&◌, List, [], ◌∷◌, ◌++◌, length, get_or, take, Bool, true, false, refl, sym, ap, ◌∙◌, arith, append-nil, Result, Ok, Err}
 use Rattle.std.specs.Prelude.{min}
+use Rattle.std.proofs.Math.Seq.{take-suc}
 use Rattle.frame_front.specs.declared.error.FrontError.{FrontError}
 use Rattle.workers.specs.Ended.{EndsView, Notes, all_came, faults_of, most_faults, session_count}
 use Rattle.workers.specs.declared.ended.SessionFault.{SessionFault}
@@ -91,3 +92,7 @@ notes_listen old kept new first is before was =
     ∙ (ap (λ (o : EndsView). view o.begun false (take most_faults (o.faults ++ Listen ∷ []))) was
     ∙ same_view _ _ _ _ _ _ (ap (λ n. min n 18446744073709551615) (omega (arith, count_append before (Err Listen ∷ [])))) (sym (came_append before (Err Listen ∷ []) ∙ both_false (all_came before)))
     (keeps before Listen)))
+
+-- one element more
+pub one_more : {X : Type 0} (xs : List X) (i : ℕ) (d : X) → i < length xs → take (i + 1) xs ≡ take i xs ++ get_or xs i d ∷ []
+one_more xs i d inside = let next : i + 1 ≡ suc i = omega arith in ap (λ (n : ℕ). take n xs) next ∙ take-suc xs i d inside

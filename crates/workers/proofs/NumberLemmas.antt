@@ -8,12 +8,12 @@ use Rattle.shard_store.specs.Changes.{HasNumber}
 use Rattle.shard_store.specs.Pass.{PassView}
 use Rattle.workers.specs.Closing.{AreAll, ranges_of}
 
-has_left : (rs ss : List (ℕ × ℕ)) (k : ℕ) → HasNumber rs k → HasNumber (rs ++ ss) k
+pub has_left : (rs ss : List (ℕ × ℕ)) (k : ℕ) → HasNumber rs k → HasNumber (rs ++ ss) k
 has_left [] ss k h = absurd h
 has_left (r ∷ rs) ss k (inl h) = inl h
 has_left (r ∷ rs) ss k (inr h) = inr (has_left rs ss k h)
 
-has_right : (rs ss : List (ℕ × ℕ)) (k : ℕ) → HasNumber ss k → HasNumber (rs ++ ss) k
+pub has_right : (rs ss : List (ℕ × ℕ)) (k : ℕ) → HasNumber ss k → HasNumber (rs ++ ss) k
 has_right [] ss k h = h
 has_right (r ∷ rs) ss k h = inr (has_right rs ss k h)
 

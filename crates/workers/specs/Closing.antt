@@ -1,11 +1,11 @@
 -- The end of a store that workers shared.
-use Rattle.std.specs.Prelude.{◌≡◌, ℕ, ◌<◌, List, ◌++◌, Result, Ok, Err}
+use Rattle.std.specs.Prelude.{◌≡◌, ℕ, ◌<◌, List, Result, Ok, Err}
 use Rattle.std.specs.List.{flat_map, AllByRecursion}
 use Rattle.map_core.specs.PlainMap.{PlainMap}
 use Rattle.shard_store.specs.declared.change.Change.{Change}
 use Rattle.shard_store.specs.declared.close.CloseError.{CloseError}
 use Rattle.shard_store.specs.declared.close.CloseError.TheVariants.{Memory, HeldAtEnd}
-use Rattle.shard_store.specs.Changes.{after, HasNumber}
+use Rattle.shard_store.specs.Changes.{after, Extends, HasNumber}
 use Rattle.shard_store.specs.Pass.{PassView}
 use Rattle.workers.specs.declared.ended.Worked.{Worked}
 
@@ -17,13 +17,9 @@ ranges_of passes = flat_map (λ pass. pass.seen.ranges) passes
 abbrev pub AreAll : List (ℕ × ℕ) → Type 0
 AreAll ranges = (k : ℕ) → k < 4294967296 → HasNumber ranges k
 
-abbrev pub BeginsWith : List Change → List Change → Type 0
-BeginsWith list log = (more : List Change) × (list ≡ log ++ more)
-
--- The map after a list of changes that begins with what each worker had seen at its end; or out of memory. No pass holds
--- a shard any more.
+-- The map after a list of changes that extends what each worker had seen at its end; or out of memory. No pass holds a shard
+-- any more.
 abbrev pub ClosesAs : List Worked → Result PlainMap CloseError → Type 0
-ClosesAs worked (Ok contents) =
-    (list : List Change) × AllByRecursion (λ w. BeginsWith list w.pass.seen.log) worked × (contents ≡ after list)
+ClosesAs worked (Ok contents) = (list : List Change) × AllByRecursion (λ w. Extends list w.pass.seen) worked × (contents ≡ after list)
 ClosesAs worked (Err Memory) = Unit {0}
 ClosesAs worked (Err (HeldAtEnd shard)) = ⊥

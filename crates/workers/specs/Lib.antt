@@ -1,7 +1,10 @@
 pub mod Gate
 pub mod ReadOnly
 pub mod Ended
+pub mod Sessions
 pub mod Workers
+pub mod Run
 pub mod Closing
 pub mod Retrying
 pub mod Filling
+pub mod Private

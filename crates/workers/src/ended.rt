@@ -1,5 +1,5 @@
 //! What workers give back.
-ghost use Rattle.std.specs.Prelude.{◌≡◌, ◌∷◌, ◌++◌, ◌+◌, [], min, take, Err, OnOk, OnErr};
+ghost use Rattle.std.specs.Prelude.{◌≡◌, ◌∷◌, ◌++◌, ◌+◌, [], min, take, Err, IfOk, OnOk, OnErr};
 ghost use Rattle.workers.specs.Ended.{kept_of, most_faults, Notes};
 
 use frame_front::FrontError;
@@ -66,6 +66,17 @@ impl SessionEnds {
             has_missed: false,
             faults: Vec::new(alloc),
         }
+    }
+
+    /// What is kept of these ends. Errors only if memory runs out.
+    pub fn of(alloc: Global, ends: &[Result<u64, SessionFault>]) -> Result<SessionEnds, AllocError>
+        ensures { IfOk result (λ kept. kept ≡ kept_of ends.now) }
+    {
+        let mut kept = SessionEnds::new(alloc);
+        for end in ends {
+            kept.note(end)?;
+        }
+        Ok(kept)
     }
 
     /// Notes how one more session ended, after so many frames that were answered or by a fault, or that none came. If memory is

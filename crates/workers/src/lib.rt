@@ -1,7 +1,9 @@
-//! What workers need beside the store that they share: a `Gate` before each call, a `Log` of changes and of the ends of
-//! sessions, and the ask that is tried again while others are in the way (`Retrying`). `passes_of` makes the passes of
-//! the workers, `fill_store` fills the store before they begin, and `close_store` joins the passes again, when no worker
-//! is left, and gives the map at the end. A `ReadOnly` map may be read and not changed.
+//! Workers: threads that serve sessions over the store that they share, each call through a gate.
+//!
+//! `run_workers` gives each pass of a store a thread and the sessions of a `Sessions`, which may be a list in memory or
+//! a listener: no word of this crate speaks of sockets. `passes_of` makes the passes, `fill_store` fills the store before
+//! the workers begin, and `close_store` joins the passes again, when no worker is left, and gives the map at the end. A
+//! worker may be told to a `Log` and ask again while others are in the way (`Patient`).
 #![tactic(auto)]
 
 mod closing;
@@ -13,8 +15,10 @@ pub mod laws;
 mod log;
 mod logged;
 mod passes;
-mod read_only;
 mod retrying;
+mod run;
+mod seating;
+mod sessions;
 
 pub use closing::close_store;
 pub use ended::{SessionEnds, SessionFault, Worked};
@@ -24,5 +28,7 @@ pub use gated::Gated;
 pub use log::{Changed, How, Log, Quiet};
 pub use logged::Logged;
 pub use passes::passes_of;
-pub use read_only::ReadOnly;
 pub use retrying::Retrying;
+pub use run::{Finished, kept_all, run_workers};
+pub use seating::{Patient, Seating};
+pub use sessions::{ListenFault, Session, Sessions};

@@ -1,6 +1,6 @@
-//! Asks that are tried again, maps that may only be read, and what is kept of how sessions end.
+//! Workers, asks that are tried again, and what is kept of how sessions end.
 mod ends;
-mod read_only;
+mod run;
 
 use map_core::{Ask, AskError, Op, Reply};
 use std::alloc::Global;

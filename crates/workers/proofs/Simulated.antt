@@ -1,0 +1,92 @@
+-- Sessions over one state are sessions over what is seen of it.
+use Rattle.std.proofs.Common.{◌≡◌, List, [], ◌∷◌, sym, ap, subst, inl, inr}
+use Rattle.std.specs.Prelude.{ℕ, Option, Result, Ok, Err}
+use Rattle.map_core.specs.declared.op.Op.{Op}
+use Rattle.map_core.specs.declared.reply.Reply.{Reply}
+use Rattle.map_core.specs.declared.reply.AskError.{AskError}
+use Rattle.frame_front.specs.declared.error.FrontError.{FrontError}
+use Rattle.frame_front.specs.declared.request.Request.{Request}
+use Rattle.frame_front.specs.declared.request.Request.TheVariants.{Ask, SetVersion}
+use Rattle.frame_front.specs.declared.refusal.Refusal.{Refusal}
+use Rattle.frame_front.specs.Request.{request_of}
+use Rattle.frame_front.specs.Session.{SessionState, AnswersRequest, Answers, AnswersAll}
+use Rattle.workers.specs.declared.sessions.ListenFault.{ListenFault}
+use Rattle.workers.specs.declared.ended.SessionFault.{SessionFault}
+use Rattle.workers.specs.Sessions.{Opened, Runs, ServedAll, ServedEach}
+
+module _ {S T : Type 0} (answers : S → Op → Result Reply AskError → S → Type 0) (answers_seen : T → Op → Result Reply AskError → T → Type 0)
+    (seen : S → T) (Stays : S → Type 0)
+    (each : (s : S) (op : Op) (answer : Result Reply AskError) (t : S) → Stays s → answers s op answer t → Stays t × answers_seen (seen s) op answer (seen t)) where
+  abbrev seen_state : SessionState S → SessionState T
+  seen_state s = (s.0, seen s.1)
+
+  same_seen : (old new : SessionState S) → Stays old.1 → new ≡ old → Stays new.1 × (seen_state new ≡ seen_state old)
+  same_seen old new stays e = (subst (λ (s : SessionState S). Stays s.1) (sym e) stays, ap seen_state e)
+
+  request_seen : (r : Result Request Refusal) (old : SessionState S) (text : List ℕ) (new : SessionState S) → Stays old.1
+      → AnswersRequest answers r old text new → Stays new.1 × AnswersRequest answers_seen r (seen_state old) text (seen_state new)
+  request_seen (Err refusal) old text new stays a = let s = same_seen old new stays a.1 in (s.0, (a.0, s.1))
+  request_seen (Ok (SetVersion version)) old text new stays a = let s = same_seen (version, old.1) new stays a.1 in (s.0, (a.0, s.1))
+  request_seen (Ok (Ask op)) old text new stays a = let s = each old.1 op a.0 new.1 stays a.1 in (s.0, (a.0, s.1, a.2, a.3))
+
+  answer_seen : (old : SessionState S) (payload text : List ℕ) (new : SessionState S) → Stays old.1
+      → Answers answers old payload text new → Stays new.1 × Answers answers_seen (seen_state old) payload text (seen_state new)
+  answer_seen old payload text new stays (inl a) = let s = request_seen (request_of old.0 payload) old text new stays a in (s.0, inl s.1)
+  answer_seen old payload text new stays (inr a) = let s = same_seen old new stays a.1 in (s.0, inr (a.0, s.1))
+
+  all_seen : (old : SessionState S) (payloads texts : List (List ℕ)) (new : SessionState S) → Stays old.1
+      → AnswersAll answers old payloads texts new → Stays new.1 × AnswersAll answers_seen (seen_state old) payloads texts (seen_state new)
+  all_seen old [] [] new stays a = same_seen old new stays a
+  all_seen old (payload ∷ payloads) (text ∷ texts) new stays a =
+      let one = answer_seen old payload text a.0 stays a.1 in
+      let rest = all_seen a.0 payloads texts new one.0 a.2 in
+      (rest.0, (seen_state a.0, one.1, rest.1))
+  all_seen old [] (text ∷ texts) new stays a = absurd a
+  all_seen old (payload ∷ payloads) [] new stays a = absurd a
+
+  run_seen : (opened : Opened) (result : Result ℕ FrontError) (old new : S) → Stays old → Runs answers opened result old new → Stays new × Runs answers_seen opened result (seen old) (seen new)
+  run_seen opened result old new stays r =
+      let t = r.transcript in
+      let session = t.session in
+      let serves = session.serves in
+      let all = all_seen _ session.payloads session.texts _ stays serves.answered in (
+        all.0,
+        record {
+          left = r.left;
+          held = r.held;
+          transcript = record {
+            read = t.read;
+            written = t.written;
+            version = t.version;
+            consumes = t.consumes;
+            appends = t.appends;
+            session = record {
+              payloads = session.payloads;
+              texts = session.texts;
+              rest = session.rest;
+              serves = record { whole = serves.whole; each = serves.each; answered = all.1 };
+              ends = session.ends;
+              writes = session.writes;
+            };
+            few_read = t.few_read;
+            used = t.used;
+            ended = t.ended;
+          };
+        },
+      )
+
+  module _ {V X : Type 0} (start : X → Opened) (comes : V → Result (Option X) ListenFault → V → Type 0) where
+    each_seen : (results : List (Result ℕ FrontError)) (old new : V × S) → Stays old.1 → ServedEach answers start comes results old new
+        → Stays new.1 × ServedEach answers_seen start comes results (old.0, seen old.1) (new.0, seen new.1)
+    each_seen [] old new stays a =
+        (subst (λ (s : V × S). Stays s.1) (sym a) stays, ap (λ (s : V × S). (s.0, seen s.1)) a)
+    each_seen (result ∷ results) old new stays a =
+        let one = run_seen (start a.0) result old.1 a.1.1 stays a.3 in
+        let rest = each_seen results a.1 new one.0 a.4 in
+        (rest.0, (a.0, (a.1.0, seen a.1.1), a.2, one.1, rest.1))
+
+    pub sessions_seen : (ends : List (Result ℕ SessionFault)) (old new : V × S) → Stays old.1 → ServedAll answers start comes ends old new
+        → Stays new.1 × ServedAll answers_seen start comes ends (old.0, seen old.1) (new.0, seen new.1)
+    sessions_seen ends old new stays a =
+        let each = each_seen a.results old (a.between, new.1) stays a.served in
+        (each.0, record { results = a.results; last = a.last; between = a.between; served = each.1; no_more = a.no_more; all = a.all })

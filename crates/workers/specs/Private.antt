@@ -1,0 +1,2 @@
+-- Definitions that no public contract rests on: private contracts and proofs use them.
+pub mod Numbers

@@ -1,0 +1,123 @@
+//! Sessions that come to a worker, one after the other.
+ghost use Rattle.std.specs.Prelude.{◌≡◌, ◌≤◌, IfOk};
+ghost use Rattle.workers.specs.Sessions.{Runs, ServedAll, session_end};
+
+use crate::ended::SessionFault;
+use crate::seating::Seating;
+use frame_front::{Counted, FrontError, serve};
+use map_core::Ask;
+use std::alloc::{AllocError, Global};
+use std::io::{Read, Write};
+use std::vec::IntoIter;
+
+/// A client's reader and writer, and how many reads may be made of it.
+#[derive(Drop)]
+pub struct Session<R, W> {
+    pub reader: R,
+    pub writer: W,
+    pub turns: u64,
+    pub ghost few: { turns ≤ 1000000000 },
+}
+
+/// No session came: the listener failed.
+#[derive(Clone, Copy, Debug, PartialEq, Eq)]
+pub struct ListenFault;
+
+/// The source of a worker's sessions: a list in memory, or a listener.
+pub trait Sessions {
+    ghost use Rattle.std.specs.Prelude.{ℕ, ◌<◌, Option, Result, IfOk, IfSome};
+    ghost use Rattle.workers.specs.declared.sessions.Session.{Session};
+    ghost use Rattle.workers.specs.declared.sessions.ListenFault.{ListenFault};
+
+    type Reader: Read + Drop + Send;
+
+    type Writer: Write + Drop + Send;
+
+    // At most so many sessions are left.
+    ghost left: { Self → ℕ };
+
+    // What may come, and what comes after it.
+    ghost comes: { Self → Result (Option (Session Self.Reader Self.Writer)) ListenFault → Self → Type 0 };
+
+    /// Waits for the next session; none if all have come.
+    fn next(&mut self) -> Result<Option<Session<Self::Reader, Self::Writer>>, ListenFault>
+        ensures fewer { IfOk result (λ next. IfSome next (λ _. left self.new < left self.old)) }
+        ensures comes { comes self.old result self.new };
+}
+
+/// A list in memory: all its sessions come, in their order, and then no more.
+impl<R: Read + Drop + Send, W: Write + Drop + Send> Sessions for IntoIter<Session<R, W>> {
+    type Reader = R;
+
+    type Writer = W;
+
+    ghost use Rattle.std.specs.Vec.Iter.{into_iter_len};
+    ghost use Rattle.workers.specs.Sessions.{ListComes};
+
+    ghost left = { λ list. into_iter_len list };
+
+    ghost comes = { ListComes };
+
+    fn next(&mut self) -> Result<Option<Session<R, W>>, ListenFault> {
+        Ok(Iterator::next(self))
+    }
+}
+
+/// Serves one session to its end.
+fn serve_session<R: Read + Drop, W: Write + Drop, A: Ask>(
+    alloc: Global,
+    session: Session<R, W>,
+    ask: &mut A,
+) -> Result<u64, FrontError>
+    ensures { Runs A.answers (record { turns = session.turns; left = R.remaining session.reader; held = W.contents session.writer }) result ask.old ask.new }
+{
+    let Session {
+        reader,
+        writer,
+        turns,
+    } = session;
+    let mut reader = Counted::new(reader);
+    let mut writer = Counted::new(writer);
+    serve(alloc, &mut reader, &mut writer, ask, turns)
+}
+
+/// How a session ended, among the ends of a worker's sessions.
+fn end_of(ended: Result<u64, FrontError>) -> Result<u64, SessionFault>
+    ensures { result ≡ session_end ended }
+{
+    match ended {
+        Ok(count) => Ok(count),
+        Err(error) => Err(SessionFault::Front(error)),
+    }
+}
+
+/// Serves the sessions that come to a worker, one after the other, until no more come or the listener fails. The answer is
+/// how each ended, in their order; the place where the worker sits is told of each at once. Errors only if memory for that
+/// runs out, and then sessions may have been served.
+pub(crate) fn serve_sessions<S: Sessions, A: Ask, P: Seating>(
+    alloc: Global,
+    sessions: &mut S,
+    ask: &mut A,
+    place: &P,
+    worker: u64,
+) -> Result<Vec<Result<u64, SessionFault>>, AllocError>
+    ensures { IfOk result (λ results. ServedAll A.answers (λ session. record { turns = session.turns; left = S.Reader.remaining session.reader; held = S.Writer.contents session.writer }) S.comes results.items (sessions.old, ask.old) (sessions.new, ask.new)) }
+{
+    let mut results = Vec::new(alloc);
+    loop {
+        match sessions.next() {
+            Ok(Some(session)) => {
+                let end = end_of(serve_session(alloc, session, ask));
+                place.ended(worker, &end);
+                results.push(end)?;
+            }
+            Ok(None) => return Ok(results),
+            Err(ListenFault) => {
+                let none_came = Err(SessionFault::Listen);
+                place.ended(worker, &none_came);
+                results.push(none_came)?;
+                return Ok(results);
+            }
+        }
+    }
+}
