@@ -6,7 +6,7 @@ use Rattle.spiffe_doc.specs.Authority.{BundleValue}
 use Rattle.spiffe_doc.specs.Bundle.{IsBundle}
 use Rattle.map_core.specs.Name.{Name}
 use Rattle.frame_front.specs.Frame.{IsPayload, HasFrames, frame, stream_of}
-use Rattle.frame_front.specs.Dump.{Domains, HaveValidBundles, count_of, item_of, ReadsItems, IsDump, IsDumpFront, IsBadDump, request_for, requests_for}
+use Rattle.frame_front.specs.Dump.{Domains, HaveValidBundles, count_of, item_of, ReadsItems, IsDump, IsDumpFront, IsBadDump}
 use Rattle.frame_front.specs.Private.Refusals.{NoItem, NoCount, last_of}
 use Rattle.map_core.specs.Laws.{IsAfter, Ascends}
 use Rattle.std.proofs.Math.Seq.{drop-append_seam}
@@ -15,7 +15,7 @@ use Rattle.std.specs.Prelude.{◌==◌, true, false}
 use Rattle.frame_front.proofs.FrameLemmas.{frames_unique, frame_first}
 use Rattle.frame_front.proofs.FramesExist.{frames, has_frames}
 use Rattle.frame_front.proofs.SessionLemmas.{stream_of-append, each-append, fewer_than_bytes}
-use Rattle.frame_front.proofs.DomainLists.{cons_head, cons_tail, ReadsItems-length, ReadsItems-one, Ascends-one, last_of-one, valid-one, map-one, stream-one, stream-more}
+use Rattle.frame_front.proofs.DomainLists.{cons_head, cons_tail, ReadsItems-length, ReadsItems-one, Ascends-one, valid-one, stream-one}
 
 -- These domains of a dump are read, and this rest is left.
 pub record HasRead (dump : List ℕ) (count : ℕ) (rest : List ℕ) (place : ℕ) (items : Domains) : Type 0 where

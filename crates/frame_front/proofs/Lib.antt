@@ -1,5 +1,6 @@
 pub mod FrameLemmas
 pub mod SessionLemmas
+pub mod ReadLemmas
 pub mod TranscriptLemmas
 pub mod ReplyLemmas
 pub mod BegunTexts

@@ -60,6 +60,18 @@ Round-used Truncated n turns bytes rest kept h = tt
 Round-used ReadFault n turns bytes rest kept h = tt
 Round-used TurnsUsed n turns bytes rest kept h = absurd h
 
+abbrev pub ended_by : FrontError → Result ℕ FrontError
+ended_by fault = Err fault
+
+-- no round uses up the turns
+pub round_leaves_turns : (fault : FrontError) (n : ℕ) (rest kept : List ℕ) → RoundEndsAt (Err fault) n rest kept → ended_by fault ≡ ended_by TurnsUsed → ⊥
+round_leaves_turns BadLength n rest kept h never = cc never
+round_leaves_turns WriteFault n rest kept h never = cc never
+round_leaves_turns Memory n rest kept h never = cc never
+round_leaves_turns Truncated n rest kept h never = h
+round_leaves_turns ReadFault n rest kept h never = h
+round_leaves_turns TurnsUsed n rest kept h never = h
+
 more_bytes : (result : Result ℕ FrontError) (turns a b : ℕ) → a ≤ b → UsesTurns result turns a → UsesTurns result turns b
 more_bytes (Ok count) turns a b le h = tt
 more_bytes (Err BadLength) turns a b le h = tt

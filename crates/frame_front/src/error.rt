@@ -7,7 +7,7 @@ use thiserror::Error;
 /// Why a session ended before the end of its input. Frames before the fault were answered.
 #[derive(Clone, Copy, Debug, PartialEq, Eq, Error)]
 pub enum FrontError {
-    /// The decoder found no memory.
+    /// There is no memory for the replies of a round, or for what was read.
     #[error("out of memory")]
     Memory,
     /// A length of no payload: 0, or more than 1,049,000.

@@ -1,5 +1,5 @@
 //! Replies gathered for one write.
-ghost use Rattle.std.specs.Prelude.{◌≡◌, ◌++◌, ◌<◌, ◌-◌, ◌^◌, [], flat_map, true, false, OnOk, IfErr};
+ghost use Rattle.std.specs.Prelude.{◌≡◌, ◌++◌, ◌<◌, ◌-◌, ◌^◌, [], flat_map, true, false, OnOk, IfOk, IfErr};
 ghost use Rattle.std.specs.Io.KnownBytes.{Appends};
 ghost use Rattle.frame_front.specs.Reply.{item_frame};
 ghost use Rattle.frame_front.specs.Outbox.{WritesFront};
@@ -8,15 +8,15 @@ ghost use Rattle.frame_front.specs.Private.Gathered.{Puts, Takes};
 use crate::reply::{ReplyBytes, canonical_text, item_front};
 use crate::{Counted, FrontError};
 use spiffe_doc::{Bundle, TrustDomain};
-use std::alloc::Global;
+use std::alloc::{AllocError, Global};
 use std::io::Write;
 use std::marker::Model;
 
 /// The most bytes of replies that are gathered for one write.
 const ROOM: usize = 65_536;
 
-/// The replies that one round gathers. If memory for them is refused, they are written part by part, so it
-/// never runs out of memory. Contracts see it as the bytes that wait.
+/// The replies that one round gathers. It takes its room when it is made, and grows no more. Contracts see
+/// it as the bytes that wait.
 #[derive(Drop)]
 pub(crate) struct Outbox {
     gathered: Vec<u8>,
@@ -31,15 +31,16 @@ impl Model for Outbox {
 }
 
 impl Outbox {
-    pub(crate) fn new(alloc: Global) -> Outbox
-        ensures { result ≡ [] }
+    /// Takes the room for the replies of a round.
+    pub(crate) fn new(alloc: Global) -> Result<Outbox, AllocError>
+        ensures { IfOk result (λ outbox. outbox ≡ []) }
     {
-        Outbox {
-            gathered: Vec::new(alloc),
-        }
+        Ok(Outbox {
+            gathered: Vec::with_capacity(alloc, ROOM)?,
+        })
     }
 
-    /// Gathers two parts, if there is room for both and memory.
+    /// Gathers two parts, if there is room for both.
     #[inline(always)]
     fn gather(&mut self, first: &[u8], others: &[u8]) -> bool
         ensures gathered { result ≡ true → self.new ≡ self.old ++ (first.now ++ others.now) }
@@ -49,6 +50,7 @@ impl Outbox {
         if ROOM.saturating_sub(self.gathered.len()) < size {
             return false;
         }
+        // The room was taken by `new`, so this grows nothing and is never refused.
         if self.gathered.reserve(size).is_err() {
             return false;
         }

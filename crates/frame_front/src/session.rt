@@ -1,6 +1,7 @@
 //! Sessions: requests come in, replies go out.
 ghost use Rattle.std.specs.Prelude.{◌≡◌, ◌≤◌, ◌-◌, ◌^◌, ◌<◌, ◌∷◌, ℕ, List, [], length, Err, Some, true, OnOk, IfErr};
 ghost use Rattle.std.specs.Io.KnownBytes.{Appends, Consumes, IsAtEnd};
+ghost use Rattle.frame_front.specs.Counted.{MakesReads, reads_of};
 ghost use Rattle.frame_front.specs.Session.{Answers, Session};
 ghost use Rattle.frame_front.specs.Private.Round.{Round};
 ghost use Rattle.frame_front.specs.Transcript.{Transcript};
@@ -128,13 +129,18 @@ fn take_turns<R: Read, W: Write, A: Ask>(
     ensures transcript { Transcript A.answers result turns
         (R.remaining reader.old.end) (R.remaining reader.new.end)
         (W.contents writer.old.end) (W.contents writer.new.end) ask.old ask.new }
+    ensures reads { MakesReads turns (result ≡ Err FrontError.TurnsUsed) (reads_of reader.old) (reads_of reader.new) }
     ensures read_fault { result ≡ Err FrontError.ReadFault → reader.old.faults < reader.new.faults }
     ensures write_fault { result ≡ Err FrontError.WriteFault → writer.old.faults < writer.new.faults }
 {
+    let _begun = reader.reads();
     let Ok(mut decoder) = Decoder::new(alloc) else {
         return Err(FrontError::Memory);
     };
-    let mut outbox = Outbox::new(alloc);
+    // All room for replies is taken before the first read, so that nothing grows for one after a change.
+    let Ok(mut outbox) = Outbox::new(alloc) else {
+        return Err(FrontError::Memory);
+    };
     let mut documents = DocumentReader::new(alloc);
     let mut version = Version::One;
     let mut piece = [0; PIECE_BYTES];
@@ -188,6 +194,9 @@ pub fn serve<R: Read, W: Write, A: Ask>(
         → (n : PlainMap) × (A.shows ask.new ≡ Some n) × PlainTranscript A.answers result turns
         (R.remaining reader.old.end) (R.remaining reader.new.end)
         (W.contents writer.old.end) (W.contents writer.new.end) m n }
+
+    // A turn is one call of `read`.
+    ensures reads { MakesReads turns (result ≡ Err FrontError.TurnsUsed) (reads_of reader.old) (reads_of reader.new) }
     ensures read_fault { result ≡ Err FrontError.ReadFault → reader.old.faults < reader.new.faults }
     ensures write_fault { result ≡ Err FrontError.WriteFault → writer.old.faults < writer.new.faults }
 {

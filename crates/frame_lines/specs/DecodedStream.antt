@@ -4,7 +4,7 @@ use Rattle.std.specs.List.{flat_map, AllByRecursion}
 use Rattle.std.specs.Io.KnownBytes.{Appends, Consumes, IsAtEnd}
 use Rattle.frame_front.specs.Frame.{frame, IsPayload, IsUnfinished, IsBadLength}
 use Rattle.frame_front.specs.Outbox.{WritesFront}
-use Rattle.frame_front.specs.declared.error.FrontError.TheVariants.{BadLength, Truncated, WriteFault, TurnsUsed}
+use Rattle.frame_front.specs.declared.error.FrontError.TheVariants.{BadLength, Truncated, ReadFault, WriteFault, TurnsUsed}
 use Rattle.frame_lines.specs.Encoding.{count_after}
 use Rattle.frame_lines.specs.Decoding.{IsLineOf}
 use Rattle.frame_lines.specs.declared.decode.DecodeError.{DecodeError}
@@ -31,6 +31,9 @@ EndsFrames (Ok done) frames rest left = IsAtEnd left × (rest ≡ [])
 EndsFrames (Err (BadFrame place)) frames rest left = (place ≡ frames) × BeginsUnlined rest
 EndsFrames (Err (Front BadLength)) frames rest left = IsBadLength rest
 EndsFrames (Err (Front Truncated)) frames rest left = IsAtEnd left × IsUnfinished rest × (rest ≢ [])
+-- each whole frame that was read became its line
+EndsFrames (Err (Front ReadFault)) frames rest left = IsUnfinished rest
+EndsFrames (Err (Front TurnsUsed)) frames rest left = IsUnfinished rest
 EndsFrames (Err error) frames rest left = Unit {0}
 
 -- all of the bytes are written; if the writer failed, a front of them

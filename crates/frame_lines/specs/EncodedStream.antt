@@ -6,6 +6,7 @@ use Rattle.frame_front.specs.Outbox.{WritesFront}
 use Rattle.frame_front.specs.Counted.{next_count}
 use Rattle.frame_front.specs.declared.error.FrontError.TheVariants.{Memory, ReadFault, WriteFault, TurnsUsed}
 use Rattle.frame_lines.specs.Encoding.{Gives, EncodesLine, IsBadLine, NamesText, BeginsWith, BeginsLong, lines_of, frames_of, count_after}
+use Rattle.frame_lines.specs.RequestForm.{IsOneLine}
 use Rattle.frame_lines.specs.declared.stream.StreamError.{StreamError}
 use Rattle.frame_lines.specs.declared.stream.StreamError.TheVariants.{BadLine, Unreadable, Front}
 
@@ -21,9 +22,10 @@ EndsStream gives (Err (BadLine number)) items rest last left =
 EndsStream gives (Err (Unreadable number)) items rest last left =
     (number ≡ next_count (count_after 0 items)) × (last ≡ []) × (BeginsWith NamesText rest ⊎ (IsAtEnd left × NamesText rest))
 EndsStream gives (Err (Front WriteFault)) items rest last left = (last ≡ []) ⊎ EncodesLine gives (rest, last)
-EndsStream gives (Err (Front ReadFault)) items rest last left = last ≡ []
+-- each whole line that was read became its frame
+EndsStream gives (Err (Front ReadFault)) items rest last left = (last ≡ []) × IsOneLine rest
+EndsStream gives (Err (Front TurnsUsed)) items rest last left = (last ≡ []) × IsOneLine rest
 EndsStream gives (Err (Front Memory)) items rest last left = last ≡ []
-EndsStream gives (Err (Front TurnsUsed)) items rest last left = last ≡ []
 EndsStream gives ended items rest last left = ⊥
 
 -- all of the bytes are written; if the writer failed, a front of them

@@ -1,6 +1,7 @@
 //! Readers and writers that fail.
 use super::{SET_AND_FETCH_ALL, SET_AND_GET, SET_GET_AND_FETCH_ALL, STORED_AND_FOUND, ended_of};
 use frame_front::{Counted, FaultyReader, FaultyWriter, FrontError};
+use std::alloc::AllocError;
 use std::test::Fail;
 use test_kit::protocol::{ALL_OF_NONE, ALL_OF_ONE, Calls, Pieces, STORED};
 use test_kit::{holds_at, is_equal, is_equal_at};
@@ -50,7 +51,9 @@ fn is_joined(bytes: &[u8], first: &[u8], second: &[u8]) -> bool {
     bytes.strip_prefix(first) == Some(second)
 }
 
-/// To be run with each allocation refused in turn: however the session ends, a row of the table allows it.
+/// To be run with each allocation refused in turn. A session that meets a refusal ends out of memory with whole replies to
+/// a prefix of the requests, or has answered one of them so; the test tells that as an error. So it passes only if nothing was
+/// refused.
 #[test]
 fn a_refused_growth_is_answered(rt: HostRuntime) -> Result<(), Fail> {
     const NO_MEMORY: &[u8] = b"\x00\x00\x00\x01\x16";
@@ -60,15 +63,15 @@ fn a_refused_growth_is_answered(rt: HostRuntime) -> Result<(), Fail> {
     let ended = ended_of(rt.alloc(), &mut reader, &mut writer, 100);
     let written = writer.end.as_slice();
     let both = is_joined(written, STORED, ALL_OF_ONE);
-    let allowed = match ended {
-        Ok(2) => {
-            both || is_joined(written, NO_MEMORY, ALL_OF_NONE)
-                || is_joined(written, STORED, NO_MEMORY)
-        }
-        Err(FrontError::Memory) => written.is_empty() || written == STORED || both,
-        _ => false,
-    };
-    holds_at(allowed, &ended)
+    let one_refused = is_joined(written, NO_MEMORY, ALL_OF_NONE)
+        || is_joined(written, STORED, NO_MEMORY);
+    let prefix = written.is_empty() || written == STORED || both;
+    match ended {
+        Ok(2) if both => Ok(()),
+        Ok(2) if one_refused => Err(Fail::from(AllocError)),
+        Err(FrontError::Memory) if prefix => Err(Fail::from(FrontError::Memory)),
+        _ => holds_at(false, &ended),
+    }
 }
 
 /// Two requests come by one read and a third by the next: each round is one write, which is flushed.

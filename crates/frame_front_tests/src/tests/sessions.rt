@@ -1,13 +1,13 @@
 //! What each request is answered.
 use super::{
-    MIGRATED, SET_AND_FETCH_ALL, SET_AND_GET, STORED_AND_ALL, STORED_AND_FOUND, serves_so,
+    MIGRATED, SET_AND_FETCH_ALL, SET_AND_GET, STORED_AND_ALL, STORED_AND_FOUND, ended_of, serves_so,
 };
 use frame_front::{Counted, FrontError, serve};
 use map_core::Contents;
 use std::alloc::Global;
 use std::test::Fail;
 use test_kit::is_equal_at;
-use test_kit::protocol::{ABSENT, ALL_OF_NONE, ALL_OF_ONE, FETCH_ALL, GET, SET, STORED};
+use test_kit::protocol::{ABSENT, ALL_OF_NONE, ALL_OF_ONE, FETCH_ALL, GET, Pieces, SET, STORED};
 
 /// A session over an empty map: its name, what comes in, how it ends, and what goes out.
 #[derive(Clone, Copy)]
@@ -268,6 +268,31 @@ fn each_read_is_a_turn(rt: HostRuntime) -> Result<(), Fail> {
     for &(input, turns, ended, output) in &TURNS {
         let coming = (input, 10, 10);
         serves_so(rt.alloc(), "turns", coming, turns, (ended, output))?;
+    }
+    Ok(())
+}
+
+/// How many bytes a read gives at most, how many reads a session may make, how it ends, and how many it made.
+static READS: [(usize, u32, Result<u64, FrontError>, u64); 5] = [
+    (25, 25, Ok(2), 2),
+    (25, 1, Err(FrontError::TurnsUsed), 1),
+    (5, 6, Ok(2), 6),
+    (5, 5, Err(FrontError::TurnsUsed), 5),
+    (1, 25, Err(FrontError::TurnsUsed), 25),
+];
+
+#[test]
+fn no_byte_is_a_turn(rt: HostRuntime) -> Result<(), Fail> {
+    for &(size, turns, wanted, reads) in &READS {
+        let mut reader = Counted::new(Pieces {
+            bytes: SET_AND_GET,
+            first: size,
+            size,
+        });
+        let mut writer = Counted::new(Vec::new(rt.alloc()));
+        let most = u64::from(turns.min(1_000_000_000));
+        let ended = ended_of(rt.alloc(), &mut reader, &mut writer, most);
+        is_equal_at(&(ended, reader.reads()), &(wanted, reads), &(size, turns))?;
     }
     Ok(())
 }

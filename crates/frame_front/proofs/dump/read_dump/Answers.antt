@@ -1,4 +1,4 @@
-use Rattle.std.proofs.Common.{◌≡◌, ◌≢◌, ◌++◌, ◌∷◌, [], refl, ap, subst, sym, ◌∙◌, arith, rules}
+use Rattle.std.proofs.Common.{◌≡◌, ◌≢◌, [], refl, subst, sym, arith, rules}
 use Rattle.frame_front.proofs.DumpLemmas.{HasRead, HasRead-none, HasRead-then, HasRead-whole, HasRead-bound, wrong_next, too_much, bad_head, some_left, nothing_left}
 use Rattle.frame_front.proofs.dump.read_dump.Goals as goal
 
