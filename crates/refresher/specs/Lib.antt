@@ -1,2 +1,5 @@
 pub mod Due
 pub mod Target
+pub mod Folder
+pub mod OutcomeLine
+pub mod Each

@@ -1,6 +1,8 @@
 //! Each relationship refreshed once, and what is said of it.
 ghost use Rattle.std.specs.Prelude.{◌≡◌, ◌<◌, ◌-◌, ◌^◌, List, ℕ};
 ghost use Rattle.refresher.specs.Due.{due_not_before};
+ghost use Rattle.refresher.specs.Each.{RefreshesEach, is_good as good};
+ghost use Rattle.refresher.specs.Folder.{FetchesFile};
 ghost use Rattle.commands.specs.Streams.{Tells, end_of};
 
 use crate::folder::Folder;
@@ -31,8 +33,9 @@ impl Times {
     }
 }
 
-/// Refreshes the relationships in the order in which they are due, each once, and writes a line for each. A line that is
-/// not taken is a fault if it belongs to the output; else it is dropped, and so are those after it.
+/// Refreshes each relationship once, in the order in which the schedule has them, and writes a line for each. Nothing else is
+/// asked of the target. Answers whether each bundle was set or stood there already. A line that is not taken is a fault if
+/// it belongs to the output; else it is dropped, and so are those after it. After a fault the refreshes before it are done.
 pub fn refresh_each<H: Files, T: Target, L: Write>(
     alloc: Global,
     folder: &mut Folder<'_, H>,
@@ -43,14 +46,14 @@ pub fn refresh_each<H: Files, T: Target, L: Write>(
     is_output: bool,
 ) -> Result<bool, Fault>
     requires { lines.old.faults < 2 ^ 64 - 1 }
-    ensures { (text : List ℕ) × Tells (end_of L.contents lines.old) (end_of L.contents lines.new) text }
+    ensures tells { (text : List ℕ) × Tells (end_of L.contents lines.old) (end_of L.contents lines.new) text }
+    ensures each { RefreshesEach FetchesFile (λ f. f.remark) T.answers T.fault_in T.empties_in T.only_sends times.now lines.old.faults is_output result
+        (record { source = folder.old; target = target.old; schedule = schedule.old; lines = end_of L.contents lines.old })
+        (record { source = folder.new; target = target.new; schedule = schedule.new; lines = end_of L.contents lines.new }) }
 {
     let before = lines.faults();
     let mut all_went_well = true;
-    for _ in 0..schedule.len() {
-        let Some((place, _)) = schedule.next() else {
-            return Ok(all_went_well);
-        };
+    for place in 0..schedule.len() {
         let Ok(outcome) = refresh_at(alloc, folder, target, schedule, place, times.time) else {
             return Err(Fault::Front(FrontError::Memory));
         };
@@ -58,22 +61,26 @@ pub fn refresh_each<H: Files, T: Target, L: Write>(
             return Err(fault);
         }
         let told = Told {
-            now: times.time,
+            time: times.time,
             due: times.due(&outcome),
             domain: schedule.relationship(place).domain(),
-            stored: target.stored(),
+            is_sent: target.is_sender(),
             has_emptied: target.has_emptied(),
             remark: folder.remark(),
         };
-        let is_written = write_line(lines, before, &outcome.what, &told);
-        if is_output && !is_written {
+        let is_taken = write_line(lines, before, &outcome.what, &told);
+        if is_output && !is_taken {
             return Err(Fault::Front(FrontError::WriteFault));
         }
-        all_went_well = all_went_well && is_good(&outcome);
+        let is_well = is_good(&outcome);
+        all_went_well = all_went_well && is_well;
     }
     Ok(all_went_well)
 }
 
-fn is_good(outcome: &Outcome) -> bool {
+/// Whether the bundle was set, or an equal one stood there.
+fn is_good(outcome: &Outcome) -> bool
+    ensures { result ≡ good outcome.now.what }
+{
     matches!(outcome.what, What::Taken(Reply::Stored | Reply::Unchanged))
 }

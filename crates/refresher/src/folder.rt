@@ -1,23 +1,19 @@
 //! A folder of documents.
+ghost use Rattle.std.specs.Prelude.{◌≡◌, IfOk, None, string_bytes};
+ghost use Rattle.refresher.specs.Folder.{FolderState, document_path};
+
+use crate::outcome_lines::Remark;
 use refresh::{Relationship, Source, SourceFault};
-use std::alloc::Global;
+use spiffe_doc::TrustDomain;
+use std::alloc::{AllocError, Global};
 use std::fs::{File, Files};
 use std::io::{ErrorKind, Read};
+use std::marker::Model;
 use std::{fs, io};
 
 /// The most bytes that are read of a file: one more than a document may have, so that a longer one is seen to be too
 /// long.
 const MAX_BYTES: u64 = 1_048_577;
-
-/// What is said of a file that is not read.
-const REMARKS: [(ErrorKind, &str); 3] = [
-    (
-        ErrorKind::InvalidFilename,
-        "the name is too long for a file",
-    ),
-    (ErrorKind::PermissionDenied, "permission denied"),
-    (ErrorKind::OutOfMemory, "out of memory"),
-];
 
 /// The documents of a folder: that of the trust domain `a` is the file `a.json`. A name of a trust domain has no slash,
 /// so each file is in the folder itself.
@@ -26,33 +22,62 @@ pub struct Folder<'a, F> {
     alloc: Global,
     files: &'a F,
     path: &'a str,
-    /// Why the last fetch gave no document, if it gave none.
-    why: Option<ErrorKind>,
+    /// Why the last fetch gave no document, if it gave none and that is worth a word.
+    remark: Option<Remark>,
+}
+
+impl<'a, F> Model for Folder<'a, F> {
+    ghost use Rattle.refresher.specs.Folder.{FolderState};
+
+    ghost Value = { FolderState };
+
+    ghost view = { λ f. record { path = f.path.now; remark = f.remark } };
+}
+
+/// The path of the file that has the document of a trust domain.
+fn path_of(alloc: Global, folder: &str, domain: &TrustDomain) -> Result<String, AllocError>
+    ensures { IfOk result (λ path. string_bytes path ≡ document_path folder.now domain.now) }
+{
+    let mut path = String::from_str(alloc, folder)?;
+    path.push_str("/")?;
+    path.push_str(domain.as_str())?;
+    path.push_str(".json")?;
+    Ok(path)
+}
+
+/// What is said of a file that is not read; nothing if it is not there.
+fn remark_of(why: ErrorKind) -> Option<Remark> {
+    match why {
+        ErrorKind::NotFound => None,
+        ErrorKind::InvalidFilename => Some(Remark::LongName),
+        ErrorKind::PermissionDenied => Some(Remark::Denied),
+        ErrorKind::OutOfMemory => Some(Remark::Memory),
+        _ => Some(Remark::Unreadable),
+    }
 }
 
 impl<'a, F: Files> Folder<'a, F> {
-    pub fn new(alloc: Global, files: &'a F, path: &'a str) -> Folder<'a, F> {
+    /// The folder of this path. Nothing was fetched yet.
+    pub fn new(alloc: Global, files: &'a F, path: &'a str) -> Folder<'a, F>
+        ensures { result ≡ record { path = path.entry.now; remark = None } }
+    {
         Folder {
             alloc,
             files,
             path,
-            why: None,
+            remark: None,
         }
     }
 
-    /// Why the last fetch gave no document, if that is not that there is no file.
-    pub fn remark(&self) -> Option<&'static str> {
-        let why = self.why?;
-        if why == ErrorKind::NotFound {
-            return None;
-        }
-        let known = REMARKS.iter().find(|(kind, _)| *kind == why);
-        Some(known.map_or("the file cannot be read", |(_, remark)| *remark))
+    /// Why the last fetch gave no document, if it gave none and that is not that there is no file.
+    pub fn remark(&self) -> Option<Remark>
+        ensures { result ≡ self.now.remark }
+    {
+        self.remark
     }
 
     fn read(&self, relationship: &Relationship) -> io::Result<Vec<u8>> {
-        let domain = relationship.domain().as_str();
-        let path = format!(in self.alloc; "{}/{domain}.json", self.path)?;
+        let path = path_of(self.alloc, self.path, relationship.domain())?;
         // A pipe or a device might never end.
         if !fs::metadata(self.files, &path)?.is_file() {
             return Err(io::Error::from(ErrorKind::InvalidInput));
@@ -65,13 +90,18 @@ impl<'a, F: Files> Folder<'a, F> {
 }
 
 impl<F: Files> Source for Folder<'_, F> {
-    ghost fetches = { λ before relationship document after. Unit {0} };
+    ghost use Rattle.refresher.specs.Folder.{FetchesFile};
+
+    ghost fetches = { FetchesFile };
 
     fn fetch(&mut self, relationship: &Relationship) -> Result<Vec<u8>, SourceFault> {
         match self.read(relationship) {
-            Ok(document) => Ok(document),
+            Ok(document) => {
+                self.remark = None;
+                Ok(document)
+            }
             Err(error) => {
-                self.why = Some(error.kind());
+                self.remark = remark_of(error.kind());
                 Err(SourceFault)
             }
         }

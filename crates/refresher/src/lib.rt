@@ -14,5 +14,5 @@ mod target;
 pub use each::{Times, refresh_each};
 pub use folder::Folder;
 pub use list::{ListError, read_list, read_schedule};
-pub use outcome_lines::{Told, write_outcome};
+pub use outcome_lines::{LINE_BYTES, Line, Remark, Told, outcome_line};
 pub use target::{Sender, Server, Target};

@@ -1,4 +1,6 @@
 //! Lists of relationships: what the command `refresh` reads.
+ghost use Rattle.std.specs.Prelude.{◌≡◌, IfOk, length, replicate};
+
 use commands::{Fault, RefreshFault, read_input};
 use frame_front::{Counted, FrontError};
 use refresh::{RelationError, Relationship, Schedule};
@@ -71,8 +73,10 @@ fn read_line(alloc: Global, line: &[u8], number: u64) -> Result<Option<Relations
     }
 }
 
-/// The relationships of a list, each due now.
-pub fn read_schedule<H: Files>(alloc: Global, host: &H, list: &str) -> Result<Schedule, Fault> {
+/// The relationships of a list, each due at 0.
+pub fn read_schedule<H: Files>(alloc: Global, host: &H, list: &str) -> Result<Schedule, Fault>
+    ensures { IfOk result (λ schedule. schedule.due_times ≡ replicate (length schedule.relationships) 0) }
+{
     let Ok(file) = File::open(host, list) else {
         return Err(Fault::Front(FrontError::ReadFault));
     };

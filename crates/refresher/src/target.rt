@@ -1,25 +1,67 @@
 //! Where the bundles that were read go: to a server, or as frames to standard output.
-ghost use Rattle.std.specs.Prelude.{◌≡◌, ◌<◌, ◌-◌, ◌^◌, false};
-ghost use Rattle.refresher.specs.Target.{Looks, SenderState, Sends};
+ghost use Rattle.std.specs.Prelude.{◌≡◌, ◌<◌, ◌-◌, ◌^◌, false, option_copied};
+ghost use Rattle.refresher.specs.Target.{Looks, SenderState, Sends, ServerState, emptied_by, has_authorities as reply_has_authorities};
 
 use commands::{Fault, ServerFault};
 use frame_client::{Client, write_request};
 use frame_front::{Counted, FrontError};
 use map_core::{Ask, AskError, Op, Reply};
+use spiffe_doc::TrustDomain;
 use std::alloc::Global;
 use std::io::{Read, Write};
 use std::marker::Model;
 
 /// Whoever is asked to set a bundle.
 pub trait Target: Ask {
+    ghost use Rattle.std.specs.Prelude.{◌≡◌, Bool, Option};
+    ghost use Rattle.commands.specs.declared.fault.Fault.{Fault};
+
+    // Why nothing more can be asked in a state, if that is so.
+    ghost fault_in: { Self → Option Fault };
+
+    // Whether the last Set took all its authorities from a domain that had some.
+    ghost empties_in: { Self → Bool };
+
+    // Whether a bundle that was set is only sent, and nobody answers.
+    ghost only_sends: { Bool };
+
     /// Why nothing more can be asked, if that is so.
-    fn fault(&self) -> Option<Fault>;
+    fn fault(&self) -> Option<Fault>
+        ensures { result ≡ fault_in self.now };
 
     /// Whether the last Set took all its authorities from a domain that had some.
-    fn has_emptied(&self) -> bool;
+    fn has_emptied(&self) -> bool
+        ensures { result ≡ empties_in self.now };
 
-    /// What is said of a bundle that was set.
-    fn stored(&self) -> &'static str;
+    /// Whether a bundle that was set is only sent, and nobody answers.
+    fn is_sender(&self) -> bool
+        ensures { result ≡ only_sends };
+}
+
+/// The domain for which the operation sets a bundle with no authorities, if it does.
+fn emptied(op: &Op) -> Option<&TrustDomain>
+    ensures { option_copied result ≡ emptied_by op.now }
+{
+    match op {
+        Op::Set(domain, bundle) => {
+            if bundle.authorities().is_empty() {
+                Some(domain)
+            } else {
+                None
+            }
+        }
+        _ => None,
+    }
+}
+
+/// Whether the reply is a bundle with authorities.
+fn has_authorities(reply: &Reply) -> bool
+    ensures { result ≡ reply_has_authorities reply.now }
+{
+    match reply {
+        Reply::Found(held) => !held.authorities().is_empty(),
+        _ => false,
+    }
 }
 
 /// Writes requests as frames, and gets no answer: `Stored` says only that the frame is written.
@@ -28,19 +70,19 @@ pub struct Sender<'a, W: Write> {
     alloc: Global,
     out: &'a mut Counted<W>,
     has_failed: bool,
-    is_empty: bool,
+    has_emptied: bool,
 }
 
 impl<'a, W: Write> Sender<'a, W> {
     pub fn new(alloc: Global, out: &'a mut Counted<W>) -> Sender<'a, W>
         requires { out.old.faults < 2 ^ 64 - 1 }
-        ensures { result ≡ record { held = W.contents out.old.end; has_failed = false } }
+        ensures { result ≡ record { held = W.contents out.old.end; has_failed = false; has_emptied = false } }
     {
         Sender {
             alloc,
             out,
             has_failed: false,
-            is_empty: false,
+            has_emptied: false,
         }
     }
 
@@ -50,12 +92,14 @@ impl<'a, W: Write> Sender<'a, W> {
         let Op::Set(_, bundle) = op else {
             return Err(AskError::GateShut);
         };
-        self.is_empty = bundle.authorities().is_empty();
         if self.has_failed {
             return Err(AskError::GateShut);
         }
         match write_request(self.alloc, self.out, op) {
-            Ok(()) => Ok(Reply::Stored),
+            Ok(()) => {
+                self.has_emptied = bundle.authorities().is_empty();
+                Ok(Reply::Stored)
+            }
             Err(_) => {
                 self.has_failed = true;
                 Err(AskError::GateShut)
@@ -70,7 +114,7 @@ impl<'a, W: Write> Model for Sender<'a, W> {
 
     ghost Value = { SenderState };
 
-    ghost view = { λ s. record { held = W.contents s.out.now.end; has_failed = s.has_failed } };
+    ghost view = { λ s. record { held = W.contents s.out.now.end; has_failed = s.has_failed; has_emptied = s.has_emptied } };
 
     ghost invariant = { λ s. s.has_failed ≡ false → s.out.now.faults < 2 ^ 64 - 1 };
 }
@@ -93,17 +137,27 @@ impl<W: Write> Ask for Sender<'_, W> {
 }
 
 impl<W: Write> Target for Sender<'_, W> {
+    ghost use Rattle.std.specs.Prelude.{true};
+    ghost use Rattle.refresher.specs.Target.{SenderState, sender_fault};
+
+    ghost fault_in = { λ s. sender_fault s.has_failed };
+
+    ghost empties_in = { λ s. s.has_emptied };
+
+    ghost only_sends = { true };
+
     fn fault(&self) -> Option<Fault> {
         self.has_failed
             .then_some(Fault::Front(FrontError::WriteFault))
     }
 
+    /// Whether the last bundle that was sent has no authorities: what stood there is not known.
     fn has_emptied(&self) -> bool {
-        self.is_empty
+        self.has_emptied
     }
 
-    fn stored(&self) -> &'static str {
-        "sent"
+    fn is_sender(&self) -> bool {
+        true
     }
 }
 
@@ -116,37 +170,35 @@ pub struct Server<R: Read, W: Write> {
 }
 
 impl<R: Read, W: Write> Model for Server<R, W> {
-    ghost use Rattle.frame_client.specs.Client.{ClientState};
+    ghost use Rattle.refresher.specs.Target.{ServerState};
 
-    ghost Value = { ClientState };
+    ghost Value = { ServerState };
 
-    ghost view = { λ s. s.client };
+    ghost view = { λ s. record { client = s.client; has_emptied = s.has_emptied } };
 }
 
 impl<R: Read, W: Write> Server<R, W> {
-    pub fn new(client: Client<R, W>) -> Server<R, W> {
+    pub fn new(client: Client<R, W>) -> Server<R, W>
+        ensures { result ≡ record { client = client; has_emptied = false } }
+    {
         Server {
             client,
             has_emptied: false,
         }
     }
+}
 
-    /// Whether the Set would take all its authorities from a domain that has some.
-    fn empties(&mut self, op: &Op) -> Result<bool, AskError>
-        ensures { Looks self.old op.now result self.new }
-    {
-        let Op::Set(domain, bundle) = op else {
-            return Ok(false);
-        };
-        if !bundle.authorities().is_empty() {
-            return Ok(false);
-        }
-        let domain = domain.copy()?;
-        match self.client.ask(Op::Get(domain))? {
-            Reply::Found(held) => Ok(!held.authorities().is_empty()),
-            _ => Ok(false),
-        }
-    }
+/// Whether the operation takes all its authorities from a domain that has some: a server is asked what stands there before a
+/// bundle with no authorities is set.
+fn empties<R: Read, W: Write>(client: &mut Client<R, W>, op: &Op) -> Result<bool, AskError>
+    ensures { Looks client.old op.now result client.new }
+{
+    let Some(domain) = emptied(op) else {
+        return Ok(false);
+    };
+    let domain = domain.copy()?;
+    let found = client.ask(Op::Get(domain))?;
+    Ok(has_authorities(&found))
 }
 
 impl<R: Read, W: Write> Ask for Server<R, W> {
@@ -160,7 +212,7 @@ impl<R: Read, W: Write> Ask for Server<R, W> {
     ghost answers_plainly = { λ old op result new m shown answer. absurd (shows_none m shown) };
 
     fn ask(&mut self, op: Op) -> Result<Reply, AskError> {
-        match self.empties(&op) {
+        match empties(&mut self.client, &op) {
             Ok(empties) => self.has_emptied = empties,
             Err(why) => {
                 drop(op);
@@ -172,15 +224,27 @@ impl<R: Read, W: Write> Ask for Server<R, W> {
 }
 
 impl<R: Read, W: Write> Target for Server<R, W> {
+    ghost use Rattle.std.specs.Prelude.{false};
+    ghost use Rattle.refresher.specs.Target.{ServerState, server_fault};
+
+    ghost fault_in = { λ s. server_fault s.client.ended };
+
+    ghost empties_in = { λ s. s.has_emptied };
+
+    ghost only_sends = { false };
+
     fn fault(&self) -> Option<Fault> {
-        Some(Fault::Server(ServerFault::Client(self.client.ended()?)))
+        match self.client.ended() {
+            Some(why) => Some(Fault::Server(ServerFault::Client(why))),
+            None => None,
+        }
     }
 
     fn has_emptied(&self) -> bool {
         self.has_emptied
     }
 
-    fn stored(&self) -> &'static str {
-        "stored"
+    fn is_sender(&self) -> bool {
+        false
     }
 }

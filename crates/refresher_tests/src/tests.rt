@@ -4,11 +4,10 @@ use frame_client::Client;
 use frame_front::{Counted, FaultyWriter, FrontError};
 use map_core::{Ask, AskError, MapRefusal, Op, Reply};
 use refresh::{RelationError, What};
-use refresher::{ListError, Sender, Server, Target, Told, read_list, write_outcome};
+use refresher::{ListError, Remark, Sender, Server, Target, Told, outcome_line, read_list};
 use spiffe_doc::{DocError, NameError, TrustDomain, read_document};
 use std::alloc::Global;
 use std::fmt::Debug;
-use std::io;
 use std::process::Abort;
 use std::test::Fail;
 
@@ -109,10 +108,14 @@ fn what_of(came: Came) -> What {
     }
 }
 
-/// What a refresh came to, whether the bundle took all authorities from a domain, a remark, and the line.
-static LINES: [(Came, bool, Option<&str>, &str); 12] = [
+/// What a refresh came to, whether a bundle is only sent, whether it took all authorities from a domain, a remark, and the
+/// line.
+type Row = (Came, bool, bool, Option<Remark>, &'static str);
+
+static LINES: [Row; 18] = [
     (
         Came::Stored,
+        false,
         false,
         None,
         "1000 a.example stored due 1300\n",
@@ -120,11 +123,13 @@ static LINES: [(Came, bool, Option<&str>, &str); 12] = [
     (
         Came::Unchanged,
         false,
+        false,
         None,
         "1000 a.example unchanged due 1300\n",
     ),
     (
         Came::Refused(MapRefusal::Stale(7)),
+        false,
         false,
         None,
         "1000 a.example refused 31 7 due 1300\n",
@@ -132,17 +137,20 @@ static LINES: [(Came, bool, Option<&str>, &str); 12] = [
     (
         Came::Bad(DocError::NotJson),
         false,
+        false,
         None,
         "1000 a.example bad document 11 due 1300\n",
     ),
     (
         Came::Bad(DocError::BadX5c(2)),
         false,
+        false,
         None,
         "1000 a.example bad document 18 at 2 due 1300\n",
     ),
     (
         Came::NoAnswer,
+        false,
         false,
         None,
         "1000 a.example no answer due 1300\n",
@@ -152,6 +160,7 @@ static LINES: [(Came, bool, Option<&str>, &str); 12] = [
             shard: 3,
             revision: 5,
         }),
+        false,
         false,
         None,
         "1000 a.example given up held 3 5 due 1300\n",
@@ -163,11 +172,13 @@ static LINES: [(Came, bool, Option<&str>, &str); 12] = [
             second: 6,
         }),
         false,
+        false,
         None,
         "1000 a.example given up moved 3 5 6 due 1300\n",
     ),
     (
         Came::Asked(AskError::Worn { shard: 3 }),
+        false,
         false,
         None,
         "1000 a.example given up worn 3 due 1300\n",
@@ -175,52 +186,83 @@ static LINES: [(Came, bool, Option<&str>, &str); 12] = [
     (
         Came::Asked(AskError::GateShut),
         false,
+        false,
         None,
         "1000 a.example given up refused 56 due 1300\n",
     ),
     (
         Came::Stored,
+        false,
         true,
         None,
         "1000 a.example stored empty due 1300\n",
     ),
     (
+        Came::Stored,
+        true,
+        false,
+        None,
+        "1000 a.example sent due 1300\n",
+    ),
+    (
+        Came::Stored,
+        true,
+        true,
+        None,
+        "1000 a.example sent empty due 1300\n",
+    ),
+    (
+        Came::Unchanged,
+        true,
+        true,
+        Some(Remark::Unreadable),
+        "1000 a.example unchanged due 1300\n",
+    ),
+    (
         Came::NoAnswer,
         false,
-        Some("it is not a file"),
-        "1000 a.example no answer due 1300 (it is not a file)\n",
+        false,
+        Some(Remark::LongName),
+        "1000 a.example no answer due 1300 (the name is too long for a file)\n",
+    ),
+    (
+        Came::NoAnswer,
+        false,
+        false,
+        Some(Remark::Denied),
+        "1000 a.example no answer due 1300 (permission denied)\n",
+    ),
+    (
+        Came::NoAnswer,
+        false,
+        false,
+        Some(Remark::Memory),
+        "1000 a.example no answer due 1300 (out of memory)\n",
+    ),
+    (
+        Came::NoAnswer,
+        false,
+        false,
+        Some(Remark::Unreadable),
+        "1000 a.example no answer due 1300 (the file cannot be read)\n",
     ),
 ];
-
-/// The line of what a refresh at 1000 came to, of a domain that is refreshed again at 1300.
-fn line_of(
-    alloc: Global,
-    came: Came,
-    domain: &TrustDomain,
-    has_emptied: bool,
-    remark: Option<&'static str>,
-) -> io::Result<Vec<u8>> {
-    let told = Told {
-        now: 1000,
-        due: 1300,
-        domain,
-        stored: "stored",
-        has_emptied,
-        remark,
-    };
-    let mut line = Vec::new(alloc);
-    let what = what_of(came);
-    let written = write_outcome(&mut line, &what, &told);
-    drop(what);
-    written?;
-    Ok(line)
-}
 
 #[test]
 fn lines(rt: HostRuntime) -> Result<(), Fail> {
     let domain = TrustDomain::parse(rt.alloc(), "a.example")?;
-    for &(came, has_emptied, remark, wanted) in &LINES {
-        let line = line_of(rt.alloc(), came, &domain, has_emptied, remark)?;
+    for &(came, is_sent, has_emptied, remark, wanted) in &LINES {
+        let told = Told {
+            time: 1000,
+            due: 1300,
+            domain: &domain,
+            is_sent,
+            has_emptied,
+            remark,
+        };
+        let what = what_of(came);
+        let line = outcome_line(&what, &told);
+        drop(what);
         is_equal_at(&rt, &line.as_slice(), &wanted.as_bytes(), &wanted);
     }
     Ok(())

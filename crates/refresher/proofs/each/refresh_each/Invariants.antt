@@ -1,8 +1,20 @@
-use Rattle.std.proofs.Common.{ℕ, List}
+use Rattle.std.proofs.Common.{◌≡◌, ℕ, List, length, true}
 use Rattle.commands.specs.Streams.{Tells, end_of}
+use Rattle.refresh.specs.declared.outcome.Outcome.{Outcome}
+use Rattle.refresher.specs.Each.{TellsFrom, all_are_good}
+use Rattle.refresher.specs.Folder.{FetchesFile}
 use Rattle.refresher.proofs.each.refresh_each.Given as goal
 
--- some lines were written, unless the writer failed
-abbrev pub invariant-loop : goal.invariant-loop
-invariant-loop g l =
-    (text : List ℕ) × Tells (end_of g.L.Write.contents l.fn.lines) (end_of g.L.Write.contents l.lines) text
+-- the relationships before this place are refreshed, and their lines are written, unless the writer failed
+abbrev pub invariant-loop-place : goal.invariant-loop-place
+invariant-loop-place g l =
+    (outcomes : List Outcome)
+    × TellsFrom FetchesFile (λ f. f.remark) g.T.Ask.answers g.T.Target.fault_in g.T.Target.empties_in g.T.Target.only_sends l.times l.fn.lines.faults
+    0 outcomes
+    (record { source = l.fn.folder; target = l.fn.target; schedule = l.fn.schedule; lines = end_of g.L.Write.contents l.fn.lines })
+    (record { source = l.folder; target = l.target; schedule = l.schedule; lines = end_of g.L.Write.contents l.lines })
+    × (length outcomes ≡ l.place)
+    × (l.all_went_well ≡ all_are_good outcomes)
+    × (l.is_output ≡ true → l.lines.faults ≡ l.fn.lines.faults)
+    × (length l.schedule.relationships ≡ length l.fn.schedule.relationships)
+    × ((text : List ℕ) × Tells (end_of g.L.Write.contents l.fn.lines) (end_of g.L.Write.contents l.lines) text)
