@@ -141,16 +141,16 @@ module _ (gives : Gives) (how : Asking) (old : Ends) (lines from to out : Option
   stopped encoding.Memory stops = silent (Front front.Memory) lines [] (Consumes-nil lines) (refl, refl, refl) tt
 
   -- no more is read
-  pub not_read : (fault : AskFault) (next : EncoderState) (lines_new : Option (List ℕ)) → ReadsMore (Err fault) state next lines lines_new → AsksLines gives how (Err fault) old (ends lines_new from to out)
-  not_read (Front front.ReadFault) next lines_new reads = silent (Front front.ReadFault) lines_new reads.0 reads.1 (refl, refl, refl) tt
-  not_read (Front front.Memory) next lines_new reads = silent (Front front.Memory) lines_new reads.0 reads.1 (refl, refl, refl) tt
-  not_read (Front front.WriteFault) next lines_new reads = absurd reads
-  not_read (Front front.BadLength) next lines_new reads = absurd reads
-  not_read (Front front.Truncated) next lines_new reads = absurd reads
-  not_read (Front front.TurnsUsed) next lines_new reads = absurd reads
-  not_read (Server why) next lines_new reads = absurd reads
-  not_read (BadLine n) next lines_new reads = absurd reads
-  not_read (Unreadable n) next lines_new reads = absurd reads
+  pub not_read : (fault : AskFault) (next : EncoderState) (lines_new : Option (List ℕ)) → IsOneLine state.kept → ReadsMore (Err fault) state next lines lines_new → AsksLines gives how (Err fault) old (ends lines_new from to out)
+  not_read (Front front.ReadFault) next lines_new one_line reads = silent (Front front.ReadFault) lines_new [] reads (same_rest IsOneLine one_line, refl, refl, refl) tt
+  not_read (Front front.Memory) next lines_new one_line reads = silent (Front front.Memory) lines_new reads.0 reads.1 (refl, refl, refl) tt
+  not_read (Front front.WriteFault) next lines_new one_line reads = absurd reads
+  not_read (Front front.BadLength) next lines_new one_line reads = absurd reads
+  not_read (Front front.Truncated) next lines_new one_line reads = absurd reads
+  not_read (Front front.TurnsUsed) next lines_new one_line reads = absurd reads
+  not_read (Server why) next lines_new one_line reads = absurd reads
+  not_read (BadLine n) next lines_new one_line reads = absurd reads
+  not_read (Unreadable n) next lines_new one_line reads = absurd reads
 
   -- a piece more is read
   pub reads_on : (next : EncoderState) (lines_new : Option (List ℕ)) → ReadsMore (Ok true) state next lines lines_new → StreamSoFar gives how old (ends lines_new from to out) next refused (turns + 1)

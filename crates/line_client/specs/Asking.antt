@@ -171,6 +171,9 @@ EndsAsking gives how (Err (Front front.WriteFault)) items rest more_asked more_t
     (request : List ℕ) × BecomesNext gives rest request × IsBroken how (Front front.WriteFault) request more_asked more_told more_shown new.from
 EndsAsking gives how (Err (Front front.BadLength)) items rest more_asked more_told more_shown new = ⊥
 EndsAsking gives how (Err (Front front.Truncated)) items rest more_asked more_told more_shown new = ⊥
+-- each whole line that was read was asked
+EndsAsking gives how (Err (Front front.ReadFault)) items rest more_asked more_told more_shown new =
+    IsOneLine rest × (more_asked ≡ []) × (more_told ≡ []) × (more_shown ≡ [])
 EndsAsking gives how (Err fault) items rest more_asked more_told more_shown new = (more_asked ≡ []) × (more_told ≡ []) × (more_shown ≡ [])
 
 -- if the turns are used up, each of them read a byte or took a line

@@ -189,7 +189,7 @@ abbrev pub ReadsMore : Result Bool AskFault → EncoderState → EncoderState �
 ReadsMore (Ok true) old new lines_old lines_new =
     (piece : List ℕ) × (0 < length piece) × (new.kept ≡ old.kept ++ piece) × (new.lines ≡ old.lines) × Consumes lines_old lines_new piece
 ReadsMore (Ok false) old new lines_old lines_new = (new ≡ old) × Consumes lines_old lines_new [] × IsAtEnd lines_new
-ReadsMore (Err (Front front.ReadFault)) old new lines_old lines_new = (piece : List ℕ) × Consumes lines_old lines_new piece
+ReadsMore (Err (Front front.ReadFault)) old new lines_old lines_new = Consumes lines_old lines_new []
 ReadsMore (Err (Front front.Memory)) old new lines_old lines_new = (piece : List ℕ) × Consumes lines_old lines_new piece
 ReadsMore (Err fault) old new lines_old lines_new = ⊥
 

@@ -32,7 +32,8 @@ returns-in_err-read_more-in-Ok-false-clause-asks g c =
     let fault = c.in_err-read_more-in-Ok-false.field-0.0 in
     let is : c.from_residual-in_err-read_more-in-Ok-false.result ≡ Err fault = search rules in
     let so = subst (λ (e : EncoderState). StreamSoFar gives c.args.how old mid e c.loop-turn.refused c.loop-turn._turn) (sym next.2.2) c.loop-turn.invariant.0 in
-    rw is (not_read gives c.args.how old (g.L.Read.remaining c.loop-turn.lines.end) _ _ _ c.encode_next.new.self c.loop-turn.refused c.loop-turn._turn so fault c.read_more.new.encoder (g.L.Read.remaining c.read_more.new.lines.end) c.in_err-read_more-in-Ok-false.ensures.reads)
+    let one_line = subst (λ (e : EncoderState). IsOneLine e.kept) (sym next.2.2) next.2.0 in
+    rw is (not_read gives c.args.how old (g.L.Read.remaining c.loop-turn.lines.end) _ _ _ c.encode_next.new.self c.loop-turn.refused c.loop-turn._turn so fault c.read_more.new.encoder (g.L.Read.remaining c.read_more.new.lines.end) one_line c.in_err-read_more-in-Ok-false.ensures.reads)
 
 pub returns-in_err-one-in-Ok-false-clause-asks : goal.returns-in_err-one-in-Ok-false-clause-asks
 returns-in_err-one-in-Ok-false-clause-asks g c =
