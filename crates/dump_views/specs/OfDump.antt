@@ -14,8 +14,8 @@ PemFault (pem.BadDump place) dump name = IsBadDump dump place
 PemFault pem.NoDomain dump name = (items : Domains) × IsDump dump items × (held_under items name ≡ None)
 PemFault pem.Memory dump name = Unit {0}
 
--- the old one or the new one is not a dump
+-- the old one is not a dump; or it is one, and the new one is not
 abbrev pub DiffFault : DiffError → List ℕ → List ℕ → Type 0
 DiffFault (diff.BadOld place) old new = IsBadDump old place
-DiffFault (diff.BadNew place) old new = IsBadDump new place
+DiffFault (diff.BadNew place) old new = (olds : Domains) × IsDump old olds × IsBadDump new place
 DiffFault diff.Memory old new = Unit {0}

@@ -29,13 +29,13 @@ pub enum PemError {
     Memory,
 }
 
-/// Why no changes between two dumps are told.
+/// Why no changes between two dumps are told. The old one is judged first: if both are bad, it is blamed.
 #[derive(Clone, Copy, Debug, PartialEq, Eq, Error)]
 pub enum DiffError {
     /// The old one is not a dump: its first frame, from 0, that is wrong, missing or too much.
     #[error("frame {0} of the old dump is wrong, missing or too much")]
     BadOld(u64),
-    /// The same of the new one.
+    /// The same of the new one, while the old one is a dump.
     #[error("frame {0} of the new dump is wrong, missing or too much")]
     BadNew(u64),
     #[error("out of memory")]
@@ -80,7 +80,8 @@ fn bundle_of<'a>(domains: &'a [(TrustDomain, Bundle)], name: &TrustDomain) -> Op
     None
 }
 
-/// Appends what changed from the old dump to the new one, as `put_diff` does. After an error nothing is appended.
+/// Appends what changed from the old dump to the new one, as `put_diff` does. If both are bad, the old one is blamed. After
+/// an error nothing is appended.
 pub fn put_dump_diff(
     alloc: Global,
     old: &[u8],
