@@ -13,8 +13,8 @@ use bundle_map::Profile;
 use clap::error::ErrorKind;
 use command_line::{Wanted, wanted_by};
 use commands::{
-    Fault, FileTexts, decode_over, encode_over, explain_over, migrate_over, run_over, tell,
-    trace_over, write_flushed,
+    Fault, FileTexts, decode_over, encode_over, explain_over, migrate_over, picture_over, run_over,
+    tell, trace_over, write_flushed,
 };
 use dump_commands::{check_over, diff_over, digest_over, import_over, map_over, pem_over};
 use frame_front::{Counted, FrontError};
@@ -120,8 +120,13 @@ fn run_wanted<
         Wanted::Trace {
             shards,
             rounds,
-            picture,
-        } => trace_over(alloc, reader, out, err, *shards, *rounds, *picture),
+            picture: false,
+        } => trace_over(alloc, reader, out, err, *shards, *rounds),
+        Wanted::Trace {
+            shards,
+            rounds,
+            picture: true,
+        } => picture_over(alloc, reader, out, err, *shards, *rounds),
         Wanted::Race { seconds } => race_over(alloc, host, out, err, *seconds),
         Wanted::Refresh(refreshing) => refresh_over(alloc, host, out, err, refreshing),
         Wanted::Snapshot(snapshotting) => snapshot_over(alloc, host, out, err, snapshotting),

@@ -1,7 +1,7 @@
 //! The commands of the program that need only streams, and how each command tells its faults.
 //!
 //! `run_over` serves a session, `encode_over` and `decode_over` turn lines into frames and frames into lines, `trace_over`
-//! runs the machine over a list of events, `ask_over` asks a server, `migrate_over` turns a dump into requests, and `explain_over`
+//! and `picture_over` run the machine over a list of events, `ask_over` asks a server, `migrate_over` turns a dump into requests, and `explain_over`
 //! writes a text. Each reads from a reader, writes to a writer, tells its fault to another, and answers the exit status. What they are made of
 //! serves the other commands too.
 #![tactic(auto)]
@@ -26,4 +26,4 @@ pub use input::read_input;
 pub use migrate::migrate_over;
 pub use output::{tell, tell_flushed, write_flushed, write_whole};
 pub use run::run_over;
-pub use trace::trace_over;
+pub use trace::{picture_over, trace_over};

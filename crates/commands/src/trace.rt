@@ -1,5 +1,5 @@
 //! The command `trace`: a run of the machine over a list of events.
-ghost use Rattle.std.specs.Prelude.{◌≡◌, ◌<◌, ◌-◌, ◌^◌, List, ℕ, Bool, Option, Err, length, OnOk, IfOk, IfErr};
+ghost use Rattle.std.specs.Prelude.{◌≡◌, ◌<◌, ◌-◌, ◌^◌, List, ℕ, Bool, true, false, Option, Err, length, OnOk, IfOk, IfErr};
 ghost use Rattle.std.specs.Io.KnownBytes.{Appends};
 ghost use Rattle.frame_front.specs.Outbox.{WritesFront};
 ghost use Rattle.frame_front.specs.declared.error.FrontError.TheVariants.{ReadFault, WriteFault};
@@ -19,9 +19,53 @@ use step_core::{Trace, run_events};
 use trace_lines::{LinesError, put_picture, put_trace, read_events};
 
 /// Reads events, a line each, runs them over so many shards, a fetch-all in so many rounds, and writes a line for each
-/// operation and one for their order, below a picture of the run if one is wanted; answers the exit status. A line that is not an event is a fault, and then nothing
-/// is written.
+/// operation and one for their order; answers the exit status. A line that is not an event is a fault, and then nothing is
+/// written.
 pub fn trace_over<R: Read, W: Write, E: Write>(
+    alloc: Global,
+    reader: &mut Counted<R>,
+    out: &mut Counted<W>,
+    err: &mut Counted<E>,
+    shards: usize,
+    rounds: usize,
+) -> u8
+    requires shards { 0 < shards }
+    requires rounds { 0 < rounds }
+    requires reader_count { reader.old.faults < 2 ^ 64 - 1 }
+    requires out_count { out.old.faults < 2 ^ 64 - 1 }
+    requires err_count { err.old.faults < 2 ^ 64 - 1 }
+    ensures traces { Tracing shards rounds false result
+        (streams R.remaining W.contents E.contents reader.old out.old err.old)
+        (streams R.remaining W.contents E.contents reader.new out.new err.new) }
+    ensures silent { result ≡ 0 → err.new ≡ err.old }
+{
+    show_over(alloc, reader, out, err, shards, rounds, false)
+}
+
+/// Does the same, and draws the run above these lines.
+pub fn picture_over<R: Read, W: Write, E: Write>(
+    alloc: Global,
+    reader: &mut Counted<R>,
+    out: &mut Counted<W>,
+    err: &mut Counted<E>,
+    shards: usize,
+    rounds: usize,
+) -> u8
+    requires shards { 0 < shards }
+    requires rounds { 0 < rounds }
+    requires reader_count { reader.old.faults < 2 ^ 64 - 1 }
+    requires out_count { out.old.faults < 2 ^ 64 - 1 }
+    requires err_count { err.old.faults < 2 ^ 64 - 1 }
+    ensures traces { Tracing shards rounds true result
+        (streams R.remaining W.contents E.contents reader.old out.old err.old)
+        (streams R.remaining W.contents E.contents reader.new out.new err.new) }
+    ensures silent { result ≡ 0 → err.new ≡ err.old }
+{
+    show_over(alloc, reader, out, err, shards, rounds, true)
+}
+
+/// Shows the run of the events, as a picture too or not.
+fn show_over<R: Read, W: Write, E: Write>(
     alloc: Global,
     reader: &mut Counted<R>,
     out: &mut Counted<W>,

@@ -5,7 +5,9 @@ mod lines;
 mod sessions;
 mod traces;
 
-use commands::{decode_over, encode_over, explain_over, migrate_over, run_over, trace_over};
+use commands::{
+    decode_over, encode_over, explain_over, migrate_over, picture_over, run_over, trace_over,
+};
 use frame_front::Counted;
 use frame_lines::{TextError, TextSource};
 use std::alloc::{AllocError, Global};
@@ -83,16 +85,14 @@ fn left_by(alloc: Global, command: Command, reader: Source<'_>, out: Sink, err: 
             &mut err,
             shards.max(1),
             rounds.max(1),
-            false,
         ),
-        Command::Picture(shards, rounds) => trace_over(
+        Command::Picture(shards, rounds) => picture_over(
             alloc,
             &mut reader,
             &mut out,
             &mut err,
             shards.max(1),
             rounds.max(1),
-            true,
         ),
         Command::Migrate => migrate_over(alloc, &mut reader, &mut out, &mut err),
         Command::Encode => encode_over(alloc, &Empty, &mut reader, &mut out, &mut err),
