@@ -73,7 +73,7 @@ def documents_of_files():
     room = Room()
     document = room.write("a.json", b'{\n  "keys": []\n}\n')
     assert asked(server.port, "set", "a", f"@{document}") == (0, b"stored\n", b"")
-    assert asked(server.port, "set", "a", f"@{room.path}/b.json") == (1, b"", b"fault 53 1\n")
+    assert asked(server.port, "set", "a", f"@{room.path}/b.json") == (1, b"", b"fault 77 1\n")
     assert asked(server.port, "set", "a", '{"keys":[]}\nremove a') == (1, b"", b"fault 70 1\n")
     assert asked(server.port, "get", "a") == (0, b"found " + EMPTY + b"\n", b"")
     assert server.ended() == (0, "served 4\ndomains 1\n", ""), "ended otherwise"
@@ -123,7 +123,7 @@ def replies_that_are_none():
 
 def ends_that_fail():
     """No server, and an output that takes nothing."""
-    assert asked(unused_port(), "get", "a") == (1, b"", b"fault 57\n")
+    assert asked(unused_port(), "get", "a") == (1, b"", b"fault 78\n")
     server = Server("--workers", "1", "--connections", "2")
     assert asked(server.port, "set", "a", EMPTY.decode())[0] == 0
     with open("/dev/full", "wb") as full:

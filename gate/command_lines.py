@@ -113,19 +113,19 @@ FAULTS = [
     ("trace", FIRST_RUN, b"", b"fault 70 1\n"),
     ("migrate", FIRST_RUN, b"", b"fault 63 0\n"),
     ("map", FIRST_RUN, b"", b"fault 63 0\n"),
-    ("map a b c", DUMP_OF_ONE, b"", b"fault 30 2\n"),
+    ("map a b c", DUMP_OF_ONE, b"", b"fault 75 2\n"),
     ("import", b"[]", b"", b"fault 64\n"),
     ("import", MAP_OF_ONE[:-1], b"", b"fault 64\n"),
     ("import", b'{"trust_domains":{"a":{"keys":[]},"b":{"keys":0}}}', b"", b"fault 65 1\n"),
     ("import", b'{"trust_domains":{"a":{"keys":[]},"a":{"keys":[]}}}', b"", b"fault 65 1\n"),
-    ("pem b", DUMP_OF_ONE, b"", b"fault 30 1\n"),
+    ("pem b", DUMP_OF_ONE, b"", b"fault 75 1\n"),
     ("pem a", DUMP_OF_ONE[:-1], b"", b"fault 63 1\n"),
     ("digest", DUMP_OF_ONE + frame(b"s"), b"", b"fault 63 2\n"),
     ("encode", FIRST_LINES + b"get\n", FIRST_RUN, b"fault 70 5\n"),
-    ("encode", b"get a\nset a @/nowhere\n", frame(b"G\x01a"), b"fault 53 2\n"),
+    ("encode", b"get a\nset a @/nowhere\n", frame(b"G\x01a"), b"fault 77 2\n"),
     ("encode", b"get a\nset a @/dev/zero\n", frame(b"G\x01a"), b"fault 70 2\n"),
-    ("decode", FIRST_REPLIES + frame(b"X"), TOLD, b"fault 51 2\n"),
-    ("decode", frame(b"G\x01a") + frame(b"S\x01a@b"), b"get a\n", b"fault 51 1\n"),
+    ("decode", FIRST_REPLIES + frame(b"X"), TOLD, b"fault 76 2\n"),
+    ("decode", frame(b"G\x01a") + frame(b"S\x01a@b"), b"get a\n", b"fault 76 1\n"),
     ("decode", FIRST_REPLIES[:-1], b"stored\n", b"fault 52\n"),
     ("decode", FIRST_REPLIES + b"\0\0\0\0", TOLD, b"fault 50\n"),
 ]
@@ -280,7 +280,7 @@ def tells_what_is_kept():
     status, output, told = ran(f"check {part} {ROOT}/README.md {whole}")
     assert (status, told) == (1, b"") and f"{ROOT}/README.md: not a bundle: ".encode() in output, output
     status, output, told = ran(f"check {whole} {ROOT}/nowhere {part}")
-    assert (status, told, output.count(b"\n")) == (1, b"fault 53 2\n", 1), (status, told)
+    assert (status, told, output.count(b"\n")) == (1, b"fault 77 2\n", 1), (status, told)
 
 
 def tells_what_changed():

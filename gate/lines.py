@@ -101,7 +101,7 @@ def requests_without_lines(seed):
     lacking = [it for it in random_payloads(seed) if it[:1] in (b"S", b"C", b"A", b"R", b"G", b"F", b"V") and request_line(it) is None]
     for payload in lacking[:MOST_RUNS]:
         ended = run_words("decode", given=frame(b"F") + frame(payload))
-        assert ended == (1, b"fetch\n", b"fault 51 1\n"), (payload[:300], ended)
+        assert ended == (1, b"fetch\n", b"fault 76 1\n"), (payload[:300], ended)
     return f"; {len(lacking[:MOST_RUNS])} of them"
 
 

@@ -95,9 +95,9 @@ def what_is_no_document():
 def refused_lists():
     """A list with a bad line is refused at the line, and nothing is sent."""
     good = web("a")
-    rows = [(good + "a b\n", "fault 70 2"), (good + "\n" + good, "fault 70 3"), (good + "B https://x https_web", "fault 3 2")]
-    rows += [("a http://x.example https_web", "fault 60 1"), ("a https://x.example ftp", "fault 61 1")]
-    rows += [("a https://x.example https_spiffe", "fault 62 1"), ("a https://x https_spiffe spiffe://a/", "fault 5 1")]
+    rows = [(good + "a b\n", "fault 70 2"), (good + "\n" + good, "fault 70 3"), (good + "B https://x https_web", "fault 79 2 3")]
+    rows += [("a http://x.example https_web", "fault 79 1 60"), ("a https://x.example ftp", "fault 79 1 61")]
+    rows += [("a https://x.example https_spiffe", "fault 79 1 62"), ("a https://x https_spiffe spiffe://a/", "fault 79 1 5")]
     rows += [(b"\xff", "fault 70 1"), (b" " * 16_777_217, "fault 71")]
     for list, fault in rows:
         room = Refresher(list, [("a", EMPTY)])
@@ -164,7 +164,7 @@ def servers_that_fail():
         wanted = (3, f"1000 a {said} due 1300\n".encode(), "") if said else (1, b"", "fault 22\n")
         assert ended == wanted, (reply, ended)
     ended = room.run("--port", str(unused_port()))
-    assert ended == (1, b"", "fault 57\n"), ended
+    assert ended == (1, b"", "fault 78\n"), ended
 
 
 CHECKS = [real_bundles, what_is_no_document, refused_lists, times, failing_ends, over_a_store, servers_that_fail]

@@ -22,6 +22,9 @@ from checks import start, unused_port, wait_until  # noqa: E402
 from refusals import MOST_GROWTHS, build_shim, run_once  # noqa: E402
 
 DUMP_OF_NONE = dump_of({})
+# Refusals of a fetch-all: shard 1 was changed from revision 2 to 3, or was held at revision 2.
+MOVED = b"\x29" + (1).to_bytes(4, "big") + (2).to_bytes(8, "big") + (3).to_bytes(8, "big")
+HELD = b"\x2a" + (1).to_bytes(4, "big") + (2).to_bytes(8, "big")
 
 
 def files_of(items):
@@ -209,14 +212,14 @@ def answers_that_are_none():
     """A reply that is torn off at any byte or malformed, a refusal, no server: a fault with its number, and nothing is done."""
     whole = dump_of({"a": EMPTY, "b": EMPTY})
     torn = [(whole[:size], 52) for size in range(len(whole))]
-    others = [(bytes(4), 50), (frame(b"s"), 58), (frame(b"\x16"), 22), (frame(b"\x29" + bytes(16)), 58), (dump_of({})[:-8] + bytes(7), 52)]
+    others = [(bytes(4), 50), (frame(b"s"), 58), (frame(b"\x16"), 22), (frame(MOVED), "41 1 2 3"), (frame(HELD), "42 1 2"), (frame(b"\x29" + bytes(16)), 58), (dump_of({})[:-8] + bytes(7), 52)]
     room = Place()
     assert take(FakeServer(answers_with(whole)).port, room.folder) == shown(1, 2)
     before = room.marks()
     for reply, number in torn + others:
         status, out, err = take(FakeServer(answers_with(reply)).port, room.folder)
         assert (status, out, err) == (1, "", f"fault {number}\n"), (reply, err)
-    assert take(unused_port(), room.folder) == (1, "", "fault 57\n")
+    assert take(unused_port(), room.folder) == (1, "", "fault 78\n")
     assert room.marks() == before
 
 
@@ -246,7 +249,7 @@ def server_that_comes_later():
     room, port = Place(), unused_port()
     how = {"stdin": subprocess.DEVNULL, "stdout": subprocess.PIPE, "stderr": subprocess.PIPE}
     started = start(*words_of(port, room.folder, "--every", "1"), **how)
-    assert line_of(started, started.stderr) == b"fault 57\n"
+    assert line_of(started, started.stderr) == b"fault 78\n"
     server = Server("--workers", "1", "--connections", "unlimited", port=port)
     assert line_of(started) == b"shown snapshot-1 domains 0\n"
     set_bundle(server, "a", EMPTY)
@@ -288,7 +291,7 @@ def one_moment_beside_a_writer():
     while number < 30:
         assert time.monotonic() < until, f"there are only {number} snapshots"
         status, out, err = take(server.port, room.folder)
-        if (status, err) == (1, "fault 41\n") or (status, out, err) == (0, "", ""):
+        if (status, err[:9]) == (1, "fault 41 ") or (status, out, err) == (0, "", ""):
             # The writer was in the way of each round, or has set nothing since the last snapshot.
             continue
         number += 1

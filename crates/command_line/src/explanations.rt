@@ -1,7 +1,7 @@
 //! What the numbers of refusals and faults mean, and what to do about them.
 
 /// What is known of the numbers, in their order.
-static EXPLANATIONS: [(u64, &str); 50] = [
+static EXPLANATIONS: [(u64, &str); 55] = [
     (
         1,
         "\
@@ -266,8 +266,7 @@ connect again.
         51,
         "\
 51 BadRequest
-The payload of the frame is malformed; in `decode`, it is neither a request nor a reply that has
-a line.
+The payload of the frame is malformed.
 What to do: Compare it with docs/FORMATS.md. A conditional set wants version 2 of the session.
 ",
     ),
@@ -283,9 +282,9 @@ get the bundle.
     (
         53,
         "\
-53 ReadFault, or LINE
-The input, or the file that the line names, could not be read; or a client was silent inside a
-request for --idle seconds.
+53 ReadFault
+The input, the list or the dump could not be read; or a client was silent inside a request for
+--idle seconds.
 What to do: See whether the file is there and may be read.
 ",
     ),
@@ -319,9 +318,9 @@ What to do: Ask at the server's other port, or later.
     (
         57,
         "\
-57 NoConnection
-No server listens at the port; or the server cannot listen there, or cannot accept a connection.
-What to do: See whether the server runs and whether another program has the port.
+57 ListenFault
+The server cannot listen at the port, or cannot accept a connection.
+What to do: See whether another program has the port.
 ",
     ),
     (
@@ -335,7 +334,7 @@ What to do: See whether the port is that of a server of bundles.
     (
         60,
         "\
-60 BadUrl, LINE
+60 BadUrl
 The URL of the bundle endpoint is not one, has a scheme other than https, a user name or a
 password, or over 2048 bytes.
 What to do: Correct the line of the list.
@@ -344,7 +343,7 @@ What to do: Correct the line of the list.
     (
         61,
         "\
-61 BadProfile, LINE
+61 BadProfile
 The profile of the endpoint is neither https_web nor https_spiffe.
 What to do: Correct the line of the list.
 ",
@@ -352,7 +351,7 @@ What to do: Correct the line of the list.
     (
         62,
         "\
-62 NoEndpointId, LINE
+62 NoEndpointId
 With the profile https_spiffe the line needs the SPIFFE ID of the endpoint.
 What to do: Add the ID at the end of the line.
 ",
@@ -423,6 +422,47 @@ What to do: Remove the bundle, or read the dump in another way.
 74 BadFolder
 The folder of snapshots cannot be read or written, or its `current` is not a link to a snapshot.
 What to do: Make the folder, see its permissions and the room on the disk, and run again.
+",
+    ),
+    (
+        75,
+        "\
+75 NotInDump, NAME
+The dump has no domain of this name of the command line, counted from 1.
+What to do: See which domains it has: bundled decode < dump.
+",
+    ),
+    (
+        76,
+        "\
+76 BadFrame, FRAME
+The frame of the input, from 0, is neither a request nor a reply that has a line.
+What to do: Compare it with docs/FORMATS.md. The lines of the frames before it have been written.
+",
+    ),
+    (
+        77,
+        "\
+77 UnreadText, LINE or FILE
+The file that this line of requests names, or this file of `check`, each from 1, cannot be read.
+What to do: See whether the file is there and may be read.
+",
+    ),
+    (
+        78,
+        "\
+78 NoConnection
+No server listens at the port.
+What to do: See whether the server runs, and at which port.
+",
+    ),
+    (
+        79,
+        "\
+79 BadRelationship, LINE, NUMBER
+The line of the list, from 1, is not a relationship, for the reason of this number: 1 to 5 or
+60 to 62.
+What to do: Ask explain about the number, and correct the line.
 ",
     ),
 ];

@@ -38,7 +38,7 @@ Each line of the input is a request, and becomes one frame, as soon as the line 
 
 DOC and JWK are the rest of the line, or @FILE for what the file holds. A line that is empty or begins with `#` asks
 nothing. Names and documents are not judged here: whoever is asked does that. A line that is something else, or that no
-frame carries, is `fault 70 LINE`, and a file that cannot be read `fault 53 LINE`, status 1; what the lines before
+frame carries, is `fault 70 LINE`, and a file that cannot be read `fault 77 LINE`, status 1; what the lines before
 it became has been written.
 
   printf 'set a {\"keys\":[]}\nget a\n' | bundled encode | bundled run | bundled decode
@@ -60,7 +60,7 @@ the line that `encode` takes, and a reply one of these:
   memory   worn S   shut             not done: no memory, the shard S can count no more changes, no requests are taken
   moved S A B   held S R             not done: others were in the way; ask again
 
-A frame that is neither, or that has no line, is `fault 51 FRAME`, counted from 0, status 1: no line has a name with a
+A frame that is neither, or that has no line, is `fault 76 FRAME`, counted from 0, status 1: no line has a name with a
 space, a name or a text with a line feed, or a document that begins with `@`. The lines of the frames before it have
 been written.";
 
@@ -75,7 +75,7 @@ The requests are those of `encode`, and the replies those of `decode`: see bundl
 Version 2 of the session is set first. Each reply is written before the next request is sent. A request that is answered
 `memory`, `moved` or `held` has changed nothing, and is asked again, up to COUNT times.
 
-The status is 0 if each request was done, 3 if some reply is a refusal, and 1 after a fault: `fault 57` if no server
+The status is 0 if each request was done, 3 if some reply is a refusal, and 1 after a fault: `fault 78` if no server
 listens, 50, 52, 53, 54 or 58 if the exchange with it failed: whether its request took effect is not known. A word with
 a line feed is `fault 70 1`, and nothing is asked: give such a document as @FILE.";
 
@@ -85,7 +85,7 @@ pub const REPORTS: &str = "\
   b.json: not a bundle: keys[0] has a malformed x: it has to be 32 bytes of unpadded base64url (17)
 
 The status is 0 if each document is a bundle and nothing is ignored, 3 if something is ignored, and 1 if a document
-is not a bundle or a file cannot be read, which is `fault 53 FILE`, counted from 1.";
+is not a bundle or a file cannot be read, which is `fault 77 FILE`, counted from 1.";
 
 pub const MAPS: &str = "\
 A dump is the reply to a fetch-all. The file has under each name the bundle, in order of the names, and shows one moment:
@@ -93,7 +93,7 @@ A dump is the reply to a fetch-all. The file has under each name the bundle, in 
   bundled map < dump > map.json       {\"trust_domains\":{\"a.example\":{..},\"b.example\":{..}}}
 
 gRPC reads it as spiffe_trust_bundle_map_file, and Envoy in its SPIFFECertValidatorConfig; --x509 is for readers that
-refuse uses that they do not know. A NAME that the dump has not is `fault 30 NAME`, counted from 1, status 1.";
+refuse uses that they do not know. A NAME that the dump has not is `fault 75 NAME`, counted from 1, status 1.";
 
 pub const IMPORTS: &str = "\
   bundled import < map.json | bundled run | bundled decode

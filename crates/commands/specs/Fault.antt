@@ -1,5 +1,5 @@
 -- The numbers of faults, and the lines that tell them.
-use Rattle.std.specs.Prelude.{ℕ, List, [], ◌∷◌, ◌++◌, Option, Some, None, codes, decimal}
+use Rattle.std.specs.Prelude.{ℕ, List, [], ◌∷◌, ◌++◌, codes, decimal}
 use Rattle.frame_front.specs.Error.{front_number}
 use Rattle.frame_front.specs.Dump.{dump_number}
 use Rattle.frame_client.specs.ClientError.{client_number}
@@ -12,39 +12,51 @@ use Rattle.commands.specs.declared.fault.RefreshFault.TheVariants.{BadRelationsh
 use Rattle.commands.specs.declared.fault.ServerFault.{ServerFault}
 use Rattle.commands.specs.declared.fault.ServerFault.TheVariants.{Client, NoConnection}
 use Rattle.map_core.specs.Reply.{error_number}
+use Rattle.map_core.specs.declared.reply.AskError.{AskError}
+use Rattle.map_core.specs.declared.reply.AskError.TheVariants as asking
 use Rattle.commands.specs.declared.fault.SnapshotFault.{SnapshotFault}
 use Rattle.commands.specs.declared.fault.SnapshotFault.TheVariants.{Refused, LongName, BadFolder}
 use Rattle.commands.specs.declared.fault.Fault.{Fault}
-use Rattle.commands.specs.declared.fault.Fault.TheVariants.{Front, Dump, BadLine, BadFrame, UnreadText, NoDomain, BadMap, BadMember, InputTooLong, Server, Refresh, Snapshot, Listen, Close}
+use Rattle.commands.specs.declared.fault.Fault.TheVariants.{Front, Dump, BadLine, BadFrame, UnreadText, NotInDump, BadMap, BadMember, InputTooLong, Server, Refresh, Snapshot, Listen, Close}
 
 abbrev pub server_number : ServerFault → ℕ
 server_number (Client error) = client_number error
-server_number NoConnection = 57
+server_number NoConnection = 78
 
 abbrev pub refresh_number : RefreshFault → ℕ
-refresh_number (BadRelationship error line) = relation_number error
+refresh_number (BadRelationship error line) = 79
 refresh_number NoClock = 72
 
-abbrev pub refresh_place : RefreshFault → Option ℕ
-refresh_place (BadRelationship error line) = Some line
-refresh_place fault = None
+-- the line, and why it is not a relationship
+abbrev pub refresh_numbers : RefreshFault → List ℕ
+refresh_numbers (BadRelationship error line) = line ∷ relation_number error ∷ []
+refresh_numbers NoClock = []
 
 abbrev pub snapshot_number : SnapshotFault → ℕ
 snapshot_number (Refused error) = error_number error
 snapshot_number (LongName domain) = 73
 snapshot_number BadFolder = 74
 
-abbrev pub snapshot_place : SnapshotFault → Option ℕ
-snapshot_place (LongName domain) = Some domain
-snapshot_place fault = None
+-- the shard, and its revisions
+abbrev pub asking_numbers : AskError → List ℕ
+asking_numbers asking.Memory = []
+asking_numbers (asking.Worn shard) = shard ∷ []
+asking_numbers (asking.Moved shard first second) = shard ∷ first ∷ second ∷ []
+asking_numbers (asking.Held shard revision) = shard ∷ revision ∷ []
+asking_numbers asking.GateShut = []
+
+abbrev pub snapshot_numbers : SnapshotFault → List ℕ
+snapshot_numbers (Refused error) = asking_numbers error
+snapshot_numbers (LongName domain) = domain ∷ []
+snapshot_numbers BadFolder = []
 
 abbrev pub fault_number : Fault → ℕ
 fault_number (Front error) = front_number error
 fault_number (Dump error) = dump_number error
 fault_number (BadLine line) = 70
-fault_number (BadFrame frame) = 51
-fault_number (UnreadText line) = 53
-fault_number (NoDomain name) = 30
+fault_number (BadFrame frame) = 76
+fault_number (UnreadText line) = 77
+fault_number (NotInDump name) = 75
 fault_number BadMap = 64
 fault_number (BadMember member) = 65
 fault_number InputTooLong = 71
@@ -54,24 +66,27 @@ fault_number (Snapshot fault) = snapshot_number fault
 fault_number Listen = 57
 fault_number (Close error) = close_number error
 
--- the place of the fault, if it has one: a frame or a member, a line, a name or a domain, or a shard
-abbrev pub fault_place : Fault → Option ℕ
-fault_place (Dump (dumps.BadDump frame)) = Some frame
-fault_place (BadLine line) = Some line
-fault_place (BadFrame frame) = Some frame
-fault_place (UnreadText line) = Some line
-fault_place (NoDomain name) = Some name
-fault_place (BadMember member) = Some member
-fault_place (Refresh fault) = refresh_place fault
-fault_place (Snapshot fault) = snapshot_place fault
-fault_place (Close (closing.HeldAtEnd shard)) = Some shard
-fault_place fault = None
+-- what it carries: a frame or a member, a line and maybe why, a name, a domain or a file, or a shard and its revisions
+abbrev pub fault_numbers : Fault → List ℕ
+fault_numbers (Dump (dumps.BadDump frame)) = frame ∷ []
+fault_numbers (BadLine line) = line ∷ []
+fault_numbers (BadFrame frame) = frame ∷ []
+fault_numbers (UnreadText line) = line ∷ []
+fault_numbers (NotInDump name) = name ∷ []
+fault_numbers (BadMember member) = member ∷ []
+fault_numbers (Refresh fault) = refresh_numbers fault
+fault_numbers (Snapshot fault) = snapshot_numbers fault
+fault_numbers (Close (closing.HeldAtEnd shard)) = shard ∷ []
+fault_numbers fault = []
 
 -- a space and the number
-abbrev pub place_text : Option ℕ → List ℕ
-place_text (Some place) = 32 ∷ decimal place
-place_text None = []
+abbrev pub number_text : ℕ → List ℕ
+number_text number = 32 ∷ decimal number
 
--- `fault`, its number and its place in decimal, with single spaces between; a line feed ends it
+abbrev pub numbers_text : List ℕ → List ℕ
+numbers_text [] = []
+numbers_text (number ∷ numbers) = number_text number ++ numbers_text numbers
+
+-- `fault`, its number and what it carries, with single spaces between; a line feed ends it
 abbrev pub fault_line : Fault → List ℕ
-fault_line fault = codes "fault " ++ decimal (fault_number fault) ++ place_text (fault_place fault) ++ 10 ∷ []
+fault_line fault = codes "fault " ++ decimal (fault_number fault) ++ numbers_text (fault_numbers fault) ++ 10 ∷ []

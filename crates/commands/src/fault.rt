@@ -1,6 +1,6 @@
 //! Faults of commands.
-ghost use Rattle.std.specs.Prelude.{◌≡◌, ◌<◌, ◌-◌, ◌^◌, ◌++◌};
-ghost use Rattle.commands.specs.Fault.{fault_number, fault_place, fault_line, refresh_number, refresh_place, server_number, snapshot_number, snapshot_place};
+ghost use Rattle.std.specs.Prelude.{◌≡◌, ◌<◌, ◌≤◌, ◌+◌, ◌-◌, ◌^◌, ◌++◌, length};
+ghost use Rattle.commands.specs.Fault.{asking_numbers, fault_number, fault_numbers, fault_line, number_text, numbers_text, refresh_number, refresh_numbers, server_number, snapshot_number, snapshot_numbers};
 ghost use Rattle.commands.specs.Streams.{Tells, TellsUnlessFailed, end_of};
 
 use crate::output::tell;
@@ -13,11 +13,12 @@ use refresh::RelationError;
 use shard_store::CloseError;
 use std::io::Write;
 
-/// The most bytes of a fault's line: `fault`, a number of 3 digits and a place of 20, two spaces and a line feed.
-const LINE_BYTES: usize = 31;
+/// The most bytes of a fault's line: `fault`, a number of 3 digits, three of 20, four spaces and a line feed.
+const LINE_BYTES: usize = 73;
 
-/// Why a command ends with status 1. It is told as one line: `fault`, its number, and the place, if
-/// it has one.
+type Line = ArrayVec<u8, LINE_BYTES>;
+
+/// Why a command ends with status 1. It is told as one line: `fault`, its number, and the numbers that say where and why.
 #[derive(Clone, Copy, Debug, PartialEq, Eq)]
 pub enum Fault {
     /// Memory ran out, an end failed, the reads are used up, or frames are wrong.
@@ -31,7 +32,7 @@ pub enum Fault {
     /// The text that this line of the input names, from 1, or this file of the command line, from 1, cannot be read.
     UnreadText(u64),
     /// No domain of the dump has this name of the command line, from 1.
-    NoDomain(u64),
+    NotInDump(u64),
     /// The input is not a SPIFFE bundle map.
     BadMap,
     /// This member of the bundle map, from 0, is not a trust domain and its bundle, or its name stands twice.
@@ -65,7 +66,7 @@ impl ServerFault {
     {
         match self {
             ServerFault::Client(error) => error.number(),
-            ServerFault::NoConnection => 57,
+            ServerFault::NoConnection => 78,
         }
     }
 }
@@ -84,17 +85,22 @@ impl RefreshFault {
         ensures { result ≡ refresh_number self.now }
     {
         match self {
-            RefreshFault::BadRelationship(error, _) => error.number(),
+            RefreshFault::BadRelationship(_, _) => 79,
             RefreshFault::NoClock => 72,
         }
     }
 
-    fn place(&self) -> Option<u64>
-        ensures { result ≡ refresh_place self.now }
+    /// Adds what it carries.
+    fn push_numbers(&self, line: &mut Line)
+        requires { length line.old.items ≤ 9 }
+        ensures pushed { line.new.items ≡ line.old.items ++ numbers_text (refresh_numbers self.now) }
+        ensures short { length line.new.items ≤ 72 }
     {
         match self {
-            RefreshFault::BadRelationship(_, line) => Some(*line),
-            _ => None,
+            RefreshFault::BadRelationship(error, number) => {
+                push_each(line, &[*number, u64::from(error.number())]);
+            }
+            RefreshFault::NoClock => push_each(line, &[]),
         }
     }
 }
@@ -121,12 +127,16 @@ impl SnapshotFault {
         }
     }
 
-    fn place(&self) -> Option<u64>
-        ensures { result ≡ snapshot_place self.now }
+    /// Adds what it carries.
+    fn push_numbers(&self, line: &mut Line)
+        requires { length line.old.items ≤ 9 }
+        ensures pushed { line.new.items ≡ line.old.items ++ numbers_text (snapshot_numbers self.now) }
+        ensures short { length line.new.items ≤ 72 }
     {
         match self {
-            SnapshotFault::LongName(domain) => Some(*domain),
-            _ => None,
+            SnapshotFault::Refused(error) => push_asking(line, error),
+            SnapshotFault::LongName(domain) => push_each(line, &[*domain]),
+            SnapshotFault::BadFolder => push_each(line, &[]),
         }
     }
 }
@@ -139,9 +149,9 @@ impl Fault {
             Fault::Front(error) => error.number(),
             Fault::Dump(error) => error.number(),
             Fault::BadLine(_) => 70,
-            Fault::BadFrame(_) => 51,
-            Fault::UnreadText(_) => 53,
-            Fault::NoDomain(_) => 30,
+            Fault::BadFrame(_) => 76,
+            Fault::UnreadText(_) => 77,
+            Fault::NotInDump(_) => 75,
             Fault::BadMap => 64,
             Fault::BadMember(_) => 65,
             Fault::InputTooLong => 71,
@@ -153,35 +163,34 @@ impl Fault {
         }
     }
 
-    /// The place of the fault: a frame or a member, from 0, a line, a name or a domain, from 1, or a shard.
-    fn place(&self) -> Option<u64>
-        ensures { result ≡ fault_place self.now }
+    /// Adds what it carries: a frame or a member, from 0, a line, a name, a domain or a file, from 1, or a shard.
+    fn push_numbers(&self, line: &mut Line)
+        requires { length line.old.items ≤ 9 }
+        ensures pushed { line.new.items ≡ line.old.items ++ numbers_text (fault_numbers self.now) }
+        ensures short { length line.new.items ≤ 72 }
     {
         match self {
-            Fault::Dump(DumpError::BadDump(frame)) => Some(*frame),
-            Fault::BadLine(line) => Some(*line),
-            Fault::BadFrame(frame) => Some(*frame),
-            Fault::UnreadText(line) => Some(*line),
-            Fault::NoDomain(name) => Some(*name),
-            Fault::BadMember(member) => Some(*member),
-            Fault::Refresh(fault) => fault.place(),
-            Fault::Snapshot(fault) => fault.place(),
-            Fault::Close(CloseError::HeldAtEnd(shard)) => Some(*shard as u64),
-            _ => None,
+            Fault::Dump(DumpError::BadDump(frame)) => push_each(line, &[*frame]),
+            Fault::BadLine(number) => push_each(line, &[*number]),
+            Fault::BadFrame(frame) => push_each(line, &[*frame]),
+            Fault::UnreadText(number) => push_each(line, &[*number]),
+            Fault::NotInDump(name) => push_each(line, &[*name]),
+            Fault::BadMember(member) => push_each(line, &[*member]),
+            Fault::Refresh(fault) => fault.push_numbers(line),
+            Fault::Snapshot(fault) => fault.push_numbers(line),
+            Fault::Close(CloseError::HeldAtEnd(shard)) => push_each(line, &[*shard as u64]),
+            _ => push_each(line, &[]),
         }
     }
 
-    fn line(&self) -> ArrayVec<u8, LINE_BYTES>
+    fn line(&self) -> Line
         ensures { result.items ≡ fault_line self.now }
     {
         let mut line = ArrayVec::new();
         let mut digits = Buffer::new();
         let _fits = line.try_extend_from_slice(b"fault ");
         let _fits = line.try_extend_from_slice(digits.format(self.number()).as_bytes());
-        if let Some(place) = self.place() {
-            let _fits = line.try_extend_from_slice(b" ");
-            let _fits = line.try_extend_from_slice(digits.format(place).as_bytes());
-        }
+        self.push_numbers(&mut line);
         let _fits = line.try_extend_from_slice(b"\n");
         line
     }
@@ -207,4 +216,45 @@ impl Fault {
             self.tell(err);
         }
     }
+}
+
+/// Adds the shard of a request that was given up, and its revisions.
+fn push_asking(line: &mut Line, error: &AskError)
+    requires { length line.old.items ≤ 9 }
+    ensures pushed { line.new.items ≡ line.old.items ++ numbers_text (asking_numbers error.now) }
+    ensures short { length line.new.items ≤ 72 }
+{
+    match error {
+        AskError::Worn { shard } => push_each(line, &[*shard as u64]),
+        AskError::Moved {
+            shard,
+            first,
+            second,
+        } => push_each(line, &[*shard as u64, *first, *second]),
+        AskError::Held { shard, revision } => push_each(line, &[*shard as u64, *revision]),
+        AskError::Memory | AskError::GateShut => push_each(line, &[]),
+    }
+}
+
+/// Adds numbers, at most three, each behind a space.
+fn push_each(line: &mut Line, numbers: &[u64])
+    requires room { length line.old.items ≤ 9 }
+    requires few { length numbers.now ≤ 3 }
+    ensures pushed { line.new.items ≡ line.old.items ++ numbers_text numbers.now }
+    ensures short { length line.new.items ≤ 72 }
+{
+    for number in numbers {
+        push_number(line, *number);
+    }
+}
+
+/// Adds a space and a number.
+fn push_number(line: &mut Line, number: u64)
+    requires { length line.old.items + 21 ≤ 73 }
+    ensures pushed { line.new.items ≡ line.old.items ++ number_text number }
+    ensures short { length line.new.items ≤ length line.old.items + 21 }
+{
+    let mut digits = Buffer::new();
+    let _fits = line.try_extend_from_slice(b" ");
+    let _fits = line.try_extend_from_slice(digits.format(number).as_bytes());
 }

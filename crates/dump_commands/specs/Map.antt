@@ -3,7 +3,7 @@ use Rattle.std.specs.Prelude.{◌≡◌, ℕ, List, [], ◌∷◌, ◌++◌, map
 use Rattle.frame_front.specs.Counted.{next_count}
 use Rattle.frame_front.specs.Dump.{Domains}
 use Rattle.commands.specs.declared.fault.Fault.{Fault}
-use Rattle.commands.specs.declared.fault.Fault.TheVariants.{NoDomain}
+use Rattle.commands.specs.declared.fault.Fault.TheVariants.{NotInDump}
 use Rattle.bundle_map.specs.declared.profile.Profile.{Profile}
 use Rattle.bundle_map.specs.Map.{map_text, shown}
 use Rattle.bundle_map.specs.Choice.{chosen, AreThere, IsFirstMissing}
@@ -21,6 +21,6 @@ MapOf names profile text left_old left_new =
 
 -- a name, from 1, that no domain of the dump has; or no dump is read
 abbrev pub NoMap : List (List ℕ) → Fault → Option (List ℕ) → Option (List ℕ) → Type 0
-NoMap names (NoDomain number) left_old left_new =
+NoMap names (NotInDump number) left_old left_new =
     (items : Domains) × (place : ℕ) × IsRead items left_old left_new × IsFirstMissing names items place × (number ≡ next_count place)
 NoMap names fault left_old left_new = Unread fault left_old left_new

@@ -3,7 +3,7 @@ use Rattle.std.specs.Prelude.{◌≡◌, ℕ, List, None, Some, Option}
 use Rattle.spiffe_doc.specs.Authority.{BundleValue}
 use Rattle.frame_front.specs.Dump.{Domains, IsDump}
 use Rattle.commands.specs.declared.fault.Fault.{Fault}
-use Rattle.commands.specs.declared.fault.Fault.TheVariants.{NoDomain}
+use Rattle.commands.specs.declared.fault.Fault.TheVariants.{NotInDump}
 use Rattle.commands.specs.Input.{IsInput}
 use Rattle.dump_views.specs.Pem.{pem_of}
 use Rattle.dump_views.specs.Digest.{digest_line_of}
@@ -17,7 +17,7 @@ PemOf name text left_old left_new =
 
 -- the dump has no such domain, which is the first name of the command line; or no dump is read
 abbrev pub NoPem : List ℕ → Fault → Option (List ℕ) → Option (List ℕ) → Type 0
-NoPem name (NoDomain number) left_old left_new = (items : Domains) × IsRead items left_old left_new × (held_under items name ≡ None) × (number ≡ 1)
+NoPem name (NotInDump number) left_old left_new = (items : Domains) × IsRead items left_old left_new × (held_under items name ≡ None) × (number ≡ 1)
 NoPem name fault left_old left_new = Unread fault left_old left_new
 
 -- the SHA-256 of the dump

@@ -3,7 +3,7 @@ ghost use Rattle.std.specs.Prelude.{◌≡◌, ◌<◌, ◌-◌, ◌^◌, ◌++�
 ghost use Rattle.bundle_map.specs.Choice.{AreThere, IsFirstMissing};
 ghost use Rattle.bundle_map.specs.Map.{map_text, shown};
 ghost use Rattle.commands.specs.Streams.{streams};
-ghost use Rattle.commands.specs.declared.fault.Fault.TheVariants.{Front, NoDomain};
+ghost use Rattle.commands.specs.declared.fault.Fault.TheVariants.{Front, NotInDump};
 ghost use Rattle.dump_commands.specs.Map.{MapOf, NoMap, wanted as wanted_of};
 ghost use Rattle.dump_commands.specs.Private.Choosing.{NotWanted};
 ghost use Rattle.dump_commands.specs.Reading.{Filters, Writes};
@@ -100,7 +100,7 @@ fn wanted(alloc: Global, domains: Snapshot, names: &[TrustDomain]) -> Result<Sna
     match choose(alloc, domains, names) {
         Ok(some) => Ok(some),
         Err(ChoiceError::NoDomain(place)) => {
-            Err(Fault::NoDomain((place as u64).saturating_add(1)))
+            Err(Fault::NotInDump((place as u64).saturating_add(1)))
         }
         Err(ChoiceError::Memory) => Err(Fault::Front(FrontError::Memory)),
     }

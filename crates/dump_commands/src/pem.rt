@@ -56,7 +56,7 @@ fn pem_input<R: Read, W: Write>(
     match put_dump_pem(alloc, input.as_slice(), name, &mut text) {
         Ok(()) => {}
         Err(PemError::BadDump(frame)) => return Err(Fault::Dump(DumpError::BadDump(frame))),
-        Err(PemError::NoDomain) => return Err(Fault::NoDomain(1)),
+        Err(PemError::NoDomain) => return Err(Fault::NotInDump(1)),
         Err(PemError::Memory) => return Err(Fault::Front(FrontError::Memory)),
     }
     write_flushed(out, text.as_slice())

@@ -31,10 +31,10 @@ pub(super) static ROWS: [Row; 14] = [
         Command::Encode,
         b"get a\n\nset a @other\n",
         GET_A,
-        "fault 53 3\n",
+        "fault 77 3\n",
         1,
     ),
-    (Command::Encode, b"append a @", b"", "fault 53 1\n", 1),
+    (Command::Encode, b"append a @", b"", "fault 77 1\n", 1),
     (Command::Decode, b"", b"", "", 0),
     (
         Command::Decode,
@@ -54,7 +54,7 @@ pub(super) static ROWS: [Row; 14] = [
         Command::Decode,
         b"\x00\x00\x00\x03G\x01a\x00\x00\x00\x01X",
         b"get a\n",
-        "fault 51 1\n",
+        "fault 76 1\n",
         1,
     ),
     (

@@ -88,10 +88,10 @@ pub(super) static ROWS: [Row; 15] = [
         Command::Check(&["whole.json", "gone.json", "array.json"]),
         b"",
         b"whole.json: bundle of 2 authorities (1 X.509, 1 JWT), sequence 1, refresh hint 2\n",
-        "fault 53 2\n",
+        "fault 77 2\n",
         1,
     ),
-    (Command::Check(&["gone.json"]), b"", b"", "fault 53 1\n", 1),
+    (Command::Check(&["gone.json"]), b"", b"", "fault 77 1\n", 1),
     (
         Command::Check(&["array.json", "huge.json", "gone.json"]),
         b"",

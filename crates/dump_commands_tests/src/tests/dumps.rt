@@ -15,7 +15,7 @@ pub(super) static DUMPS: [(&[u8], &[Row]); 5] = [
     (b"{\"keys\":[]}", OF_NO_DUMP),
 ];
 
-// A name that no domain has is fault 30 with its place on the command line, from 1.
+// A name that no domain has is fault 75 with its place on the command line, from 1.
 const OF_THREE: &[Row] = &[
     (Command::Map(&[], Profile::Whole), MAP, "", 0),
     (Command::Map(&["b", "a"], Profile::Whole), SOME, "", 0),
@@ -49,17 +49,17 @@ const OF_THREE: &[Row] = &[
     (
         Command::Map(&["a", "c", "b", "d"], Profile::Whole),
         b"",
-        "fault 30 2\n",
+        "fault 75 2\n",
         1,
     ),
-    (Command::Map(&["d"], Profile::X509), b"", "fault 30 1\n", 1),
+    (Command::Map(&["d"], Profile::X509), b"", "fault 75 1\n", 1),
     (
         Command::Map(&["a", "b", "example.com"], Profile::Whole),
         b"",
-        "fault 30 3\n",
+        "fault 75 3\n",
         1,
     ),
-    (Command::Pem("c"), b"", "fault 30 1\n", 1),
+    (Command::Pem("c"), b"", "fault 75 1\n", 1),
 ];
 
 const OF_NONE: &[Row] = &[
@@ -76,7 +76,7 @@ const OF_NONE: &[Row] = &[
         0,
     ),
     (Command::Digest, EMPTY_DIGEST, "", 0),
-    (Command::Pem("a"), b"", "fault 30 1\n", 1),
+    (Command::Pem("a"), b"", "fault 75 1\n", 1),
 ];
 
 // What is not a dump is fault 63 with its first bad frame, and outweighs a name that is missing.
