@@ -2,7 +2,7 @@
 -- grown.
 use Rattle.std.proofs.Common.{◌≡◌, ℕ, ◌+◌, ◌<◌, ◌≤◌, List, [], ◌∷◌, ◌++◌, Option, Some, None, length, get_or, sym, refl, ap, ◌∙◌, subst, append_assoc, length-append, arith}
 use Rattle.std.proofs.lemmas.List.{append-nil}
-use Rattle.std.specs.Prelude.{IfSome, MatchResult, Result, Ok, Err}
+use Rattle.std.specs.Prelude.{MatchResult, Result, Ok, Err}
 use Rattle.std.specs.declared.sync.Arc.{Arc}
 use Rattle.map_core.specs.declared.op.Op.{Op}
 use Rattle.map_core.specs.declared.op.Op.TheVariants.{FetchAll}
@@ -17,11 +17,11 @@ use Rattle.shard_store.specs.declared.last_all.LastAll.{LastAll}
 use Rattle.shard_store.specs.Changes.{after, count}
 use Rattle.shard_store.specs.Pass.{StoreView}
 use Rattle.shard_store.specs.Promise.{IsLater, IsReply, IsRefusedAt, IsRefused}
-use Rattle.shard_store.specs.Private.Readings.{AreConfirmed, AreRevisions, IsSnapshot}
+use Rattle.shard_store.specs.Private.Readings.{AreConfirmed, IsSnapshot}
 use Rattle.shard_store.specs.Private.LastAll.{WasAll, IsLastAll, IsFetched}
 use Rattle.shard_store.proofs.Changes.{count_append, counts_one}
 use Rattle.shard_store.proofs.LastReads.{Begins, begins_answered, refused_at_later}
-use Rattle.shard_store.proofs.Promise.{alone_later, later_then}
+use Rattle.shard_store.proofs.Promise.{alone_later, extends_then, later_then}
 use Rattle.shard_store.proofs.Readings.{all_answered, moved_since}
 
 not_all : (last : LastAll) → None ≡ Some last → ⊥
@@ -71,11 +71,13 @@ still_all n log last some was still = let seen = was.0 in let new = was.1 in
 pub fetched : {Z : Type 0} (n : ℕ) (s t : Seen) (vs : List (Arc PlainMap Z)) (last : LastAll) (x : IsSnapshot n s t last.revisions.items vs) → last.all ≡ bundles (after x.0) → IsFetched n s t last
 fetched {Z} n s t vs last x is = (all_answered s t x.0 last.all x.1 x.2 x.3 is, (x.0, x.2.0, x.2.1, x.6, is))
 
--- a copy of it is remembered
-pub kept_all : (n : ℕ) (log : List Change) (remembered : Option LastAll) (last : LastAll) → IfSome remembered (λ r. (r.revisions.items ≡ last.revisions.items) × (r.all ≡ last.all)) → WasAll n log last → IsLastAll n log remembered
-kept_all n log None last same was r e = absurd (not_all r e)
-kept_all n log (Some q) last same was r e = subst (λ (x : LastAll). WasAll n log x) (same_all q r e)
-    (was.0, was.1, was.2, subst (λ (x : List ℕ). AreRevisions n was.0 x) (sym same.0) was.3, same.1 ∙ was.4)
+-- it may be remembered as it is
+pub kept_all : (n : ℕ) (log : List Change) (remembered : Option LastAll) (last : LastAll) → remembered ≡ Some last → WasAll n log last → IsLastAll n log remembered
+kept_all n log remembered last is was r e = subst (λ (x : LastAll). WasAll n log x) (same_all last r (sym is ∙ e)) was
+
+-- if it is not answered in the end, more was seen, and nothing else has happened
+pub fetched_later : (n : ℕ) (s t : Seen) (last : LastAll) → IsFetched n s t last → IsLater t s
+fetched_later n s t last f = let a = f.0 in (extends_then s a.0 t.log a.1 (a.5 refl), a.3)
 
 -- what is refused since more was seen is refused since then
 pub refused_all_since : (store : StoreView) (s t u : Seen) (e : AskError) → IsLater t s → IsRefused store FetchAll t u e → IsRefused store FetchAll s u e

@@ -40,6 +40,9 @@ begins_two from list log a b e f = (a ++ b, f ∙ (ap (λ (x : List Change). x +
 pub none_case : {A : Type 0} (o : Option A) (P : Type 0) (Q : A → Type 0) → o ≡ None → MatchOption o P Q → P
 none_case {A} o P Q e m = subst (λ (x : Option A). MatchOption x P Q) e m
 
+pub some_there : {A : Type 0} (o : Option A) (x : A) (Q : A → Type 0) → o ≡ Some x → IfSome o Q → Q x
+some_there {A} o x Q e m = subst (λ (y : Option A). IfSome y Q) e m
+
 pub some_case : {A : Type 0} (o : Option A) (x : A) (P : Type 0) (Q : A → Type 0) → o ≡ Some x → MatchOption o P Q → Q x
 some_case {A} o x P Q e m = subst (λ (y : Option A). MatchOption y P Q) e m
 
@@ -51,10 +54,8 @@ pub none_here : (n i : ℕ) (log : List Change) → IsLastRead n i log None
 none_here n i log r e = absurd (not_read r e)
 
 -- so may a copy of it
-pub copied_here : (n i : ℕ) (log : List Change) (read : Option LastRead) (revision : ℕ) (contents : PlainMap) → IfSome read (λ r. (r.revision ≡ revision) × (arc_value r.version ≡ contents)) → count n log i ≡ revision → IsPart n i log contents
-    → IsLastRead n i log read
-copied_here n i log None revision contents same e p = none_here n i log
-copied_here n i log (Some r) revision contents same e p = read_here n i log r (e ∙ sym same.0) (subst (λ (m : PlainMap). IsPart n i log m) (sym same.1) p)
+pub copied_here : (n i : ℕ) (log : List Change) (r : LastRead) (revision : ℕ) (contents : PlainMap) → (r.revision ≡ revision) × (arc_value r.version ≡ contents) → count n log i ≡ revision → IsPart n i log contents → IsLastRead n i log (Some r)
+copied_here n i log r revision contents same e p = read_here n i log r (e ∙ sym same.0) (subst (λ (m : PlainMap). IsPart n i log m) (sym same.1) p)
 
 pub halved : (word n : ℕ) → word ≡ 2 * n → n ≡ word / 2
 halved word n e = omega arith

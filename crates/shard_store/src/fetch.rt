@@ -97,13 +97,14 @@ pub(crate) fn ask_all(
         (λ reply. IsReply Op.FetchAll seat.old.me.0.seen reply seat.new.me.0.seen)
         (IsRefused (record { id = seat.old.table_id; rounds = rounds; tries = tries }) Op.FetchAll seat.old.me.0.seen seat.new.me.0.seen) }
 {
-    if let Some(all) = recall_all(shards, seat, last_all) {
+    if let Some(all) = recall_all(shards, seat, last_all)? {
         return Ok(Reply::All(all));
     }
     *last_all = None;
-    let LastAll { revisions, all } = fetch_anew(alloc, shards, seat, last_reads, tries, rounds)?;
-    *last_all = LastAll::of(revisions, &all);
-    Ok(Reply::All(all))
+    let last = fetch_anew(alloc, shards, seat, last_reads, tries, rounds)?;
+    let copy = last.all.copy()?;
+    *last_all = Some(last);
+    Ok(Reply::All(copy))
 }
 
 // All bundles, read from the shards.
@@ -125,6 +126,7 @@ fn fetch_anew(
         (λ fetched. IsFetched seat.old.table_id.slots seat.old.me.0.seen seat.new.me.0.seen fetched)
         (IsRefused (record { id = seat.old.table_id; rounds = rounds; tries = tries }) Op.FetchAll seat.old.me.0.seen seat.new.me.0.seen) }
 {
+    last_reads.make_room(shards.slot_count())?;
     let Readings {
         revisions,
         versions,
@@ -238,11 +240,12 @@ fn collect(
         × IsPart seat.old.table_id.slots shard seat.new.me.0.seen.log (arc_value r.1))
         (IsRefusedAt seat.old.table_id.slots Op.FetchAll seat.old.me.0.seen seat.new.me.0.seen) }
 {
-    if let Some(LastRead { revision, version }) = recall_copy(shards, seat, last_reads, shard) {
+    if let Some(LastRead { revision, version }) = recall_copy(shards, seat, last_reads, shard)? {
         return Ok((revision, version));
     }
     let (revision, version) = collect_held(shards, seat, shard, tries)?;
-    last_reads.keep(shards.slot_count(), shard, LastRead::of(revision, &version));
+    let read = LastRead::of(revision, &version)?;
+    last_reads.keep(shard, Some(read));
     Ok((revision, version))
 }
 

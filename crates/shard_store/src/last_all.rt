@@ -1,5 +1,5 @@
 //! What a pass remembers of its last fetch-all: if no shard has changed since, that is still the answer.
-ghost use Rattle.std.specs.Prelude.{◌≡◌, IfSome};
+ghost use Rattle.std.specs.Prelude.{◌≡◌, IfOk, IfSome};
 ghost use Rattle.map_core.specs.PlainMap.{bundles};
 ghost use Rattle.shard_store.specs.Changes.{after};
 ghost use Rattle.shard_store.specs.Promise.{IsLater};
@@ -9,6 +9,7 @@ ghost use Rattle.shard_store.specs.Private.Seat.{IsAt, IsSameSeat, IsIdle};
 use crate::fetch::confirm_all;
 use crate::rule::{ShardTable, StoreSeat};
 use map_core::Snapshot;
+use std::alloc::AllocError;
 
 /// All bundles as they stood together at one moment, and which revisions the shards had then.
 #[derive(Drop)]
@@ -17,45 +18,28 @@ pub(crate) struct LastAll {
     pub all: Snapshot,
 }
 
-impl LastAll {
-    /// The same of another owner of the bundles, if one can be had.
-    pub(crate) fn of(revisions: Vec<u64>, all: &Snapshot) -> Option<LastAll>
-        ensures { IfSome result (λ r. (r.revisions.items ≡ revisions.items) × (r.all ≡ all.now)) }
-    {
-        let all = another(all)?;
-        Some(LastAll { revisions, all })
-    }
-}
-
-/// Another owner of the bundles, if one can be had.
-fn another(all: &Snapshot) -> Option<Snapshot>
-    ensures { IfSome result (λ other. other ≡ all.now) }
-{
-    match all.copy() {
-        Ok(other) => Some(other),
-        Err(_) => None,
-    }
-}
-
 /// What the last fetch-all was answered, if no shard has changed since. Each word is loaded once: as no revision has
 /// grown by its load, none had grown when the first was loaded, and all stood together at that moment.
 pub(crate) fn recall_all(
     shards: &ShardTable,
     seat: &mut StoreSeat,
     remembered: &Option<LastAll>,
-) -> Option<Snapshot>
+) -> Result<Option<Snapshot>, AllocError>
     requires own { IsAt seat.old shards.now.shared.table_id }
     requires idle { IsIdle seat.old.me }
     requires told { IsLastAll seat.old.table_id.slots seat.old.me.0.seen.log remembered.now }
     ensures seat { IsSameSeat seat.old seat.new × IsIdle seat.new.me }
     ensures later { IsLater seat.new.me.0.seen seat.old.me.0.seen }
-    ensures all { IfSome result (λ all. all ≡ bundles (after seat.old.me.0.seen.log)) }
+    ensures all { IfOk result (λ found. IfSome found (λ all. all ≡ bundles (after seat.old.me.0.seen.log))) }
 {
     let Some(last) = remembered else {
-        return None;
+        return Ok(None);
     };
     match confirm_all(shards, seat, last.revisions.as_slice()) {
-        None => another(&last.all),
-        Some(_) => None,
+        None => {
+            let all = last.all.copy()?;
+            Ok(Some(all))
+        }
+        Some(_) => Ok(None),
     }
 }

@@ -1,5 +1,5 @@
 //! What a pass remembers: of each shard, what it read when it held it last.
-ghost use Rattle.std.specs.Prelude.{◌≡◌, ℕ, List, [], None, Some, slice_index_or, IfSome};
+ghost use Rattle.std.specs.Prelude.{◌≡◌, ℕ, List, [], None, Some, slice_index_or, IfOk, IfSome};
 ghost use Rattle.std.specs.Arc.{arc_value};
 ghost use Rattle.shard_store.specs.declared.change.Change.{Change};
 ghost use Rattle.shard_store.specs.Private.LastReads.{AreLastReads, IsLastRead};
@@ -17,14 +17,12 @@ pub(crate) struct LastRead {
 }
 
 impl LastRead {
-    /// The same of another owner of the version, if one can be had.
-    pub(crate) fn of(revision: u64, version: &Arc<Contents>) -> Option<LastRead>
-        ensures { IfSome result (λ r. (r.revision ≡ revision) × (arc_value r.version ≡ arc_value version.now)) }
+    /// The same of another owner of the version.
+    pub(crate) fn of(revision: u64, version: &Arc<Contents>) -> Result<LastRead, AllocError>
+        ensures { IfOk result (λ r. (r.revision ≡ revision) × (arc_value r.version ≡ arc_value version.now)) }
     {
-        match Arc::try_clone(version) {
-            Ok(version) => Some(LastRead { revision, version }),
-            Err(_) => None,
-        }
+        let version = Arc::try_clone(version)?;
+        Ok(LastRead { revision, version })
     }
 }
 
@@ -56,31 +54,29 @@ impl LastReads {
         }
     }
 
-    /// Remembers what was read of a shard, of this many, in place of what was read of it before. Without a reading, or
-    /// if there is no room, nothing is remembered of it.
-    pub(crate) fn keep(&mut self, shards: usize, shard: usize, read: Option<LastRead>)
+    /// Remembers what was read of a shard, for which there is room, in place of what was read of it before; or that
+    /// nothing was.
+    pub(crate) fn keep(&mut self, shard: usize, read: Option<LastRead>)
         ensures { (n : ℕ) (log : List Change) → AreLastReads n log self.old.by_shard.items → IsLastRead n shard log read → AreLastReads n log self.new.by_shard.items }
     {
-        let room = if read.is_some() { shards } else { 0 };
-        let is_short = self.make_room(room).is_err();
-        if is_short || shard >= self.by_shard.len() {
+        if shard >= self.by_shard.len() {
             return;
         }
         self.by_shard[shard] = read;
     }
 
-    /// Forgets the shard, of this many, if the operation may change it: then nobody else may own its version, which is
-    /// changed where it is.
-    pub(crate) fn forget_before(&mut self, shards: usize, shard: usize, op: &Op)
+    /// Forgets the shard if the operation may change it: then nobody else may own its version, which is changed where it
+    /// is.
+    pub(crate) fn forget_before(&mut self, shard: usize, op: &Op)
         ensures { (n : ℕ) (log : List Change) → AreLastReads n log self.old.by_shard.items → AreLastReads n log self.new.by_shard.items }
     {
         if may_write(op) {
-            self.keep(shards, shard, None);
+            self.keep(shard, None);
         }
     }
 
-    // Room for so many shards.
-    fn make_room(&mut self, shards: usize) -> Result<(), AllocError>
+    /// Makes room for so many shards. It is made before a shard is asked, so that nothing changes if it is refused.
+    pub(crate) fn make_room(&mut self, shards: usize) -> Result<(), AllocError>
         ensures { (n : ℕ) (log : List Change) → AreLastReads n log self.old.by_shard.items → AreLastReads n log self.new.by_shard.items }
     {
         for _ in self.by_shard.len()..shards {

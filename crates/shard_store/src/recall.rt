@@ -1,5 +1,5 @@
 //! Reads that hold nothing: what a pass read of a shard last is still the shard's, if its revision is.
-ghost use Rattle.std.specs.Prelude.{◌≡◌, ◌<◌, Some, Ok, IfSome, MatchOption, MatchResult};
+ghost use Rattle.std.specs.Prelude.{◌≡◌, ◌<◌, Some, Ok, IfOk, IfSome, MatchOption, MatchResult};
 ghost use Rattle.std.specs.Arc.{arc_value};
 ghost use Rattle.map_core.specs.Ask.{ShowsGet};
 ghost use Rattle.map_core.specs.declared.op.Op.TheVariants.{Get};
@@ -17,7 +17,7 @@ use crate::one_shard::ask_shard;
 use crate::rule::{ShardTable, StoreSeat};
 use map_core::{AskError, Op, Reply, Viewer};
 use spiffe_doc::TrustDomain;
-use std::alloc::Global;
+use std::alloc::{AllocError, Global};
 
 /// What was read of the shard last, if the shard is as it was then. One load tells, whether the shard is held or not.
 pub(crate) fn recall<'a>(
@@ -39,25 +39,28 @@ pub(crate) fn recall<'a>(
     last_reads.at(shard, revision)
 }
 
-/// The same of another owner of the version, if one can be had.
+/// The same of another owner of the version.
 pub(crate) fn recall_copy(
     shards: &ShardTable,
     seat: &mut StoreSeat,
     last_reads: &LastReads,
     shard: usize,
-) -> Option<LastRead>
+) -> Result<Option<LastRead>, AllocError>
     requires own { IsAt seat.old shards.now.shared.table_id }
     requires shard { shard < seat.old.table_id.slots }
     requires idle { IsIdle seat.old.me }
     requires told { AreLastReads seat.old.table_id.slots seat.old.me.0.seen.log last_reads.now.by_shard.items }
     ensures seat { IsSameSeat seat.old seat.new × IsIdle seat.new.me }
     ensures later { IsLater seat.new.me.0.seen seat.old.me.0.seen }
-    ensures read { IfSome result (λ r. (count seat.old.table_id.slots seat.new.me.0.seen.log shard ≡ r.revision)
-        × IsPart seat.old.table_id.slots shard seat.new.me.0.seen.log (arc_value r.version)) }
+    ensures read { IfOk result (λ found. IfSome found (λ r. (count seat.old.table_id.slots seat.new.me.0.seen.log shard ≡ r.revision)
+        × IsPart seat.old.table_id.slots shard seat.new.me.0.seen.log (arc_value r.version))) }
 {
     match recall(shards, seat, last_reads, shard) {
-        Some(last) => LastRead::of(last.revision, &last.version),
-        None => None,
+        Some(last) => {
+            let copy = LastRead::of(last.revision, &last.version)?;
+            Ok(Some(copy))
+        }
+        None => Ok(None),
     }
 }
 
@@ -87,9 +90,10 @@ pub(crate) fn ask_name(
     if let Some(reply) = get_recalled(shards, seat, last_reads, shard, op)? {
         return Ok(reply);
     }
-    last_reads.forget_before(shards.slot_count(), shard, op);
+    last_reads.make_room(shards.slot_count())?;
+    last_reads.forget_before(shard, op);
     let (reply, read) = ask_shard(alloc, shards, seat, tries, shard, op)?;
-    last_reads.keep(shards.slot_count(), shard, read);
+    last_reads.keep(shard, read);
     Ok(reply)
 }
 

@@ -344,11 +344,11 @@ impl Store {
             last_all: _,
         } = pass;
         let closed = shards.close_with(seat);
-        if let Some(shard) = first_held(&closed) {
-            let _versions = take_all(alloc, closed);
+        let held = first_held(&closed);
+        let slots = take_all(alloc, closed)?;
+        if let Some(shard) = held {
             return Err(CloseError::HeldAtEnd(shard));
         }
-        let slots = take_all(alloc, closed)?;
         Ok(join_slots(alloc, slots.as_slice())?)
     }
 }

@@ -1,14 +1,19 @@
-use Rattle.std.proofs.Common.{sym}
+use Rattle.std.proofs.Common.{◌≡◌, List, Some, refl, sym, subst}
+use Rattle.spiffe_doc.specs.Authority.{BundleValue}
+use Rattle.map_core.specs.Name.{Name}
 use Rattle.map_core.specs.declared.op.Op.TheVariants.{FetchAll}
 use Rattle.map_core.specs.declared.reply.Reply.TheVariants.{All}
+use Rattle.map_core.specs.declared.reply.AskError.TheVariants.{Memory}
+use Rattle.map_core.specs.PlainMap.{bundles}
+use Rattle.shard_store.specs.Changes.{after}
 use Rattle.shard_store.specs.Pass.{StoreView}
-use Rattle.shard_store.specs.Promise.{IsRefused}
+use Rattle.shard_store.specs.Promise.{IsReply, IsRefused}
 use Rattle.shard_store.specs.Private.LastAll.{IsLastAll}
 use Rattle.shard_store.specs.Private.LastReads.{AreLastReads}
 use Rattle.shard_store.proofs.Changes.{extends_none}
-use Rattle.shard_store.proofs.LastAll.{all_later, kept_all, refused_all_since}
-use Rattle.shard_store.proofs.LastReads.{reads_later}
-use Rattle.shard_store.proofs.Promise.{answered_since, at_slots, error_passed}
+use Rattle.shard_store.proofs.LastAll.{all_later, fetched_later, kept_all, refused_all_since}
+use Rattle.shard_store.proofs.LastReads.{reads_later, some_there}
+use Rattle.shard_store.proofs.Promise.{answered_since, at_slots, error_passed, later_then}
 use Rattle.shard_store.proofs.Readings.{all_answered}
 use Rattle.shard_store.proofs.fetch.ask_all.Goals as goal
 
@@ -20,32 +25,50 @@ returns-in-Some-clause-all c = all_later _ c.args.seat.now.me.0.seen c.recall_al
 
 pub returns-in-Some-clause-answer : goal.returns-in-Some-clause-answer
 returns-in-Some-clause-answer c = let s = c.args.seat.now.me.0.seen in let l = c.recall_all.ensures.later in
-    all_answered s c.recall_all.new.seat.me.0.seen s.log c.in-Some.all (extends_none s) l.0 l.1 c.in-Some.ensures.all
+    all_answered s c.recall_all.new.seat.me.0.seen s.log c.in-Some.all (extends_none s) l.0 l.1 (some_there c.in_ok-all.field-0 c.in-Some.all (λ all. all ≡ bundles (after s.log)) c.in-Some.is c.in_ok-all.ensures.all)
+
+pub returns-in_err-all-clause-told : goal.returns-in_err-all-clause-told
+returns-in_err-all-clause-told c = reads_later _ c.args.seat.now.me.0.seen c.recall_all.new.seat.me.0.seen _ c.recall_all.ensures.later c.requires.told
+
+pub returns-in_err-all-clause-all : goal.returns-in_err-all-clause-all
+returns-in_err-all-clause-all c = all_later _ c.args.seat.now.me.0.seen c.recall_all.new.seat.me.0.seen c.args.last_all.now c.recall_all.ensures.later c.requires.all
+
+pub returns-in_err-all-clause-answer : goal.returns-in_err-all-clause-answer
+returns-in_err-all-clause-answer c = error_passed c.from_residual.result Memory _ _ c.from_residual.ensures.1 c.recall_all.ensures.later
+
+pub returns-in_err-copy-clause-told : goal.returns-in_err-copy-clause-told
+returns-in_err-copy-clause-told c = let u = c.fetch_anew.new.seat.me.0.seen in
+    at_slots (λ z. AreLastReads z.slots u.log c.fetch_anew.new.last_reads.by_shard.items) _ _ (sym c.recall_all.ensures.seat.0.0) c.fetch_anew.ensures.told
+
+pub returns-in_err-copy-clause-answer : goal.returns-in_err-copy-clause-answer
+returns-in_err-copy-clause-answer c = let s = c.args.seat.now.me.0.seen in let t = c.recall_all.new.seat.me.0.seen in let u = c.fetch_anew.new.seat.me.0.seen in
+    error_passed c.from_residual-in_err-copy.result Memory _ _ c.from_residual-in_err-copy.ensures.1
+    (later_then s t u c.recall_all.ensures.later (fetched_later _ t u c.in_ok-last.last c.in_ok-last.ensures.answer))
 
 pub fetch_anew-requires-clause-told : goal.fetch_anew-requires-clause-told
 fetch_anew-requires-clause-told c = let s = c.args.seat.now.me.0.seen in let t = c.recall_all.new.seat.me.0.seen in
     at_slots (λ z. AreLastReads z.slots t.log c.args.last_reads.now.by_shard.items) _ _ c.recall_all.ensures.seat.0.0 (reads_later _ s t _ c.recall_all.ensures.later c.requires.told)
 
-pub returns-in_err-revisions-clause-told : goal.returns-in_err-revisions-clause-told
-returns-in_err-revisions-clause-told c = let u = c.fetch_anew.new.seat.me.0.seen in
+pub returns-in_err-last-clause-told : goal.returns-in_err-last-clause-told
+returns-in_err-last-clause-told c = let u = c.fetch_anew.new.seat.me.0.seen in
     at_slots (λ z. AreLastReads z.slots u.log c.fetch_anew.new.last_reads.by_shard.items) _ _ (sym c.recall_all.ensures.seat.0.0) c.fetch_anew.ensures.told
 
-pub returns-in_err-revisions-clause-answer : goal.returns-in_err-revisions-clause-answer
-returns-in_err-revisions-clause-answer c = let s = c.args.seat.now.me.0.seen in let t = c.recall_all.new.seat.me.0.seen in let u = c.fetch_anew.new.seat.me.0.seen in
-    let e = c.in_err-revisions.field-0.0 in let here : StoreView = record { id = c.args.seat.now.table_id; rounds = c.args.rounds; tries = c.args.tries } in
-    error_passed c.from_residual.result e _ _ c.from_residual.ensures.1
+pub returns-in_err-last-clause-answer : goal.returns-in_err-last-clause-answer
+returns-in_err-last-clause-answer c = let s = c.args.seat.now.me.0.seen in let t = c.recall_all.new.seat.me.0.seen in let u = c.fetch_anew.new.seat.me.0.seen in
+    let e = c.in_err-last.field-0.0 in let here : StoreView = record { id = c.args.seat.now.table_id; rounds = c.args.rounds; tries = c.args.tries } in
+    error_passed c.from_residual-in_err-last.result e _ _ c.from_residual-in_err-last.ensures.1
     (refused_all_since here s t u e c.recall_all.ensures.later
-    (at_slots (λ z. IsRefused (record { id = z; rounds = c.args.rounds; tries = c.args.tries }) FetchAll t u e) _ _ (sym c.recall_all.ensures.seat.0.0) c.in_err-revisions.ensures.answer))
+    (at_slots (λ z. IsRefused (record { id = z; rounds = c.args.rounds; tries = c.args.tries }) FetchAll t u e) _ _ (sym c.recall_all.ensures.seat.0.0) c.in_err-last.ensures.answer))
 
 pub returns-clause-told : goal.returns-clause-told
 returns-clause-told c = let u = c.fetch_anew.new.seat.me.0.seen in
     at_slots (λ z. AreLastReads z.slots u.log c.fetch_anew.new.last_reads.by_shard.items) _ _ (sym c.recall_all.ensures.seat.0.0) c.fetch_anew.ensures.told
 
 pub returns-clause-all : goal.returns-clause-all
-returns-clause-all c = let u = c.fetch_anew.new.seat.me.0.seen in let last = c.in_ok-revisions.field-0 in
-    at_slots (λ z. IsLastAll z.slots u.log c.of.result) _ _ (sym c.recall_all.ensures.seat.0.0)
-    (kept_all _ u.log c.of.result last c.of.ensures c.in_ok-revisions.ensures.answer.1)
+returns-clause-all c = let u = c.fetch_anew.new.seat.me.0.seen in let last = c.in_ok-last.last in
+    at_slots (λ z. IsLastAll z.slots u.log (Some last)) _ _ (sym c.recall_all.ensures.seat.0.0) (kept_all _ u.log (Some last) last refl c.in_ok-last.ensures.answer.1)
 
 pub returns-clause-answer : goal.returns-clause-answer
-returns-clause-answer c = let last = c.in_ok-revisions.field-0 in
-    answered_since FetchAll c.args.seat.now.me.0.seen c.recall_all.new.seat.me.0.seen c.fetch_anew.new.seat.me.0.seen (All last.all) c.recall_all.ensures.later c.in_ok-revisions.ensures.answer.0
+returns-clause-answer c = let s = c.args.seat.now.me.0.seen in let u = c.fetch_anew.new.seat.me.0.seen in
+    subst (λ (all : List (Name × BundleValue)). IsReply FetchAll s (All all) u) (sym c.in_ok-copy.ensures)
+    (answered_since FetchAll s c.recall_all.new.seat.me.0.seen u (All c.in_ok-last.last.all) c.recall_all.ensures.later c.in_ok-last.ensures.answer.0)

@@ -4,10 +4,19 @@ use Rattle.map_core.specs.declared.reply.AskError.TheVariants.{Memory}
 use Rattle.map_core.specs.PlainMap.{PlainMap}
 use Rattle.shard_store.specs.Changes.{after}
 use Rattle.shard_store.specs.Private.Readings.{ArePartsOf}
-use Rattle.shard_store.proofs.Promise.{error_passed}
+use Rattle.shard_store.proofs.Promise.{error_passed, later_self}
 use Rattle.shard_store.proofs.Readings.{later_snapshot}
 use Rattle.shard_store.proofs.LastAll.{fetched}
 use Rattle.shard_store.proofs.fetch.fetch_anew.Goals as goal
+
+pub returns-in_err-make_room-clause-told : goal.returns-in_err-make_room-clause-told
+returns-in_err-make_room-clause-told c = c.make_room.ensures _ c.args.seat.now.me.0.seen.log c.requires.told
+
+pub returns-in_err-make_room-clause-answer : goal.returns-in_err-make_room-clause-answer
+returns-in_err-make_room-clause-answer c = error_passed c.from_residual.result Memory _ _ c.from_residual.ensures.1 (later_self c.args.seat.now.me.0.seen)
+
+pub fetch_parts-requires-clause-told : goal.fetch_parts-requires-clause-told
+fetch_parts-requires-clause-told c = c.make_room.ensures _ c.args.seat.now.me.0.seen.log c.requires.told
 
 pub returns-in_err-all-clause-answer : goal.returns-in_err-all-clause-answer
 returns-in_err-all-clause-answer c = let read = c.in_ok-revisions.field-0 in
