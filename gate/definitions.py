@@ -7,7 +7,8 @@ usage: gate/definitions.py          fails unless docs/DEFINITIONS.md is the page
        gate/definitions.py rest     the other definitions of specs/, which private contracts and proofs use
 
 A definition is reached from the clauses of a function that the crate makes public, from what contracts see of a public
-type, from the ghost items of a public trait, or from a definition that is reached. What the prover checks is not to be
+type, from the ghost items of a public trait, or from a definition that is reached; and the rule that holds between any two steps
+of the store that threads share, and the kinds of step, are reached too: they are claimed, though no caller names them. What the prover checks is not to be
 believed and is left out: lemmas, invariants of types, and that an implementation meets the laws of its trait. Lines are
 counted without imports, comments and blanks; a word is a name or a sign, and 140 of them are read aloud in a minute.
 """
@@ -22,6 +23,8 @@ PAGE = f"{ROOT}/docs/DEFINITIONS.md"
 A_MINUTE = 140
 # Ghost items that are proofs, or that only the prover needs.
 PROOFS = {"coded", "invariant", "answers_plainly", "laws", "from_gives", "is_clone", "is_infallible", "matches_eq", "matches_partial_cmp", "total"}
+# Modules that no caller sees, by their crates, whose ghost items are claims all the same.
+CLAIMS = {"shard_store": {"rule", "plays"}}
 TOKEN = re.compile(r"[^\s(){}\[\],;]+")
 START = re.compile(r"( *)(?:unfoldable )?(?:abbrev )?(?:pub )?(record |data )?([^\s:({]+)")
 USE = re.compile(r"(?:ghost )?(?:pub )?use (Rattle\.[\w.+]+?)(?:\.\{([^}]*)\})?(?: as (\w+))?;?$", re.M)
@@ -144,7 +147,8 @@ def sources(crate):
     for at, _, files in sorted(os.walk(f"{ROOT}/crates/{crate}/src")):
         for file in sorted(files):
             if file.endswith(".rt") and "tests" not in os.path.relpath(f"{at}/{file}", ROOT):
-                is_open = not public or file.removesuffix(".rt") in public[0]
+                module = file.removesuffix(".rt")
+                is_open = not public or module in public[0] or module in CLAIMS.get(crate, ())
                 yield text_of(f"{at}/{file}"), None if is_open else public[1]
 
 

@@ -14,7 +14,7 @@ use Rattle.map_core.proofs.MapLaws.{part_home, home_of, asked_puts, now_of_part}
 use Rattle.shard_store.specs.declared.change.Change.{Change}
 use Rattle.shard_store.specs.declared.change.Seen.{Seen}
 use Rattle.shard_store.specs.Changes.{make_change, after, change_of, count, HasNumber, AreOthers, Extends, own_count, without_last, just_last}
-use Rattle.shard_store.specs.Private.Numbers.{IsPart, IsNumbered, IsParted}
+use Rattle.shard_store.specs.Numbers.{IsPart, IsNumbered, IsParted}
 
 pub others_append : (r : List (ℕ × ℕ)) (a b : List Change) → AreOthers r a → AreOthers r b → AreOthers r (a ++ b)
 others_append r [] b p q = q

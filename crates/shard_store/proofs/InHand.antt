@@ -13,8 +13,8 @@ use Rattle.map_core.proofs.MapLaws.{ask_keeps}
 use Rattle.shard_store.specs.declared.change.Seen.{Seen}
 use Rattle.shard_store.specs.declared.change.View.{View}
 use Rattle.shard_store.specs.Changes.{after}
-use Rattle.shard_store.specs.Private.Numbers.{IsPart}
-use Rattle.shard_store.specs.Private.Rule.{SlotValue}
+use Rattle.shard_store.specs.Numbers.{IsPart}
+use Rattle.shard_store.specs.Rule.{SlotValue}
 use Rattle.shard_store.specs.Private.Seat.{HasInHand, IsHolding, Writes, AsksAlone, AsksInHand, change_by}
 use Rattle.shard_store.specs.Promise.{IsReply}
 use Rattle.shard_store.proofs.Promise.{returned, reply_of_part, part_after, later_self, seen_as, answered_by_write, answered_by_read}

@@ -13,9 +13,9 @@ use Rattle.shard_store.specs.declared.change.Change.{Change}
 use Rattle.shard_store.specs.declared.change.Seen.{Seen}
 use Rattle.shard_store.specs.declared.change.View.{View}
 use Rattle.shard_store.specs.Changes.{count, HasNumber, AreOthers}
-use Rattle.shard_store.specs.Private.Numbers.{IsNumbered, IsParted}
-use Rattle.shard_store.specs.Private.Rule.{numbers_of_joined, numbers, ExtendsEach, SlotValue, IsShard, IsView, MeetsRule}
-use Rattle.shard_store.specs.Private.Steps.{view_after, Sees, HasAllNumbers}
+use Rattle.shard_store.specs.Numbers.{IsNumbered, IsParted}
+use Rattle.shard_store.specs.Rule.{numbers_of_joined, numbers, ExtendsEach, SlotValue, IsShard, IsView, MeetsRule}
+use Rattle.shard_store.specs.Steps.{view_after, Sees, HasAllNumbers}
 use Rattle.shard_store.proofs.Changes.{others_fewer, has_number_left, has_number_right, has_number_either, numbered_append, extends_none, extends_more, count_append, is_part_stays}
 
 abbrev pub put : (ℕ → ℕ) → ℕ → ℕ → ℕ → ℕ

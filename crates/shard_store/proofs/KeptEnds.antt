@@ -12,9 +12,10 @@ use Rattle.map_core.specs.PlainMap.{PlainMap}
 use Rattle.map_core.proofs.Maps.{part-empty}
 use Rattle.shard_store.specs.declared.change.Change.{Change}
 use Rattle.shard_store.specs.declared.change.View.{View}
-use Rattle.shard_store.specs.Private.Numbers.{IsPart}
-use Rattle.shard_store.specs.Private.Rule.{first_view, IsEmptyVersion, SlotValue, IsView, MeetsRule}
-use Rattle.shard_store.specs.Private.Steps.{Sees, HasAllNumbers}
+use Rattle.shard_store.specs.Numbers.{IsPart}
+use Rattle.shard_store.specs.Rule.{first_view, SlotValue, IsView, MeetsRule}
+use Rattle.shard_store.specs.Private.Fresh.{IsEmptyVersion}
+use Rattle.shard_store.specs.Steps.{Sees, HasAllNumbers}
 use Rattle.shard_store.proofs.Changes.{not_some}
 use Rattle.shard_store.proofs.Kept.{alone_holds, sees_list}
 

@@ -9,8 +9,8 @@ use Rattle.shard_store.specs.declared.change.Change.{Change}
 use Rattle.shard_store.specs.declared.change.Seen.{Seen}
 use Rattle.shard_store.specs.declared.change.View.{View}
 use Rattle.shard_store.specs.Changes.{HasNumber, own_count, without_last, just_last}
-use Rattle.shard_store.specs.Private.Numbers.{IsParted}
-use Rattle.shard_store.specs.Private.Rule.{numbers_of_joined, numbers, ExtendsEach, giver_view, receiver_view, joiner_view, empty_view, SlotValue, IsView, MeetsRule}
+use Rattle.shard_store.specs.Numbers.{IsParted}
+use Rattle.shard_store.specs.Rule.{numbers_of_joined, numbers, ExtendsEach, giver_view, receiver_view, joiner_view, empty_view, SlotValue, IsView, MeetsRule}
 use Rattle.shard_store.proofs.Changes.{others_none, others_fewer, has_number_left, has_number_either, kept_fewer, given_fewer, kept_parted, given_parted, kept_given_apart, parted_append, not_some}
 use Rattle.shard_store.proofs.Kept.{busy_stays, still_apart}
 

@@ -15,9 +15,9 @@ use Rattle.map_core.specs.PlainMap.{PlainMap, home}
 use Rattle.shard_store.specs.declared.change.Change.{Change}
 use Rattle.shard_store.specs.declared.change.View.{View}
 use Rattle.shard_store.specs.Changes.{count, HasNumber}
-use Rattle.shard_store.specs.Private.Numbers.{IsPart, IsParted}
-use Rattle.shard_store.specs.Private.Rule.{numbers, SlotValue, IsShard, IsView, MeetsRule}
-use Rattle.shard_store.specs.Private.Steps.{view_after, LoadsWord, TakesShard, ReleasesShard, PublishesChange}
+use Rattle.shard_store.specs.Numbers.{IsPart, IsParted}
+use Rattle.shard_store.specs.Rule.{numbers, SlotValue, IsShard, IsView, MeetsRule}
+use Rattle.shard_store.specs.Steps.{view_after, LoadsWord, TakesShard, ReleasesShard, PublishesChange}
 use Rattle.shard_store.proofs.Changes.{others_append, others_none, others_fewer, has_number_left, has_number_right, has_number_either, numbered_append, extends_none, extends_more, count_append, is_part_stays, is_part_of_change, kept_fewer, given_fewer, kept_parted, given_parted, kept_given_apart, parted_append, some_same, not_some, counts_one, counts_none}
 use Rattle.shard_store.proofs.Kept.{put, put_here, set_there, St, M, seat_steps, Holding, fewer_updated, more_updated, updated_view, look_kept, alone_holds, sees_list}
 

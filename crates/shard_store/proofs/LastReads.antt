@@ -15,7 +15,7 @@ use Rattle.shard_store.specs.declared.change.Change.{Change}
 use Rattle.shard_store.specs.declared.change.Seen.{Seen}
 use Rattle.shard_store.specs.declared.last_reads.LastRead.{LastRead}
 use Rattle.shard_store.specs.Changes.{count, change_of, own_number}
-use Rattle.shard_store.specs.Private.Numbers.{IsPart}
+use Rattle.shard_store.specs.Numbers.{IsPart}
 use Rattle.shard_store.specs.Private.Readings.{WasRead}
 use Rattle.shard_store.specs.Private.LastReads.{IsLastRead, AreLastReads}
 use Rattle.shard_store.specs.Promise.{IsLater, IsReply, IsRefusedAt}

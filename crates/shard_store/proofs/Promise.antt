@@ -21,9 +21,9 @@ use Rattle.shard_store.specs.declared.change.Change.{Change}
 use Rattle.shard_store.specs.declared.change.Seen.{Seen}
 use Rattle.shard_store.specs.declared.change.View.{View}
 use Rattle.shard_store.specs.Changes.{after, change_of, count, HasNumber, Extends, own_count, own_number, without_last, just_last}
-use Rattle.shard_store.specs.Private.Numbers.{IsPart}
-use Rattle.shard_store.specs.Private.Rule.{numbers_of_joined, numbers, SlotValue}
-use Rattle.shard_store.specs.Private.Steps.{view_after, Sees, HasAllNumbers}
+use Rattle.shard_store.specs.Numbers.{IsPart}
+use Rattle.shard_store.specs.Rule.{numbers_of_joined, numbers, SlotValue}
+use Rattle.shard_store.specs.Steps.{view_after, Sees, HasAllNumbers}
 use Rattle.shard_store.specs.Promise.{IsLater, IsAlone, Concerns, IsReply, IsRefusedAt, IsRefused}
 use Rattle.shard_store.specs.Pass.{StoreView}
 use Rattle.shard_store.specs.Private.Seat.{IsIdle, HasInHand, IsHolding, Missed, Writes, change_by}

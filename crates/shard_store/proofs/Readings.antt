@@ -15,7 +15,7 @@ use Rattle.shard_store.specs.declared.change.Change.{Change}
 use Rattle.shard_store.specs.declared.change.Seen.{Seen}
 use Rattle.shard_store.specs.declared.fetch.Movement.{Movement}
 use Rattle.shard_store.specs.Changes.{after, count, Extends}
-use Rattle.shard_store.specs.Private.Numbers.{IsPart}
+use Rattle.shard_store.specs.Numbers.{IsPart}
 use Rattle.shard_store.specs.Promise.{IsLater, IsAlone, HasMoved, IsReply}
 use Rattle.shard_store.specs.Private.Readings.{WasRead, WereRead, AreConfirmed, IsMovement, IsSnapshot}
 use Rattle.shard_store.proofs.Changes.{count_append, is_part_stays}

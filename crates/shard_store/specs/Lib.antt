@@ -4,4 +4,7 @@ pub mod Promise
 pub mod Close
 pub mod Seated
 pub mod Laws
+pub mod Numbers
+pub mod Rule
+pub mod Steps
 pub mod Private

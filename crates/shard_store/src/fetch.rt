@@ -3,7 +3,7 @@ ghost use Rattle.std.specs.Prelude.{◌≡◌, ◌<◌, [], ◌∷◌, ◌++◌,
 ghost use Rattle.std.specs.Arc.{arc_value};
 ghost use Rattle.map_core.specs.declared.op.Op.{Op};
 ghost use Rattle.shard_store.specs.Changes.{count};
-ghost use Rattle.shard_store.specs.Private.Numbers.{IsPart};
+ghost use Rattle.shard_store.specs.Numbers.{IsPart};
 ghost use Rattle.shard_store.specs.Promise.{IsLater, IsRefusedAt, IsRefused, IsReply};
 ghost use Rattle.shard_store.specs.Private.Seat.{IsAt, IsSameSeat, IsIdle};
 ghost use Rattle.shard_store.specs.Private.LastReads.{AreLastReads};

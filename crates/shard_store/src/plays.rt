@@ -1,8 +1,8 @@
 //! What each step on the shared table tells.
 ghost use Rattle.std.specs.Prelude.{ℕ};
 ghost use Rattle.shard_store.specs.declared.change.Change.{Change};
-ghost use Rattle.shard_store.specs.Private.Steps.{LoadsWord, TakesShard, ReleasesShard, PublishesChange};
-ghost use Rattle.shard_store.specs.Private.Rule.{giver_view, receiver_view, joiner_view, empty_view};
+ghost use Rattle.shard_store.specs.Steps.{LoadsWord, TakesShard, ReleasesShard, PublishesChange};
+ghost use Rattle.shard_store.specs.Rule.{giver_view, receiver_view, joiner_view, empty_view};
 
 use crate::change::{Change, View};
 use crate::rule::Slot;
@@ -33,7 +33,7 @@ pub(crate) trait NamesChange {
 }
 
 impl NamesChange for Brand {
-    ghost use Rattle.shard_store.specs.Private.Rule.{no_change};
+    ghost use Rattle.shard_store.specs.Private.Fresh.{no_change};
 
     ghost change = { no_change };
 }

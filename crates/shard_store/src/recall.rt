@@ -5,7 +5,7 @@ ghost use Rattle.map_core.specs.Ask.{ShowsGet};
 ghost use Rattle.map_core.specs.declared.op.Op.TheVariants.{Get};
 ghost use Rattle.map_core.specs.PlainMap.{shard_of};
 ghost use Rattle.shard_store.specs.Changes.{count};
-ghost use Rattle.shard_store.specs.Private.Numbers.{IsPart};
+ghost use Rattle.shard_store.specs.Numbers.{IsPart};
 ghost use Rattle.shard_store.specs.Promise.{IsLater, IsReply, IsRefusedAt};
 ghost use Rattle.shard_store.specs.Private.Seat.{IsAt, IsSameSeat, IsIdle};
 ghost use Rattle.shard_store.specs.Private.LastReads.{AreLastReads};

@@ -11,7 +11,7 @@ pub type Slot = Option<Arc<Contents>>;
 pub struct OneList;
 
 impl TableRule<Slot, View, ()> for OneList {
-    ghost use Rattle.shard_store.specs.Private.Rule.{MeetsRule, first_view};
+    ghost use Rattle.shard_store.specs.Rule.{MeetsRule, first_view};
 
     ghost holds = { λ _. MeetsRule };
 

@@ -8,7 +8,7 @@ ghost use Rattle.shard_store.specs.Changes.{Extends, own_count, without_last, ju
 ghost use Rattle.shard_store.specs.Close.{CloseAnswer};
 ghost use Rattle.shard_store.specs.Pass.{IsOf};
 ghost use Rattle.shard_store.specs.Promise.{StoreAnswer, HoldAnswer};
-ghost use Rattle.shard_store.specs.Private.Rule.{IsEmptyVersion};
+ghost use Rattle.shard_store.specs.Private.Fresh.{IsEmptyVersion};
 
 use crate::close::{CloseError, first_held, join_slots, take_all};
 use crate::fetch::ask_all;

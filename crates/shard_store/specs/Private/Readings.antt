@@ -9,9 +9,9 @@ use Rattle.shard_store.specs.declared.fetch.Movement.{Movement}
 use Rattle.shard_store.specs.declared.fetch.Round.{Round}
 use Rattle.shard_store.specs.declared.fetch.Round.TheVariants.{Confirmed, Moved}
 use Rattle.shard_store.specs.Promise.{IsLater, HasMoved}
-use Rattle.shard_store.specs.Private.Rule.{SlotValue}
+use Rattle.shard_store.specs.Rule.{SlotValue}
 use Rattle.shard_store.specs.Changes.{after, count, Extends}
-use Rattle.shard_store.specs.Private.Numbers.{IsPart}
+use Rattle.shard_store.specs.Numbers.{IsPart}
 
 -- the versions are the map's parts, in order
 abbrev pub ArePartsOf : {Z : Type 0} → PlainMap → List (Arc PlainMap Z) → Type 0

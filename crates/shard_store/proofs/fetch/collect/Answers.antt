@@ -3,7 +3,7 @@ use Rattle.map_core.specs.declared.reply.AskError.TheVariants.{Memory}
 use Rattle.std.proofs.Common.{◌≡◌, sym}
 use Rattle.std.specs.Arc.{arc_value}
 use Rattle.shard_store.specs.Changes.{count}
-use Rattle.shard_store.specs.Private.Numbers.{IsPart}
+use Rattle.shard_store.specs.Numbers.{IsPart}
 use Rattle.shard_store.specs.Promise.{IsRefusedAt}
 use Rattle.shard_store.proofs.Promise.{later_then, refused_since, at_slots, error_passed}
 use Rattle.shard_store.proofs.LastReads.{copied_here, reads_later, reads_refused}

@@ -4,7 +4,7 @@ use Rattle.std.proofs.Common.{◌≡◌, ◌+◌, ◌*◌, arith, sym, ap, ◌�
 use Rattle.std.specs.Arc.{arc_value}
 use Rattle.shard_store.specs.declared.change.Seen.{Seen}
 use Rattle.shard_store.specs.Changes.{count}
-use Rattle.shard_store.specs.Private.Numbers.{IsPart}
+use Rattle.shard_store.specs.Numbers.{IsPart}
 use Rattle.shard_store.specs.Promise.{IsRefusedAt}
 use Rattle.shard_store.specs.Private.Seat.{Missed, IsHolding}
 use Rattle.shard_store.proofs.Promise.{later_then, later_same, missed_then, at_slots, error_passed, at_each, fetch_has_no_home}

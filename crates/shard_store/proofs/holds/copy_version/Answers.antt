@@ -1,5 +1,5 @@
 use Rattle.std.specs.Arc.{arc_value}
-use Rattle.shard_store.specs.Private.Numbers.{IsPart}
+use Rattle.shard_store.specs.Numbers.{IsPart}
 use Rattle.std.proofs.Common.{rules}
 use Rattle.shard_store.proofs.Promise.{hand_rest, copied_holds}
 use Rattle.shard_store.proofs.holds.copy_version.Goals as goal

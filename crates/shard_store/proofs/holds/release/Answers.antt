@@ -1,7 +1,7 @@
 use Rattle.std.proofs.Common.{◌≡◌, ◌*◌, rules, sym}
 use Rattle.std.specs.Arc.{arc_value}
 use Rattle.shard_store.specs.Changes.{count}
-use Rattle.shard_store.specs.Private.Numbers.{IsPart}
+use Rattle.shard_store.specs.Numbers.{IsPart}
 use Rattle.shard_store.proofs.KeptSteps.{releases}
 use Rattle.shard_store.proofs.Promise.{hand_rest, at_slots}
 use Rattle.shard_store.proofs.holds.release.Goals as goal

@@ -1,6 +1,6 @@
 use Rattle.std.proofs.Common.{rules}
 use Rattle.std.specs.Arc.{arc_value}
-use Rattle.shard_store.specs.Private.Numbers.{IsPart}
+use Rattle.shard_store.specs.Numbers.{IsPart}
 use Rattle.shard_store.proofs.Promise.{hand_rest}
 use Rattle.shard_store.proofs.InHand.{asked_in_hand}
 use Rattle.shard_store.proofs.in_hand.ask_in_hand.Goals as goal

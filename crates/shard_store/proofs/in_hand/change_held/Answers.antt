@@ -5,7 +5,7 @@ use Rattle.map_core.specs.declared.op.Op.{Op}
 use Rattle.map_core.specs.declared.reply.Reply.{Reply}
 use Rattle.shard_store.specs.declared.change.Seen.{Seen}
 use Rattle.shard_store.specs.declared.change.View.{View}
-use Rattle.shard_store.specs.Private.Rule.{SlotValue}
+use Rattle.shard_store.specs.Rule.{SlotValue}
 use Rattle.shard_store.specs.Private.Seat.{HasInHand, IsHolding, Writes, AsksInHand, change_by}
 use Rattle.shard_store.proofs.Promise.{at_slots, holds_seen}
 use Rattle.shard_store.proofs.InHand.{changed_holds, answered_by_change}

@@ -1,6 +1,6 @@
 use Rattle.std.proofs.Common.{◌++◌, ◌∷◌, [], sym}
 use Rattle.std.specs.Arc.{arc_value}
-use Rattle.shard_store.specs.Private.Numbers.{IsPart}
+use Rattle.shard_store.specs.Numbers.{IsPart}
 use Rattle.shard_store.specs.Private.Seat.{change_by, Writes, IsHolding}
 use Rattle.shard_store.proofs.Promise.{change_since, writes_since, at_slots}
 use Rattle.shard_store.proofs.one_shard.store_version.Goals as goal

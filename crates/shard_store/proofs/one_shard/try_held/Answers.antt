@@ -3,7 +3,7 @@ use Rattle.std.specs.Arc.{arc_value}
 use Rattle.map_core.specs.PlainMap.{PlainMap, ask}
 use Rattle.shard_store.specs.declared.change.Seen.{Seen}
 use Rattle.shard_store.specs.Changes.{count}
-use Rattle.shard_store.specs.Private.Numbers.{IsPart}
+use Rattle.shard_store.specs.Numbers.{IsPart}
 use Rattle.shard_store.specs.Promise.{IsLater}
 use Rattle.shard_store.specs.Private.Seat.{Missed, Writes, change_by}
 use Rattle.shard_store.proofs.Promise.{later_then, seen_as, missed_then, at_slots, answered_by_write, answered_by_read, changes_of_part, part_after, with_new, with_none}

@@ -9,7 +9,7 @@ use Rattle.shard_store.specs.declared.change.View.{View}
 use Rattle.shard_store.specs.declared.one_shard.Attempt.{Attempt}
 use Rattle.shard_store.specs.declared.one_shard.Attempt.TheVariants.{Replied, Blocked}
 use Rattle.shard_store.specs.Promise.{IsLater, IsRefusedAt}
-use Rattle.shard_store.specs.Private.Rule.{SlotValue}
+use Rattle.shard_store.specs.Rule.{SlotValue}
 use Rattle.shard_store.specs.Private.Seat.{IsHolding, AsksHeld, Tried}
 use Rattle.shard_store.proofs.Promise.{at_slots, answered_since, refused_since, missed_then, later_then, later_same, error_passed}
 use Rattle.shard_store.proofs.LastReads.{none_here}

@@ -1,7 +1,7 @@
 use Rattle.std.proofs.Common.{refl, sym, subst}
 use Rattle.map_core.specs.declared.op.Op.TheVariants.{Get}
 use Rattle.map_core.specs.PlainMap.{PlainMap}
-use Rattle.shard_store.specs.Private.Numbers.{IsPart}
+use Rattle.shard_store.specs.Numbers.{IsPart}
 use Rattle.shard_store.proofs.Shown.{shown_by_part}
 use Rattle.shard_store.proofs.recall.show_recalled.Goals as goal
 

@@ -1,7 +1,8 @@
 use Rattle.std.proofs.Common.{List, Some, sym, ◌∙◌, subst, refl, arith}
 use Rattle.std.specs.List.{All}
 use Rattle.std.proofs.lemmas.List.Elements.{All-push}
-use Rattle.shard_store.specs.Private.Rule.{IsEmptyVersion, SlotValue}
+use Rattle.shard_store.specs.Rule.{SlotValue}
+use Rattle.shard_store.specs.Private.Fresh.{IsEmptyVersion}
 use Rattle.std.proofs.Common.{Global}
 use Rattle.shard_store.proofs.store.empty_slots.Goals as goal
 

@@ -1,7 +1,7 @@
 use Rattle.std.proofs.Common.{ℕ, ◌<◌, List, Global, sym, ap, ◌∙◌, subst}
 use Rattle.std.specs.Mem.Slots.{slots_counts}
 use Rattle.shard_store.specs.declared.change.Seen.{Seen}
-use Rattle.shard_store.specs.Private.Rule.{SlotValue}
+use Rattle.shard_store.specs.Rule.{SlotValue}
 use Rattle.shard_store.specs.Changes.{after, Extends}
 use Rattle.shard_store.specs.Promise.{IsAlone}
 use Rattle.shard_store.specs.Private.Readings.{HoldPartsOf}

@@ -1,4 +1,4 @@
--- What holds of the shared table between any two steps.
+-- What holds between any two atomic steps of the store that threads share: of the words, of the slots, and of what each pass has seen.
 use Rattle.std.specs.Prelude.{◌≡◌, ℕ, ◌/◌, ◌%◌, ◌^◌, ◌<◌, ◌≤◌, List, [], ◌∷◌, ◌++◌, length, slice_index, Option, Some, None}
 use Rattle.std.specs.Arc.{arc_value}
 use Rattle.std.specs.declared.sync.Arc.{Arc}
@@ -6,13 +6,12 @@ use mathlib.Core.Option.{some}
 use mathlib.Core.Option as maybe
 use lib.ListN.{get_elem?}
 use Rattle.atomic_table.specs.Table.{State}
-use Rattle.std.specs.FinMap as finite
 use Rattle.map_core.specs.PlainMap.{PlainMap}
 use Rattle.shard_store.specs.declared.change.Change.{Change}
 use Rattle.shard_store.specs.declared.change.Seen.{Seen}
 use Rattle.shard_store.specs.declared.change.View.{View}
 use Rattle.shard_store.specs.Changes.{count, HasNumber, Extends, without_last, just_last}
-use Rattle.shard_store.specs.Private.Numbers.{IsPart, IsNumbered, IsParted}
+use Rattle.shard_store.specs.Numbers.{IsPart, IsNumbered, IsParted}
 
 -- the numbers of joined passes
 abbrev pub numbers_of_joined : List Seen → List (ℕ × ℕ)
@@ -50,14 +49,16 @@ ExtendsEach list (t ∷ ts) = Extends list t × ExtendsEach list ts
 abbrev pub SlotValue : Type 0 → Type 0
 SlotValue Z = Option (Arc PlainMap Z)
 
--- the shard i, of n, with its word and what stands at home
+-- The shard i, of n, with its word and what stands at home in its slot: the word counts the changes of the shard, twice. While no pass
+-- holds the shard it is even, and the version is at home, which is the shard's part of the map; while one does it is odd.
 pub record IsShard {Z : Type 0} (n word : ℕ) (at_home : maybe.Option (maybe.Option (SlotValue Z))) (list : List Change) (views : List View) (holder i : ℕ) : Type 0 where
   pub counted : word / 2 ≡ count n list i
   pub limited : word / 2 ≤ 2 ^ 62
   pub free : word % 2 ≡ 0 → (version : Arc PlainMap Z) × (at_home ≡ some (some (Some version))) × IsPart n i list (arc_value version)
   pub busy : word % 2 ≡ 1 → (v : View) × (get_elem? views holder ≡ some v) × (v.held ≡ Some i)
 
--- the view of the seat
+-- What the seat's view knows: it has seen a beginning of the list, and all later changes are of others. If it holds a shard, that shard's
+-- word is odd, and nobody has changed the shard since.
 pub record IsView (n : ℕ) (words : List ℕ) (list : List Change) (holder : ℕ → ℕ) (seat : ℕ) (v : View) : Type 0 where
   pub sees : Extends list v.seen
   pub joined : ExtendsEach list v.joined
@@ -65,7 +66,8 @@ pub record IsView (n : ℕ) (words : List ℕ) (list : List Change) (holder : �
   pub parted : IsParted (numbers v)
   pub holds : (i : ℕ) → v.held ≡ Some i → (seat ≡ holder i) × (i < n) × (slice_index words i % 2 ≡ 1) × (count n v.seen.log i ≡ slice_index words i / 2) × ((k : ℕ) × HasNumber (numbers v) k)
 
--- There is one list of changes. Each word counts its shard's changes in it, and each view has seen a beginning of it, after which no change bears one of the view's numbers
+-- The rule: there is one list of changes. Each shard is as the list says, each view has seen a beginning of it, after which no change bears
+-- one of the view's numbers, and no two views have a number in common.
 pub record MeetsRule {Z : Type 0} (s : State (SlotValue Z) View) : Type 0 where
   pub list : List Change
   pub holder : ℕ → ℕ
@@ -74,10 +76,3 @@ pub record MeetsRule {Z : Type 0} (s : State (SlotValue Z) View) : Type 0 where
   pub each_shard : (i : ℕ) → i < length s.homes → IsShard (length s.homes) (slice_index s.words i) (get_elem? s.homes i) list s.views (holder i) i
   pub each_view : (j : ℕ) (v : View) → get_elem? s.views j ≡ some v → IsView (length s.homes) s.words list holder j v
   pub apart : (j k : ℕ) (v w : View) → get_elem? s.views j ≡ some v → get_elem? s.views k ≡ some w → (x : ℕ) → HasNumber (numbers v) x → HasNumber (numbers w) x → j ≡ k
-
-abbrev pub no_change : Change
-no_change = record { name = []; now = None; number = 0 }
-
--- the slot has a version with no name
-abbrev pub IsEmptyVersion : {Z : Type 0} → SlotValue Z → Type 0
-IsEmptyVersion {Z} slot = (version : Arc PlainMap Z) × (slot ≡ Some version) × (arc_value version ≡ finite.empty)

@@ -1,4 +1,5 @@
--- What each step on the shared table tells its pass.
+-- The kinds of step on a word of the store that threads share, and what each tells the pass that makes it. No other view changes. A version is
+-- taken out of its slot, and put there, by the pass that holds the shard: no view changes then.
 use Rattle.std.specs.Prelude.{◌≡◌, ◌≢◌, ℕ, ◌/◌, ◌%◌, ◌^◌, ◌<◌, ◌≤◌, List, [], ◌∷◌, ◌++◌, Option, Some, None}
 use Rattle.std.specs.Arc.{arc_value}
 use Rattle.std.specs.declared.sync.Arc.{Arc}
@@ -7,8 +8,8 @@ use Rattle.map_core.specs.PlainMap.{PlainMap}
 use Rattle.shard_store.specs.declared.change.Change.{Change}
 use Rattle.shard_store.specs.declared.change.View.{View}
 use Rattle.shard_store.specs.Changes.{count, HasNumber, Extends}
-use Rattle.shard_store.specs.Private.Numbers.{IsPart, IsNumbered}
-use Rattle.shard_store.specs.Private.Rule.{SlotValue, numbers, ExtendsEach}
+use Rattle.shard_store.specs.Numbers.{IsPart, IsNumbered}
+use Rattle.shard_store.specs.Rule.{SlotValue, numbers, ExtendsEach}
 
 -- the view after all changes of the list were seen
 abbrev pub view_after : List Change → View → Option ℕ → View
