@@ -1,4 +1,6 @@
 //! A folder of the host.
+ghost use Rattle.std.specs.Prelude.{◌≡◌};
+
 use crate::error::FolderError;
 use crate::folder::Folder;
 use crate::names::{folder_name, folder_number};
@@ -53,7 +55,9 @@ impl<'a, F: Files> HostFolder<'a, F> {
     }
 
     /// The number of the current snapshot, or 0 without one.
-    pub fn number(&self) -> u64 {
+    pub fn number(&self) -> u64
+        ensures { result ≡ self.now.number }
+    {
         self.number
     }
 

@@ -1,5 +1,5 @@
 //! The names of files and folders.
-ghost use Rattle.std.specs.Prelude.{◌≡◌, ◌≤◌, ◌<◌, IfOk, IfSome, IfNone, string_bytes};
+ghost use Rattle.std.specs.Prelude.{◌≡◌, ◌≢◌, ℕ, ◌≤◌, ◌<◌, ◌^◌, decimal, IfOk, IfSome, IfNone, MatchOption, Some, string_bytes};
 ghost use Rattle.snapshots.specs.Names.{json_name as json_name_of, pem_name as pem_name_of, folder_name as folder_name_of, HaveShortNames, IsFirstLong};
 
 use spiffe_doc::{Bundle, TrustDomain};
@@ -41,14 +41,25 @@ pub fn folder_name(alloc: Global, number: u64) -> Result<String, AllocError>
     Ok(name)
 }
 
-/// The number of the snapshot whose folder has this name, if it is such a name.
+/// The number that the digits write, if they are the decimal digits of one.
+fn number_of(digits: &str) -> Option<u64>
+    ensures { (number : ℕ) → number < 2 ^ 64 → digits.now ≡ decimal number → result ≡ Some number }
+{
+    match digits.parse::<u64>() {
+        Ok(number) => Some(number),
+        Err(_) => None,
+    }
+}
+
+/// The number of the snapshot whose folder has this name; none if no folder of a snapshot has it.
 pub fn folder_number(alloc: Global, name: &str) -> Result<Option<u64>, AllocError>
-    ensures { IfOk result (λ found. IfSome found (λ number. name.now ≡ folder_name_of number)) }
+    ensures { IfOk result (λ found. MatchOption found
+        ((number : ℕ) → number < 2 ^ 64 → name.now ≢ folder_name_of number) (λ number. name.now ≡ folder_name_of number)) }
 {
     let Some(digits) = name.strip_prefix(FRONT) else {
         return Ok(None);
     };
-    let Ok(number) = digits.parse::<u64>() else {
+    let Some(number) = number_of(digits) else {
         return Ok(None);
     };
     let known = folder_name(alloc, number)?;
