@@ -120,8 +120,13 @@ abbrev pub NotFilled : List ℕ → StoreView → Seen → FrontError → Type 0
 NotFilled [] store old error = ⊥
 NotFilled (byte ∷ more) store old error = (error ≡ Memory) ⊎ NotFills (byte ∷ more) store old (fill.Front error)
 
--- the store and the passes with which the workers begin: each has seen with what the store was filled, and together they have
--- all numbers
+-- the first pass of an empty store: it has all numbers, and has seen no change
+pub record IsFresh (seen : Seen) : Type 0 where
+  pub numbers : seen.ranges ≡ (0, 4294967296) ∷ []
+  pub empty : seen.log ≡ []
+
+-- the store and the passes with which the workers begin: each has seen with what the store was filled, by a pass that had all
+-- numbers, and together they have all numbers
 pub record IsSetUp (settings : Settings) (requests : List ℕ) (store : StoreView) (passes : List PassView) : Type 0 where
   pub workers : length passes ≡ settings.workers
   pub shards : store.id.slots ≡ settings.shards
@@ -129,14 +134,14 @@ pub record IsSetUp (settings : Settings) (requests : List ℕ) (store : StoreVie
   pub tries : store.tries ≡ settings.tries
   pub all : AreAll (ranges_of passes)
   pub fresh : Seen
-  pub empty : fresh.log ≡ []
+  pub is_fresh : IsFresh fresh
   pub first : Seen
   pub filled : Filled requests store fresh first
   pub seen : All (λ pass. pass.seen.log ≡ first.log) passes
 
 -- why there is no store: memory ran out, or an empty store was not filled
 abbrev pub NotSetUp : List ℕ → FrontError → Type 0
-NotSetUp requests error = (error ≡ Memory) ⊎ ((store : StoreView) × (fresh : Seen) × (fresh.log ≡ []) × NotFilled requests store fresh error)
+NotSetUp requests error = (error ≡ Memory) ⊎ ((store : StoreView) × (fresh : Seen) × IsFresh fresh × NotFilled requests store fresh error)
 
 -- Each worker serves its connections over a pass of its own, and the end is reported; or memory runs out, and that is told.
 abbrev pub Serves : StoreView → List PassView → ℕ → ℕ → End → End → End → End → Type 0
