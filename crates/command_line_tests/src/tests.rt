@@ -45,7 +45,6 @@ fn told_server(
     log: bool,
     settings: &Settings,
 ) -> Result<String, AllocError> {
-    let texts = [load.unwrap_or("-"), form_of(settings.connections)];
     let numbers = [
         u64::from(port),
         u64::from(log),
@@ -61,13 +60,14 @@ fn told_server(
         all.push(Some(number))?;
     }
     push_form(&mut all, settings.connections)?;
-    told(alloc, "serve", &texts, all.as_slice())
+    let form = form_of(settings.connections);
+    told(alloc, form, &[load.unwrap_or("-")], all.as_slice())
 }
 
 fn form_of(connections: Connections) -> &'static str {
     match connections {
-        Connections::Each(_) => "each",
-        Connections::Unlimited(_) => "unlimited",
+        Connections::Each(_) => "serve each",
+        Connections::Unlimited(_) => "serve unlimited",
     }
 }
 
@@ -251,27 +251,27 @@ const OTHER_FORM: &str =
 static SERVERS: [Line; 17] = [
     (
         "serve --port 0",
-        "serve|-|each|0|0|2|1000000|4|3|1000|1000|1",
+        "serve each|-|0|0|2|1000000|4|3|1000|1000|1",
     ),
     (
         "serve --port=65535 --workers=64 --connections=1000 --turns=1000000000 --shards=256 --rounds=16 --tries=1000000 --retries=1000000 --load=dumps/a --log",
-        "serve|dumps/a|each|65535|1|64|1000000000|256|16|1000000|1000000|1000",
+        "serve each|dumps/a|65535|1|64|1000000000|256|16|1000000|1000000|1000",
     ),
     (
         "serve --port 1 --turns 1",
-        "serve|-|each|1|0|2|1|4|3|1000|1000|1",
+        "serve each|-|1|0|2|1|4|3|1000|1000|1",
     ),
     (
         "serve --port=1 --connections=unlimited",
-        "serve|-|unlimited|1|0|2|18446744073709551615|4|3|1000|1000|1000|-|0|60",
+        "serve unlimited|-|1|0|2|18446744073709551615|4|3|1000|1000|1000|-|0|60",
     ),
     (
         "serve --port=1 --connections unlimited --max-open=1000000 --read-port=8444 --until-eof --idle=86400 --turns=1000000 --log --load=a",
-        "serve|a|unlimited|1|1|2|1000000|4|3|1000|1000|1000000|8444|1|86400",
+        "serve unlimited|a|1|1|2|1000000|4|3|1000|1000|1000000|8444|1|86400",
     ),
     (
         "serve --port=1 --connections unlimited --max-open=1 --read-port=0 --idle=1",
-        "serve|-|unlimited|1|0|2|18446744073709551615|4|3|1000|1000|1|0|0|1",
+        "serve unlimited|-|1|0|2|18446744073709551615|4|3|1000|1000|1|0|0|1",
     ),
     ("serve --port 1 --connections 0", NO_COUNT),
     ("serve --port 1 --connections 1001", NO_COUNT),
