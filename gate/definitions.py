@@ -70,7 +70,7 @@ class Module:
             if is_open or bare.startswith("module "):
                 depth = indent_of(line)
                 heading = [*heading, line] if is_open else [*(it for it in heading if indent_of(it) < depth), line]
-                is_open, comment = not bare.endswith("where"), []
+                is_open, comment, record = not bare.endswith("where"), [], -1
             elif not bare or bare.startswith(("use ", "pub use ")):
                 comment = []
             elif bare.startswith("--"):
