@@ -74,7 +74,7 @@ func (e *GivenUpError) why() string {
 	case 42:
 		return fmt.Sprintf("others had shard %d in each try", e.Shard)
 	}
-	return "this port is for reads only, or the server is being shut down"
+	return "this port is for reads only, or a gate of the server is shut"
 }
 
 // Is tells whether the target stands for this number, as ErrHeld does.
@@ -105,7 +105,7 @@ var (
 	ErrMoved error = number(41)
 	// ErrHeld: others had the shard in each try.
 	ErrHeld error = number(42)
-	// ErrShut: the port is for reads only, or the server is being shut down.
+	// ErrShut: the port is for reads only, or a gate of the server is shut.
 	ErrShut error = number(56)
 )
 

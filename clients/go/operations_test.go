@@ -135,7 +135,7 @@ func TestPortForReads(t *testing.T) {
 	client := dial(t, words[2])
 	_, err := client.Set(ctx, "a", empty)
 	is(t, err, ErrShut)
-	equal(t, err.Error(), "hopslintel: given up 56: this port is for reads only, or the server is being shut down")
+	equal(t, err.Error(), "hopslintel: given up 56: this port is for reads only, or a gate of the server is shut")
 	found, err := client.FetchAll(ctx)
 	check(t, err)
 	equal(t, found, Bundles{})

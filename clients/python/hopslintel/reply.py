@@ -117,12 +117,12 @@ class Held:
 
 @dataclass(frozen=True)
 class Shut:
-    """The request was not asked (56): the port is for reads only, or the
-    server is being shut down."""
+    """The request was not asked (56): the port is for reads only, or a
+    gate of the server is shut."""
 
     def __str__(self) -> str:
-        return ("given up 56: this port is for reads only, or the server is "
-                "being shut down")
+        return ("given up 56: this port is for reads only, or a gate of the "
+                "server is shut")
 
 
 GivenUp = Union[OutOfMemory, Worn, Moved, Held, Shut]

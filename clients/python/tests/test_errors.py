@@ -63,7 +63,7 @@ class ErrorsTest(unittest.TestCase):
                 (GivenUpError(Held(3, 9)),
                  "given up 42: others had shard 3 in each try"),
                 (GivenUpError(Shut()), "given up 56: this port is for reads "
-                 "only, or the server is being shut down")]:
+                 "only, or a gate of the server is shut")]:
             self.assertEqual(str(error), text)
 
     def test_those_of_connecting(self):
