@@ -27,6 +27,8 @@ PROOFS = {"coded", "invariant", "answers_plainly", "laws", "from_gives", "is_clo
 CLAIMS = {"shard_store": {"rule", "plays"}}
 TOKEN = re.compile(r"[^\s(){}\[\],;]+")
 START = re.compile(r"( *)(?:unfoldable )?(?:abbrev )?(?:pub )?(record |data )?([^\s:({]+)")
+# An implementation of a trait: the trait's name, and the type's.
+IMPL = re.compile(r"^impl\b[^{;]*?\b(\w+)(?:<[^{;]*>)? for (\w+)", re.M)
 USE = re.compile(r"(?:ghost )?(?:pub )?use (Rattle\.[\w.+]+?)(?:\.\{([^}]*)\})?(?: as (\w+))?;?$", re.M)
 
 
@@ -142,14 +144,17 @@ def opened(crate):
 
 
 def sources(crate):
-    """Yields the text of each module, with the names in it that are public; None if all are."""
+    """Yields the text of each module, with the names in it that are public; None if all are. The public names of a library are
+    given with the types of others for which it has a public trait."""
     public = opened(crate)
-    for at, _, files in sorted(os.walk(f"{ROOT}/crates/{crate}/src")):
-        for file in sorted(files):
-            if file.endswith(".rt") and "tests" not in os.path.relpath(f"{at}/{file}", ROOT):
-                module = file.removesuffix(".rt")
-                is_open = not public or module in public[0] or module in CLAIMS.get(crate, ())
-                yield text_of(f"{at}/{file}"), None if is_open else public[1]
+    found = [f"{at}/{file}" for at, _, files in sorted(os.walk(f"{ROOT}/crates/{crate}/src")) for file in sorted(files) if file.endswith(".rt")]
+    texts = {it: text_of(it) for it in found if "tests" not in os.path.relpath(it, ROOT)}
+    own = {it for text in texts.values() for it in re.findall(r"^(?:pub(?:\(crate\))? )?(?:struct|enum|trait|type) (\w+)", text, re.M)}
+    for file, text in texts.items():
+        module = os.path.basename(file).removesuffix(".rt")
+        is_open = not public or module in public[0] or module in CLAIMS.get(crate, ())
+        of_others = {it for trait, it in IMPL.findall(text) if public and trait in public[1] and it not in own}
+        yield text, None if is_open else public[1] | of_others
 
 
 def contracts(text, public):
@@ -197,7 +202,7 @@ class Reach:
         defined = module and module.defines(name)
         if defined and defined not in self.facts and (path, defined) not in self.seen:
             self.seen[path, defined] = None
-            lines = [it for it in module.definitions[defined] if not it.strip().startswith("--")]
+            lines = [it for it in module.headings[defined] + module.definitions[defined] if not it.strip().startswith("--")]
             self.text("\n".join(lines), module.names, module.modules, module)
 
 
