@@ -310,9 +310,9 @@ What to do: Connect again, or raise --turns.
         56,
         "\
 56 GateShut
-The request was not asked: it would change something, and this port is for reads only; or the
-server is being shut down.
-What to do: Ask at the server's other port, or later.
+The request was not asked: it would change something, and this port is for reads only. (Whoever
+runs the workers in a program of their own may give them a gate that shuts; then that was shut.)
+What to do: Ask at the server's other port.
 ",
     ),
     (

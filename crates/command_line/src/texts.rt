@@ -57,7 +57,7 @@ the line that `encode` takes, and a reply one of these:
   bundle D TEXT                      the bundle of D, as it stood at the moment of the fetch-all
   version N                          the session speaks this version now
   refused N ..                       the request was refused, with the number of the refusal and what it tells
-  memory   worn S   shut             not done: no memory, the shard S can count no more changes, no requests are taken
+  memory   worn S   shut             not done: no memory, the shard S can count no more changes, not asked at all
   moved S A B   held S R             not done: others were in the way; ask again
 
 A frame that is neither, or that has no line, is `fault 76 FRAME`, counted from 0, status 1: no line has a name with a

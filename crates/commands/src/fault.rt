@@ -12,6 +12,7 @@ use map_core::AskError;
 use refresh::RelationError;
 use shard_store::CloseError;
 use std::io::Write;
+use thiserror::Error;
 
 /// The most bytes of a fault's line: `fault`, a number of 3 digits, three of 20, four spaces and a line feed.
 const LINE_BYTES: usize = 73;
@@ -19,44 +20,60 @@ const LINE_BYTES: usize = 73;
 type Line = ArrayVec<u8, LINE_BYTES>;
 
 /// Why a command ends with status 1. It is told as one line: `fault`, its number, and the numbers that say where and why.
-#[derive(Clone, Copy, Debug, PartialEq, Eq)]
+#[derive(Clone, Copy, Debug, PartialEq, Eq, Error)]
 pub enum Fault {
     /// Memory ran out, an end failed, the reads are used up, or frames are wrong.
+    #[error(transparent)]
     Front(FrontError),
     /// The input is not a dump.
+    #[error(transparent)]
     Dump(DumpError),
     /// This line of the input, from 1, is not an event, or not the words of a relationship whose domain is new.
+    #[error("line {0} of the input is not what the command reads")]
     BadLine(u64),
     /// This frame of the input, from 0, is not a request or a reply that has a line.
+    #[error("frame {0} of the input has no line")]
     BadFrame(u64),
     /// The text that this line of the input names, from 1, or this file of the command line, from 1, cannot be read.
+    #[error("the file of line or place {0} cannot be read")]
     UnreadText(u64),
     /// No domain of the dump has this name of the command line, from 1.
+    #[error("no domain of the dump has name {0}")]
     NotInDump(u64),
     /// The input is not a SPIFFE bundle map.
+    #[error("the input is not a SPIFFE bundle map")]
     BadMap,
     /// This member of the bundle map, from 0, is not a trust domain and its bundle, or its name stands twice.
+    #[error("member {0} of the bundle map is not a trust domain and its bundle")]
     BadMember(u64),
     /// The input has over 16,777,216 bytes.
+    #[error("the input has over 16777216 bytes")]
     InputTooLong,
     /// A server cannot be asked.
+    #[error(transparent)]
     Server(ServerFault),
     /// Relationships cannot be refreshed.
+    #[error(transparent)]
     Refresh(RefreshFault),
     /// No snapshot is written, or it is not shown.
+    #[error(transparent)]
     Snapshot(SnapshotFault),
     /// No connection can be accepted.
+    #[error("no connection can be accepted")]
     Listen,
     /// The store gave no map at its end.
+    #[error(transparent)]
     Close(CloseError),
 }
 
 /// Why a server cannot be asked.
-#[derive(Clone, Copy, Debug, PartialEq, Eq)]
+#[derive(Clone, Copy, Debug, PartialEq, Eq, Error)]
 pub enum ServerFault {
     /// The stream to the server failed, or what came over it is not a reply.
+    #[error(transparent)]
     Client(ClientError),
     /// No server listens at the port.
+    #[error("no server listens at the port")]
     NoConnection,
 }
 
@@ -72,11 +89,13 @@ impl ServerFault {
 }
 
 /// Why relationships cannot be refreshed.
-#[derive(Clone, Copy, Debug, PartialEq, Eq)]
+#[derive(Clone, Copy, Debug, PartialEq, Eq, Error)]
 pub enum RefreshFault {
     /// The words of this line, from 1, are not a relationship.
+    #[error("line {1} is not a relationship: {0}")]
     BadRelationship(RelationError, u64),
     /// The clock cannot be read.
+    #[error("the clock cannot be read")]
     NoClock,
 }
 
@@ -106,13 +125,16 @@ impl RefreshFault {
 }
 
 /// Why no snapshot is written, or why it is not shown.
-#[derive(Clone, Copy, Debug, PartialEq, Eq)]
+#[derive(Clone, Copy, Debug, PartialEq, Eq, Error)]
 pub enum SnapshotFault {
     /// The server refuses the fetch-all.
+    #[error("the server refuses: {0}")]
     Refused(AskError),
     /// The name of this domain, from 1, is too long for a file.
+    #[error("the name of domain {0} is too long for a file")]
     LongName(u64),
     /// The folder of snapshots cannot be read or written.
+    #[error("the folder of snapshots cannot be read or written")]
     BadFolder,
 }
 

@@ -33,7 +33,7 @@ pub enum ReplyForm<'a> {
     Worn { shard: u32 },
     /// Memory ran out.
     Memory,
-    /// The server is being shut down, and the request was not asked.
+    /// The port is for reads only, or a gate was shut, and the request was not asked.
     Shut,
 }
 

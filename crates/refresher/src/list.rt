@@ -7,14 +7,18 @@ use refresh::{RelationError, Relationship, Schedule};
 use std::alloc::{AllocError, Global};
 use std::collections::BTreeSet;
 use std::fs::{File, Files};
+use thiserror::Error;
 
 /// Why a list is refused.
-#[derive(Clone, Copy, Debug, PartialEq, Eq, Drop)]
+#[derive(Clone, Copy, Debug, PartialEq, Eq, Drop, Error)]
 pub enum ListError {
     /// This line, from 1, has too few or too many words, or the trust domain of a line before it.
+    #[error("line {0} has too few or too many words, or the trust domain of a line before it")]
     BadLine(u64),
     /// The words of this line, from 1, are not a relationship.
+    #[error("line {1} is not a relationship: {0}")]
     BadRelationship(RelationError, u64),
+    #[error("out of memory")]
     Memory,
 }
 

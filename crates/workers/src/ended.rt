@@ -6,16 +6,19 @@ use frame_front::FrontError;
 use shard_store::Pass;
 use std::alloc::{AllocError, Global};
 use std::marker::Model;
+use thiserror::Error;
 
 /// How many faults of a worker's sessions are kept.
 const MOST_FAULTS: usize = 1000;
 
 /// Why a session did not come to the end of its input.
-#[derive(Clone, Copy, Debug, PartialEq, Eq)]
+#[derive(Clone, Copy, Debug, PartialEq, Eq, Error)]
 pub enum SessionFault {
     /// The session ended with this error.
+    #[error(transparent)]
     Front(FrontError),
     /// No session came: the listener failed.
+    #[error("no session came, since the listener failed")]
     Listen,
 }
 

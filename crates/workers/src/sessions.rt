@@ -9,6 +9,7 @@ use map_core::Ask;
 use std::alloc::{AllocError, Global};
 use std::io::{Read, Write};
 use std::vec::IntoIter;
+use thiserror::Error;
 
 /// A client's reader and writer, and how many reads may be made of it.
 #[derive(Drop)]
@@ -20,7 +21,8 @@ pub struct Session<R, W> {
 }
 
 /// No session came: the listener failed.
-#[derive(Clone, Copy, Debug, PartialEq, Eq)]
+#[derive(Clone, Copy, Debug, PartialEq, Eq, Error)]
+#[error("no session came, since the listener failed")]
 pub struct ListenFault;
 
 /// The source of a worker's sessions: a list in memory, or a listener.
