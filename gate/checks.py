@@ -25,6 +25,8 @@ SECONDS = 60
 LONGEST = 1800
 # How much of each line is shown of what a check says.
 SHOWN = 2000
+# Whether a check that is left out for want of a program fails the gate: .ci/run says so once it has installed all.
+IS_ALL_NEEDED = os.environ.get("NOTHING_LEFT_OUT") == "1"
 
 # What the check that runs has started.
 AFTERWARDS = contextlib.ExitStack()
@@ -34,15 +36,16 @@ def run_checks(checks, *, needs=None, is_quiet=False):
     """Runs each check, the others too if one fails, and answers the status for the script to end with.
 
     The checks are functions, or functions by their names. What one of them answers is told, unless only those that fail are
-    to be told. Some need programs that not every machine has: without them they are left out.
+    to be told. Some need programs, or files by their paths, that not every machine has: without them they are left out.
     """
     by_name = checks if isinstance(checks, dict) else {it.__name__: it for it in checks}
     passed = failed = left_out = 0
     for name, check in by_name.items():
-        lacking = [it for it in (needs or {}).get(check, []) if not shutil.which(it)]
+        lacking = [it for it in (needs or {}).get(check, []) if not (shutil.which(it) or os.path.exists(it))]
         if lacking:
             left_out += 1
-            print(f"{name}: left out, since this machine has no {lacking[0]}", flush=True)
+            failed += IS_ALL_NEEDED
+            print(f"{name}: {'FAILED: ' * IS_ALL_NEEDED}left out, since this machine has no {lacking[0]}", flush=True)
             continue
         wrong, said = outcome_of(check)
         passed, failed = passed + (not wrong), failed + bool(wrong)
@@ -75,11 +78,11 @@ def what_went_wrong(error):
     return "\n".join([*(it[:SHOWN] for it in lines), *([f"after {what_went_wrong(before)}"] if before else [])])
 
 
-def wait_until(is_so, what):
+def wait_until(is_so, what, seconds=SECONDS):
     """Waits for it, at most so many seconds."""
-    until = time.monotonic() + SECONDS
+    until = time.monotonic() + seconds
     while not is_so():
-        assert time.monotonic() < until, f"{what}: not so after {SECONDS} seconds"
+        assert time.monotonic() < until, f"{what}: not so after {seconds} seconds"
         time.sleep(0.01)
 
 
