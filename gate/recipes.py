@@ -1,101 +1,32 @@
 #!/usr/bin/env python3
 """Runs the recipes of docs/USING.md as they stand there, over a real server and real bundles.
 
-usage: gate/recipes.py   (over the program that rt ci or rt run has built in crates/bundled/out/)
+usage: gate/recipes.py [NAME..]   (over the program that rt ci or rt run has built in crates/bundled/out/)
 
 A recipe is a block of the page, and its text is taken from the page: only the port is another one. What is expected is not
-made by the program: each NAME.canonical in gate/bundles was made by another one. Some recipes call jq, openssl or go, and
-those are left out if the machine has no such program. What only configures other programs is not run.
+made by the program: each NAME.canonical in gate/bundles was made by another one, and certificates are made by openssl. Many
+recipes call other programs, and those whose program the machine lacks are left out, which is told. With names only the
+checks of these names are run.
 """
 import hashlib
 import json
 import os
 import re
-import signal
-import subprocess
 import sys
 
 sys.dont_write_bytecode = True
 
-from checks import AFTERWARDS, BUNDLES, ROOT, SECONDS, Room, bytes_of, canonical, dump_of, line_of  # noqa: E402
-from checks import pem_of, run_checks, unused_port, wait_until  # noqa: E402
+import recipes_etcd  # noqa: E402
+import recipes_service  # noqa: E402
+import recipes_tls  # noqa: E402
+from checks import ROOT, SECONDS, dump_of, pem_of, run_checks, wait_until  # noqa: E402
 from examples import PORT  # noqa: E402
-
-# The documents that stand for those of the page's two trust domains.
-A, B = canonical("rotation"), canonical("spire-default")
-BOTH = {"a.example": A, "b.example": B}
-
-
-def blocks():
-    """The blocks of the page below each heading, in their order."""
-    parts = re.split(r"^##+ (.*)\n", bytes_of(f"{ROOT}/docs/USING.md").decode(), flags=re.M)
-    found = re.compile(r"^    .*\n(?:    .*\n|\n(?=    ))*", re.M)
-    cut = lambda text: [re.sub(r"^    ", "", it, flags=re.M) for it in found.findall(text)]
-    return {"": cut(parts[0])} | {heading: cut(text) for heading, text in zip(parts[1::2], parts[2::2])}
-
-
-BLOCKS = blocks()
-
-
-class Shell(Room):
-    """A folder with the documents of the two trust domains, and the port that recipes ask there."""
-
-    def __init__(self):
-        super().__init__()
-        self.port = str(unused_port())
-        os.mkdir(f"{self.path}/documents")
-        for name, document in (("a.example", "rotation"), ("b.example", "spire-default")):
-            self.write(f"documents/{name}.json", bytes_of(f"{BUNDLES}/{document}.json"))
-
-    def start(self, text, **how):
-        """A shell that runs the text after what the page says that recipes need."""
-        script = f"cd {ROOT}\n{BLOCKS[''][0]}cd {self.path}\n{text}".replace(PORT, self.port)
-        how = {"stdin": subprocess.PIPE, "stdout": subprocess.PIPE, "stderr": subprocess.STDOUT, **how}
-        how["env"] = {"HOME": self.path, **os.environ}
-        running = AFTERWARDS.enter_context(subprocess.Popen(["sh", "-c", script], start_new_session=True, **how))
-        AFTERWARDS.callback(stop, running)
-        return running
-
-    def run(self, text, status=0, given=b"", seconds=SECONDS):
-        """What the text prints. It has to end with the status, and within these seconds."""
-        running = self.start(text)
-        said = running.communicate(given, seconds)[0]
-        assert running.returncode == status, (text, running.returncode, said)
-        return said.decode()
-
-    def python(self, text):
-        env = {**os.environ, "PYTHONPATH": f"{ROOT}/clients/python", "PYTHONDONTWRITEBYTECODE": "1"}
-        words = [sys.executable, "-c", text.replace(PORT, self.port)]
-        ran = subprocess.run(words, cwd=ROOT, env=env, stdin=subprocess.DEVNULL, capture_output=True, timeout=SECONDS)
-        assert (ran.returncode, ran.stderr) == (0, b""), (text, ran)
-        return ran.stdout.decode()
-
-    def get(self, name):
-        return self.run(f"store get {name}").rstrip("\n").encode()
-
-
-def stop(running):
-    """Ends a shell and what it has started, if it has not ended."""
-    if running.poll() is None:
-        os.killpg(running.pid, signal.SIGKILL)
-
-
-def a_store(*, recipe=("A store by hand", 0), prepare=None, is_filled=True):
-    """A room with a server, which the recipe starts."""
-    room = Shell()
-    if prepare:
-        prepare(room)
-    heading, number = recipe
-    server = room.start(BLOCKS[heading][number].splitlines()[-1], stderr=subprocess.DEVNULL)
-    assert line_of(server) == f"listening {room.port}\n".encode()
-    if is_filled:
-        room.run(BLOCKS["Set one document"][1])
-    return room
+from recipe_rooms import A, B, BLOCKS, BOTH, Shell, a_store, without_pause  # noqa: E402
 
 
 def runs_a_store():
     """By hand, with an empty dump, and with a dump that was kept."""
-    empty = BLOCKS["A store as a service"][1]
+    empty = BLOCKS["Keep what it holds"][1]
     room = a_store(recipe=("Keep what it holds", 0), prepare=lambda it: it.run(empty), is_filled=False)
     assert json.loads(room.run("store map")) == {"trust_domains": {}}
     room = a_store()
@@ -103,40 +34,21 @@ def runs_a_store():
     kept = room.read("dump")
     assert kept == dump_of(BOTH)
     for heading in ("Keep what it holds", "More than one machine"):
-        room = a_store(recipe=(heading, 1 if heading[0] == "M" else 0), prepare=lambda it: it.write("dump", kept), is_filled=False)
+        room = a_store(recipe=(heading, 0), prepare=lambda it: it.write("dump", kept), is_filled=False)
         assert (room.get("a.example"), room.get("b.example")) == (A, B)
 
 
 def fills_it_by_refreshes():
-    """The list of the page, twice; what is to be told somebody; and a document that is fetched."""
-    grep = BLOCKS["Fill it over HTTPS"][2]
+    """The list of the page, twice."""
     room = a_store(is_filled=False)
     room.write("list", BLOCKS["Fill it from SPIRE"][1].encode())
     for said in ("stored", "unchanged"):
         lines = room.run(BLOCKS["Fill it from SPIRE"][2]).splitlines()
         assert [it.split()[1:3] for it in lines] == [["a.example", said], ["b.example", said]], lines
-        room.write("refreshed", "\n".join([*lines, ""]).encode())
-        assert room.run(grep, status=1) == ""
     os.remove(f"{room.path}/documents/b.example.json")
-    room.run(f"{BLOCKS['Fill it from SPIRE'][2].rstrip()} >> refreshed", status=3)
-    assert [it.split()[1:4] for it in room.run(grep).splitlines()] == [["b.example", "no", "answer"]]
+    lines = room.run(BLOCKS["Fill it from SPIRE"][2], status=3).splitlines()
+    assert [it.split()[1:4] for it in lines][1] == ["b.example", "no", "answer"], lines
     assert (room.get("a.example"), room.get("b.example")) == (A, B)
-
-
-def fetches_over_https():
-    """The script that fetches, with a curl of its own that takes documents from a folder, and one that fails."""
-    room = Shell()
-    path = room.path
-    os.mkdir(f"{path}/bin")
-    room.write("bin/curl", b'#!/bin/sh\nfor it; do last=$it; done\nwhile [ "$1" != -o ]; do shift; done\ncp "$SERVED/${last##*/}" "$2"\n')
-    room.write("fetch", BLOCKS["Fill it over HTTPS"][0].encode())
-    os.chmod(f"{path}/bin/curl", 0o755)
-    room.write("served-a", A)
-    room.write("list", b"# a note\nc.example https://h/served-a https_web\nd.example https://h/none https_web\n"
-                       b"e.example https://h/served-a https_spiffe spiffe://e/s\nf.example https://h/served-a https_web")
-    room.run(f"PATH={path}/bin:$PATH SERVED={path} sh ./fetch list documents 2> faults", status=0)
-    found = {it: room.read(f"documents/{it}") for it in os.listdir(f"{path}/documents") if it[0] in "cdef."}
-    assert found == {"c.example.json": A, "f.example.json": A}, found
 
 
 def fills_it_by_hand():
@@ -191,23 +103,30 @@ def is_read_in_go():
 
 
 def hands_on_a_folder():
-    """A snapshot again and again, and two files of it that are of one moment."""
+    """A snapshot again and again, something that is done at each change, and two files that are of one moment."""
+    again, at_changes, together = BLOCKS["A folder of files"]
     room = a_store()
-    room.start(BLOCKS["A folder of files"][0])
+    room.start(again)
     wait_until(lambda: os.path.exists(f"{room.path}/bundles/current"), "the folder shows something")
-    assert room.run(BLOCKS["A folder of files"][1]).encode() == pem_of(A) + pem_of(B)
+    assert room.run(together).encode() == pem_of(A) + pem_of(B)
+    room = a_store()
+    os.mkdir(f"{room.path}/bundles")
+    room.start(without_pause(at_changes))
+    told = lambda: room.read("changes") if os.path.exists(f"{room.path}/changes") else b""
+    wait_until(lambda: told() == b"changed: shown snapshot-1 domains 2\n", "the first snapshot is told")
+    room.run("store remove b.example")
+    wait_until(lambda: told().endswith(b"changed: shown snapshot-2 domains 1\n"), "the change is told")
 
 
 def hands_on_files():
-    """For gRPC and Envoy, for nginx, and for another SPIRE server."""
+    """For gRPC and Envoy, and for another SPIRE server."""
     room = a_store()
     room.run(BLOCKS["gRPC"][0])
     only = {name: {"keys": [it for it in json.loads(text)["keys"] if it["use"] == "x509-svid"]} for name, text in BOTH.items()}
-    found = json.loads(room.read("map.json"))["trust_domains"]
+    found = json.loads(room.read("map.x509"))["trust_domains"]
     assert {it: {"keys": found[it]["keys"]} for it in found} == only
     assert not any("spiffe_refresh_hint" in it for it in found.values())
-    room.run(BLOCKS["nginx"][0])
-    assert room.read("a.example.pem") == pem_of(A)
+    assert json.loads(room.read("map")) == {"trust_domains": {it: json.loads(BOTH[it]) for it in BOTH}}
     room.run(BLOCKS["SPIRE"][0].splitlines()[0])
     assert room.read("b.example.json") == B + b"\n"
 
@@ -221,10 +140,10 @@ def is_looked_at():
     assert room.run(typed, given=b"get b.example\nremove b.example\n").splitlines() == [f"found {B.decode()}", "removed"]
     assert room.run(piped, given=b"get b.example\n").splitlines() == ["refused 30"]
     assert room.run(BLOCKS["What changed"][0]) == ""
-    room.run(BLOCKS["More than one machine"][0])
+    room.run(BLOCKS["Keep what it holds"][0].splitlines()[0])
     assert room.read("dump") == dump_of({"a.example": A})
     assert room.run(BLOCKS["What changed"][0], status=3).startswith("- b.example")
-    digest = room.run(BLOCKS["More than one machine"][2]).split()[0]
+    digest = room.run(BLOCKS["More than one machine"][1]).split()[0]
     assert digest == hashlib.sha256(dump_of({"a.example": A})).hexdigest()
 
 
@@ -277,10 +196,12 @@ def shows_the_race():
 
 
 # Each check, and the programs that its recipes call besides those of any system.
-CHECKS = {runs_a_store: [], fills_it_by_refreshes: [], fetches_over_https: [], fills_it_by_hand: [], sets_it_if_it_is_the_one: [],
-          is_read: [], is_read_in_go: ["go"], hands_on_a_folder: [], hands_on_files: [], is_looked_at: [], is_looked_at_with_jq: ["jq"],
-          certificates_are_looked_at: ["jq", "openssl"], is_put_right: ["jq"], shows_the_race: []}
+CHECKS = {runs_a_store: [], fills_it_by_refreshes: [], fills_it_by_hand: [], sets_it_if_it_is_the_one: [], is_read: [],
+          is_read_in_go: ["go"], hands_on_a_folder: [], hands_on_files: [], is_looked_at: [], is_looked_at_with_jq: ["jq"],
+          certificates_are_looked_at: ["jq", "openssl"], is_put_right: ["jq"], shows_the_race: [],
+          **recipes_tls.CHECKS, **recipes_service.CHECKS, **recipes_etcd.CHECKS}
 
 
 if __name__ == "__main__":
-    sys.exit(run_checks(list(CHECKS), needs=CHECKS))
+    chosen = [it for it in CHECKS if it.__name__ in (sys.argv[1:] or [it.__name__])]
+    sys.exit(run_checks(chosen, needs=CHECKS))
