@@ -32,6 +32,10 @@ IS_ALL_NEEDED = os.environ.get("NOTHING_LEFT_OUT") == "1"
 AFTERWARDS = contextlib.ExitStack()
 
 
+class LeftOut(Exception):
+    """A check finds that this machine does not let it run."""
+
+
 def run_checks(checks, *, needs=None, is_quiet=False):
     """Runs each check, the others too if one fails, and answers the status for the script to end with.
 
@@ -47,7 +51,12 @@ def run_checks(checks, *, needs=None, is_quiet=False):
             failed += IS_ALL_NEEDED
             print(f"{name}: {'FAILED: ' * IS_ALL_NEEDED}left out, since this machine has no {lacking[0]}", flush=True)
             continue
-        wrong, said = outcome_of(check)
+        try:
+            wrong, said = outcome_of(check)
+        except LeftOut as why:
+            left_out += 1
+            print(f"{name}: left out, since {why}", flush=True)
+            continue
         passed, failed = passed + (not wrong), failed + bool(wrong)
         if wrong or not is_quiet:
             print(f"{name}: FAILED: {wrong}" if wrong else f"{name}: as it should be{said}", flush=True)
@@ -64,6 +73,8 @@ def outcome_of(check):
     try:
         with AFTERWARDS:
             return None, check() or ""
+    except LeftOut:
+        raise
     except Exception as error:
         return what_went_wrong(error), ""
     finally:

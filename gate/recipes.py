@@ -18,6 +18,7 @@ sys.dont_write_bytecode = True
 
 import recipes_etcd  # noqa: E402
 import recipes_service  # noqa: E402
+import recipes_systemd  # noqa: E402
 import recipes_tls  # noqa: E402
 from checks import ROOT, SECONDS, dump_of, pem_of, run_checks, wait_until  # noqa: E402
 from examples import PORT  # noqa: E402
@@ -199,7 +200,8 @@ def shows_the_race():
 CHECKS = {runs_a_store: [], fills_it_by_refreshes: [], fills_it_by_hand: [], sets_it_if_it_is_the_one: [], is_read: [],
           is_read_in_go: ["go"], hands_on_a_folder: [], hands_on_files: [], is_looked_at: [], is_looked_at_with_jq: ["jq"],
           certificates_are_looked_at: ["jq", "openssl"], is_put_right: ["jq"], shows_the_race: [],
-          **recipes_tls.CHECKS, **recipes_service.CHECKS, **recipes_etcd.CHECKS}
+          **recipes_tls.CHECKS, **recipes_service.CHECKS, **recipes_systemd.CHECKS,
+          **recipes_etcd.CHECKS}
 
 
 if __name__ == "__main__":

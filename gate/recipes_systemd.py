@@ -1,0 +1,154 @@
+"""The units of docs/USING.md under a systemd of their own: in namespaces, with no other unit, and with folders that end with it.
+
+Not every machine lets one run so; there the units are only judged, as gate/recipes_service.py does.
+"""
+import contextlib
+import os
+import subprocess
+import time
+
+from checks import AFTERWARDS, ROOT, SECONDS, LeftOut, Room, canonical, program, wait_until
+from recipe_rooms import BLOCKS
+from recipes_tls import DEBIAN_PYTHON
+
+SYSTEMD = "/lib/systemd/systemd"
+# The hierarchies of control groups that it needs to itself.
+GROUPS = "/sys/fs/cgroup"
+HIERARCHIES = {"systemd": "-t cgroup -o none,name=systemd", "unified": "-t cgroup2"}
+TARGETS = ["basic", "default", "multi-user", "shutdown", "sockets", "sysinit", "timers"]
+# Nobody who has something here, and the group of the page.
+USER, GROUP = "60001", "hopslintel-writers"
+
+NAMESPACES = ["--mount", "--pid", "--net", "--ipc", "--uts", "--cgroup"]
+
+# Run as the first process, over a folder of targets.
+START = f"""set -e
+ip link set lo up
+mount -t proc proc /proc
+mount -t tmpfs tmpfs /run
+cp -a /etc /run/etc
+rm -rf /run/etc/systemd
+mkdir -p /run/etc/systemd/system
+mount --bind /run/etc /etc
+mount -t tmpfs tmpfs /opt
+mkdir -p /opt/hopslintel/python /opt/hopslintel/documents
+cp {program()} /opt/hopslintel/bundled
+cp -r {ROOT}/clients/python/hopslintel /opt/hopslintel/python
+chmod -R a+rX /opt/hopslintel
+mount -t tmpfs tmpfs /var/lib
+mount --bind "$1" /usr/lib/systemd/system
+mount -t tmpfs tmpfs {GROUPS}
+mkdir {' '.join(f'{GROUPS}/{it}' for it in HIERARCHIES)}
+{'; '.join(f'mount {how} none {GROUPS}/{it}' for it, how in HIERARCHIES.items())}
+export container=hopslintel
+exec {SYSTEMD} --system --unit=default.target --log-target=null --show-status=no
+"""
+
+
+class Systemd:
+    """A systemd that ends with the check."""
+
+    def __init__(self):
+        self.room = Room()
+        self.group = f"hopslintel-gate-{os.getpid()}"
+        units = f"{self.room.path}/units"
+        os.mkdir(units)
+        for it in TARGETS:
+            self.room.write(f"units/{it}.target", b"[Unit]\nDefaultDependencies=no\n")
+        AFTERWARDS.callback(wait_until, self.remove_groups, "the control groups are gone")
+        # A process of control groups of its own, and below it the first process of the namespaces.
+        lines = ["set -e", *(f"mkdir {it}; echo $$ > {it}/cgroup.procs" for it in self.paths_of_groups())]
+        lines.append(f"exec unshare --kill-child --fork {' '.join(NAMESPACES)} sh {self.room.write('start', START.encode())} {units}")
+        with open(f"{self.room.path}/errors", "wb") as errors:
+            how = {"stdin": subprocess.DEVNULL, "stdout": errors, "stderr": errors, "start_new_session": True}
+            self.started = subprocess.Popen(["sh", "-c", "\n".join(lines)], **how)
+        AFTERWARDS.callback(self.end)
+        self.wait_until_up()
+
+    def paths_of_groups(self):
+        return [f"{GROUPS}/{it}/{self.group}" for it in HIERARCHIES]
+
+    def remove_groups(self):
+        """Whether they are gone: one that has a process is not removed."""
+        for path in self.paths_of_groups():
+            for at, _, _ in os.walk(path, topdown=False):
+                with contextlib.suppress(OSError):
+                    os.rmdir(at)
+        return not any(os.path.exists(it) for it in self.paths_of_groups())
+
+    def wait_until_up(self):
+        until = time.monotonic() + SECONDS
+        while self.started.poll() is None and time.monotonic() < until:
+            first = self.first_process()
+            # (both are there only once it runs over its own folders)
+            if first and all(os.path.exists(f"/proc/{first}/root/run/{it}") for it in ("etc/systemd/system", "systemd/private")):
+                self.first = first
+                return
+            time.sleep(0.05)
+        raise LeftOut(f"this machine lets no systemd run in namespaces: {self.room.read('errors')[-200:]!r}")
+
+    def first_process(self):
+        with open(f"/proc/{self.started.pid}/task/{self.started.pid}/children", encoding="ascii") as it:
+            return (it.read().split() or [None])[0]
+
+    def end(self):
+        self.started.kill()
+        self.started.wait()
+
+    def run(self, text, status=0, who=()):
+        """What the text prints, after what the page says that recipes need."""
+        script = f"cd {ROOT}\n{BLOCKS[''][0]}cd /opt/hopslintel\n{text}"
+        words = ["nsenter", "--target", self.first, *NAMESPACES, *who, "sh", "-c", script]
+        ran = subprocess.run(words, stdin=subprocess.DEVNULL, stdout=subprocess.PIPE, stderr=subprocess.STDOUT, text=True, timeout=2 * SECONDS)
+        assert status is None or ran.returncode == status, (text, ran.returncode, ran.stdout)
+        return ran.stdout
+
+    def over(self, socket, words, status=0, groups="--clear-groups"):
+        """What somebody says who asks over a socket: of the group of writers, or of no group."""
+        who = ["setpriv", f"--reuid={USER}", f"--regid={USER}", groups]
+        return self.run(f"exec {DEBIAN_PYTHON} -B python/hopslintel --socket /run/hopslintel-{socket}.sock {words}", status, who)
+
+
+def runs_under_systemd():
+    """The page's commands, and then: who may write; that a crash brings back the last dump, and a stop and a start all."""
+    systemd = Systemd()
+    systemd.run(BLOCKS["A store as a service"][0])
+    document = f"{ROOT}/gate/bundles/rotation.json"
+    assert systemd.run("store map") == '{"trust_domains":{}}\n'
+    assert systemd.run(f"store set a.example {document}") == "stored\n"
+    private, inside = BLOCKS["Who may write"]
+    systemd.run(private)
+    assert systemd.run("store map", status=1).startswith("hopslintel: no connection")
+    text = canonical("rotation").decode()
+    assert systemd.run(inside) == f"all 1\nbundle a.example {text}\n"
+    writers = f"--groups={systemd.run(f'getent group {GROUP}').split(':')[2]}"
+    assert systemd.over("read", "get a.example") == f"{text}\n"
+    assert "given up 56" in systemd.over("read", "remove a.example", status=3, groups=writers)
+    assert "Permission denied" in systemd.over("write", "get a.example", status=1)
+    assert systemd.over("write", "remove a.example", groups=writers) == "removed\n"
+    survives_a_crash(systemd, writers)
+    keeps_all_at_a_stop(systemd, writers)
+
+
+def survives_a_crash(systemd, writers):
+    """What was removed before the timer's dump stays removed, and the sockets work again."""
+    systemd.run("systemctl start hopslintel-dump.service")
+    systemd.run("kill -9 $(systemctl show --property MainPID --value hopslintel.service)")
+    wait_until(lambda: systemd.over("read", "map", status=None) == '{"trust_domains":{}}\n', "it is up again")
+    # (documents are read by whoever sets them)
+    systemd.run("printf '{\"keys\":[],\"spiffe_sequence\":9}' > documents/b")
+    assert systemd.over("write", "set b.example documents/b", groups=writers) == "stored\n"
+
+
+def keeps_all_at_a_stop(systemd, writers):
+    """The dump at the stop has what was stored last."""
+    systemd.run("printf '{\"keys\":[],\"spiffe_sequence\":10}' > documents/b")
+    assert systemd.over("write", "set b.example documents/b", groups=writers) == "stored\n"
+    systemd.run("systemctl stop hopslintel.service")
+    assert "no connection" in systemd.over("read", "map", status=1)
+    systemd.run("systemctl start hopslintel.service")
+    assert systemd.over("read", "get b.example") == '{"keys":[],"spiffe_sequence":10}\n'
+    assert "hopslintel-dump.timer" in systemd.run("systemctl list-timers --no-pager")
+
+
+CHECKS = {runs_under_systemd: [SYSTEMD, "unshare", "nsenter", "setpriv", "ip", DEBIAN_PYTHON, *([] if os.geteuid() == 0 else ["rights of root"])]}
