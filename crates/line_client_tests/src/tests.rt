@@ -324,6 +324,7 @@ fn frames_are_shown_as_they_came(rt: HostRuntime) -> Result<(), Fail> {
     is_equal(&found, &(Ok(true), dump.as_slice(), STORED.len()))
 }
 
+/// To be run with each allocation refused in turn: it passes only if nothing was refused.
 #[test]
 fn a_refused_growth_is_told(rt: HostRuntime) -> Result<(), Fail> {
     let lines = b"set a @doc\nget a\n";
@@ -331,12 +332,13 @@ fn a_refused_growth_is_told(rt: HostRuntime) -> Result<(), Fail> {
     let left = ask(rt.alloc(), Form::Lines, 0, lines, &replies)?;
     let shown = left.shown.as_slice();
     let is_first = shown == b"stored\n".as_slice();
-    let is_so = match left.ended {
-        Ok(false) => shown == b"stored\nfound {\"keys\":[]}\n".as_slice(),
-        Err(AskFault::Front(FrontError::Memory)) => shown.is_empty() || is_first,
-        _ => false,
-    };
-    holds_at(is_so, &left.ended)
+    match left.ended {
+        Ok(false) => is_equal(&shown, &b"stored\nfound {\"keys\":[]}\n".as_slice()),
+        Err(AskFault::Front(FrontError::Memory)) if shown.is_empty() || is_first => {
+            Err(Fail::from(AllocError))
+        }
+        _ => holds_at(false, &left.ended),
+    }
 }
 
 /// A writer that takes so many bytes, and then fails.
