@@ -231,15 +231,16 @@ def publish_twice_more(room, etcd):
 
 
 def one_of_two_publishers():
-    """Of two publishers the one that asked the store before the other had published is refused: no older moment is shown."""
+    """Of two publishers the one that asked the store before the other had published is refused: no older moment is shown, also if
+    its pieces are there."""
     room, etcd = a_judge(BOTH)
     real = room.run("command -v etcdctl").strip()
-    # Before the transaction of the first, the store changes, and another publishes.
-    other = f"{EXAMPLES}/etcd/publish {room.port}"
+    # Before the transaction of the first, another publishes the same, the store changes, and it publishes once more.
+    other = f"{EXAMPLES}/etcd/publish {room.port} < /dev/null > /dev/null"
     room.write_program("etcdctl", f"""#!/bin/sh
         if [ "$1" = txn ] && ! [ -e overtaken ]; then
             touch overtaken
-            echo remove b.example | bundled ask --port {room.port} > /dev/null && {other} < /dev/null > /dev/null || exit
+            {other} && echo remove b.example | bundled ask --port {room.port} > /dev/null && {other} || exit
         fi
         exec {real} "$@"
     """)

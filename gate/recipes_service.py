@@ -231,6 +231,7 @@ def refreshes_what_is_due():
     is_due(room, "d.example")
     assert room.run(recipe).startswith("d.example bad document ")
     # Beside a run that has not ended nothing is done.
+    is_due(room, "d.example")
     before = len(served.asked())
     assert room.run(f"flock lock {recipe.strip()}") == ""
     assert len(served.asked()) == before
