@@ -28,6 +28,7 @@ use Rattle.bundled.specs.Ask.{AskRun}
 use Rattle.bundled.specs.Refresh.{RefreshRun}
 use Rattle.bundled.specs.Snapshot.{SnapshotRun}
 use Rattle.bundled.specs.Race.{RaceRun}
+use Rattle.bundled.specs.Serve.{ServedAs}
 use Rattle.server.specs.Serve.{ServeCommand}
 
 -- what a map shows of a bundle: its X.509 authorities, or all
@@ -61,7 +62,7 @@ Does (Race seconds) status old new = RaceRun status old new
 Does (Refresh wanted) status old new = RefreshRun status old new
 Does (Snapshot wanted) status old new = SnapshotRun status old new
 Does (Serve port load log settings) status old new =
-    (stops_at_end settings.connections ≡ false → new.input ≡ old.input) × ServeCommand load settings status old.output new.output old.error new.error
+    (stops_at_end settings.connections ≡ false → new.input ≡ old.input) × ServeCommand (ServedAs settings.connections settings.turns) load settings status old.output new.output old.error new.error
 
 -- some text is written; a front of it if the writer failed; nothing if memory ran out
 abbrev pub WritesText : Result (Unit {0}) Fault → End → End → Type 0

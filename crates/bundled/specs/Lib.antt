@@ -2,4 +2,5 @@ pub mod Ask
 pub mod Refresh
 pub mod Snapshot
 pub mod Race
+pub mod Serve
 pub mod Command

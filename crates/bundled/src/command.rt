@@ -7,7 +7,7 @@ ghost use Rattle.commands.specs.Streams.{End, Streams, Tells, end_of, streams};
 use crate::asking::ask_server;
 use crate::racing::race_over;
 use crate::refreshing::refresh_over;
-use crate::serving::serve_over;
+use crate::serving::{Host, Serving, serve_over};
 use crate::snapshotting::snapshot_over;
 use bundle_map::Profile;
 use clap::error::ErrorKind;
@@ -140,7 +140,18 @@ fn run_wanted<
                 end: notes,
                 is_on: *is_on,
             };
-            serve_over(alloc, host, reader, out, err, &log, *port, *load, *settings)
+            let host = Host {
+                rt: host,
+                alloc,
+                log: &log,
+                requests: &[],
+            };
+            let serving = Serving {
+                port: *port,
+                load: *load,
+                settings: *settings,
+            };
+            serve_over(&host, serving, reader, out, err)
         }
     }
 }

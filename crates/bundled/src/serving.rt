@@ -1,11 +1,16 @@
 //! The command `serve`: workers answer connections, over a store that they share.
+mod blocking;
+mod clients;
+mod host;
 mod incoming;
-mod listening;
-mod lone;
-mod newest;
+mod lasting;
+mod ports;
+mod ready;
+mod serve;
 mod shared;
-mod spin;
 mod stream;
-mod ticks;
 
-pub use listening::serve_over;
+pub use blocking::serve_on;
+pub use host::Host;
+pub use lasting::serve_many;
+pub use serve::{Serving, serve_over};

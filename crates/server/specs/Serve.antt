@@ -26,7 +26,6 @@ use Rattle.commands.specs.Streams.{End, Tells, TellsUnlessFailed}
 use Rattle.command_line.specs.declared.settings.Settings.{Settings}
 use Rattle.workers.specs.Filling.{Fills, NotFills}
 use Rattle.workers.specs.declared.filling.FillError.TheVariants as fill
-use Rattle.live_workers.specs.Workers.{AllServed}
 use Rattle.workers.specs.Closing.{ranges_of, AreAll, ClosesAs}
 
 -- a line of words, each with a number
@@ -143,50 +142,53 @@ pub record IsSetUp (settings : Settings) (requests : List ℕ) (store : StoreVie
 abbrev pub NotSetUp : List ℕ → FrontError → Type 0
 NotSetUp requests error = (error ≡ Memory) ⊎ ((store : StoreView) × (fresh : Seen) × IsFresh fresh × NotFilled requests store fresh error)
 
--- Each worker serves its connections over a pass of its own, and the end is reported; or memory runs out, and that is told.
-abbrev pub Serves : StoreView → List PassView → ℕ → ℕ → End → End → End → End → Type 0
-Serves store passes before status out_old out_new err_old err_new =
-    ((status ≡ 1) × (out_new ≡ out_old) × TellsUnlessFailed before err_old err_new (fault_line (Front Memory)))
-    ⊎ ((worked : List Worked) × AllServed always_open store 0 passes worked × Reports worked before status out_old out_new err_old err_new)
-
--- No connection is taken if that line is not taken.
-abbrev pub ServesIf : Bool → StoreView → List PassView → ℕ → ℕ → End → End → End → End → Type 0
-ServesIf true store passes before status out_old out_new err_old err_new = Serves store passes before status out_old out_new err_old err_new
-ServesIf false store passes before status out_old out_new err_old err_new = (status ≡ 1) × (out_new ≡ out_old) × (err_new ≡ err_old)
-
--- The line of the ports is offered, and then connections are served.
-pub record Listens (store : StoreView) (passes : List PassView) (port status : ℕ) (out_old out_new err_old err_new : End) : Type 0 where
-  pub taken : Bool
-  pub out : End
-  pub error : End
-  pub read_port : Option ℕ
-  pub listening : IsOffered taken (said_line (Listening port read_port)) out_old out
-  pub tells : TellsUnlessFailed err_old.faults err_old error (write_fault taken)
-  pub serves : ServesIf taken store passes err_old.faults status out out_new error err_new
-
 -- It ends before anything is said, and why is told.
 abbrev pub EndsEarly : Fault → ℕ → End → End → End → End → Type 0
 EndsEarly fault status out_old out_new err_old err_new = (status ≡ 1) × (out_new ≡ out_old) × Tells err_old err_new (fault_line fault)
-
--- There is a listener, and connections are served; or it can't be had, and that is told.
-abbrev pub ServeRun : StoreView → List PassView → ℕ → End → End → End → End → Type 0
-ServeRun store passes status out_old out_new err_old err_new =
-    EndsEarly ListenFault status out_old out_new err_old err_new
-    ⊎ ((port : ℕ) × Listens store passes port status out_old out_new err_old err_new)
-
--- The store is set up, and serves; or it is not, and why is told.
-abbrev pub SetUpRun : Settings → List ℕ → ℕ → End → End → End → End → Type 0
-SetUpRun settings requests status out_old out_new err_old err_new =
-    ((error : FrontError) × NotSetUp requests error × EndsEarly (Front error) status out_old out_new err_old err_new)
-    ⊎ ((store : StoreView) × (passes : List PassView) × IsSetUp settings requests store passes × ServeRun store passes status out_old out_new err_old err_new)
 
 -- What is to fill the store is not a dump, or can't be read.
 abbrev pub LoadFails : {A : Type 0} → Option A → ℕ → End → End → End → End → Type 0
 LoadFails None status out_old out_new err_old err_new = ⊥
 LoadFails (Some file) status out_old out_new err_old err_new = (fault : Fault) × IsLoadFault fault × EndsEarly fault status out_old out_new err_old err_new
 
--- The whole command: what is to fill the store is judged before it listens.
-abbrev pub ServeCommand : {A : Type 0} → Option A → Settings → ℕ → End → End → End → End → Type 0
-ServeCommand load settings status out_old out_new err_old err_new =
-    LoadFails load status out_old out_new err_old err_new
-    ⊎ ((requests : List ℕ) × IsLoad load requests × SetUpRun settings requests status out_old out_new err_old err_new)
+-- The form of a server says what it is that workers have served their clients, each over a pass of its own.
+module _ (Served : StoreView → List PassView → List Worked → Type 0) where
+  -- The workers serve, and the end is reported; or memory runs out, and that is told.
+  abbrev pub Serves : StoreView → List PassView → ℕ → ℕ → End → End → End → End → Type 0
+  Serves store passes before status out_old out_new err_old err_new =
+      ((status ≡ 1) × (out_new ≡ out_old) × TellsUnlessFailed before err_old err_new (fault_line (Front Memory)))
+      ⊎ ((worked : List Worked) × Served store passes worked × Reports worked before status out_old out_new err_old err_new)
+
+  -- No connection is taken if that line is not taken.
+  abbrev pub ServesIf : Bool → StoreView → List PassView → ℕ → ℕ → End → End → End → End → Type 0
+  ServesIf true store passes before status out_old out_new err_old err_new = Serves store passes before status out_old out_new err_old err_new
+  ServesIf false store passes before status out_old out_new err_old err_new = (status ≡ 1) × (out_new ≡ out_old) × (err_new ≡ err_old)
+
+  -- The line of the ports is offered, and then connections are served.
+  pub record Listens (store : StoreView) (passes : List PassView) (port status : ℕ) (out_old out_new err_old err_new : End) : Type 0 where
+    pub taken : Bool
+    pub out : End
+    pub error : End
+    pub read_port : Option ℕ
+    pub listening : IsOffered taken (said_line (Listening port read_port)) out_old out
+    pub tells : TellsUnlessFailed err_old.faults err_old error (write_fault taken)
+    pub serves : ServesIf taken store passes err_old.faults status out out_new error err_new
+
+  -- There is a listener, and connections are served; or it can't be had, and that is told.
+  abbrev pub ServeRun : StoreView → List PassView → ℕ → End → End → End → End → Type 0
+  ServeRun store passes status out_old out_new err_old err_new =
+      EndsEarly ListenFault status out_old out_new err_old err_new
+      ⊎ ((port : ℕ) × Listens store passes port status out_old out_new err_old err_new)
+
+  -- The store is set up, and serves; or it is not, and why is told.
+  abbrev pub SetUpRun : Settings → List ℕ → ℕ → End → End → End → End → Type 0
+  SetUpRun settings requests status out_old out_new err_old err_new =
+      ((error : FrontError) × NotSetUp requests error × EndsEarly (Front error) status out_old out_new err_old err_new)
+      ⊎ ((store : StoreView) × (passes : List PassView) × IsSetUp settings requests store passes × ServeRun store passes status out_old out_new err_old err_new)
+
+  -- The whole command: what is to fill the store is judged first; then there is a port, or that is told; then the store is set up.
+  abbrev pub ServeCommand : {A : Type 0} → Option A → Settings → ℕ → End → End → End → End → Type 0
+  ServeCommand load settings status out_old out_new err_old err_new =
+      LoadFails load status out_old out_new err_old err_new
+      ⊎ (EndsEarly ListenFault status out_old out_new err_old err_new
+      ⊎ ((requests : List ℕ) × IsLoad load requests × SetUpRun settings requests status out_old out_new err_old err_new))

@@ -1,6 +1,5 @@
 //! What the workers of a server share beside the store.
-use crate::serving::stream::Patience;
-use crate::serving::ticks::Ticks;
+use crate::serving::ports::Ports;
 use frame_front::Counted;
 use mio::Waker;
 use std::io::Read;
@@ -12,7 +11,6 @@ pub struct Seat {
     waker: Waker,
     /// Whether the worker takes clients.
     is_taken: AtomicBool,
-    patience: Patience,
 }
 
 impl Seat {
@@ -21,18 +19,18 @@ impl Seat {
         Seat {
             waker,
             is_taken: AtomicBool::new(false),
-            patience: Patience::new(),
         }
     }
 }
 
-/// Which worker takes the next client, how many clients are connected, how many ticks have passed, and whether the server
-/// is to stop. All workers look at it, and each can be woken.
+/// The ports, which worker takes the next client, how many clients are connected, and whether the server is to stop. All
+/// workers look at it, and each can be woken.
 ///
 /// Workers take clients in turn, so that none has all of them: a client that connects wakes each worker, and the one whose
 /// turn it is takes it.
 #[derive(Drop)]
 pub struct Shared {
+    ports: Ports,
     seats: Vec<Seat>,
     /// The worker whose turn it is.
     turn: AtomicUsize,
@@ -40,19 +38,18 @@ pub struct Shared {
     open: AtomicU64,
     /// How many clients may be connected.
     most_open: u64,
-    ticks: Ticks,
     is_asked: AtomicBool,
 }
 
 impl Shared {
     /// No client is connected yet. There is a seat for each worker.
-    pub fn new(seats: Vec<Seat>, most_open: u64, ticks: Ticks) -> Shared {
+    pub fn new(ports: Ports, seats: Vec<Seat>, most_open: u64) -> Shared {
         Shared {
+            ports,
             seats,
             turn: AtomicUsize::new(0),
             open: AtomicU64::new(0),
             most_open,
-            ticks,
             is_asked: AtomicBool::new(false),
         }
     }
@@ -63,68 +60,76 @@ impl Shared {
     }
 
     /// Tells all workers to stop.
-    pub fn stop(&self) {
+    fn stop(&self) {
         self.is_asked.store(true, Ordering::SeqCst);
-        self.wake_all();
-    }
-
-    /// Wakes each worker.
-    pub fn wake_all(&self) {
         for seat in self.seats.as_slice() {
             let _ = seat.waker.wake();
         }
     }
 
-    pub fn ticks(&self) -> &Ticks {
-        &self.ticks
-    }
-
-    /// Whether the calls of the worker's streams may wait, if it has a seat.
-    pub fn patience(&self, worker: usize) -> Option<&Patience> {
-        Some(&self.seats.get(worker)?.patience)
-    }
-
-    /// The worker takes clients from now on. It has the turn if nobody else has it.
-    fn sit(&self, worker: usize) {
+    /// The worker is to look at the ports.
+    pub fn wake(&self, worker: usize) {
         if let Some(seat) = self.seats.get(worker) {
-            seat.is_taken.store(true, Ordering::SeqCst);
+            let _ = seat.waker.wake();
         }
-        let turn = self.turn.load(Ordering::SeqCst);
-        if !self.is_taken(turn) {
-            let _ = self
-                .turn
-                .compare_exchange(turn, worker, Ordering::SeqCst, Ordering::SeqCst);
+    }
+
+    /// A client has come.
+    pub fn come(&self) {
+        self.open.fetch_add(1, Ordering::SeqCst);
+    }
+
+    /// A client has been left. If there was no room for another one, there is now.
+    pub fn leave(&self) {
+        if self.open.fetch_sub(1, Ordering::SeqCst) >= self.most_open {
+            self.wake(self.turn.load(Ordering::SeqCst));
         }
+    }
+
+    /// The ports, if the worker may take a client now: it is its turn, and another one may be connected. The worker takes
+    /// clients from now on.
+    pub fn may_take(&self, worker: usize) -> Option<&Ports> {
+        self.set_taken(worker, true);
+        if self.has_turn(worker) && self.open.load(Ordering::SeqCst) < self.most_open {
+            return Some(&self.ports);
+        }
+        None
     }
 
     /// The worker takes no client any more.
-    fn stand(&self, worker: usize) {
-        if let Some(seat) = self.seats.get(worker) {
-            seat.is_taken.store(false, Ordering::SeqCst);
-        }
+    pub fn stand(&self, worker: usize) {
+        self.set_taken(worker, false);
         if self.turn.load(Ordering::SeqCst) == worker {
             self.pass(worker);
         }
     }
 
-    /// Whether it is this worker's turn to take a client, and another one may be connected.
-    fn may_take(&self, worker: usize) -> bool {
-        self.turn.load(Ordering::SeqCst) == worker
-            && self.open.load(Ordering::SeqCst) < self.most_open
-    }
-
-    /// The worker has taken a client: it is the next one's turn.
-    fn take(&self, worker: usize) {
-        self.open.fetch_add(1, Ordering::SeqCst);
-        self.pass(worker);
-    }
-
-    /// So many clients have been left. If there was no room for another one, there is now.
-    fn leave(&self, count: u64) {
-        let before = self.open.fetch_sub(count, Ordering::SeqCst);
-        if before >= self.most_open {
-            self.wake(self.turn.load(Ordering::SeqCst));
+    /// The turn goes from this worker to the next that takes clients, which looks whether another one waits.
+    pub fn pass(&self, worker: usize) {
+        let count = self.seats.len();
+        let mut next = worker;
+        for _ in 0..count {
+            next = next.saturating_add(1);
+            if next >= count {
+                next = 0;
+            }
+            if self.is_taken(next) {
+                break;
+            }
         }
+        self.turn.store(next, Ordering::SeqCst);
+        self.wake(next);
+    }
+
+    /// Whether it is the worker's turn: it is, if it would be that of one that takes no client.
+    fn has_turn(&self, worker: usize) -> bool {
+        let turn = self.turn.load(Ordering::SeqCst);
+        if turn == worker || self.is_taken(turn) {
+            return turn == worker;
+        }
+        let turns = &self.turn;
+        let taken = turns.compare_exchange(turn, worker, Ordering::SeqCst, Ordering::SeqCst);
+        taken.is_ok()
     }
 
     fn is_taken(&self, worker: usize) -> bool {
@@ -134,83 +139,10 @@ impl Shared {
         }
     }
 
-    fn wake(&self, worker: usize) {
+    fn set_taken(&self, worker: usize, is_taken: bool) {
         if let Some(seat) = self.seats.get(worker) {
-            let _ = seat.waker.wake();
+            seat.is_taken.store(is_taken, Ordering::SeqCst);
         }
-    }
-
-    /// Gives the turn to the next worker that takes clients.
-    fn pass(&self, worker: usize) {
-        let count = self.seats.len();
-        let mut next = worker;
-        for _ in 0..count {
-            next = if next.saturating_add(1) < count {
-                next.saturating_add(1)
-            } else {
-                0
-            };
-            if self.is_taken(next) {
-                break;
-            }
-        }
-        self.turn.store(next, Ordering::SeqCst);
-        if next != worker {
-            self.wake(next);
-        }
-    }
-}
-
-/// A worker's place among the others, which it gives up in the end.
-pub struct Seated<'a> {
-    shared: &'a Shared,
-    worker: usize,
-}
-
-impl<'a> Seated<'a> {
-    pub fn new(shared: &'a Shared, worker: usize) -> Seated<'a> {
-        Seated { shared, worker }
-    }
-
-    /// The worker takes clients from now on.
-    pub fn sit(&self) {
-        self.shared.sit(self.worker);
-    }
-
-    /// The worker takes no client any more.
-    pub fn stand(&self) {
-        self.shared.stand(self.worker);
-    }
-
-    /// Whether the worker may take a client now.
-    pub fn may_take(&self) -> bool {
-        self.shared.may_take(self.worker)
-    }
-
-    /// The worker has taken a client.
-    pub fn take(&self) {
-        self.shared.take(self.worker);
-    }
-
-    /// So many clients of the worker have been left.
-    pub fn leave(&self, count: u64) {
-        self.shared.leave(count);
-    }
-
-    pub fn ticks(&self) -> &Ticks {
-        self.shared.ticks()
-    }
-
-    /// Whether the server is to stop now.
-    pub fn is_asked(&self) -> bool {
-        self.shared.is_asked()
-    }
-}
-
-impl Drop for Seated<'_> {
-    fn drop(self) {
-        let Seated { shared, worker } = self;
-        shared.stand(worker);
     }
 }
 

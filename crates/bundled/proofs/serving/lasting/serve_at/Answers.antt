@@ -3,35 +3,35 @@ use Rattle.workers.specs.Closing.{AreAll}
 use Rattle.server.specs.Serve.{always_open, Reports}
 use Rattle.commands.specs.Streams.{TellsUnlessFailed, end_of}
 use Rattle.live_workers.proofs.WorkedLists.{all_own, all_long, ranges_same}
-use Rattle.bundled.proofs.serving.listening.serve_on.Goals as goal
+use Rattle.bundled.proofs.serving.lasting.serve_at.Goals as goal
 
 pub report-requires-clause-some : goal.report-requires-clause-some
 report-requires-clause-some g c =
-    omega (arith, all_long always_open c.args.set_up.store 0 c.args.set_up.passes.items c.in-Ok-serve_all.worked.items c.in-Ok-serve_all.ensures.served, c.requires.workers, c.args.settings.some.0, c.in-Ok-serve_all.worked.ok)
+    omega (arith, all_long always_open c.args.task.set_up.store 0 c.args.task.set_up.passes.items c.in-Ok-run_all.worked.items c.in-Ok-run_all.ensures.served, c.requires.workers, c.args.task.settings.some.0, c.in-Ok-run_all.worked.ok)
 
 pub report-requires-clause-own : goal.report-requires-clause-own
-report-requires-clause-own g c = all_own always_open c.args.set_up.store 0 c.args.set_up.passes.items c.in-Ok-serve_all.worked.items c.in-Ok-serve_all.ensures.served
+report-requires-clause-own g c = all_own always_open c.args.task.set_up.store 0 c.args.task.set_up.passes.items c.in-Ok-run_all.worked.items c.in-Ok-run_all.ensures.served
 
 pub report-requires-clause-all : goal.report-requires-clause-all
 report-requires-clause-all g c =
-    subst AreAll (sym (ranges_same always_open c.args.set_up.store 0 c.args.set_up.passes.items c.in-Ok-serve_all.worked.items c.in-Ok-serve_all.ensures.served)) c.requires.all
+    subst AreAll (sym (ranges_same always_open c.args.task.set_up.store 0 c.args.task.set_up.passes.items c.in-Ok-run_all.worked.items c.in-Ok-run_all.ensures.served)) c.requires.all
 
-pub returns-in-Ok-serve_all-clause-run : goal.returns-in-Ok-serve_all-clause-run
-returns-in-Ok-serve_all-clause-run g c =
+pub returns-in-Ok-run_all-clause-run : goal.returns-in-Ok-run_all-clause-run
+returns-in-Ok-run_all-clause-run g c =
     let before = c.faults-before.ensures in
     inr (inr (
-      c.in-Ok.ports.0,
+      c.numbers-port.result.0,
       record {
-        read_port = c.in-Ok.ports.1;
+        read_port = c.numbers-port.result.1;
         taken = true;
         out = end_of g.W.Write.contents c.say.new.out;
         error = end_of g.E.Write.contents c.say.new.err;
         listening = c.if-not-say.ensures.offered;
         tells = subst (λ (b : ℕ). TellsUnlessFailed b (end_of g.E.Write.contents c.args.err.now) (end_of g.E.Write.contents c.say.new.err) []) before c.if-not-say.ensures.tells;
         serves = inr (
-          c.in-Ok-serve_all.worked.items,
-          c.in-Ok-serve_all.ensures.served,
-          subst (λ (b : ℕ). Reports c.in-Ok-serve_all.worked.items b c.report.result (end_of g.W.Write.contents c.say.new.out) (end_of g.W.Write.contents c.report.new.out)
+          c.in-Ok-run_all.worked.items,
+          c.in-Ok-run_all.ensures.served,
+          subst (λ (b : ℕ). Reports c.in-Ok-run_all.worked.items b c.report.result (end_of g.W.Write.contents c.say.new.out) (end_of g.W.Write.contents c.report.new.out)
               (end_of g.E.Write.contents c.say.new.err) (end_of g.E.Write.contents c.report.new.err)) before c.report.ensures,
         );
       },

@@ -1,0 +1,61 @@
+use Rattle.std.proofs.Common.{◌≡◌, ℕ, List, [], true, All, subst, sym, ap, ◌∙◌, arith, inl, inr}
+use Rattle.std.specs.Prelude.{None, length}
+use Rattle.std.specs.List.{flat_map}
+use Rattle.std.proofs.lemmas.List.{length-map}
+use Rattle.shard_store.specs.Pass.{IsOf}
+use Rattle.workers.specs.Closing.{AreAll}
+use Rattle.workers.specs.Run.{kept}
+use Rattle.workers.specs.declared.ended.Worked.{Worked}
+use Rattle.workers.proofs.FinishedLists.{all_long, all_own, kept_own, kept_ranges, ranges_same}
+use Rattle.server.specs.Serve.{always_open, Reports}
+use Rattle.commands.specs.Streams.{TellsUnlessFailed, end_of}
+use Rattle.bundled.specs.Serve.{ClientComes, client}
+use Rattle.bundled.proofs.serving.blocking.serve_on.Goals as goal
+
+pub report-requires-clause-some : goal.report-requires-clause-some
+report-requires-clause-some g c =
+    let ran = c.in-Ok-run_in_turn.ensures in
+    let long = all_long always_open client ClientComes c.in-Ok.set_up.store 0 c.in-Ok.set_up.passes.items c.in-Ok-clients_of.clients.items ran.0 ran.1 in
+    omega (arith, ap length ran.2, length-map ran.0 kept, long, c.in-Ok.ensures.set_up.workers, c.args.settings.some.0, c.in-Ok-run_in_turn.worked.ok)
+
+pub report-requires-clause-own : goal.report-requires-clause-own
+report-requires-clause-own g c =
+    let ran = c.in-Ok-run_in_turn.ensures in
+    let store = c.in-Ok.set_up.store in
+    let own = all_own always_open client ClientComes store 0 c.in-Ok.set_up.passes.items c.in-Ok-clients_of.clients.items ran.0 ran.1 in
+    subst (λ (worked : List Worked). All (λ w. IsOf w.pass store) worked) (sym ran.2) (kept_own store ran.0 own)
+
+pub report-requires-clause-all : goal.report-requires-clause-all
+report-requires-clause-all g c =
+    let ran = c.in-Ok-run_in_turn.ensures in
+    let ranges : List Worked → List (ℕ × ℕ) = λ worked. flat_map (λ (w : Worked). w.pass.seen.ranges) worked in
+    let same = ranges_same always_open client ClientComes c.in-Ok.set_up.store 0 c.in-Ok.set_up.passes.items c.in-Ok-clients_of.clients.items ran.0 ran.1 in
+    subst AreAll (sym (ap ranges ran.2 ∙ (kept_ranges ran.0 ∙ same))) c.in-Ok.ensures.set_up.all
+
+pub returns-in-Ok-run_in_turn : goal.returns-in-Ok-run_in_turn
+returns-in-Ok-run_in_turn g c =
+    let before = c.faults-before.ensures in
+    let ran = c.in-Ok-run_in_turn.ensures in
+    let worked = c.in-Ok-run_in_turn.worked.items in
+    inr (
+      c.in-Ok.set_up.store,
+      c.in-Ok.set_up.passes.items,
+      c.in-Ok.ensures.set_up,
+      inr (
+        c.port.result,
+        record {
+          read_port = None;
+          taken = true;
+          out = end_of g.W.Write.contents c.say.new.out;
+          error = end_of g.E.Write.contents c.say.new.err;
+          listening = c.if-not-say.ensures.offered;
+          tells = subst (λ (b : ℕ). TellsUnlessFailed b (end_of g.E.Write.contents c.args.err.now) (end_of g.E.Write.contents c.say.new.err) []) before c.if-not-say.ensures.tells;
+          serves = inr (
+            worked,
+            (c.in-Ok-clients_of.clients.items, ran.0, c.in-Ok-clients_of.ensures.may, ran.1, ran.2),
+            subst (λ (b : ℕ). Reports worked b c.report.result (end_of g.W.Write.contents c.say.new.out) (end_of g.W.Write.contents c.report.new.out)
+                (end_of g.E.Write.contents c.say.new.err) (end_of g.E.Write.contents c.report.new.err)) before c.report.ensures,
+          );
+        },
+      ),
+    )

@@ -1,0 +1,175 @@
+//! The form of a server in which each worker serves its clients one after the other, and waits in each.
+ghost use Rattle.std.specs.Prelude.{◌≡◌, ◌<◌, ◌-◌, ◌^◌, List, map, IfOk, vec_len};
+ghost use Rattle.std.specs.List.{All};
+ghost use Rattle.shard_store.specs.Pass.{IsOf};
+ghost use Rattle.workers.specs.Run.{AllWorked, kept};
+ghost use Rattle.workers.specs.declared.run.Finished.{Finished};
+ghost use Rattle.commands.specs.Streams.{end_of};
+ghost use Rattle.server.specs.Serve.{SetUpRun, always_open};
+ghost use Rattle.bundled.specs.Serve.{ClientComes, MayTake, ServedInTurn, client, most_taken as taken_by, most_turns as turns_of};
+
+use crate::serving::clients::Clients;
+use crate::serving::host::Host;
+use crate::serving::stream::close;
+use command_line::{Connections, Settings};
+use commands::Fault;
+use frame_front::{Counted, FrontError};
+use server::{Said, SetUp, report, say};
+use shard_store::{Pass, Store};
+use std::alloc::{AllocError, Global};
+use std::io;
+use std::io::{Read, Write};
+use std::net::{TcpListener, TcpStream};
+use std::thread::Threads;
+use std::time::Clock;
+use workers::{ListenFault, Log, Open, Patient, Session, Sessions, Worked, kept_all, run_workers};
+
+/// The most reads that may be made of a client.
+const MOST_TURNS: u64 = 1_000_000_000;
+
+/// What a client sends. Once it is dropped, the connection is closed.
+pub struct Client(TcpStream);
+
+impl Read for Client {
+    fn read(&mut self, buf: &mut [u8]) -> io::Result<usize> {
+        self.0.read(buf)
+    }
+}
+
+impl Drop for Client {
+    fn drop(self) {
+        let Client(stream) = self;
+        let _ = stream.set_nonblocking(true);
+        close(stream);
+    }
+}
+
+/// Waits for the next client. What it sends, and what is sent to it.
+fn accepted(listener: &TcpListener) -> io::Result<(Client, TcpStream)> {
+    let (reader, _) = listener.accept()?;
+    // A reply is not to wait until the client has taken the one before.
+    reader.set_nodelay(true)?;
+    let writer = reader.try_clone()?;
+    Ok((Client(reader), writer))
+}
+
+impl<'a> Sessions for Clients<'a> {
+    type Reader = Client;
+
+    type Writer = TcpStream;
+
+    ghost use Rattle.bundled.specs.Serve.{ClientComes};
+
+    ghost left = { λ clients. clients.left };
+
+    ghost comes = { ClientComes };
+
+    fn next(&mut self) -> Result<Option<Session<Client, TcpStream>>, ListenFault> {
+        if self.left == 0 {
+            return Ok(None);
+        }
+        let Ok((reader, writer)) = accepted(self.listener) else {
+            return Err(ListenFault);
+        };
+        self.left -= 1;
+        Ok(Some(Session {
+            reader,
+            writer,
+            turns: self.turns,
+        }))
+    }
+}
+
+/// How many clients each worker takes.
+fn most_taken(connections: Connections) -> u64
+    ensures { result ≡ taken_by connections }
+{
+    match connections {
+        Connections::Each(count) => count,
+        Connections::Unlimited(_) => u64::MAX,
+    }
+}
+
+/// What comes to each worker.
+fn clients_of<'a>(
+    alloc: Global,
+    listener: &'a TcpListener,
+    settings: Settings,
+) -> Result<Vec<Clients<'a>>, AllocError>
+    ensures count { IfOk result (λ all. vec_len all ≡ settings.workers) }
+    ensures may { IfOk result (λ all. MayTake (taken_by settings.connections) (turns_of settings.turns) all.items) }
+{
+    let left = most_taken(settings.connections);
+    let turns = settings.turns.min(MOST_TURNS);
+    let mut all = Vec::new(alloc);
+    for _ in 0..settings.workers {
+        all.push(Clients {
+            listener,
+            left,
+            turns,
+        })?;
+    }
+    Ok(all)
+}
+
+/// Runs the workers, each of which has a pass and takes its clients. If memory runs out, clients may have been served.
+fn run_in_turn<R: Threads + Clock + Sync, L: Log + Sync>(
+    host: &Host<'_, R, L>,
+    store: &Store,
+    retries: u64,
+    passes: Vec<Pass>,
+    clients: Vec<Clients<'_>>,
+) -> Result<Vec<Worked>, AllocError>
+    requires same { vec_len passes ≡ vec_len clients }
+    requires own { All (λ pass. IsOf pass store.now) passes.items }
+    ensures { IfOk result (λ worked. (finished : List Finished) × AllWorked always_open client ClientComes store.now 0 passes.items clients.entry.items finished × (worked.items ≡ map kept finished)) }
+{
+    let patient = Patient {
+        store,
+        clock: host.rt,
+        retries,
+        log: host.log,
+    };
+    let finished = run_workers(host.rt, host.alloc, patient, passes, clients, &Open)?;
+    kept_all(host.alloc, finished)
+}
+
+/// Serves the clients of the listener over a store of these settings, each worker so many, one after the other; answers the
+/// exit status.
+///
+/// `listening PORT` goes to the output first; no client is taken if it is not taken. At the end come `served N`, how many
+/// sessions there were, and `domains M`, how many domains have a bundle then. The faults of sessions are told in between, in
+/// order of the workers; they don't change the status, except that a listener that failed does.
+pub fn serve_on<R: Threads + Clock + Sync, L: Log + Sync, W: Write, E: Write>(
+    host: &Host<'_, R, L>,
+    listener: &TcpListener,
+    settings: Settings,
+    out: &mut Counted<W>,
+    err: &mut Counted<E>,
+) -> u8
+    requires { err.old.faults < 2 ^ 64 - 1 }
+    ensures { SetUpRun (ServedInTurn (taken_by settings.connections) (turns_of settings.turns)) settings host.now.requests.now result
+        (end_of W.contents out.old) (end_of W.contents out.new) (end_of E.contents err.old) (end_of E.contents err.new) }
+{
+    let before = err.faults();
+    let SetUp { store, passes } = match SetUp::new(host.alloc, settings, host.requests) {
+        Ok(set_up) => set_up,
+        Err(error) => return Fault::Front(error).tell(err),
+    };
+    let Ok(clients) = clients_of(host.alloc, listener, settings) else {
+        return Fault::Front(FrontError::Memory).tell(err);
+    };
+    let Ok(address) = listener.local_addr() else {
+        return Fault::Listen.tell(err);
+    };
+    if !say(out, err, before, Said::Listening(address.port(), None)) {
+        return 1;
+    }
+    match run_in_turn(host, &store, settings.retries, passes, clients) {
+        Ok(worked) => report(store, worked, out, err, before),
+        Err(_) => {
+            Fault::Front(FrontError::Memory).tell_unless_failed(err, before);
+            1
+        }
+    }
+}

@@ -1,0 +1,11 @@
+//! What a server runs over.
+use std::alloc::Global;
+
+/// The system and its memory, the log of the server, and the requests that fill its store before anything is accepted.
+#[derive(Drop)]
+pub struct Host<'h, H, L> {
+    pub rt: &'h H,
+    pub alloc: Global,
+    pub log: &'h L,
+    pub requests: &'h [u8],
+}

@@ -1,0 +1,96 @@
+//! What a worker waits with.
+use crate::serving::ports::Ports;
+use commands::Fault;
+use frame_front::FrontError;
+use mio::unix::SourceFd;
+use mio::{Events, Interest, Poll, Token, Waker};
+use std::alloc::Global;
+use std::io;
+use std::net::Net;
+use std::os::fd::RawFd;
+use std::time::Duration;
+
+/// The most events of one wait.
+pub const MOST_EVENTS: usize = 256;
+
+/// The place of nobody: what the system tells of it is that a client may be waiting, or that the worker was woken.
+const NOBODY: Token = Token(usize::MAX);
+
+/// What the system tells a worker.
+#[derive(Clone, Copy)]
+pub enum Told {
+    /// A client may be waiting at a port.
+    Port,
+    /// The stream at the place is ready. Its client has closed its side, or it has failed, if it `is_closing`.
+    Client { place: usize, is_closing: bool },
+}
+
+/// What a worker waits with: for its ports, and for its clients.
+#[derive(Drop)]
+pub struct Ready {
+    poll: Poll,
+    events: Events,
+    /// How many of the events have been told.
+    told: usize,
+}
+
+impl Ready {
+    /// Waits for clients at the ports; and the worker can be woken.
+    pub fn new<N: Net>(net: &N, alloc: Global, ports: &Ports) -> Result<(Ready, Waker), Fault> {
+        let Ok(events) = Events::with_capacity(alloc, MOST_EVENTS) else {
+            return Err(Fault::Front(FrontError::Memory));
+        };
+        match watching(net, ports) {
+            Ok((poll, waker)) => Ok((
+                Ready {
+                    poll,
+                    events,
+                    told: 0,
+                },
+                waker,
+            )),
+            Err(_) => Err(Fault::Listen),
+        }
+    }
+
+    /// Waits for the client at the place, too: until it is closed, whenever more has come, or more can be written.
+    pub fn add(&self, place: usize, fd: RawFd) -> io::Result<()> {
+        let both = Interest::READABLE | Interest::WRITABLE;
+        let registry = self.poll.registry();
+        registry.register(&mut SourceFd(&fd), Token(place), both)
+    }
+
+    /// Waits until something is ready, but no longer than that. It is told from then on.
+    pub fn wait(&mut self, most: Duration) {
+        self.told = 0;
+        // (if a signal has ended the wait, nothing is ready)
+        let _ = self.poll.poll(&mut self.events, Some(most));
+    }
+
+    /// What is ready, and was not told yet.
+    pub fn next(&mut self) -> Option<Told> {
+        let event = self.events.iter().as_slice().get(self.told)?;
+        self.told = self.told.saturating_add(1);
+        let token = event.token();
+        if token == NOBODY {
+            return Some(Told::Port);
+        }
+        Some(Told::Client {
+            place: usize::from(token),
+            is_closing: event.is_read_closed() || event.is_error(),
+        })
+    }
+}
+
+/// What waits for clients at the ports, and what ends its waits.
+fn watching<N: Net>(net: &N, ports: &Ports) -> io::Result<(Poll, Waker)> {
+    let poll = Poll::new(net)?;
+    let registry = poll.registry();
+    let waker = Waker::new(registry, NOBODY)?;
+    let (all, reads) = ports.fds();
+    registry.register(&mut SourceFd(&all), NOBODY, Interest::READABLE)?;
+    if let Some(reads) = reads {
+        registry.register(&mut SourceFd(&reads), NOBODY, Interest::READABLE)?;
+    }
+    Ok((poll, waker))
+}

@@ -1,0 +1,139 @@
+//! The command `serve`, in the form that its settings have.
+ghost use Rattle.std.specs.Prelude.{◌≡◌, ◌<◌, ◌-◌, ◌^◌, ◌⊎◌, false, IfErr, OnErr, OnOk};
+ghost use Rattle.command_line.specs.Serving.{stops_at_end};
+ghost use Rattle.commands.specs.Fault.{fault_line};
+ghost use Rattle.commands.specs.Streams.{Tells, end_of};
+ghost use Rattle.commands.specs.declared.fault.Fault.TheVariants.{Listen};
+ghost use Rattle.server.specs.Serve.{EndsEarly, ServeCommand, SetUpRun};
+ghost use Rattle.bundled.specs.Serve.{ServedAs, ServedInTurn, most_taken, most_turns};
+
+use crate::serving::blocking::serve_on;
+use crate::serving::host::Host;
+use crate::serving::lasting::{At, serve_many};
+use command_line::{Connections, Settings};
+use commands::Fault;
+use frame_front::Counted;
+use server::requests_of;
+use std::fs::Files;
+use std::io::{Read, Write};
+use std::net::{Ipv4Addr, Net, TcpListener, TcpStream};
+use std::thread::Threads;
+use std::time::Clock;
+use workers::Log;
+
+/// What a server is asked for: the port of 127.0.0.1, or 0 for one that is free; the file whose dump fills the store before,
+/// if one is named; and its settings.
+#[derive(Clone, Copy, Debug)]
+pub struct Serving<'a> {
+    pub port: u16,
+    pub load: Option<&'a str>,
+    pub settings: Settings,
+}
+
+/// Listens at the port; or it can't be had, which is told, and the answer is the exit status.
+fn listener_or_told<H: Net<Listener = TcpListener, Stream = TcpStream>, E: Write>(
+    rt: &H,
+    port: u16,
+    err: &mut Counted<E>,
+) -> Result<TcpListener, u8>
+    requires { err.old.faults < 2 ^ 64 - 1 }
+    ensures ok { OnOk result (err.new ≡ err.old) }
+    ensures status { IfErr result (λ status. status ≡ 1) }
+    ensures tells { OnErr result (Tells (end_of E.contents err.old) (end_of E.contents err.new) (fault_line Listen)) }
+{
+    match TcpListener::bind(rt, (Ipv4Addr::LOCALHOST, port)) {
+        Ok(listener) => Ok(listener),
+        Err(_) => Err(Fault::Listen.tell(err)),
+    }
+}
+
+/// Serves at the port, each worker its clients one after the other.
+fn serve_in_turn<
+    H: Threads + Clock + Net<Listener = TcpListener, Stream = TcpStream> + Sync,
+    W: Write,
+    E: Write,
+    L: Log + Sync,
+>(
+    host: &Host<'_, H, L>,
+    port: u16,
+    settings: Settings,
+    out: &mut Counted<W>,
+    err: &mut Counted<E>,
+) -> u8
+    requires { err.old.faults < 2 ^ 64 - 1 }
+    ensures { EndsEarly Listen result (end_of W.contents out.old) (end_of W.contents out.new) (end_of E.contents err.old) (end_of E.contents err.new)
+        ⊎ SetUpRun (ServedInTurn (most_taken settings.connections) (most_turns settings.turns)) settings host.now.requests.now result
+        (end_of W.contents out.old) (end_of W.contents out.new) (end_of E.contents err.old) (end_of E.contents err.new) }
+{
+    match listener_or_told(host.rt, port, err) {
+        Ok(listener) => serve_on(host, &listener, settings, out, err),
+        Err(status) => status,
+    }
+}
+
+/// Serves over what the host has once the store is filled; answers the exit status.
+fn serve_as<
+    H: Threads + Clock + Net<Listener = TcpListener, Stream = TcpStream> + Sync,
+    I: Read,
+    W: Write,
+    E: Write,
+    L: Log + Sync,
+>(
+    host: &Host<'_, H, L>,
+    serving: Serving<'_>,
+    input: &mut Counted<I>,
+    out: &mut Counted<W>,
+    err: &mut Counted<E>,
+) -> u8
+    requires { err.old.faults < 2 ^ 64 - 1 }
+    ensures run { EndsEarly Listen result (end_of W.contents out.old) (end_of W.contents out.new) (end_of E.contents err.old) (end_of E.contents err.new)
+        ⊎ SetUpRun (ServedAs serving.entry.settings.connections serving.entry.settings.turns) serving.entry.settings host.now.requests.now result
+        (end_of W.contents out.old) (end_of W.contents out.new) (end_of E.contents err.old) (end_of E.contents err.new) }
+    ensures read { stops_at_end serving.entry.settings.connections ≡ false → input.new ≡ input.old }
+{
+    let (port, settings) = (serving.port, serving.settings);
+    match settings.connections {
+        Connections::Each(_) => serve_in_turn(host, port, settings, out, err),
+        Connections::Unlimited(lasting) => {
+            let at = At {
+                port,
+                settings,
+                lasting,
+            };
+            serve_many(host, at, input, out, err)
+        }
+    }
+}
+
+/// Serves as it is asked for; answers the exit status. What is to fill the store is judged before: a file that can't be read
+/// or is not a dump is a fault, and so is a port that can't be had.
+pub fn serve_over<
+    H: Files + Threads + Clock + Net<Listener = TcpListener, Stream = TcpStream> + Sync,
+    I: Read,
+    W: Write,
+    E: Write,
+    L: Log + Sync,
+>(
+    host: &Host<'_, H, L>,
+    serving: Serving<'_>,
+    input: &mut Counted<I>,
+    out: &mut Counted<W>,
+    err: &mut Counted<E>,
+) -> u8
+    requires { err.old.faults < 2 ^ 64 - 1 }
+    ensures run { ServeCommand (ServedAs serving.entry.settings.connections serving.entry.settings.turns) serving.entry.load serving.entry.settings result
+        (end_of W.contents out.old) (end_of W.contents out.new) (end_of E.contents err.old) (end_of E.contents err.new) }
+    ensures read { stops_at_end serving.entry.settings.connections ≡ false → input.new ≡ input.old }
+{
+    let requests = match requests_of(host.alloc, host.rt, serving.load) {
+        Ok(requests) => requests,
+        Err(fault) => return fault.tell(err),
+    };
+    let filled = Host {
+        rt: host.rt,
+        alloc: host.alloc,
+        log: host.log,
+        requests: requests.as_slice(),
+    };
+    serve_as(&filled, serving, input, out, err)
+}
