@@ -20,7 +20,6 @@ sys.dont_write_bytecode = True
 
 from checks import BUNDLES, DUE, EMPTY, ENTRY, SECONDS, Beside, Lasting, Room, Server, bytes_of, canonical, dump_of_real  # noqa: E402
 from checks import frame, frame_of, named, numbered, received, rest_of, run_checks, run_words, wait_until  # noqa: E402
-from refusals import build_shim  # noqa: E402
 
 SET_A, GET_A = named(b"S", "a", EMPTY), named(b"G", "a")
 STORED, FOUND, NO_DOMAIN = frame(b"s"), frame(b"f" + EMPTY), frame(b"\x1e")
@@ -31,12 +30,47 @@ TOO_MANY = 2000
 
 
 def two_workers():
-    """Each of two connections is answered, whoever serves it, over one store."""
+    """Two workers have a client each, both at once: each client gets all its replies, over one store."""
     server = Server("--workers", "2")
-    assert server.ask(SET_A + GET_A) == FIRST
-    other = (SET_A + GET_A).replace(b"\x01a", b"\x01b")
-    assert server.ask(other) == FIRST
+    first, second = server.connections(2)
+    first.sendall(SET_A + GET_A)
+    second.sendall((SET_A + GET_A).replace(b"\x01a", b"\x01b"))
+    for client in (first, second):
+        client.shutdown(socket.SHUT_WR)
+    assert (rest_of(first), rest_of(second)) == (FIRST, FIRST)
     assert server.ended() == (0, "served 2\ndomains 2\n", ""), "ended otherwise"
+
+
+def one_after_the_other():
+    """A worker waits in its client, and only then serves the next; after so many it ends."""
+    server = Server("--workers", "1", "--connections", "2")
+    first, second = server.connections(2)
+    second.sendall(GET_A)
+    first.sendall(SET_A)
+    assert received(first, len(STORED)) == STORED
+    second.settimeout(0.3)
+    try:
+        raise AssertionError(f"the second was answered beside the first: {second.recv(5)}")
+    except TimeoutError:
+        second.settimeout(SECONDS)
+    first.close()
+    assert received(second, len(FOUND)) == FOUND
+    second.close()
+    assert server.ended() == (0, "served 2\ndomains 1\n", ""), "ended otherwise"
+
+
+def reads_that_are_counted():
+    """A client of which no more reads may be made is given up with what it was answered, in either form of a server."""
+    blocking = Server("--workers", "1", "--connections", "2", "--turns", "2")
+    lasting = Lasting("--workers", "1", "--turns", "2")
+    for server in (blocking, lasting):
+        assert server.ask(SET_A) == STORED
+        with server.connect() as stream:
+            for _ in range(2):
+                stream.sendall(GET_A)
+                assert received(stream, len(FOUND)) == FOUND
+            assert rest_of(stream) == b""
+        assert server.ended() == (0, "served 2\ndomains 1\n", "fault 55\n"), "ended otherwise"
 
 
 def side_by_side():
@@ -122,9 +156,9 @@ def ports_and_outputs():
     assert (server.started.wait(SECONDS), server.said()) == (1, "fault 54\nfault 54\n"), server.said()
 
 
-def silent_clients(env=None, threads=2):
+def silent_clients():
     """A client that is silent inside a frame is given up. One that is silent between frames for longer than that is not."""
-    server = Server("--workers", "1", "--connections", "unlimited", "--idle", "3", "--log", env=env)
+    server = Server("--workers", "1", "--connections", "unlimited", "--idle", "3", "--log")
     with server.connect() as patient:
         patient.sendall(SET_A)
         assert received(patient, len(STORED)) == STORED
@@ -135,18 +169,12 @@ def silent_clients(env=None, threads=2):
             with server.connect() as silent:
                 silent.sendall(GET_A + b"\0\0\0\3G")
                 assert received(silent, len(FOUND)) == FOUND
-                assert int(server.of_system("Threads")) == threads
                 assert rest_of(silent) == b""
         patient.sendall(GET_A)
         assert received(patient, len(FOUND)) == FOUND
     told = ["set a none to unnumbered", *2 * ["session fault 53"], "session ended after 4 replies"]
     wanted = "".join(f"worker 0 {line}\n" for line in told)
     wait_until(lambda: server.said() == wanted, "each end is told")
-
-
-def silent_clients_without_threads():
-    """It is the same where no thread can be made that counts the time: then the worker reads the clock."""
-    silent_clients({"LD_PRELOAD": build_shim(Room().path), "REFUSE_THREADS": "1"}, threads=1)
 
 
 def client_that_never_reads():
@@ -281,7 +309,7 @@ def read_only_port():
 
 
 def one_client_that_asks_steadily():
-    """A worker waits in the read of its only client. Meanwhile it is stopped and goes on, and others come and leave."""
+    """A worker has one client that asks steadily. Meanwhile it is stopped and goes on, and others come and leave."""
     server = Lasting("--workers", "1", "--idle", "3600")
     took = []
     with server.connect() as steady:
@@ -405,8 +433,8 @@ def set_until_it_ends(server, number, stored, is_over):
         assert is_over.is_set(), "the connection is lost"
 
 
-CHECKS = [two_workers, side_by_side, real_bundles, filled_stores, clients_that_fail, many_workers, ports_and_outputs,
-          silent_clients, silent_clients_without_threads, client_that_never_reads, replies_before_a_bad_length,
+CHECKS = [two_workers, one_after_the_other, reads_that_are_counted, side_by_side, real_bundles, filled_stores, clients_that_fail,
+          many_workers, ports_and_outputs, silent_clients, client_that_never_reads, replies_before_a_bad_length,
           stops_at_the_end_of_input, told_changes, a_thousand_connections, connections_in_wait, read_only_port,
           one_client_that_asks_steadily, flood_beside_others, stops_while_clients_write]
 
