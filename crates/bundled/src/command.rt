@@ -2,7 +2,7 @@
 ghost use Rattle.std.specs.Prelude.{◌≡◌, ◌<◌, ◌-◌, ◌^◌, ◌⊎◌};
 ghost use Rattle.bundled.specs.Command.{Commands, DiffFiles, Does, Refuses, Shows, profile};
 ghost use Rattle.command_line.specs.Settings.{AreSettings};
-ghost use Rattle.commands.specs.Streams.{End, Streams, Tells, end_of, streams};
+ghost use Rattle.commands.specs.Streams.{Source, Streams, Tells, end_of, streams};
 
 use crate::asking::ask_server;
 use crate::racing::race_over;
@@ -196,7 +196,7 @@ fn show<W: Write, E: Write>(
 ) -> u8
     requires out_count { out.old.faults < 2 ^ 64 - 1 }
     requires err_count { err.old.faults < 2 ^ 64 - 1 }
-    ensures shows { (input : End) → let old : Streams = record { input = input; output = end_of W.contents out.old; error = end_of E.contents err.old } in
+    ensures shows { (input : Source) → let old : Streams = record { input = input; output = end_of W.contents out.old; error = end_of E.contents err.old } in
         let new : Streams = record { input = input; output = end_of W.contents out.new; error = end_of E.contents err.new } in
         Shows result old new ⊎ Refuses result old new }
     ensures silent { result ≡ 0 → err.new ≡ err.old }

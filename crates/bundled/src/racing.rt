@@ -1,7 +1,7 @@
 //! The command `race`: readers beside writers that do not rest.
 ghost use Rattle.std.specs.Prelude.{◌≡◌, ◌<◌, ◌-◌, ◌^◌};
 ghost use Rattle.bundled.specs.Race.{RaceRun, Raced, race_status};
-ghost use Rattle.commands.specs.Streams.{End, end_of};
+ghost use Rattle.commands.specs.Streams.{Source, end_of};
 
 use commands::{Fault, RefreshFault, write_flushed};
 use frame_front::{Counted, FrontError};
@@ -22,7 +22,7 @@ pub fn race_over<H: Clock + Threads + Sync, W: Write, E: Write>(
 ) -> u8
     requires out_count { out.old.faults < 2 ^ 64 - 1 }
     requires err_count { err.old.faults < 2 ^ 64 - 1 }
-    ensures { (input : End) → RaceRun result
+    ensures { (input : Source) → RaceRun result
         (record { input = input; output = end_of W.contents out.old; error = end_of E.contents err.old })
         (record { input = input; output = end_of W.contents out.new; error = end_of E.contents err.new }) }
 {

@@ -1,7 +1,7 @@
 //! The command `refresh`: sets the bundles of a list of relationships, out of a folder of documents.
 ghost use Rattle.std.specs.Prelude.{◌<◌, ◌-◌, ◌^◌, List, ℕ};
 ghost use Rattle.bundled.specs.Refresh.{RefreshRun};
-ghost use Rattle.commands.specs.Streams.{End, Tells, end_of};
+ghost use Rattle.commands.specs.Streams.{Source, Tells, end_of};
 
 use command_line::Refreshing;
 use commands::{Fault, RefreshFault, ServerFault};
@@ -30,7 +30,7 @@ pub fn refresh_over<H: Files + Clock + Net, W: Write, E: Write>(
 ) -> u8
     requires out_count { out.old.faults < 2 ^ 64 - 1 }
     requires err_count { err.old.faults < 2 ^ 64 - 1 }
-    ensures { (input : End) → RefreshRun result
+    ensures { (input : Source) → RefreshRun result
         (record { input = input; output = end_of W.contents out.old; error = end_of E.contents err.old })
         (record { input = input; output = end_of W.contents out.new; error = end_of E.contents err.new }) }
 {

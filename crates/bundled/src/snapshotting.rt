@@ -1,7 +1,7 @@
 //! The command `snapshot`: the bundles of a server as files in a folder.
 ghost use Rattle.std.specs.Prelude.{◌≡◌, ◌<◌, ◌-◌, ◌^◌, ◌++◌, List, ℕ};
 ghost use Rattle.bundled.specs.Snapshot.{SnapshotRun};
-ghost use Rattle.commands.specs.Streams.{End, Tells, TellsUnlessFailed, end_of};
+ghost use Rattle.commands.specs.Streams.{Source, Tells, TellsUnlessFailed, end_of};
 ghost use Rattle.commands.specs.Fault.{fault_line};
 
 use crate::refreshing::streams;
@@ -29,7 +29,7 @@ pub fn snapshot_over<H: Files + Clock + Net, W: Write, E: Write>(
 ) -> u8
     requires out_count { out.old.faults < 2 ^ 64 - 1 }
     requires err_count { err.old.faults < 2 ^ 64 - 1 }
-    ensures { (input : End) → SnapshotRun result
+    ensures { (input : Source) → SnapshotRun result
         (record { input = input; output = end_of W.contents out.old; error = end_of E.contents err.old })
         (record { input = input; output = end_of W.contents out.new; error = end_of E.contents err.new }) }
 {

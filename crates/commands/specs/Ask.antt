@@ -14,7 +14,7 @@ use Rattle.commands.specs.declared.fault.Fault.{Fault}
 use Rattle.commands.specs.declared.fault.Fault.TheVariants.{Front, BadLine, UnreadText, Server}
 use Rattle.commands.specs.declared.fault.ServerFault.TheVariants.{Client}
 use Rattle.commands.specs.Fault.{fault_line}
-use Rattle.commands.specs.Streams.{Streams, End, Blames, Tells, end_of}
+use Rattle.commands.specs.Streams.{Streams, End, Source, Blames, Tells, end_of}
 
 -- the fault of a command whose asking ended so
 abbrev pub asking_fault : AskFault → Fault
@@ -72,8 +72,8 @@ abbrev pub joined : List (List ℕ) → List ℕ
 joined words = drop 1 (spaced words)
 
 -- a line of no input
-abbrev pub held_line : List ℕ → End
-held_line line = record { bytes = Some line; faults = 0 }
+abbrev pub held_line : List ℕ → Source
+held_line line = record { bytes = Some line; faults = 0; reads = 0 }
 
 -- why words are not asked: a line feed is in one, or memory ran out
 abbrev pub IsUnasked : List (List ℕ) → Fault → Type 0
@@ -84,7 +84,7 @@ IsUnasked words fault = ⊥
 -- The words, as one line, are asked. Or nothing is asked.
 abbrev pub AsksWords : Gives → Asking → List (List ℕ) → ℕ → End → End → End → End → ServerEnds → ServerEnds → Type 0
 AsksWords gives how words status output_old output_new error_old error_new server_old server_new =
-    (IsOneLine (joined words) × (left : End) × Asks gives how status
+    (IsOneLine (joined words) × (left : Source) × Asks gives how status
     (record { input = held_line (joined words); output = output_old; error = error_old })
     (record { input = left; output = output_new; error = error_new }) server_old server_new)
     ⊎ ((fault : Fault) × IsUnasked words fault × (status ≡ 1) × (output_new ≡ output_old) × (server_new ≡ server_old) × Tells error_old error_new (fault_line fault))

@@ -8,7 +8,7 @@ use Rattle.frame_front.specs.declared.dump.DumpError.TheVariants as dumps
 use Rattle.frame_front.specs.declared.error.FrontError.TheVariants.{ReadFault, WriteFault, TurnsUsed, Memory}
 use Rattle.commands.specs.declared.fault.Fault.{Fault}
 use Rattle.commands.specs.declared.fault.Fault.TheVariants.{Front, Dump, InputTooLong}
-use Rattle.commands.specs.Input.{IsInput, InputFault}
+use Rattle.commands.specs.Input.{IsInput, InputFault, ReadsInput}
 use Rattle.commands.specs.Streams.{Streams, EndsWith}
 
 -- the requests that store these domains again, as one stream
@@ -35,4 +35,5 @@ Migrates ended left_old left_new held_old held_new = ⊥
 pub record Migration (status : ℕ) (old new : Streams) : Type 0 where
   pub ended : Result (Unit {0}) Fault
   pub ends : EndsWith ended status old new
+  pub reads : ReadsInput ended old.input.reads new.input.reads
   pub migrates : Migrates ended old.input.bytes new.input.bytes old.output.bytes new.output.bytes

@@ -1,7 +1,9 @@
 -- What the command `run` does: one session over an empty store.
-use Rattle.std.specs.Prelude.{ℕ, Result, Ok, Err}
+use Rattle.std.specs.Prelude.{◌≡◌, ℕ, Result, Ok, Err}
 use Rattle.std.specs.FinMap as finite
+use Rattle.frame_front.specs.Counted.{MakesReads}
 use Rattle.frame_front.specs.declared.error.FrontError.{FrontError}
+use Rattle.frame_front.specs.declared.error.FrontError.TheVariants.{TurnsUsed}
 use Rattle.frame_front.specs.PlainSession.{PlainTranscript}
 use Rattle.step_core.specs.Shards.{ShardsAnswer}
 use Rattle.map_core.specs.PlainMap.{PlainMap}
@@ -19,4 +21,5 @@ pub record Runs (turns status : ℕ) (old new : Streams) : Type 0 where
   pub ended : Result ℕ FrontError
   pub left : PlainMap
   pub ends : EndsWith (session_fault ended) status old new
+  pub reads : MakesReads turns (ended ≡ Err TurnsUsed) old.input.reads new.input.reads
   pub session : PlainTranscript ShardsAnswer ended turns old.input.bytes new.input.bytes old.output.bytes new.output.bytes finite.empty left

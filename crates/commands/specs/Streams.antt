@@ -1,6 +1,7 @@
 -- Standard input, output and error, or what stands in their place, and what a command that ends tells them.
 use Rattle.std.specs.Prelude.{◌≡◌, ◌≢◌, ◌⊎◌, ℕ, ◌<◌, List, Option, Result, Ok, Err}
 use Rattle.std.specs.Io.KnownBytes.{Appends}
+use Rattle.frame_front.specs.Counted.{reads_of}
 use Rattle.frame_front.specs.declared.counted.Counted.{Counted}
 use Rattle.frame_front.specs.declared.error.FrontError.TheVariants.{ReadFault, WriteFault}
 use Rattle.frame_front.specs.Outbox.{WritesFront}
@@ -8,7 +9,7 @@ use Rattle.commands.specs.declared.fault.Fault.{Fault}
 use Rattle.commands.specs.declared.fault.Fault.TheVariants.{Front}
 use Rattle.commands.specs.Fault.{fault_line}
 
--- the bytes that a reader has left or a writer holds, if they are known, and how many of its calls have failed
+-- the bytes that a writer holds or a reader has left, if they are known, and how many of its calls have failed
 pub record End : Type 0 where
   pub bytes : Option (List ℕ)
   pub faults : ℕ
@@ -16,15 +17,24 @@ pub record End : Type 0 where
 abbrev pub end_of : {E : Type 0} → (E → Option (List ℕ)) → Counted E → End
 end_of bytes_of counted = record { bytes = bytes_of counted.end; faults = counted.faults }
 
+-- the same of the input, and how often it was read
+pub record Source : Type 0 where
+  pub bytes : Option (List ℕ)
+  pub faults : ℕ
+  pub reads : ℕ
+
+abbrev pub source_of : {R : Type 0} → (R → Option (List ℕ)) → Counted R → Source
+source_of left_of counted = record { bytes = left_of counted.end; faults = counted.faults; reads = reads_of counted }
+
 pub record Streams : Type 0 where
-  pub input : End
+  pub input : Source
   pub output : End
   pub error : End
 
 abbrev pub streams : {R W E : Type 0} → (R → Option (List ℕ)) → (W → Option (List ℕ)) → (E → Option (List ℕ))
     → Counted R → Counted W → Counted E → Streams
 streams left_of held_of told_of reader out err =
-    record { input = end_of left_of reader; output = end_of held_of out; error = end_of told_of err }
+    record { input = source_of left_of reader; output = end_of held_of out; error = end_of told_of err }
 
 -- These bytes are written; only a front of them if a call of the writer failed.
 pub record Tells (old new : End) (bytes : List ℕ) : Type 0 where

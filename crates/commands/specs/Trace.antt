@@ -13,7 +13,7 @@ use Rattle.trace_lines.specs.TraceText.{trace_text}
 use Rattle.trace_lines.specs.Picture.{picture_text}
 use Rattle.commands.specs.declared.fault.Fault.{Fault}
 use Rattle.commands.specs.declared.fault.Fault.TheVariants.{Front, BadLine, InputTooLong}
-use Rattle.commands.specs.Input.{IsInput, InputFault}
+use Rattle.commands.specs.Input.{IsInput, InputFault, ReadsInput}
 use Rattle.commands.specs.Streams.{Streams, EndsWith}
 
 -- the records of the run of these events over so many shards, a fetch-all in so many rounds, and the order that linearizes them
@@ -53,4 +53,5 @@ Traces shards rounds picture ended left_old left_new held_old held_new = ⊥
 pub record Tracing (shards rounds : ℕ) (picture : Bool) (status : ℕ) (old new : Streams) : Type 0 where
   pub ended : Result (Unit {0}) Fault
   pub ends : EndsWith ended status old new
+  pub reads : ReadsInput ended old.input.reads new.input.reads
   pub traces : Traces shards rounds picture ended old.input.bytes new.input.bytes old.output.bytes new.output.bytes

@@ -1,7 +1,7 @@
 //! The command `explain`: writes a text that is known beforehand.
 ghost use Rattle.std.specs.Prelude.{◌≡◌, ◌<◌, ◌-◌, ◌^◌};
 ghost use Rattle.commands.specs.Explain.{Explains};
-ghost use Rattle.commands.specs.Streams.{End, end_of};
+ghost use Rattle.commands.specs.Streams.{Source, end_of};
 
 use crate::output::write_flushed;
 use frame_front::Counted;
@@ -15,7 +15,7 @@ pub fn explain_over<W: Write, E: Write>(
 ) -> u8
     requires out_count { out.old.faults < 2 ^ 64 - 1 }
     requires err_count { err.old.faults < 2 ^ 64 - 1 }
-    ensures explains { (input : End) → Explains text.now result
+    ensures explains { (input : Source) → Explains text.now result
         (record { input = input; output = end_of W.contents out.old; error = end_of E.contents err.old })
         (record { input = input; output = end_of W.contents out.new; error = end_of E.contents err.new }) }
     ensures silent { result ≡ 0 → err.new ≡ err.old }

@@ -1,7 +1,8 @@
 //! Input that is read whole before it is judged.
 ghost use Rattle.std.specs.Prelude.{◌≡◌, ◌<◌, ◌-◌, ◌^◌, Err, IfOk, IfErr};
+ghost use Rattle.frame_front.specs.Counted.{reads_of};
 ghost use Rattle.frame_front.specs.declared.error.FrontError.TheVariants.{ReadFault};
-ghost use Rattle.commands.specs.Input.{IsInput, InputFault};
+ghost use Rattle.commands.specs.Input.{IsInput, InputFault, ReadsInput};
 ghost use Rattle.commands.specs.declared.fault.Fault.TheVariants.{Front};
 
 use crate::fault::Fault;
@@ -23,8 +24,11 @@ pub fn read_input<R: Read>(alloc: Global, reader: &mut Counted<R>) -> Result<Vec
     requires { reader.old.faults < 2 ^ 64 - 1 }
     ensures ok { IfOk result (λ input. IsInput input.items (R.remaining reader.old.end) (R.remaining reader.new.end)) }
     ensures err { IfErr result (λ fault. InputFault fault (R.remaining reader.old.end) (R.remaining reader.new.end)) }
+    // A turn is one call of `read`.
+    ensures reads { ReadsInput result (reads_of reader.old) (reads_of reader.new) }
     ensures read_fault { result ≡ Err (Front ReadFault) → reader.old.faults < reader.new.faults }
 {
+    let _begun = reader.reads();
     let mut input = Vec::new(alloc);
     let mut piece = [0; PIECE_BYTES];
     for turn in 0..MAX_READS {

@@ -1,6 +1,8 @@
 //! The command `migrate`: a dump of version 1 becomes requests of version 2.
 ghost use Rattle.std.specs.Prelude.{◌≡◌, ◌<◌, ◌-◌, ◌^◌, Err};
+ghost use Rattle.frame_front.specs.Counted.{reads_of};
 ghost use Rattle.frame_front.specs.declared.error.FrontError.TheVariants.{ReadFault, WriteFault};
+ghost use Rattle.commands.specs.Input.{ReadsInput};
 ghost use Rattle.commands.specs.Migrate.{Migrates, Migration};
 ghost use Rattle.commands.specs.Streams.{streams};
 ghost use Rattle.commands.specs.declared.fault.Fault.TheVariants.{Front};
@@ -41,6 +43,7 @@ fn migrate_input<R: Read, W: Write>(
     requires reader_count { reader.old.faults < 2 ^ 64 - 1 }
     requires out_count { out.old.faults < 2 ^ 64 - 1 }
     ensures migrates { Migrates result (R.remaining reader.old.end) (R.remaining reader.new.end) (W.contents out.old.end) (W.contents out.new.end) }
+    ensures reads { ReadsInput result (reads_of reader.old) (reads_of reader.new) }
     ensures read_fault { result ≡ Err (Front ReadFault) → reader.old.faults < reader.new.faults }
     ensures write_fault { result ≡ Err (Front WriteFault) → out.old.faults < out.new.faults }
 {

@@ -1,8 +1,9 @@
 //! The command `run`: one session over an empty store.
 ghost use Rattle.std.specs.Prelude.{◌≡◌, ◌≤◌, ◌<◌, ◌-◌, ◌^◌, Err};
 ghost use Rattle.std.specs.FinMap as finite;
+ghost use Rattle.frame_front.specs.Counted.{MakesReads, reads_of};
 ghost use Rattle.frame_front.specs.PlainSession.{PlainTranscript};
-ghost use Rattle.frame_front.specs.declared.error.FrontError.TheVariants.{ReadFault, WriteFault};
+ghost use Rattle.frame_front.specs.declared.error.FrontError.TheVariants.{ReadFault, WriteFault, TurnsUsed};
 ghost use Rattle.map_core.specs.PlainMap.{PlainMap};
 ghost use Rattle.step_core.specs.Shards.{ShardsAnswer};
 ghost use Rattle.commands.specs.Run.{Runs};
@@ -53,6 +54,7 @@ fn serve_store<R: Read, W: Write>(
     requires out_count { out.old.faults < 2 ^ 64 - 1 }
     ensures session { (left : PlainMap) × PlainTranscript ShardsAnswer result turns (R.remaining reader.old.end)
         (R.remaining reader.new.end) (W.contents out.old.end) (W.contents out.new.end) finite.empty left }
+    ensures reads { MakesReads turns (result ≡ Err TurnsUsed) (reads_of reader.old) (reads_of reader.new) }
     ensures read_fault { result ≡ Err ReadFault → reader.old.faults < reader.new.faults }
     ensures write_fault { result ≡ Err WriteFault → out.old.faults < out.new.faults }
 {

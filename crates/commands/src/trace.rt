@@ -1,11 +1,12 @@
 //! The command `trace`: a run of the machine over a list of events.
 ghost use Rattle.std.specs.Prelude.{◌≡◌, ◌<◌, ◌-◌, ◌^◌, List, ℕ, Bool, true, false, Option, Err, length, OnOk, IfOk, IfErr};
 ghost use Rattle.std.specs.Io.KnownBytes.{Appends};
+ghost use Rattle.frame_front.specs.Counted.{reads_of};
 ghost use Rattle.frame_front.specs.Outbox.{WritesFront};
 ghost use Rattle.frame_front.specs.declared.error.FrontError.TheVariants.{ReadFault, WriteFault};
 ghost use Rattle.step_core.specs.declared.event.Event.{Event};
 ghost use Rattle.trace_lines.specs.Events.{lines_in, AreEvents};
-ghost use Rattle.commands.specs.Input.{IsInput};
+ghost use Rattle.commands.specs.Input.{IsInput, ReadsInput};
 ghost use Rattle.commands.specs.Streams.{streams};
 ghost use Rattle.commands.specs.Trace.{IsTraceOf, Traces, Tracing, printed};
 ghost use Rattle.commands.specs.declared.fault.Fault.TheVariants.{Front};
@@ -103,6 +104,7 @@ fn trace_input<R: Read, W: Write>(
     requires reader_count { reader.old.faults < 2 ^ 64 - 1 }
     requires out_count { out.old.faults < 2 ^ 64 - 1 }
     ensures traces { Traces shards rounds picture result (R.remaining reader.old.end) (R.remaining reader.new.end) (W.contents out.old.end) (W.contents out.new.end) }
+    ensures reads { ReadsInput result (reads_of reader.old) (reads_of reader.new) }
     ensures read_fault { result ≡ Err (Front ReadFault) → reader.old.faults < reader.new.faults }
     ensures write_fault { result ≡ Err (Front WriteFault) → out.old.faults < out.new.faults }
 {
@@ -148,6 +150,7 @@ fn traced<R: Read>(
     ensures ok { IfOk result (λ traced. (input : List ℕ) × (events : List Event) × IsInput input (R.remaining reader.old.end) (R.remaining reader.new.end)
         × AreEvents (lines_in input) events × IsTraceOf shards rounds events traced.1.ops.items traced.1.order.items × (traced.0 ≡ length events)) }
     ensures err { IfErr result (λ fault. (picture : Bool) (held : Option (List ℕ)) → Traces shards rounds picture (Err fault) (R.remaining reader.old.end) (R.remaining reader.new.end) held held) }
+    ensures reads { ReadsInput result (reads_of reader.old) (reads_of reader.new) }
     ensures read_fault { result ≡ Err (Front ReadFault) → reader.old.faults < reader.new.faults }
     ensures no_write_fault { result ≡ Err (Front WriteFault) → ⊥ }
 {

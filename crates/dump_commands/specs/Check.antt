@@ -10,8 +10,8 @@ use Rattle.doc_report.specs.Report.{ReportValue, report_of}
 use Rattle.doc_report.specs.Lines.{told_lines, fault_line}
 use Rattle.commands.specs.declared.fault.Fault.{Fault}
 use Rattle.commands.specs.declared.fault.Fault.TheVariants.{Front, UnreadText}
-use Rattle.commands.specs.Input.{IsInput, InputFault}
-use Rattle.commands.specs.Streams.{End, Streams, EndsWith}
+use Rattle.commands.specs.Input.{IsInput, InputFault, ReadsInput}
+use Rattle.commands.specs.Streams.{Source, Streams, EndsWith}
 
 -- a document, and the name by which its lines speak of it
 pub record Document : Type 0 where
@@ -93,8 +93,8 @@ JudgesInput (Err (Front WriteFault)) judged left_old left_new =
 JudgesInput (Err fault) judged left_old left_new = InputFault fault left_old left_new × (judged ≡ [])
 
 -- the input is not read where files are named
-abbrev pub Judges : Gives → List (List ℕ) → Result (Unit {0}) Fault → List Document → End → End → Type 0
-Judges gives [] ended judged old new = JudgesInput ended judged old.bytes new.bytes
+abbrev pub Judges : Gives → List (List ℕ) → Result (Unit {0}) Fault → List Document → Source → Source → Type 0
+Judges gives [] ended judged old new = JudgesInput ended judged old.bytes new.bytes × ReadsInput ended old.reads new.reads
 Judges gives (file ∷ files) ended judged old new = JudgesFiles gives (file ∷ files) ended judged × (new ≡ old)
 
 -- ---- the whole command

@@ -1,6 +1,7 @@
 -- What the command `diff` writes.
-use Rattle.std.specs.Prelude.{◌≡◌, ◌⊎◌, ℕ, List, [], ◌∷◌, Bool, true, false, Option, Result, Ok, Err}
+use Rattle.std.specs.Prelude.{◌≡◌, ◌⊎◌, ◌≤◌, ℕ, List, [], ◌∷◌, Bool, true, false, Option, Result, Ok, Err}
 use Rattle.std.specs.Io.KnownBytes.{Appends}
+use Rattle.frame_front.specs.Counted.{reads_since}
 use Rattle.frame_front.specs.Dump.{Domains}
 use Rattle.frame_front.specs.Outbox.{WritesFront}
 use Rattle.frame_front.specs.declared.error.FrontError.TheVariants.{WriteFault}
@@ -8,7 +9,8 @@ use Rattle.map_core.specs.Name.{Name}
 use Rattle.commands.specs.declared.fault.Fault.{Fault}
 use Rattle.commands.specs.declared.fault.Fault.TheVariants.{Front}
 use Rattle.commands.specs.Fault.{fault_line}
-use Rattle.commands.specs.Streams.{End, Tells}
+use Rattle.commands.specs.Input.{ReadsInput, most_reads}
+use Rattle.commands.specs.Streams.{End, Source, Tells}
 use Rattle.dump_views.specs.Changes.{Change, AreChanges}
 use Rattle.dump_views.specs.ChangeLines.{lines_of}
 use Rattle.dump_commands.specs.Reading.{IsRead, Unread}
@@ -28,24 +30,34 @@ abbrev pub last_line : Result Bool Fault → List ℕ
 last_line (Ok some) = []
 last_line (Err fault) = fault_line fault
 
--- what two readers have left, before and after
+-- two readers, before and after
 pub record Inputs : Type 0 where
-  pub old_before : Option (List ℕ)
-  pub old_after : Option (List ℕ)
-  pub new_before : Option (List ℕ)
-  pub new_after : Option (List ℕ)
+  pub old_before : Source
+  pub old_after : Source
+  pub new_before : Source
+  pub new_after : Source
 
 -- the readers give dumps, and this changed from that of the old one to that of the new one
 pub record Differ (inputs : Inputs) (changes : List (Name × Change)) : Type 0 where
   pub olds : Domains
   pub news : Domains
-  pub old_is_read : IsRead olds inputs.old_before inputs.old_after
-  pub new_is_read : IsRead news inputs.new_before inputs.new_after
+  pub old_is_read : IsRead olds inputs.old_before.bytes inputs.old_after.bytes
+  pub new_is_read : IsRead news inputs.new_before.bytes inputs.new_after.bytes
   pub changed : AreChanges olds news changes
 
--- one of the readers gives no dump
+-- a reader gives no dump
+abbrev pub NoDump : Fault → Source → Source → Type 0
+NoDump fault before after = Unread fault before.bytes after.bytes × ReadsInput {T = Unit {0}} (Err fault) before.reads after.reads
+
+-- one of the readers gives none
 abbrev pub NoDiff : Inputs → Fault → Type 0
-NoDiff inputs fault = Unread fault inputs.old_before inputs.old_after ⊎ Unread fault inputs.new_before inputs.new_after
+NoDiff inputs fault = NoDump fault inputs.old_before inputs.old_after ⊎ NoDump fault inputs.new_before inputs.new_after
+
+-- each is read so often at most
+abbrev pub AreReadFew : Inputs → Type 0
+AreReadFew inputs =
+    (reads_since inputs.old_before.reads inputs.old_after.reads ≤ most_reads)
+    × (reads_since inputs.new_before.reads inputs.new_after.reads ≤ most_reads)
 
 -- the lines of what changed are written; a front of them if the writer failed; nothing if a reader gives no dump
 abbrev pub WritesDiff : Inputs → Result Bool Fault → Option (List ℕ) → Option (List ℕ) → Type 0
@@ -59,5 +71,6 @@ WritesDiff inputs (Err fault) held_old held_new = NoDiff inputs fault × (held_n
 pub record DiffRun (inputs : Inputs) (status : ℕ) (output_old output_new error_old error_new : End) : Type 0 where
   pub ended : Result Bool Fault
   pub has_status : status ≡ diff_status ended
+  pub reads : AreReadFew inputs
   pub writes : WritesDiff inputs ended output_old.bytes output_new.bytes
   pub tells : Tells error_old error_new (last_line ended)

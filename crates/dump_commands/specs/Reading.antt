@@ -7,7 +7,7 @@ use Rattle.frame_front.specs.declared.dump.DumpError.TheVariants as dumps
 use Rattle.frame_front.specs.declared.error.FrontError.TheVariants.{WriteFault}
 use Rattle.commands.specs.declared.fault.Fault.{Fault}
 use Rattle.commands.specs.declared.fault.Fault.TheVariants.{Front, Dump}
-use Rattle.commands.specs.Input.{IsInput, InputFault}
+use Rattle.commands.specs.Input.{IsInput, InputFault, ReadsInput}
 use Rattle.commands.specs.Streams.{Streams, EndsWith}
 
 -- the input is a dump of these domains
@@ -39,4 +39,5 @@ Writes Of Lacks (Err fault) left_old left_new held_old held_new = Lacks fault le
 pub record Filters (Of : TextOf) (Lacks : NoText) (status : ℕ) (old new : Streams) : Type 0 where
   pub ended : Result (Unit {0}) Fault
   pub ends : EndsWith ended status old new
+  pub reads : ReadsInput ended old.input.reads new.input.reads
   pub writes : Writes Of Lacks ended old.input.bytes new.input.bytes old.output.bytes new.output.bytes

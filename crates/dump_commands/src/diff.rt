@@ -1,8 +1,8 @@
 //! The command `diff`: what changed from one dump to another.
 ghost use Rattle.std.specs.Prelude.{◌≡◌, ◌<◌, ◌-◌, ◌^◌, List, Err, IfOk, IfErr};
-ghost use Rattle.commands.specs.Streams.{end_of};
+ghost use Rattle.commands.specs.Streams.{end_of, source_of};
 ghost use Rattle.commands.specs.declared.fault.Fault.TheVariants.{Front};
-ghost use Rattle.dump_commands.specs.Diff.{Differ, DiffRun, NoDiff, WritesDiff};
+ghost use Rattle.dump_commands.specs.Diff.{AreReadFew, Differ, DiffRun, NoDiff, WritesDiff};
 ghost use Rattle.dump_views.specs.ChangeLines.{lines_of};
 ghost use Rattle.dump_views.specs.Changes.{Change};
 ghost use Rattle.frame_front.specs.declared.error.FrontError.TheVariants.{WriteFault};
@@ -29,10 +29,10 @@ pub fn diff_over<R: Read, S: Read, W: Write, E: Write>(
     requires err_count { err.old.faults < 2 ^ 64 - 1 }
     ensures { DiffRun
         (record {
-          old_before = R.remaining old.old.end;
-          old_after = R.remaining old.new.end;
-          new_before = S.remaining new.old.end;
-          new_after = S.remaining new.new.end;
+          old_before = source_of R.remaining old.old;
+          old_after = source_of R.remaining old.new;
+          new_before = source_of S.remaining new.old;
+          new_after = source_of S.remaining new.new;
         })
         result (end_of W.contents out.old) (end_of W.contents out.new) (end_of E.contents err.old) (end_of E.contents err.new) }
 {
@@ -53,14 +53,21 @@ fn diff_inputs<R: Read, S: Read, W: Write>(
     requires old_count { old.old.faults < 2 ^ 64 - 1 }
     requires new_count { new.old.faults < 2 ^ 64 - 1 }
     requires out_count { out.old.faults < 2 ^ 64 - 1 }
-    ensures { WritesDiff
+    ensures writes { WritesDiff
         (record {
-          old_before = R.remaining old.old.end;
-          old_after = R.remaining old.new.end;
-          new_before = S.remaining new.old.end;
-          new_after = S.remaining new.new.end;
+          old_before = source_of R.remaining old.old;
+          old_after = source_of R.remaining old.new;
+          new_before = source_of S.remaining new.old;
+          new_after = source_of S.remaining new.new;
         })
         result (W.contents out.old.end) (W.contents out.new.end) }
+    ensures reads { AreReadFew
+        (record {
+          old_before = source_of R.remaining old.old;
+          old_after = source_of R.remaining old.new;
+          new_before = source_of S.remaining new.old;
+          new_after = source_of S.remaining new.new;
+        }) }
 {
     let lines = match lines_between(alloc, old, new) {
         Ok(lines) => lines,
@@ -83,18 +90,25 @@ fn lines_between<R: Read, S: Read>(
     requires new_count { new.old.faults < 2 ^ 64 - 1 }
     ensures ok { IfOk result (λ lines. (changes : List (Name × Change)) × Differ
         (record {
-          old_before = R.remaining old.old.end;
-          old_after = R.remaining old.new.end;
-          new_before = S.remaining new.old.end;
-          new_after = S.remaining new.new.end;
+          old_before = source_of R.remaining old.old;
+          old_after = source_of R.remaining old.new;
+          new_before = source_of S.remaining new.old;
+          new_after = source_of S.remaining new.new;
         }) changes × (lines.items ≡ lines_of changes)) }
     ensures err { IfErr result (λ fault. NoDiff
         (record {
-          old_before = R.remaining old.old.end;
-          old_after = R.remaining old.new.end;
-          new_before = S.remaining new.old.end;
-          new_after = S.remaining new.new.end;
+          old_before = source_of R.remaining old.old;
+          old_after = source_of R.remaining old.new;
+          new_before = source_of S.remaining new.old;
+          new_after = source_of S.remaining new.new;
         }) fault) }
+    ensures reads { AreReadFew
+        (record {
+          old_before = source_of R.remaining old.old;
+          old_after = source_of R.remaining old.new;
+          new_before = source_of S.remaining new.old;
+          new_after = source_of S.remaining new.new;
+        }) }
     ensures no_write_fault { result ≡ Err (Front WriteFault) → ⊥ }
 {
     let old = match read_input(alloc, old) {

@@ -1,9 +1,11 @@
 //! The command `import`: a bundle map becomes requests.
 ghost use Rattle.std.specs.Prelude.{◌≡◌, ◌<◌, ◌-◌, ◌^◌, Err, IfOk, IfErr};
+ghost use Rattle.commands.specs.Input.{ReadsInput};
 ghost use Rattle.commands.specs.Streams.{streams};
 ghost use Rattle.commands.specs.declared.fault.Fault.TheVariants.{Front};
 ghost use Rattle.dump_commands.specs.Import.{NoRequests, RequestsOf};
 ghost use Rattle.dump_commands.specs.Reading.{Filters, Writes};
+ghost use Rattle.frame_front.specs.Counted.{reads_of};
 ghost use Rattle.frame_front.specs.declared.error.FrontError.TheVariants.{ReadFault, WriteFault};
 
 use bundle_map::{MapError, requests_of_map};
@@ -42,6 +44,7 @@ fn import_input<R: Read, W: Write>(
     requires out_count { out.old.faults < 2 ^ 64 - 1 }
     ensures imports { Writes RequestsOf NoRequests result
         (R.remaining reader.old.end) (R.remaining reader.new.end) (W.contents out.old.end) (W.contents out.new.end) }
+    ensures reads { ReadsInput result (reads_of reader.old) (reads_of reader.new) }
     ensures read_fault { result ≡ Err (Front ReadFault) → reader.old.faults < reader.new.faults }
     ensures write_fault { result ≡ Err (Front WriteFault) → out.old.faults < out.new.faults }
 {

@@ -2,11 +2,13 @@
 ghost use Rattle.std.specs.Prelude.{◌≡◌, ◌<◌, ◌-◌, ◌^◌, ◌++◌, ◌∷◌, [], ℕ, map, Err, IfOk, IfErr};
 ghost use Rattle.bundle_map.specs.Choice.{AreThere, IsFirstMissing};
 ghost use Rattle.bundle_map.specs.Map.{map_text, shown};
+ghost use Rattle.commands.specs.Input.{ReadsInput};
 ghost use Rattle.commands.specs.Streams.{streams};
 ghost use Rattle.commands.specs.declared.fault.Fault.TheVariants.{Front, NotInDump};
 ghost use Rattle.dump_commands.specs.Map.{MapOf, NoMap, wanted as wanted_of};
 ghost use Rattle.dump_commands.specs.Private.Choosing.{NotWanted};
 ghost use Rattle.dump_commands.specs.Reading.{Filters, Writes};
+ghost use Rattle.frame_front.specs.Counted.{reads_of};
 ghost use Rattle.frame_front.specs.declared.error.FrontError.TheVariants.{Memory, ReadFault, WriteFault};
 
 use crate::reading::read_domains;
@@ -52,6 +54,7 @@ fn map_input<R: Read, W: Write>(
     requires out_count { out.old.faults < 2 ^ 64 - 1 }
     ensures maps { Writes (MapOf names.now profile) (NoMap names.now) result
         (R.remaining reader.old.end) (R.remaining reader.new.end) (W.contents out.old.end) (W.contents out.new.end) }
+    ensures reads { ReadsInput result (reads_of reader.old) (reads_of reader.new) }
     ensures read_fault { result ≡ Err (Front ReadFault) → reader.old.faults < reader.new.faults }
     ensures write_fault { result ≡ Err (Front WriteFault) → out.old.faults < out.new.faults }
 {
@@ -72,6 +75,7 @@ fn map_of<R: Read>(
     requires reader_count { reader.old.faults < 2 ^ 64 - 1 }
     ensures ok { IfOk result (λ text. MapOf names.now profile text.items (R.remaining reader.old.end) (R.remaining reader.new.end)) }
     ensures err { IfErr result (λ fault. NoMap names.now fault (R.remaining reader.old.end) (R.remaining reader.new.end)) }
+    ensures reads { ReadsInput result (reads_of reader.old) (reads_of reader.new) }
     ensures read_fault { result ≡ Err (Front ReadFault) → reader.old.faults < reader.new.faults }
     ensures no_write_fault { result ≡ Err (Front WriteFault) → ⊥ }
 {

@@ -1,7 +1,9 @@
 //! Dumps that are read whole.
 ghost use Rattle.std.specs.Prelude.{◌≡◌, ◌<◌, ◌-◌, ◌^◌, Err, IfOk, IfErr};
+ghost use Rattle.commands.specs.Input.{ReadsInput};
 ghost use Rattle.commands.specs.declared.fault.Fault.TheVariants.{Front};
 ghost use Rattle.dump_commands.specs.Reading.{IsRead, Unread};
+ghost use Rattle.frame_front.specs.Counted.{reads_of};
 ghost use Rattle.frame_front.specs.declared.error.FrontError.TheVariants.{ReadFault, WriteFault};
 
 use commands::{Fault, read_input};
@@ -18,6 +20,7 @@ pub(crate) fn read_domains<R: Read>(
     requires { reader.old.faults < 2 ^ 64 - 1 }
     ensures ok { IfOk result (λ items. IsRead items (R.remaining reader.old.end) (R.remaining reader.new.end)) }
     ensures err { IfErr result (λ fault. Unread fault (R.remaining reader.old.end) (R.remaining reader.new.end)) }
+    ensures reads { ReadsInput result (reads_of reader.old) (reads_of reader.new) }
     ensures read_fault { result ≡ Err (Front ReadFault) → reader.old.faults < reader.new.faults }
     ensures no_write_fault { result ≡ Err (Front WriteFault) → ⊥ }
 {

@@ -17,5 +17,6 @@ returns-in-Err-clause-runs g c =
         blames_a_session c.in-Err.error old new
             (λ e. c.in-Err.ensures.read_fault (ap (λ error. Err error) e)) (λ e. c.in-Err.ensures.write_fault (ap (λ error. Err error) e)),
       );
+      reads = c.in-Err.ensures.reads;
       session = c.in-Err.ensures.session.1;
     }

@@ -1,6 +1,7 @@
 use Rattle.std.proofs.Common.{List, ℕ, Option, None, Some, [], arith, refl, ap, rules}
 use Rattle.std.specs.Io.KnownBytes.{Consumes, Appends}
 use Rattle.std.specs.FinMap as finite
+use Rattle.frame_front.proofs.ReadLemmas.{reads_none}
 use Rattle.commands.proofs.run.serve_store.Goals as goal
 
 nothing_read : (left : Option (List ℕ)) → Consumes left left []
@@ -36,3 +37,6 @@ returns-in_default-clause-session g c = (
 pub returns-clause-session : goal.returns-clause-session
 returns-clause-session g c =
     let served = c.serve-served.ensures.plain finite.empty (ap Some c.in-Ok.ensures.empty) in (served.0, served.2)
+
+pub returns-in_default-clause-reads : goal.returns-in_default-clause-reads
+returns-in_default-clause-reads g c = reads_none c.args.turns _ _ (λ never. cc never)

@@ -19,15 +19,15 @@ told ((name, Added bundle) ∷ changes) = more 43 (drop 1 (lines_of ((name, Adde
 told ((name, Removed) ∷ changes) = more 45 (drop 1 (lines_of ((name, Removed) ∷ changes)))
 told ((name, Changed old new) ∷ changes) = more 126 (drop 1 (lines_of ((name, Changed old new) ∷ changes)))
 
-pub returns-in-Ok-write_flushed : goal.returns-in-Ok-write_flushed
-returns-in-Ok-write_flushed g c =
+pub returns-in-Ok-write_flushed-clause-writes : goal.returns-in-Ok-write_flushed-clause-writes
+returns-in-Ok-write_flushed-clause-writes g c =
     let put = c.in-Ok.ensures.ok in
     let lines : c.as_slice-text.result.now ≡ lines_of put.0 = c.as_slice-text.ensures.value ∙ put.2 in
     let some = ap not (c.is_empty.ensures ∙ ap (λ (t : List ℕ). length t == 0) lines) ∙ told put.0 in
     (put.0, put.1, some, subst (Appends (g.W.Write.contents c.args.out.now.end) (g.W.Write.contents c.write_flushed.new.writer.end)) lines c.in-Ok-write_flushed.ensures.ok)
 
-pub returns : goal.returns
-returns g c =
+pub returns-clause-writes : goal.returns-clause-writes
+returns-clause-writes g c =
     let put = c.in-Ok.ensures.ok in
     let lines : c.as_slice-text.result.now ≡ lines_of put.0 = c.as_slice-text.ensures.value ∙ put.2 in
     rw c.in-Err-write_flushed.ensures.fault (put.0, put.1, subst (WritesFront (g.W.Write.contents c.args.out.now.end) (g.W.Write.contents c.write_flushed.new.writer.end)) lines c.in-Err-write_flushed.ensures.front)
