@@ -1,19 +1,21 @@
 -- A session that is to fill a store, told by what is seen of it.
-use Rattle.std.proofs.Common.{◌≡◌, ◌+◌, ℕ, zero, suc, List, [], ◌++◌, append_assoc, append-nil, ◌<◌, ◌-◌, arith, sym, ap, ◌∙◌, subst}
-use Rattle.std.specs.Prelude.{Option, Some, Result, Ok}
+use Rattle.std.proofs.Common.{◌≡◌, ◌+◌, ℕ, zero, suc, List, [], ◌++◌, append_assoc, append-nil, ◌<◌, ◌-◌, arith, refl, sym, ap, ◌∙◌, subst}
+use Rattle.std.specs.Prelude.{Option, Some, Result, Ok, Err}
 use Rattle.std.proofs.lemmas.List.{append_cancel_left}
 use Rattle.map_core.specs.declared.reply.Reply.TheVariants.{Stored}
 use Rattle.frame_front.specs.Reply.{reply_frames, version_frame}
 use Rattle.frame_front.specs.declared.request.Version.TheVariants.{Two}
 use Rattle.frame_front.specs.Transcript.{Transcript}
 use Rattle.frame_front.specs.declared.error.FrontError.{FrontError}
+use Rattle.frame_front.specs.declared.error.FrontError.TheVariants.{BadLength, Truncated, ReadFault, WriteFault, TurnsUsed, Memory}
 use Rattle.shard_store.specs.declared.change.Seen.{Seen}
 use Rattle.shard_store.specs.Pass.{StoreView, SeatedView}
 use Rattle.shard_store.specs.Seated.{SeatedAnswer}
 use Rattle.workers.proofs.KeptAlong.{served_keeps}
 use Rattle.workers.proofs.PassLaws.{StaysSeated, seated_same, seated_then, seated_answer}
-use Rattle.workers.specs.Filling.{Fills, NotFills, IsNotFilled, most_reads, seated_view, stored_replies}
+use Rattle.workers.specs.Filling.{Fills, NotFills, IsNotFilled, in_memory, most_reads, seated_view, stored_replies}
 use Rattle.workers.specs.declared.filling.FillError.{FillError}
+use Rattle.workers.specs.declared.filling.FillError.TheVariants.{Front}
 
 pub session_by : (result : Result ℕ FrontError) (requests replies : List ℕ) (store : StoreView) (old new : Seen) (a b c d : Option (List ℕ)) (s t : SeatedView)
     → a ≡ Some requests → c ≡ Some [] → d ≡ Some replies → s ≡ seated_view store old → t ≡ seated_view store new
@@ -51,6 +53,45 @@ not_fills_by error result requests replies store old a b c d s t from none to be
       session = session_by result requests replies store old t.seen a b c d s t from none to begun done session;
       why = why;
     }
+
+-- what a session did before a read failed, it may have done before memory ran out
+out_of_memory : (turns : ℕ) (a b c d : Option (List ℕ)) (s t : SeatedView)
+    → Transcript SeatedAnswer (Err ReadFault) turns a b c d s t → Transcript SeatedAnswer (Err Memory) turns a b c d s t
+out_of_memory turns a b c d s t session = record {
+  read = session.read;
+  written = session.written;
+  version = session.version;
+  consumes = session.consumes;
+  appends = session.appends;
+  session = record {
+    payloads = session.session.payloads;
+    texts = session.session.texts;
+    rest = session.session.rest;
+    serves = session.session.serves;
+    ends = tt;
+    writes = session.session.writes;
+  };
+  few_read = session.few_read;
+  used = tt;
+  ended = tt;
+}
+
+-- a session that failed fills no store
+pub failed_by : (fault : FrontError) (requests replies : List ℕ) (store : StoreView) (old : Seen) (a b c d : Option (List ℕ)) (s t : SeatedView)
+    → a ≡ Some requests → c ≡ Some [] → d ≡ Some replies → s ≡ seated_view store old
+    → Transcript SeatedAnswer (Err fault) most_reads a b c d s t → NotFills requests store old (Front (in_memory fault))
+failed_by ReadFault requests replies store old a b c d s t from none to begun session =
+    not_fills_by (Front Memory) (Err Memory) requests replies store old a b c d s t from none to begun refl (out_of_memory most_reads a b c d s t session)
+failed_by WriteFault requests replies store old a b c d s t from none to begun session =
+    not_fills_by (Front Memory) (Err WriteFault) requests replies store old a b c d s t from none to begun refl session
+failed_by BadLength requests replies store old a b c d s t from none to begun session =
+    not_fills_by (Front BadLength) (Err BadLength) requests replies store old a b c d s t from none to begun refl session
+failed_by Truncated requests replies store old a b c d s t from none to begun session =
+    not_fills_by (Front Truncated) (Err Truncated) requests replies store old a b c d s t from none to begun refl session
+failed_by TurnsUsed requests replies store old a b c d s t from none to begun session =
+    not_fills_by (Front TurnsUsed) (Err TurnsUsed) requests replies store old a b c d s t from none to begun refl session
+failed_by Memory requests replies store old a b c d s t from none to begun session =
+    not_fills_by (Front Memory) (Err Memory) requests replies store old a b c d s t from none to begun refl session
 
 -- ---- replies that tell of bundles that were stored
 

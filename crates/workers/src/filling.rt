@@ -1,7 +1,7 @@
 //! A store that is filled before its workers begin.
 ghost use Rattle.std.specs.Prelude.{◌≡◌, ◌≢◌, ◌++◌, List, ℕ, true, false, None, IfOk, IfErr, IfSome};
 ghost use Rattle.shard_store.specs.Pass.{IsOf};
-ghost use Rattle.workers.specs.Filling.{Fills, NotFills, stored_replies};
+ghost use Rattle.workers.specs.Filling.{Fills, NotFills, in_memory as told_in_memory, stored_replies};
 ghost use Rattle.workers.specs.Workers.{IsFurther};
 
 use frame_front::{Counted, FrontError, serve};
@@ -9,8 +9,8 @@ use shard_store::{Pass, Seated, Store};
 use std::alloc::Global;
 use thiserror::Error;
 
-/// The most reads, of 4,096 bytes, that the requests may take.
-const MOST_READS: u64 = 1_000_000;
+/// The most reads that the requests may take: each takes at least a byte of them, so fewer bytes never use them up.
+const MOST_READS: u64 = 1_000_000_000;
 
 /// The reply to the request for version 2.
 const VERSION_TWO: &[u8] = b"\x00\x00\x00\x02v\x02";
@@ -21,7 +21,7 @@ const STORED: &[u8] = b"\x00\x00\x00\x01s";
 /// Why a store is not filled.
 #[derive(Clone, Copy, Debug, Error)]
 pub enum FillError {
-    /// The session ended so.
+    /// The session ended so. Never `ReadFault` or `WriteFault`: its reader and its writer are memory.
     #[error("{0}")]
     Front(FrontError),
     /// Some request did not store a bundle.
@@ -61,6 +61,16 @@ fn are_stored(replies: &[u8], count: u64) -> bool
     rest.is_empty()
 }
 
+/// What is told of an error of a session over memory: no read of it fails, and a write to it only if memory runs out.
+fn in_memory(error: FrontError) -> FrontError
+    ensures { result ≡ told_in_memory error }
+{
+    match error {
+        FrontError::ReadFault | FrontError::WriteFault => FrontError::Memory,
+        _ => error,
+    }
+}
+
 /// Serves a session of these requests over the first pass of a store: the request for version 2, and requests of which
 /// each is to store a bundle, as `migrate` makes them of a dump. The pass has then seen what they stored, and its numbers
 /// are as they were. After an error the pass is gone, and some of the bundles may be stored.
@@ -81,7 +91,7 @@ pub fn fill_store(
     let mut writer = Counted::new(Vec::new(alloc));
     let answered = match serve(alloc, &mut reader, &mut writer, &mut seated, MOST_READS) {
         Ok(answered) => answered,
-        Err(error) => return Err(FillError::Front(error)),
+        Err(error) => return Err(FillError::Front(in_memory(error))),
     };
     let Some(count) = answered.checked_sub(1) else {
         return Err(FillError::NotStored);

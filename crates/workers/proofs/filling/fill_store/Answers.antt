@@ -1,12 +1,13 @@
 use Rattle.std.proofs.Common.{◌≡◌, sym, ap, subst, refl, ◌∙◌, arith}
-use Rattle.std.specs.Prelude.{ℕ, suc, Ok, Err, Some}
+use Rattle.std.specs.Prelude.{ℕ, suc, Ok, Some}
+use Rattle.frame_front.specs.declared.error.FrontError.{FrontError}
 use Rattle.shard_store.specs.declared.change.Seen.{Seen}
 use Rattle.shard_store.specs.Pass.{StoreView}
 use Rattle.shard_store.specs.Seated.{SeatedAnswer}
 use Rattle.workers.specs.declared.filling.FillError.TheVariants.{Front, NotStored}
-use Rattle.workers.specs.Filling.{IsNotFilled, seated_view, stored_replies}
+use Rattle.workers.specs.Filling.{IsNotFilled, NotFills, seated_view, stored_replies}
 use Rattle.workers.specs.Workers.{IsFurther}
-use Rattle.workers.proofs.Fillings.{fills_by, not_fills_by, session_by}
+use Rattle.workers.proofs.Fillings.{fills_by, failed_by, not_fills_by, session_by}
 use Rattle.workers.proofs.KeptAlong.{served_keeps}
 use Rattle.workers.proofs.PassLaws.{StaysSeated, seated_same, seated_then, seated_answer}
 use Rattle.workers.proofs.filling.fill_store.Goals as goal
@@ -42,8 +43,9 @@ returns-in-Err-clause-refused c =
     let store = c.args.store.now in
     let begun : c.new-seated.result ≡ seated_view store c.args.first.seen =
     ap (λ (x : StoreView). seated_view x c.new-seated.result.seen) c.new-seated.ensures.store ∙ ap (seated_view store) c.new-seated.ensures.seen in
-    not_fills_by (Front c.in-Err.error) (Err c.in-Err.error) c.args.requests.now c.serve.new.writer.end.items store c.args.first.seen _ _ _ _ c.new-seated.result c.serve.new.ask
-    (ap (λ x. Some x.now) c.new-reader.ensures.end) (ap (λ x. Some x.items) c.new-writer.ensures.end ∙ ap Some c.new.ensures.items) refl begun refl c.in-Err.ensures.transcript
+    subst (λ (e : FrontError). NotFills c.args.requests.now store c.args.first.seen (Front e)) (sym c.in_memory.ensures)
+    (failed_by c.in-Err.error c.args.requests.now c.serve.new.writer.end.items store c.args.first.seen _ _ _ _ c.new-seated.result c.serve.new.ask
+    (ap (λ x. Some x.now) c.new-reader.ensures.end) (ap (λ x. Some x.items) c.new-writer.ensures.end ∙ ap Some c.new.ensures.items) refl begun c.in-Err.ensures.transcript)
 
 pub returns-then-not-are_stored-clause-refused : goal.returns-then-not-are_stored-clause-refused
 returns-then-not-are_stored-clause-refused c =
