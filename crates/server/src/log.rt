@@ -1,4 +1,6 @@
 //! The log of a server: a line for each change of a bundle, and for each end of a session.
+ghost use Rattle.std.specs.Prelude.{⊤};
+
 use arrayvec::ArrayVec;
 use map_core::Expect;
 use std::io;
@@ -58,12 +60,17 @@ fn write_end<W: Write>(
     }
 }
 
-impl<N: Write + Copy> Log for LineLog<N> {
+impl<N: Write + Copy + Drop> Log for LineLog<N> {
+    ghost wants = { λ log. log.is_on };
+
+    // What a line says is tested.
+    ghost tells = { λ _ worker change _. ⊤ };
+
     fn is_on(&self) -> bool {
         self.is_on
     }
 
-    fn changed(&self, worker: u64, change: &Changed<'_>) {
+    fn changed(&mut self, worker: u64, change: &Changed<'_>) {
         let mut line = ArrayVec::<u8, LINE_BYTES>::new();
         if write_change(&mut line, worker, change).is_ok() {
             self.send(&line);

@@ -5,11 +5,12 @@ mod ClosingLemmas
 pub mod KeptAlong
 mod NumberLemmas
 pub mod PassLaws
-mod Seats
+pub mod Seats
 mod ServedLists
 mod Simulated
 mod Retries
 mod Fillings
 mod LoggedLaws
+mod LogLaws
 mod ReadLaws
 pub mod ShownAgain

@@ -6,5 +6,6 @@ pub mod Workers
 pub mod Run
 pub mod Closing
 pub mod Retrying
+pub mod Log
 pub mod Filling
 pub mod Private

@@ -1,4 +1,6 @@
 //! What is told of the workers while they serve.
+ghost use Rattle.std.specs.Prelude.{⊤, false};
+
 use crate::ended::SessionFault;
 use map_core::Expect;
 
@@ -21,13 +23,25 @@ pub struct Changed<'a> {
     pub after: Expect,
 }
 
-/// What takes note of changes and of the ends of sessions. All workers tell the same one.
-pub trait Log {
+/// What takes note of changes and of the ends of sessions. Each worker tells a copy of its own, and all copies may take
+/// note in one place.
+pub trait Log: Copy + Drop {
+    ghost use Rattle.std.specs.Prelude.{◌≡◌, ℕ, Bool};
+    ghost use Rattle.workers.specs.Log.{ChangeView, change_view};
+
+    // Whether changes are to be told.
+    ghost wants: { Self → Bool };
+
+    // What a copy is told by the worker of this number, and what becomes of the copy.
+    ghost tells: { Self → ℕ → ChangeView → Self → Type 0 };
+
     /// Whether changes are to be told. If not, nothing is asked of the store for their sake.
-    fn is_on(&self) -> bool;
+    fn is_on(&self) -> bool
+        ensures { result ≡ wants self.now };
 
     /// The worker made this change.
-    fn changed(&self, worker: u64, change: &Changed<'_>);
+    fn changed(&mut self, worker: u64, change: &Changed<'_>)
+        ensures { tells self.old worker (change_view change.now) self.new };
 
     /// A session of the worker ended so.
     fn ended(&self, worker: u64, end: &Result<u64, SessionFault>);
@@ -38,11 +52,15 @@ pub trait Log {
 pub struct Quiet;
 
 impl Log for Quiet {
+    ghost wants = { λ _. false };
+
+    ghost tells = { λ _ worker change _. ⊤ };
+
     fn is_on(&self) -> bool {
         false
     }
 
-    fn changed(&self, _worker: u64, _change: &Changed<'_>) {}
+    fn changed(&mut self, _worker: u64, _change: &Changed<'_>) {}
 
     fn ended(&self, _worker: u64, _end: &Result<u64, SessionFault>) {}
 }

@@ -1,69 +1,50 @@
 //! A store that a worker asks, and whose changes it tells.
-ghost use Rattle.std.specs.Prelude.{◌≡◌};
-ghost use Rattle.shard_store.specs.Pass.{IsOf, SeatedView};
+ghost use Rattle.std.specs.Prelude.{◌≡◌, Some, IfSome, option_copied, option_map};
+ghost use Rattle.map_core.specs.Op.{domain_of};
+ghost use Rattle.map_core.specs.Table.{expect_sequence};
+ghost use Rattle.shard_store.specs.Pass.{IsOf};
 ghost use Rattle.shard_store.specs.Promise.{IsLater};
+ghost use Rattle.workers.specs.Log.{change_told, change_view, found_in, HasFound};
 
 use crate::log::{Changed, How, Log};
 use crate::retrying::Retrying;
 use map_core::{Ask, AskError, Expect, Op, Reply, Viewer};
 use shard_store::{Pass, Seated, Store};
 use spiffe_doc::TrustDomain;
-use std::marker::Model;
 use std::time::Clock;
 
-/// A pass at its store, asked again while others are in the way. What it changes is told.
+/// A pass at its store, asked again while others are in the way. The worker of this number tells its log what it changes.
 #[derive(Drop)]
 pub struct Logged<'a, C, L> {
-    patient: Retrying<'a, Seated<'a>, C>,
-    log: &'a L,
-    worker: u64,
+    pub patient: Retrying<'a, Seated<'a>, C>,
+    pub log: L,
+    pub worker: u64,
 }
 
-impl<'a, C, L> Model for Logged<'a, C, L> {
-    ghost use Rattle.shard_store.specs.Pass.{SeatedView};
-
-    ghost Value = { SeatedView };
-
-    ghost view = { λ logged. logged.patient.ask };
-}
-
-/// A change that is asked for.
-#[derive(Drop)]
-struct Wanted {
-    how: How,
-    domain: TrustDomain,
-    before: Option<Expect>,
-    /// What stands there if a bundle is stored.
-    after: Expect,
-}
-
-fn numbered(sequence: Option<u64>) -> Expect {
+fn numbered(sequence: Option<u64>) -> Expect
+    ensures { result ≡ expect_sequence sequence }
+{
     match sequence {
         Some(sequence) => Expect::Sequence(sequence),
         None => Expect::Unnumbered,
     }
 }
 
-/// The change that the operation asks for, if it asks for one and there is room for a copy of its name.
-fn wanted_by(op: &Op) -> Option<Wanted> {
-    let (how, domain, after) = match op {
-        Op::Set(domain, bundle) | Op::SetIf(domain, _, bundle) => {
-            (How::Set, domain, numbered(bundle.sequence()))
-        }
-        Op::Append(domain, _) => (How::Appended, domain, Expect::Absent),
-        Op::Remove(domain) => (How::Removed, domain, Expect::Absent),
-        Op::Get(_) | Op::FetchAll => return None,
-    };
-    Some(Wanted {
-        how,
-        domain: domain.copy().ok()?,
-        before: None,
-        after,
-    })
+/// The name of the bundle that an operation asks to change, if it asks for a change.
+fn name_to_change(op: &Op) -> Option<&TrustDomain>
+    ensures { IfSome (option_copied result) (λ domain. domain_of op.now ≡ Some domain) }
+{
+    match op {
+        Op::Set(domain, _) | Op::SetIf(domain, _, _) | Op::Append(domain, _) => Some(domain),
+        Op::Remove(domain) => Some(domain),
+        Op::Get(_) | Op::FetchAll => None,
+    }
 }
 
 /// What stands under a name by the answer to a get.
-fn found_by(answer: Result<Reply, AskError>) -> Option<Expect> {
+fn found_by(answer: Result<Reply, AskError>) -> Option<Expect>
+    ensures { result ≡ found_in answer }
+{
     match answer {
         Ok(Reply::Found(bundle)) => Some(numbered(bundle.sequence())),
         Ok(Reply::Refused(_)) => Some(Expect::Absent),
@@ -71,23 +52,33 @@ fn found_by(answer: Result<Reply, AskError>) -> Option<Expect> {
     }
 }
 
-/// Tells of the change, if the reply says that it was made.
-fn tell<L: Log>(log: &L, worker: u64, wanted: &Wanted, reply: &Reply) {
-    let after = match reply {
-        Reply::Stored => wanted.after,
-        Reply::Appended(sequence) => numbered(*sequence),
-        Reply::Removed => Expect::Absent,
-        _ => return,
+/// The change that the answer to an operation tells of, if it tells of one.
+fn change_by<'a>(
+    op: &'a Op,
+    before: Option<Expect>,
+    answer: &Result<Reply, AskError>,
+) -> Option<Changed<'a>>
+    ensures { option_map change_view result ≡ change_told before op.now answer.now }
+{
+    let (how, domain, after) = match (op, answer) {
+        (Op::Set(domain, bundle), Ok(Reply::Stored)) => {
+            (How::Set, domain, numbered(bundle.sequence()))
+        }
+        (Op::SetIf(domain, _, bundle), Ok(Reply::Stored)) => {
+            (How::Set, domain, numbered(bundle.sequence()))
+        }
+        (Op::Append(domain, _), Ok(Reply::Appended(sequence))) => {
+            (How::Appended, domain, numbered(*sequence))
+        }
+        (Op::Remove(domain), Ok(Reply::Removed)) => (How::Removed, domain, Expect::Absent),
+        _ => return None,
     };
-    log.changed(
-        worker,
-        &Changed {
-            how: wanted.how,
-            domain: wanted.domain.as_str(),
-            before: wanted.before,
-            after,
-        },
-    );
+    Some(Changed {
+        how,
+        domain: domain.as_str(),
+        before,
+        after,
+    })
 }
 
 impl<'a, C: Clock, L: Log> Logged<'a, C, L> {
@@ -97,12 +88,14 @@ impl<'a, C: Clock, L: Log> Logged<'a, C, L> {
         pass: Pass,
         clock: &'a C,
         retries: u64,
-        log: &'a L,
+        log: L,
         worker: u64,
     ) -> Logged<'a, C, L>
         requires own { IsOf pass store.now }
-        ensures store { result.store ≡ store.now }
-        ensures seen { result.seen ≡ pass.seen }
+        ensures store { result.patient.ask.store ≡ store.now }
+        ensures seen { result.patient.ask.seen ≡ pass.seen }
+        ensures log { result.log ≡ log }
+        ensures worker { result.worker ≡ worker }
     {
         Logged {
             patient: Retrying::new(Seated::new(store, pass), clock, retries),
@@ -113,8 +106,8 @@ impl<'a, C: Clock, L: Log> Logged<'a, C, L> {
 
     /// The pass again.
     pub fn into_pass(self) -> Pass
-        ensures own { IsOf result self.entry.store }
-        ensures seen { result.seen ≡ self.entry.seen }
+        ensures own { IsOf result self.entry.patient.ask.store }
+        ensures seen { result.seen ≡ self.entry.patient.ask.seen }
     {
         let Logged {
             patient,
@@ -129,47 +122,51 @@ impl<'a, C: Clock, L: Log> Logged<'a, C, L> {
         seated.into_pass()
     }
 
-    /// What stands under the name now, if the store answers.
-    fn look(&mut self, domain: TrustDomain) -> Option<Expect>
-        ensures { (self.new.store ≡ self.old.store) × IsLater self.new.seen self.old.seen }
+    /// What stands now under the name of the bundle that the operation asks to change, if the store answers.
+    fn look(&mut self, op: &Op) -> Option<Expect>
+        ensures same { (self.new.log ≡ self.old.log) × (self.new.worker ≡ self.old.worker) }
+        ensures later { (self.new.patient.ask.store ≡ self.old.patient.ask.store) × IsLater self.new.patient.ask.seen self.old.patient.ask.seen }
+        ensures found { IfSome result (HasFound op.now self.old.patient.ask self.new.patient.ask) }
     {
-        found_by(self.patient.ask_get(domain))
-    }
-
-    /// The change that the operation asks for, if it is to be told; and what stands there before it.
-    fn before(&mut self, op: &Op) -> Option<Wanted>
-        ensures { (self.new.store ≡ self.old.store) × IsLater self.new.seen self.old.seen }
-    {
-        if !self.log.is_on() {
+        let Ok(domain) = name_to_change(op)?.copy() else {
             return None;
-        }
-        let mut wanted = wanted_by(op)?;
-        if let Ok(domain) = wanted.domain.copy() {
-            wanted.before = self.look(domain);
-        }
-        Some(wanted)
+        };
+        found_by(self.patient.ask_get(domain))
     }
 }
 
 impl<'a, C: Clock, L: Log> Ask for Logged<'a, C, L> {
     ghost use Rattle.std.specs.Prelude.{None};
-    ghost use Rattle.shard_store.specs.Seated.{SeatedAnswer, seated_answers_plainly};
+    ghost use Rattle.shard_store.specs.Seated.{seated_answers_plainly};
+    ghost use Rattle.workers.specs.Log.{LoggedAnswer};
 
-    ghost answers = { SeatedAnswer };
+    ghost answers = { λ old op answer new. (new.worker ≡ old.worker)
+        × LoggedAnswer L.tells L.wants old.worker (old.patient.ask, old.log) op answer (new.patient.ask, new.log) };
 
     ghost shows = { λ _. None };
 
-    ghost answers_plainly = { seated_answers_plainly };
+    ghost answers_plainly = { λ old op answer new m none answered. seated_answers_plainly old.patient.ask op answer new.patient.ask m none answered.1.answered };
 
+    /// Asks. If changes are to be told, it looks at what stands there before, and tells of the change that the answer tells
+    /// of; it is out of memory, and has asked nothing, if there is no room for a copy of the operation.
     fn ask(&mut self, op: Op) -> Result<Reply, AskError> {
-        let wanted = self.before(&op);
-        let answer = self.patient.ask(op);
-        if let (Some(wanted), Ok(reply)) = (&wanted, &answer) {
-            tell(self.log, self.worker, wanted, reply);
+        if !self.log.is_on() {
+            return self.patient.ask(op);
         }
+        let Ok(copy) = op.copy() else {
+            drop(op);
+            return Err(AskError::Memory);
+        };
+        let before = self.look(&copy);
+        let answer = self.patient.ask(op);
+        if let Some(change) = change_by(&copy, before, &answer) {
+            self.log.changed(self.worker, &change);
+        }
+        drop(copy);
         answer
     }
 
+    /// The same for a get, which changes nothing.
     fn ask_get(&mut self, domain: TrustDomain) -> Result<Reply, AskError> {
         self.patient.ask_get(domain)
     }

@@ -74,17 +74,24 @@ pub struct Patient<'a, C, L> {
     pub log: &'a L,
 }
 
-impl<'a, C: Clock + Sync, L: Log + Sync> Seating for Patient<'a, C, L> {
+impl<'a, C: Clock + Sync, L: Log + Send + Sync> Seating for Patient<'a, C, L> {
     type Seat = Logged<'a, C, L>;
 
     ghost store = { λ patient. patient.store.now };
 
-    ghost seated = { λ seat. seat };
+    ghost seated = { λ seat. seat.patient.ask };
 
-    ghost answers_as_seated = { λ old op answer new answered. answered };
+    ghost answers_as_seated = { λ old op answer new answered. answered.1.answered };
 
     fn seat(&self, pass: Pass, worker: u64) -> Logged<'a, C, L> {
-        Logged::new(self.store, pass, self.clock, self.retries, self.log, worker)
+        Logged::new(
+            self.store,
+            pass,
+            self.clock,
+            self.retries,
+            *self.log,
+            worker,
+        )
     }
 
     fn leave(&self, seat: Logged<'a, C, L>) -> Pass {

@@ -1,5 +1,6 @@
-//! Workers, asks that are tried again, and what is kept of how sessions end.
+//! Workers, asks that are tried again, what a log is told, and what is kept of how sessions end.
 mod ends;
+mod logs;
 mod run;
 
 use map_core::{Ask, AskError, Op, Reply};

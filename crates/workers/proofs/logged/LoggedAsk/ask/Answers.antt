@@ -1,14 +1,72 @@
-use Rattle.std.proofs.Common.{subst}
-use Rattle.shard_store.specs.Pass.{SeatedView}
+use Rattle.std.proofs.Common.{◌≡◌, false, true, None, Some, refl, sym, ap, subst, ◌∙◌, arith}
+use Rattle.std.specs.Prelude.{IfSome}
+use Rattle.map_core.specs.declared.op.Op.{Op}
 use Rattle.shard_store.specs.Seated.{SeatedAnswer}
+use Rattle.workers.specs.Log.{StoodBefore, IsTold, change_told, change_view}
 use Rattle.workers.proofs.LoggedLaws.{patient_answer, continued}
+use Rattle.workers.proofs.LogLaws.{off_told, stood_before, told_as}
+use Rattle.workers.proofs.logged.LoggedAsk.ask.Goals.{in-Some, in_default-change_by}
 use Rattle.workers.proofs.logged.LoggedAsk.ask.Goals as goal
+
+pub returns-then-not-is_on : goal.returns-then-not-is_on
+returns-then-not-is_on g c =
+    let old = c.args.self.now in
+    let off : false ≡ g.L.Log.wants old.log = grind (arith, c.is_on.ensures, c.if-not-is_on.true) in
+    record {
+      answered = (
+        refl,
+        record {
+          answered = patient_answer old.patient.retries old.patient.ask c.args.op c.ask.result c.ask.new.self.ask c.ask.ensures.answered.1;
+          before = None;
+          stood = tt;
+          told = off_told g.L.Log.tells old.worker old.log old.log (g.L.Log.wants old.log) (change_told None c.args.op c.ask.result) off refl;
+        },
+      );
+    }
 
 pub returns : goal.returns
 returns g c =
+    let tells = g.L.Log.tells in
     let op = c.args.op in
-    let mid = c.before-wanted.new.self in
-    let new = c.ask-answer.new.self.ask in
-    let answered = subst (λ (s : SeatedView). SeatedAnswer s op c.ask-answer.result new) c.self.view_is
-    (patient_answer c.self.inside.patient.retries c.self.inside.patient.ask op c.ask-answer.result new c.ask-answer.ensures.answered.1) in
-    record { answered = continued c.args.self.now mid new op c.ask-answer.result c.before-wanted.ensures.0 c.before-wanted.ensures.1 answered }
+    let copy = c.in-Ok.copy in
+    let old = c.args.self.now in
+    let mid = c.look-before.new.self in
+    let new = c.ask-answer.new.self in
+    let end = c.match-change_by.self in
+    let answer = c.ask-answer.result in
+    let before = c.look-before.result in
+    let same = c.look-before.ensures.same in
+    let later = c.look-before.ensures.later in
+    let asked = patient_answer mid.patient.retries mid.patient.ask op answer new.ask c.ask-answer.ensures.answered.1 in
+    let wanted = g.L.Log.wants old.log in
+    let on : true ≡ wanted = grind (arith, c.is_on.ensures, c.if-not-is_on.false) in
+    let made = change_told before op answer in
+    let made_is : change_told before copy answer ≡ made = ap (λ (o : Op). change_told before o answer) c.in-Ok.ensures in
+    let ends : (end.worker ≡ old.worker) × (new ≡ end.patient) × IsTold tells wanted old.worker made old.log end.log =
+    elim c.match-change_by.branch [
+      | in-Some w ↦ (
+        ap (λ s. s.worker) w.self-is ∙ same.1,
+        sym (ap (λ s. s.patient) w.self-is),
+        told_as tells wanted old.worker mid.worker made (Some (change_view w.in-Some.change)) old.log mid.log end.log w.changed.new.self
+            on same.1 (w.in-Some.ensures ∙ made_is) same.0 (sym (ap (λ s. s.log) w.self-is)) w.changed.ensures,
+      )
+      | in_default-change_by w ↦ (
+        ap (λ s. s.worker) w.self-is ∙ same.1,
+        sym (ap (λ s. s.patient) w.self-is),
+        told_as tells wanted old.worker mid.worker made None old.log mid.log end.log mid.log
+            on same.1 (w.in_default-change_by.ensures ∙ made_is) same.0 (sym (ap (λ s. s.log) w.self-is)) refl,
+      )
+    ] in
+    record {
+      answered = (
+        ends.0,
+        record {
+          answered = subst (λ patient. SeatedAnswer old.patient.ask op answer patient.ask) ends.1
+              (continued old.patient.ask mid.patient.ask new.ask op answer later.0 later.1 asked);
+          before = before;
+          stood = subst (λ patient. IfSome before (StoodBefore op answer old.patient.ask patient.ask)) ends.1
+              (stood_before before copy op answer old.patient.ask mid.patient.ask new.ask c.in-Ok.ensures c.look-before.ensures.found asked);
+          told = ends.2;
+        },
+      );
+    }

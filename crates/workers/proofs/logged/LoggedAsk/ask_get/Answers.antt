@@ -1,15 +1,22 @@
-use Rattle.std.proofs.Common.{subst}
+use Rattle.std.proofs.Common.{None, refl}
 use Rattle.map_core.specs.declared.op.Op.TheVariants.{Get}
-use Rattle.shard_store.specs.Pass.{SeatedView}
-use Rattle.shard_store.specs.Seated.{SeatedAnswer}
+use Rattle.workers.specs.Log.{change_told}
 use Rattle.workers.proofs.LoggedLaws.{patient_answer}
+use Rattle.workers.proofs.LogLaws.{none_told}
 use Rattle.workers.proofs.logged.LoggedAsk.ask_get.Goals as goal
 
 pub returns : goal.returns
 returns g c =
     let get = Get c.args.domain in
-    let new = c.ask_get.new.self.ask in
+    let old = c.args.self.now in
     record {
-      answered = subst (λ (s : SeatedView). SeatedAnswer s get c.ask_get.result new) c.self.view_is
-          (patient_answer c.self.inside.patient.retries c.self.inside.patient.ask get c.ask_get.result new c.ask_get.ensures.answered.1);
+      answered = (
+        refl,
+        record {
+          answered = patient_answer old.patient.retries old.patient.ask get c.ask_get.result c.ask_get.new.self.ask c.ask_get.ensures.answered.1;
+          before = None;
+          stood = tt;
+          told = none_told g.L.Log.tells old.worker old.log old.log (g.L.Log.wants old.log) (change_told None get c.ask_get.result) refl refl;
+        },
+      );
     }
