@@ -15,15 +15,18 @@ use Rattle.frame_front.specs.LiveCalls.{LiveCall, DoesAll, piece_of, bytes_of, F
 use Rattle.connections.specs.declared.after.After.{After}
 use Rattle.connections.specs.declared.ends.Broken.{Broken}
 use Rattle.connections.specs.declared.after.After.TheVariants.{Waits, Again, Over}
-use Rattle.connections.specs.Connection.{ConnectionView, EndsFor, EndsHere, HadShare, IsLost, LosesOnly, StopsFor, Turn}
+use Rattle.connections.specs.Connection.{ConnectionView, EndsFor, EndsHere, HadShare, IsLost, LosesOnly, MakesReads, StopsFor, Turn}
+use Rattle.connections.specs.Reads.{reads_for, reads_of}
 use Rattle.connections.specs.Private.Goes.{Goes, GoesOn, ReadsAs, Round, SendsAs, StaysSo}
+use Rattle.connections.proofs.ReadLemmas.{makes_then, reads_none}
 
 pub frames_append : (xs ys : List LiveCall) → frames_of (xs ++ ys) ≡ frames_of xs + frames_of ys
 frames_append [] ys = omega arith
 frames_append (x ∷ xs) ys = omega (arith, frames_append xs ys)
 
-fed_append : (xs ys : List LiveCall) → length (fed (xs ++ ys)) ≡ length (fed xs) + length (fed ys)
-fed_append xs ys = ap length (flat_map-append piece_of xs ys) ∙ length-append (fed xs) (fed ys)
+pub reads_append : (xs ys : List LiveCall) → reads_of (xs ++ ys) ≡ reads_of xs + reads_of ys
+reads_append [] ys = omega arith
+reads_append (x ∷ xs) ys = omega (arith, reads_append xs ys)
 
 sent_append : (xs ys : List LiveCall) → length (sent (xs ++ ys)) ≡ length (sent xs) + length (sent ys)
 sent_append xs ys = ap length (flat_map-append bytes_of xs ys) ∙ length-append (sent xs) (sent ys)
@@ -32,10 +35,8 @@ sent_append xs ys = ap length (flat_map-append bytes_of xs ys) ∙ length-append
 share_then : (rounds : ℕ) (xs ys : List LiveCall) → HadShare rounds xs → HadShare 1 ys → HadShare (rounds + 1) (xs ++ ys)
 share_then rounds xs ys h k = (
   h.0 + k.0,
-  h.1 + k.1,
-  omega (arith, h.2, k.2),
-  omega (arith, h.3, k.3, fed_append xs ys),
-  omega (arith, h.4, k.4, sent_append xs ys),
+  omega (arith, h.1, k.1, reads_append xs ys),
+  omega (arith, h.2, k.2, sent_append xs ys),
 )
 
 pub stays_then : (a b c : ConnectionView) → StaysSo a b → StaysSo b c → StaysSo a c
@@ -78,6 +79,8 @@ module _ {S : Type 0} (answers : S → Op → Result Reply AskError → S → Ty
           (Consumes-trans a.left b.left c.left (fed p.calls ++ []) (fed q.calls ++ lost) p.consumes q.consumes);
       appends = subst (Appends a.held c.held) (sym (flat_map-append bytes_of p.calls q.calls))
           (Appends-trans a.held b.held c.held (sent p.calls) (sent q.calls) p.appends q.appends);
+      makes = makes_then (reads_of p.calls + 0) (reads_of q.calls + reads_for lost) (reads_of (p.calls ++ q.calls) + reads_for lost) a b c p.makes q.makes
+          (omega (arith, reads_append p.calls q.calls));
       answered = omega (arith, p.answered, q.answered, frames_append p.calls q.calls);
       share = omega (arith, p.share, q.share, frames_append p.calls q.calls, enough);
       stays = stays_then a b c p.stays q.stays;
@@ -93,7 +96,7 @@ module _ {S : Type 0} (answers : S → Op → Result Reply AskError → S → Ty
   pub goes_on : (rounds : ℕ) (lost : List ℕ) (a b c : ConnectionView) (m n o : S) → GoesOn answers rounds a b m n → (q : Goes answers most_frames lost b c n o)
       → b.has_ended ≡ a.has_ended → Further rounds lost q.calls a c m o
   goes_on rounds lost a b c m n o (inl none) q unended =
-      subst (λ s. Further rounds lost q.calls s c m o) none.1 (subst (λ s. Further rounds lost q.calls b c s o) none.2 (first, λ h. (h.0, h.1, omega (arith, none.0, h.2), h.3, h.4)))
+      subst (λ s. Further rounds lost q.calls s c m o) none.1 (subst (λ s. Further rounds lost q.calls b c s o) none.2 (first, λ h. (h.0, omega (arith, none.0, h.1), h.2)))
     where
       first : Goes answers ((rounds + 1) * most_frames) lost b c n o
       first = record {
@@ -101,6 +104,7 @@ module _ {S : Type 0} (answers : S → Op → Result Reply AskError → S → Ty
         does = q.does;
         consumes = q.consumes;
         appends = q.appends;
+        makes = q.makes;
         answered = q.answered;
         share = omega (arith, q.share);
         stays = q.stays;
@@ -121,6 +125,7 @@ module _ {S : Type 0} (answers : S → Op → Result Reply AskError → S → Ty
         does = ((c.live, n), (q.sends, refl), refl);
         consumes = subst (λ (l : Option (List ℕ)). Consumes b.left l []) (sym q.left) (Consumes-nil b.left);
         appends = subst (Appends b.held c.held) (sym (append-nil q.bytes)) q.appends;
+        makes = (omega (arith, q.turns), q.reads ∙ reads_none b.reads);
         answered = omega (arith, p.answered, q.answered);
         share = omega arith;
         stays = q.stays;
@@ -131,28 +136,29 @@ module _ {S : Type 0} (answers : S → Op → Result Reply AskError → S → Ty
 
   -- and then a piece is read
   pub round_read : (result : Result Bool After) (a b c : ConnectionView) (m n : S) → Goes answers most_frames [] a b m n → (q : ReadsAs result b c)
-      → b.has_ended ≡ a.has_ended → (goes : Goes answers most_frames q.lost a c m n) × (length q.piece ≤ length (fed goes.calls))
+      → b.has_ended ≡ a.has_ended → (goes : Goes answers most_frames q.lost a c m n) × (reads_for q.piece ≤ reads_of goes.calls)
   round_read result a b c m n p q unended =
       let reads : Goes answers 0 q.lost b c n n = record {
         calls = Feed q.piece ∷ [];
         does = ((c.live, n), (q.feeds, refl), refl);
         consumes = subst (λ (l : List ℕ). Consumes b.left c.left (l ++ q.lost)) (sym (append-nil q.piece)) q.consumes;
         appends = subst (λ (l : Option (List ℕ)). Appends b.held l []) (sym q.held) (Appends-nil b.held);
+        makes = subst (λ n. MakesReads n b c) (omega arith) q.makes;
         answered = omega (arith, p.answered, q.answered);
         share = omega arith;
         stays = q.stays;
         quiet = λ e. ap (λ (l : List ℕ). l ++ q.lost) (append-nil q.piece) ∙ q.quiet e;
         loses_only = q.loses_only;
       } in
-      (goes_then most_frames 0 most_frames q.lost a b c m n n p reads (omega arith) unended, omega (arith, fed_append p.calls (Feed q.piece ∷ []), length-append q.piece []))
+      (goes_then most_frames 0 most_frames q.lost a b c m n n p reads (omega arith) unended, omega (arith, reads_append p.calls (Feed q.piece ∷ [])))
 
   -- what ends the read ends the round
   pub round_ends : (result : Result Bool After) (a b c : ConnectionView) (m n : S) (q : ReadsAs result b c)
-      → (goes : Goes answers most_frames q.lost a c m n) × (length q.piece ≤ length (fed goes.calls)) → b.has_ended ≡ a.has_ended → Round answers result a c m n
+      → (goes : Goes answers most_frames q.lost a c m n) × (reads_for q.piece ≤ reads_of goes.calls) → b.has_ended ≡ a.has_ended → Round answers result a c m n
   round_ends (Err after) a b c m n q goes same = (q.lost, goes.0, q.until.0, ends_then a b c same q.until.1, q.until.2)
   round_ends (Ok has_left) a b c m n q goes same =
-      subst (λ (lost : List ℕ). (g : Goes answers most_frames lost a c m n) × (length q.piece ≤ length (fed g.calls)) → Round answers (Ok has_left) a c m n) (sym q.until.0)
-      (λ g. (g.0, q.until.1 ∙ same, (1, 0, omega arith, omega (arith, g.1, q.until.2), omega arith), q.until.3)) goes
+      subst (λ (lost : List ℕ). (g : Goes answers most_frames lost a c m n) × (reads_for q.piece ≤ reads_of g.calls) → Round answers (Ok has_left) a c m n) (sym q.until.0)
+      (λ g. (g.0, q.until.1 ∙ same, (0, omega (arith, g.1, q.until.2), omega arith), q.until.3)) goes
 
   -- a turn ends with a round
   pub turn_ends : (most rounds : ℕ) (after : After) (a b c : ConnectionView) (m n o : S) → rounds < most → GoesOn answers rounds a b m n → b.has_ended ≡ a.has_ended
@@ -165,6 +171,7 @@ module _ {S : Type 0} (answers : S → Op → Result Reply AskError → S → Ty
         does = goes.does;
         consumes = goes.consumes;
         appends = goes.appends;
+        makes = goes.makes;
         answered = goes.answered;
         share = omega (arith, goes.share, few);
         may = goes.stays.0;
@@ -193,6 +200,7 @@ module _ {S : Type 0} (answers : S → Op → Result Reply AskError → S → Ty
         does = goes.does;
         consumes = goes.consumes;
         appends = goes.appends;
+        makes = goes.makes;
         answered = goes.answered;
         share = subst (λ r. frames_of goes.calls ≤ r * most_frames) all goes.share;
         may = goes.stays.0;

@@ -10,26 +10,41 @@ use Rattle.frame_front.specs.Frame.{IsUnfinished, IsBadLength}
 use Rattle.frame_front.specs.Decoder.{BeginsWithFrame}
 use Rattle.frame_front.specs.Live.{LiveView, live_start, most_frames, reply_limit, waiting}
 use Rattle.frame_front.specs.LiveCalls.{LiveCall, DoesAll, fed, sent, frames_of}
-use Rattle.connections.specs.Stream.{May}
+use Rattle.connections.specs.Stream.{May, read_more}
+use Rattle.connections.specs.Reads.{reads_for, reads_of}
 use Rattle.connections.specs.declared.after.After.{After}
 use Rattle.connections.specs.declared.after.After.TheVariants.{Waits, Again, Over}
 
--- A connection between two turns: its session, how many frames were answered, whether its input has ended, whether bytes that
--- were read are lost, whether its client is known to have closed its side, and of its stream what its calls may come to and, where they are known, the bytes that it
--- has left to read, and those that were written to it.
+-- A connection between two turns: its session, how many frames were answered, how many reads it may still make, whether its input
+-- has ended, whether bytes that were read are lost, and whether its client is known to have closed its side. Of its stream: what
+-- its calls may come to and, where they are known, the bytes that it has left to read, those that were written to it, and how many
+-- reads have given bytes.
 pub record ConnectionView : Type 0 where
   pub live : LiveView
   pub answered : ℕ
+  pub turns : ℕ
   pub has_ended : Bool
   pub has_lost : Bool
   pub is_closing : Bool
   pub may : May
   pub left : Option (List ℕ)
   pub held : Option (List ℕ)
+  pub reads : Option ℕ
 
--- a new connection over a stream
-abbrev pub opened : May → Option (List ℕ) → Option (List ℕ) → ConnectionView
-opened may left held = record { live = live_start; answered = 0; has_ended = false; has_lost = false; is_closing = false; may = may; left = left; held = held }
+-- a new connection over a stream, which may make so many reads
+abbrev pub opened : (turns : ℕ) → May → (left held : Option (List ℕ)) → (reads : Option ℕ) → ConnectionView
+opened turns may left held reads = record {
+  live = live_start;
+  answered = 0;
+  turns = turns;
+  has_ended = false;
+  has_lost = false;
+  is_closing = false;
+  may = may;
+  left = left;
+  held = held;
+  reads = reads;
+}
 
 -- its input has ended
 abbrev pub ended : ConnectionView → ConnectionView
@@ -60,29 +75,33 @@ EndsHere old new = (new.has_ended ≡ old.has_ended) ⊎ ((new.has_ended ≡ tru
 abbrev pub AllSent : ConnectionView → Type 0
 AllSent new = waiting new.live ≡ []
 
--- In each of so many rounds a byte was read, or as many bytes of replies were sent as are ready at once.
+-- So many of the reads that it may make were made, each of which gave bytes.
+abbrev pub MakesReads : ℕ → ConnectionView → ConnectionView → Type 0
+MakesReads reads old new = (new.turns + reads ≡ old.turns) × (new.reads ≡ read_more reads old.reads)
+
+-- In each of so many rounds a piece was read, or as many bytes of replies were sent as are ready at once.
 abbrev pub HadShare : ℕ → List LiveCall → Type 0
-HadShare rounds calls = (reads : ℕ) × (writes : ℕ) × (rounds ≤ reads + writes) × (reads ≤ length (fed calls)) × (writes * reply_limit ≤ length (sent calls))
+HadShare rounds calls = (writes : ℕ) × (rounds ≤ reads_of calls + writes) × (writes * reply_limit ≤ length (sent calls))
 
 -- The stream has nothing more to read now: it would have to wait, or a read has left some of its room. That does not say that
 -- there is no more if the client has closed its side.
 abbrev pub HasNoMore : ConnectionView → Type 0
-HasNoMore new = (new.may.block ≡ true) ⊎ ((new.may.leave_room ≡ true) × (new.is_closing ≡ false))
+HasNoMore new = (new.may.read_waits ≡ true) ⊎ ((new.may.leaves_room ≡ true) × (new.is_closing ≡ false))
 
 -- Why a turn stops before it has had its share. A connection waits only while its stream takes no more replies, or no whole
--- frame is left, its input has not ended, and there is no more to read now. Out of memory, a part of a reply waits that could
--- not be stored, or bytes are lost.
+-- frame is left, its input has not ended, it may read on, and there is no more to read now. If it may read no more, all whole
+-- frames are answered and all replies sent. Out of memory, a part of a reply waits that could not be stored, or bytes are lost.
 abbrev pub StopsFor : After → ConnectionView → Type 0
-StopsFor Waits new = ((new.live.ready ≢ []) × (new.may.block ≡ true))
-    ⊎ (IsUnfinished new.live.kept × AllSent new × (new.has_ended ≡ false) × HasNoMore new)
+StopsFor Waits new = ((new.live.ready ≢ []) × (new.may.write_waits ≡ true))
+    ⊎ (IsUnfinished new.live.kept × AllSent new × (new.has_ended ≡ false) × (0 < new.turns) × HasNoMore new)
 StopsFor Again new = ⊥
 StopsFor (Over (Ok count)) new = (count ≡ new.answered) × (new.live.kept ≡ []) × AllSent new × (new.has_ended ≡ true)
 StopsFor (Over (Err BadLength)) new = IsBadLength new.live.kept × AllSent new
 StopsFor (Over (Err Truncated)) new = IsUnfinished new.live.kept × (new.live.kept ≢ []) × AllSent new × (new.has_ended ≡ true)
-StopsFor (Over (Err ReadFault)) new = IsUnfinished new.live.kept × AllSent new × (new.has_ended ≡ false) × (new.may.fail ≡ true)
-StopsFor (Over (Err WriteFault)) new = (new.live.ready ≢ []) × (new.may.fail ≡ true)
+StopsFor (Over (Err ReadFault)) new = IsUnfinished new.live.kept × AllSent new × (new.has_ended ≡ false) × (new.may.read_fails ≡ true)
+StopsFor (Over (Err WriteFault)) new = (new.live.ready ≢ []) × (new.may.write_fails ≡ true)
+StopsFor (Over (Err TurnsUsed)) new = IsUnfinished new.live.kept × AllSent new × (new.has_ended ≡ false) × (new.turns ≡ 0)
 StopsFor (Over (Err Memory)) new = (new.live.later ≢ []) ⊎ (new.has_lost ≡ true)
-StopsFor (Over (Err error)) new = ⊥
 
 -- why a turn of so many rounds ends, in which these calls were made
 abbrev pub EndsFor : ℕ → After → List LiveCall → ConnectionView → Type 0
@@ -107,7 +126,7 @@ IsLost (Over (Err Memory)) lost = ⊤
 IsLost result lost = lost ≡ []
 
 -- One turn of a connection: calls of its session, one after the other, fed with what was read and whose replies were written.
--- An input that has ended is read no more.
+-- Each piece was one read. An input that has ended is read no more.
 pub record Turn (rounds : ℕ) {S : Type 0} (answers : S → Op → Result Reply AskError → S → Type 0) (result : After)
     (old new : ConnectionView) (map_old map_new : S) : Type 0 where
   pub calls : List LiveCall
@@ -115,6 +134,7 @@ pub record Turn (rounds : ℕ) {S : Type 0} (answers : S → Op → Result Reply
   pub does : DoesAll answers calls (old.live, map_old) (new.live, map_new)
   pub consumes : Consumes old.left new.left (fed calls ++ lost)
   pub appends : Appends old.held new.held (sent calls)
+  pub makes : MakesReads (reads_of calls + reads_for lost) old new
   pub answered : new.answered ≡ counted (old.answered + frames_of calls)
   pub share : frames_of calls ≤ rounds * most_frames
   pub may : new.may ≡ old.may

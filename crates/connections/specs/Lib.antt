@@ -1,3 +1,4 @@
 pub mod Stream
+pub mod Reads
 pub mod Connection
 pub mod Private

@@ -28,6 +28,8 @@ pub struct Connection<E: Stream + Drop> {
     live: LiveSession,
     /// How many frames were answered. It stays at 2^64 - 1 once there.
     answered: u64,
+    /// How many reads it may still make.
+    turns: u64,
     /// Whether no more input comes, or none is taken any more.
     has_ended: bool,
     /// Whether bytes that were read are lost, since memory for them was refused.
@@ -44,24 +46,28 @@ impl<E: Stream + Drop> Model for Connection<E> {
     ghost view = { λ c. record {
       live = c.live;
       answered = c.answered;
+      turns = c.turns;
       has_ended = c.has_ended;
       has_lost = c.has_lost;
       is_closing = c.is_closing;
       may = E.may c.end;
       left = E.left c.end;
       held = E.held c.end;
+      reads = E.reads c.end;
     } };
 }
 
 impl<E: Stream + Drop> Connection<E> {
-    /// Nothing has come yet.
-    pub fn new(alloc: Global, end: E) -> Result<Connection<E>, AllocError>
-        ensures { IfOk result (λ new. new ≡ opened (E.may end) (E.left end) (E.held end)) }
+    /// Nothing has come yet. The connection may make so many reads; `u64::MAX` is as good as no limit. A read counts if it
+    /// gives bytes: one that would have to wait does not count, since a stream may be told to be ready and have nothing.
+    pub fn new(alloc: Global, end: E, turns: u64) -> Result<Connection<E>, AllocError>
+        ensures { IfOk result (λ new. new ≡ opened turns (E.may end) (E.left end) (E.held end) (E.reads end)) }
     {
         Ok(Connection {
             end,
             live: LiveSession::new(alloc)?,
             answered: 0,
+            turns,
             has_ended: false,
             has_lost: false,
             is_closing: false,
@@ -125,7 +131,7 @@ impl<E: Stream + Drop> Connection<E> {
     }
 
     /// Reads once, if no whole frame is left and nothing waits. The turn ends with the answer, or goes on: then the answer
-    /// is whether the read has left some of its room. If the one before has, there is no more to read now, unless reads wait.
+    /// is whether the read has left some of its room. If the one before has, there is no more to read now.
     fn read(&mut self, room: &mut [u8; ROOM_BYTES], has_left: bool) -> Result<bool, After>
         requires unfinished { IsUnfinished self.old.live.kept }
         requires sent { waiting self.old.live ≡ [] }
@@ -135,17 +141,24 @@ impl<E: Stream + Drop> Connection<E> {
         if self.has_ended {
             return Err(self.finish());
         }
-        if has_left && !self.is_closing && !self.end.reads_wait() {
+        if self.turns == 0 {
+            return Err(After::Over(Err(FrontError::TurnsUsed)));
+        }
+        if has_left && !self.is_closing {
             return Err(After::Waits);
         }
         match read_piece(&mut self.end, &mut self.live, room) {
-            Came::Piece(has_left) => Ok(has_left),
+            Came::Piece(has_left) => {
+                self.turns -= 1;
+                Ok(has_left)
+            }
             Came::Nothing => Err(After::Waits),
             Came::End => {
                 self.has_ended = true;
                 Err(self.finish())
             }
             Came::NoMemory => {
+                self.turns -= 1;
                 self.has_lost = true;
                 Err(After::Over(Err(FrontError::Memory)))
             }
@@ -206,8 +219,10 @@ impl<E: Stream + Drop> Connection<E> {
 
     /// Answers what has come and what comes now, in order, until the stream has no more or takes no more, the session is
     /// over, or the connection has had its share: 8 reads. After a read that left some of its room there is no more to
-    /// read, unless reads wait for more, or the client `is_closing`: then its side is closed, or the stream has failed, and
-    /// reads go on until they say so. The connections of one thread can share the room for reading, and the reader of documents.
+    /// read, unless the client `is_closing`: then its side is closed, or the stream has failed, and reads go on until they
+    /// say so. Once the connection has made all reads that it may, what they gave is answered, the replies are written,
+    /// and the session ends with `TurnsUsed`. The connections of one thread can share the room for reading, and the reader
+    /// of documents.
     pub fn turn<A: Ask>(
         &mut self,
         documents: &mut DocumentReader,

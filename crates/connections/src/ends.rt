@@ -44,6 +44,7 @@ fn would_wait(error: &io::Error) -> bool
 pub(crate) fn write_replies<E: Stream>(end: &mut E, live: &mut LiveSession) -> Result<bool, Broken>
     ensures sends { (bytes : List ℕ) × Sends bytes live.old live.new × Appends (E.held end.old) (E.held end.new) bytes }
     ensures left { E.left end.new ≡ E.left end.old }
+    ensures reads { E.reads end.new ≡ E.reads end.old }
     ensures may { E.may end.new ≡ E.may end.old }
     ensures until { IsSentAs result (E.may end.old) live.new.ready }
 {
@@ -65,7 +66,7 @@ pub(crate) fn read_piece<E: Stream>(
     room: &mut [u8; ROOM_BYTES],
 ) -> Came
     requires { IsUnfinished live.old.kept }
-    ensures takes { Takes result (E.may end.old) (E.left end.old) (E.left end.new) live.old live.new }
+    ensures takes { Takes result (E.may end.old) (E.left end.old) (E.left end.new) (E.reads end.old) (E.reads end.new) live.old live.new }
     ensures held { E.held end.new ≡ E.held end.old }
     ensures may { E.may end.new ≡ E.may end.old }
 {

@@ -1,20 +1,22 @@
-//! Streams that never wait for long.
+//! Streams that never wait.
 use std::io;
 
-/// A stream that goes both ways, and whose reads and writes return at once, or after a moment: where they would have to wait
-/// longer they fail with `WouldBlock`, and have done nothing. What is read leaves what was written as it is, and the other
-/// way round.
+/// A stream that goes both ways, and whose reads and writes return at once: if they would have to wait, they fail with
+/// `WouldBlock`, and have done nothing. What is read leaves what was written as it is, and the other way round.
 pub trait Stream {
-    ghost use Rattle.std.specs.Prelude.{◌≡◌, ℕ, List, Option, length, true};
+    ghost use Rattle.std.specs.Prelude.{◌≡◌, ℕ, List, Option, length};
     ghost use Rattle.std.specs.Io.{ReadsAtMost, WritesAtMost};
     ghost use Rattle.std.specs.Io.KnownBytes.{ReadConsumes, WriteAppends};
-    ghost use Rattle.connections.specs.Stream.{May, ReadsAs, WritesAs};
+    ghost use Rattle.connections.specs.Stream.{May, ReadsAs, WritesAs, counts_for, read_more};
 
     // The bytes that are left to be read, where they are known.
     ghost left: { Self → Option (List ℕ) };
 
     // The bytes that were written, where they are known.
     ghost held: { Self → Option (List ℕ) };
+
+    // How many reads have given bytes, where that is known.
+    ghost reads: { Self → Option ℕ };
 
     // What its calls may come to.
     ghost may: { Self → May };
@@ -24,6 +26,7 @@ pub trait Stream {
         ensures bound { ReadsAtMost result buf.new }
         ensures bytes { ReadConsumes (left self.old) (left self.new) result buf.new }
         ensures held { held self.new ≡ held self.old }
+        ensures reads { reads self.new ≡ read_more (counts_for result) (reads self.old) }
         ensures may { ReadsAs (may self.old) (length buf.new) result }
         ensures same { may self.new ≡ may self.old };
 
@@ -32,14 +35,7 @@ pub trait Stream {
         ensures bound { WritesAtMost result buf.now }
         ensures bytes { WriteAppends (held self.old) (held self.new) result buf.now }
         ensures left { left self.new ≡ left self.old }
+        ensures reads { reads self.new ≡ reads self.old }
         ensures may { WritesAs (may self.old) result }
         ensures same { may self.new ≡ may self.old };
-
-    /// Whether its reads wait for a moment at present, so that one may find more even if the one before has left some of its
-    /// room. A connection then goes on reading in its turn.
-    fn reads_wait(&self) -> bool
-        ensures { result ≡ true → (may self.now).block ≡ true }
-    {
-        false
-    }
 }

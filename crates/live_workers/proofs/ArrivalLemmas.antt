@@ -1,11 +1,11 @@
 -- What came to a worker.
-use Rattle.std.proofs.Common.{◌≡◌, List, [], ◌∷◌, ◌++◌, refl, ap, ◌∙◌, subst, append-nil, inl, inr}
+use Rattle.std.proofs.Common.{◌≡◌, ℕ, List, [], ◌∷◌, ◌++◌, refl, ap, ◌∙◌, subst, append-nil, inl, inr}
 use Rattle.std.specs.Prelude.{◌⊎◌}
 use Rattle.std.proofs.lemmas.Grind.{flat_map-append}
 use Rattle.connections.specs.Connection.{ConnectionView}
 use Rattle.live_workers.specs.declared.arrivals.Arrival.{Arrival}
 use Rattle.live_workers.specs.declared.arrivals.Arrival.TheVariants.{Opens, Ready, Tick, Nothing, Fails, Stops}
-use Rattle.live_workers.specs.Arrivals.{News, IsStop, ComesAll, news_in}
+use Rattle.live_workers.specs.Arrivals.{News, IsStop, ComesAll, news_in, news_of_both}
 use Rattle.live_workers.specs.Private.Serving.{Heard}
 
 stop_is : {E : Type 0} (arrival : Arrival E) → IsStop arrival → arrival ≡ Stops
@@ -24,8 +24,8 @@ goes_on arrival (inr p) other = p
 pub no_stop : {E : Type 0} (arrival : Arrival E) → (arrival ≡ Stops → ⊥) → IsStop arrival → ⊥
 no_stop arrival other stop = other (stop_is arrival stop)
 
-module _ {E V : Type 0} (start : E → ConnectionView) (comes : V → Arrival E → V → Type 0) where
-  comes_then : (xs ys : List (Arrival E)) (a b c : V) → ComesAll comes xs a b → ComesAll comes ys b c → ComesAll comes (xs ++ ys) a c
+module _ {E V : Type 0} (start : E → ConnectionView) (comes : V → ℕ → Arrival E → V → Type 0) where
+  comes_then : (xs ys : List (ℕ × Arrival E)) (a b c : V) → ComesAll comes xs a b → ComesAll comes ys b c → ComesAll comes (xs ++ ys) a c
   comes_then [] ys a b c p q = subst (λ (v : V). ComesAll comes ys v c) p q
   comes_then (x ∷ xs) ys a b c p q = (p.0, p.1, comes_then xs ys p.0 b c p.2 q)
 
@@ -33,11 +33,12 @@ module _ {E V : Type 0} (start : E → ConnectionView) (comes : V → Arrival E 
   pub heard_none : (v : V) → Heard start comes [] v v
   heard_none v = record { arrivals = []; came = refl; all = refl }
 
-  -- one thing more came
-  pub heard_more : (news : List News) (arrival : Arrival E) (a b c : V) → Heard start comes news a b → comes b arrival c → Heard start comes (news ++ news_in start arrival) a c
-  heard_more news arrival a b c h came = record {
-    arrivals = h.arrivals ++ arrival ∷ [];
-    came = comes_then h.arrivals (arrival ∷ []) a b c h.came (c, came, refl);
-    all = flat_map-append (news_in start) h.arrivals (arrival ∷ []) ∙ (ap (λ (l : List News). l ++ (news_in start arrival ++ [])) h.all
-        ∙ ap (λ (l : List News). news ++ l) (append-nil (news_in start arrival)));
+  -- one thing more came, after a place was told to be free
+  pub heard_more : (news : List News) (free : ℕ) (arrival : Arrival E) (a b c : V) → Heard start comes news a b → comes b free arrival c
+      → Heard start comes (news ++ news_in start free arrival) a c
+  heard_more news free arrival a b c h came = record {
+    arrivals = h.arrivals ++ (free, arrival) ∷ [];
+    came = comes_then h.arrivals ((free, arrival) ∷ []) a b c h.came (c, came, refl);
+    all = flat_map-append (news_of_both start) h.arrivals ((free, arrival) ∷ []) ∙ (ap (λ (l : List News). l ++ (news_in start free arrival ++ [])) h.all
+        ∙ ap (λ (l : List News). news ++ l) (append-nil (news_in start free arrival)));
   }

@@ -9,14 +9,15 @@ use Rattle.map_core.specs.declared.op.Op.{Op}
 use Rattle.map_core.specs.declared.reply.Reply.{Reply}
 use Rattle.map_core.specs.declared.reply.AskError.{AskError}
 use Rattle.frame_front.specs.declared.error.FrontError.{FrontError}
-use Rattle.connections.specs.Connection.{ConnectionView, Turn, told, turn_rounds}
+use Rattle.connections.specs.Connection.{ConnectionView, Owes, StopsFor, Turn, told, turn_rounds}
 use Rattle.connections.specs.declared.after.After.{After}
+use Rattle.connections.specs.declared.after.After.TheVariants.{Over}
 use Rattle.live_workers.specs.AtPort.{PortAnswer}
-use Rattle.live_workers.specs.Arrivals.{News, NewClient}
+use Rattle.live_workers.specs.Arrivals.{News, NewClient, HasTicked}
 use Rattle.workers.specs.Ended.{EndsView, Notes}
-use Rattle.live_workers.specs.Sessions.{Place, Places, Step, Opens, Turns, Misses, Closes, Ends, Fails, AllStay, EndsSo, OthersStay, TakesAll, told_by, closing_of, front_end, news_of, all_news}
-use Rattle.live_workers.specs.Private.Serving.{AreEnds, Asks, HadTurn, HadLastTurn, Leaves, NobodyThere, Serves, turn_news}
-use Rattle.live_workers.proofs.StepLemmas.{all_stay, notes_none, notes_then, serves_ending, serves_none, serves_quietly, stay_then, steps_then}
+use Rattle.live_workers.specs.Sessions.{Place, Places, Step, Opens, Turns, Misses, Ticks, Closes, GivesUp, Ends, Fails, AllStay, AllTick, OthersStay, TakesAll, told_by, closing_of, front_end, news_of, all_news, ticked}
+use Rattle.live_workers.specs.Private.Serving.{Asks, GiveUp, HadTurn, HadLastTurn, Leaves, NobodyThere, Serves, turn_news}
+use Rattle.live_workers.proofs.StepLemmas.{all_stay, notes_none, notes_then, patient_then, serves_ending, serves_none, serves_quietly, serves_then, stay_then, steps_then}
 
 on_ok : {X E : Type 0} {P Q : Type 0} (r : Result X E) → OnOk r P → (P → Q) → OnOk r Q
 on_ok (Ok x) p f = f p
@@ -36,130 +37,170 @@ beyond s place far = get_or_past s.slots place None far
 
 -- ---- turns and ends as steps
 
-module _ {S : Type 0} (answers : S → Op → Result Reply AskError → S → Type 0) where
+module _ {S : Type 0} (answers : S → Op → Result Reply AskError → S → Type 0) (most : ℕ) where
   -- a turn, whatever it follows
   pub turn_serves : (place : ℕ) (is_closing : Bool) (after : After) (old new : Places) (noted noted_new : EndsView) (s t : S)
       → HadTurn answers place is_closing (Some after) old new s t → noted_new ≡ noted
-      → (ready : Option Bool) → closing_of ready ≡ is_closing → Serves answers (turn_news place ready) old new noted noted_new s t
+      → (ready : Option Bool) → closing_of ready ≡ is_closing → Serves answers most (turn_news place ready) old new noted noted_new s t
   turn_serves place is_closing after old new noted noted_new s t h same None closes =
-      serves_quietly answers (Turns place None after) old new noted noted_new s t
-      (h.before, record { connection = h.behind; reads_only = h.before.reads_only }, h.was, h.is, told_so, refl, h.others) refl same
+      serves_quietly answers most (Turns place None after) old new noted noted_new s t
+      (h.before, record { connection = h.behind; reads_only = h.before.reads_only; silent = 0 }, h.was, h.is, told_so, refl, refl, h.others) tt refl same
     where
       told_so : Turn turn_rounds (PortAnswer answers h.before.reads_only) after (told (closing_of None) h.before.connection) h.behind s t
       told_so = subst (λ b. Turn turn_rounds (PortAnswer answers h.before.reads_only) after (told b h.before.connection) h.behind s t) (sym closes) h.does
   turn_serves place is_closing after old new noted noted_new s t h same (Some b) closes =
-      serves_quietly answers (Turns place (Some b) after) old new noted noted_new s t
-      (h.before, record { connection = h.behind; reads_only = h.before.reads_only }, h.was, h.is, told_so, refl, h.others) refl same
+      serves_quietly answers most (Turns place (Some b) after) old new noted noted_new s t
+      (h.before, record { connection = h.behind; reads_only = h.before.reads_only; silent = 0 }, h.was, h.is, told_so, refl, refl, h.others) tt refl same
     where
       told_so : Turn turn_rounds (PortAnswer answers h.before.reads_only) after (told b h.before.connection) h.behind s t
       told_so = subst (λ d. Turn turn_rounds (PortAnswer answers h.before.reads_only) after (told d h.before.connection) h.behind s t) (sym closes) h.does
 
   pub stays_serves : (old new : Places) (noted noted_new : EndsView) (s t : S)
-      → AllStay old new → noted_new ≡ noted → t ≡ s → Serves answers [] old new noted noted_new s t
+      → AllStay old new → noted_new ≡ noted → t ≡ s → Serves answers most [] old new noted noted_new s t
   stays_serves old new noted noted_new s t same kept still =
-      subst (λ (u : S). Serves answers [] old new noted noted_new s u) (sym still)
-      (subst (λ (n : EndsView). Serves answers [] old new noted n s s) (sym kept) (serves_none answers old new noted s same))
+      subst (λ (u : S). Serves answers most [] old new noted noted_new s u) (sym still)
+      (subst (λ (n : EndsView). Serves answers most [] old new noted n s s) (sym kept) (serves_none answers most old new noted s same))
 
   pub by_news : (h k : List News) (old new : Places) (noted noted_new : EndsView) (s t : S)
-      → k ≡ h → Serves answers h old new noted noted_new s t → Serves answers k old new noted noted_new s t
-  by_news h k old new noted noted_new s t same a = subst (λ n. Serves answers n old new noted noted_new s t) (sym same) a
+      → k ≡ h → Serves answers most h old new noted noted_new s t → Serves answers most k old new noted noted_new s t
+  by_news h k old new noted noted_new s t same a = subst (λ n. Serves answers most n old new noted noted_new s t) (sym same) a
 
   pub unchanged_news : (h : List News) (old new : Places) (noted noted_new : EndsView) (s t : S)
-      → Serves answers (h ++ []) old new noted noted_new s t → Serves answers h old new noted noted_new s t
-  unchanged_news h old new noted noted_new s t a = subst (λ n. Serves answers n old new noted noted_new s t) (append-nil h) a
+      → Serves answers most (h ++ []) old new noted noted_new s t → Serves answers most h old new noted noted_new s t
+  unchanged_news h old new noted noted_new s t a = subst (λ n. Serves answers most n old new noted noted_new s t) (append-nil h) a
 
   -- nobody had a turn
   pub missed_serves : (place : ℕ) (old new : Places) (noted noted_new : EndsView) (s t : S)
-      → NobodyThere answers place old new s t → noted_new ≡ noted → (ready : Option Bool) → Serves answers (turn_news place ready) old new noted noted_new s t
+      → NobodyThere answers place old new s t → noted_new ≡ noted → (ready : Option Bool) → Serves answers most (turn_news place ready) old new noted noted_new s t
   missed_serves place old new noted noted_new s t n same None = stays_serves old new noted noted_new s t n.1 same n.2
   missed_serves place old new noted noted_new s t n same (Some b) =
-      serves_quietly answers (Misses place b) old new noted noted_new s t (n.0, n.1, n.2) refl same
+      serves_quietly answers most (Misses place b) old new noted noted_new s t (n.0, n.1, n.2) tt refl same
 
   pub close_serves : (place : ℕ) (end : Result ℕ FrontError) (old new : Places) (noted noted_new : EndsView) (s : S) (p : Place) → old place ≡ Some p
-      → EndsSo end p.connection → new place ≡ None → OthersStay place old new → Notes (front_end end ∷ []) noted noted_new → Serves answers [] old new noted noted_new s s
+      → StopsFor (Over end) p.connection → new place ≡ None → OthersStay place old new → Notes (front_end end ∷ []) noted noted_new
+      → Serves answers most [] old new noted noted_new s s
   close_serves place end old new noted noted_new s p was ends left others notes =
-      serves_ending answers (Closes place end) old new noted noted_new s s (p, was, ends, left, others, refl) notes
+      serves_ending answers most (Closes place end) old new noted noted_new s s (p, was, ends, left, others, refl) tt notes
 
   -- a last turn, and then the connection is left
   pub last_serves : (place : ℕ) (end : Result ℕ FrontError) (old mid new : Places) (noted kept noted_new : EndsView) (s t : S)
       → HadLastTurn answers place (Some end) old mid s t → kept ≡ noted → new place ≡ None → OthersStay place mid new → Notes (front_end end ∷ []) kept noted_new
-      → Serves answers [] old new noted noted_new s t
+      → Serves answers most [] old new noted noted_new s t
   last_serves place end old mid new noted kept noted_new s t h same left others notes =
-      serves_ending answers (Ends place end) old new noted noted_new s t
-      (h.before, h.behind, h.was, h.does, left, stay_then place old mid new h.others others)
+      serves_ending answers most (Ends place end) old new noted noted_new s t
+      (h.before, h.behind, h.was, h.does, left, stay_then place old mid new h.others others) tt
       (subst (λ (n : EndsView). Notes (front_end end ∷ []) n noted_new) same notes)
 
-  -- ends of sessions may stand in any run
-  ends_anywhere : (steps : List Step) (p q : Places) (s : S) → AreEnds steps → TakesAll Asks steps (p, tt) (q, tt) → TakesAll answers steps (p, s) (q, s)
-  ends_anywhere [] p q s ends a = (a.0, refl)
-  ends_anywhere (Closes place result ∷ steps) p q s ends a =
+  -- clients may be given up in any run
+  given_up_anywhere : (steps : List Step) (p q : Places) (s : S) → GiveUp steps → TakesAll Asks steps (p, tt) (q, tt) → TakesAll answers steps (p, s) (q, s)
+  given_up_anywhere [] p q s ends a = (a.0, refl)
+  given_up_anywhere (GivesUp place ticks error ∷ steps) p q s ends a =
       let one = a.1 in
-      ((a.0.0, s), (one.0, one.1, one.2, one.3, one.4, refl), ends_anywhere steps a.0.0 q s ends a.2)
-  ends_anywhere (Opens place start reads_only ∷ steps) p q s ends a = absurd ends
-  ends_anywhere (Turns place ready after ∷ steps) p q s ends a = absurd ends
-  ends_anywhere (Misses place is_closing ∷ steps) p q s ends a = absurd ends
-  ends_anywhere (Ends place result ∷ steps) p q s ends a = absurd ends
-  ends_anywhere (Fails ∷ steps) p q s ends a = absurd ends
+      ((a.0.0, s), (one.0, one.1, one.2, one.3, one.4, one.5, refl), given_up_anywhere steps a.0.0 q s ends a.2)
+  given_up_anywhere (Opens place start reads_only ∷ steps) p q s ends a = absurd ends
+  given_up_anywhere (Turns place ready after ∷ steps) p q s ends a = absurd ends
+  given_up_anywhere (Misses place is_closing ∷ steps) p q s ends a = absurd ends
+  given_up_anywhere (Ticks ∷ steps) p q s ends a = absurd ends
+  given_up_anywhere (Closes place result ∷ steps) p q s ends a = absurd ends
+  given_up_anywhere (Ends place result ∷ steps) p q s ends a = absurd ends
+  given_up_anywhere (Fails ∷ steps) p q s ends a = absurd ends
 
-  no_news : (steps : List Step) → AreEnds steps → all_news steps ≡ []
+  no_news : (steps : List Step) → GiveUp steps → all_news steps ≡ []
   no_news [] ends = refl
-  no_news (Closes place result ∷ steps) ends = no_news steps ends
+  no_news (GivesUp place ticks error ∷ steps) ends = no_news steps ends
   no_news (Opens place start reads_only ∷ steps) ends = absurd ends
   no_news (Turns place ready after ∷ steps) ends = absurd ends
   no_news (Misses place is_closing ∷ steps) ends = absurd ends
+  no_news (Ticks ∷ steps) ends = absurd ends
+  no_news (Closes place result ∷ steps) ends = absurd ends
   no_news (Ends place result ∷ steps) ends = absurd ends
   no_news (Fails ∷ steps) ends = absurd ends
 
-  pub leaves_serves : (old new : Places) (n o : EndsView) (s : S) → Leaves old new n o → Serves answers [] old new n o s s
-  leaves_serves old new n o s l =
-      record { steps = l.steps; takes = ends_anywhere l.steps old new s l.ends l.takes; notes = l.notes; follows = no_news l.steps l.ends }
+  leaves_serves : (old new : Places) (n o : EndsView) (s : S) → Leaves most old new n o → Serves answers most [] old new n o s s
+  leaves_serves old new n o s l = record {
+    steps = l.steps;
+    takes = given_up_anywhere l.steps old new s l.ends l.takes;
+    notes = l.notes;
+    follows = no_news l.steps l.ends;
+    patient = l.patient;
+  }
+
+  -- a tick is counted, and then clients are given up
+  pub tick_serves : (old mid new : Places) (noted kept noted_new : EndsView) (s : S) → AllTick old mid → kept ≡ noted → Leaves most mid new kept noted_new
+      → Serves answers most (HasTicked ∷ []) old new noted noted_new s s
+  tick_serves old mid new noted kept noted_new s ticks same l =
+      serves_then answers most (HasTicked ∷ []) [] old mid new noted kept noted_new s s s
+      (serves_quietly answers most Ticks old mid noted kept s s (ticks, refl) tt refl same) (leaves_serves mid new kept noted_new s l)
 
   -- a free place is taken
   pub take_serves : (place : ℕ) (start : ConnectionView) (reads_only : Bool) (old new : Places) (noted noted_new : EndsView) (s : S)
-      → old place ≡ None → new place ≡ Some (record { connection = start; reads_only = reads_only }) → OthersStay place old new → noted_new ≡ noted
-      → Serves answers (NewClient start reads_only ∷ []) old new noted noted_new s s
+      → old place ≡ None → new place ≡ Some (record { connection = start; reads_only = reads_only; silent = 0 }) → OthersStay place old new → noted_new ≡ noted
+      → Serves answers most (NewClient place start reads_only ∷ []) old new noted noted_new s s
   take_serves place start reads_only old new noted noted_new s free taken others same =
-      serves_quietly answers (Opens place start reads_only) old new noted noted_new s s (free, taken, others, refl) refl same
+      serves_quietly answers most (Opens place start reads_only) old new noted noted_new s s (free, taken, others, refl) tt refl same
 
   pub fails_serves : (old new : Places) (noted noted_new : EndsView) (s : S)
-      → AllStay old new → Notes (told_by Fails) noted noted_new → Serves answers (news_of Fails) old new noted noted_new s s
-  fails_serves old new noted noted_new s same notes = serves_ending answers Fails old new noted noted_new s s (same, refl) notes
+      → AllStay old new → Notes (told_by Fails) noted noted_new → Serves answers most (news_of Fails) old new noted noted_new s s
+  fails_serves old new noted noted_new s same notes = serves_ending answers most Fails old new noted noted_new s s (same, refl) tt notes
 
-ends_then : (xs ys : List Step) → AreEnds xs → AreEnds ys → AreEnds (xs ++ ys)
-ends_then [] ys p q = q
-ends_then (Closes place result ∷ xs) ys p q = ends_then xs ys p q
-ends_then (Opens place start reads_only ∷ xs) ys p q = absurd p
-ends_then (Turns place ready after ∷ xs) ys p q = absurd p
-ends_then (Misses place is_closing ∷ xs) ys p q = absurd p
-ends_then (Ends place result ∷ xs) ys p q = absurd p
-ends_then (Fails ∷ xs) ys p q = absurd p
+gives_up_then : (xs ys : List Step) → GiveUp xs → GiveUp ys → GiveUp (xs ++ ys)
+gives_up_then [] ys p q = q
+gives_up_then (GivesUp place ticks error ∷ xs) ys p q = gives_up_then xs ys p q
+gives_up_then (Opens place start reads_only ∷ xs) ys p q = absurd p
+gives_up_then (Turns place ready after ∷ xs) ys p q = absurd p
+gives_up_then (Misses place is_closing ∷ xs) ys p q = absurd p
+gives_up_then (Ticks ∷ xs) ys p q = absurd p
+gives_up_then (Closes place result ∷ xs) ys p q = absurd p
+gives_up_then (Ends place result ∷ xs) ys p q = absurd p
+gives_up_then (Fails ∷ xs) ys p q = absurd p
 
-pub leaves_none : (old new : Places) (n o : EndsView) → AllStay old new → o ≡ n → Leaves old new n o
-leaves_none old new n o same e = record { steps = []; ends = tt; takes = (same, refl); notes = subst (λ (x : EndsView). Notes [] n x) (sym e) (notes_none n) }
+module _ (most : ℕ) where
+  pub leaves_none : (old : Places) (n : EndsView) → Leaves most old old n n
+  leaves_none old n = record { steps = []; ends = tt; takes = (all_stay old, refl); notes = notes_none n; patient = tt }
 
-pub leaves_then : (a b c : Places) (m n o : EndsView) → Leaves a b m n → Leaves b c n o → Leaves a c m o
-leaves_then a b c m n o p q = record {
-  steps = p.steps ++ q.steps;
-  ends = ends_then p.steps q.steps p.ends q.ends;
-  takes = steps_then Asks p.steps q.steps (a, tt) (b, tt) (c, tt) p.takes q.takes;
-  notes = notes_then p.steps q.steps m n o p.notes q.notes;
-}
+  pub leaves_then : (a b c : Places) (m n o : EndsView) → Leaves most a b m n → Leaves most b c n o → Leaves most a c m o
+  leaves_then a b c m n o p q = record {
+    steps = p.steps ++ q.steps;
+    ends = gives_up_then p.steps q.steps p.ends q.ends;
+    takes = steps_then Asks p.steps q.steps (a, tt) (b, tt) (c, tt) p.takes q.takes;
+    notes = notes_then p.steps q.steps m n o p.notes q.notes;
+    patient = patient_then most p.steps q.steps p.patient q.patient;
+  }
 
--- a connection is left
-leaves_it : (place : ℕ) (end : Result ℕ FrontError) (old new : Places) (m o : EndsView) (p : Place) → old place ≡ Some p → EndsSo end p.connection
-    → new place ≡ None → OthersStay place old new → Notes (front_end end ∷ []) m o → Leaves old new m o
-leaves_it place end old new m o p was ends left others notes = record {
-  steps = Closes place end ∷ [];
-  ends = tt;
-  takes = ((new, tt), (p, was, ends, left, others, refl), (all_stay new, refl));
-  notes = notes;
-}
+  -- a client is given up
+  pub leaves_one : (place : ℕ) (error : FrontError) (old new : Places) (m o : EndsView) (p : Place) → old place ≡ Some p → Owes (Some error) p.connection → most ≤ p.silent
+      → new place ≡ None → OthersStay place old new → Notes (front_end (Err error) ∷ []) m o → Leaves most old new m o
+  leaves_one place error old new m o p was owes long left others notes = record {
+    steps = GivesUp place p.silent error ∷ [];
+    ends = tt;
+    takes = ((new, tt), (p, was, owes, refl, left, others, refl), (all_stay new, refl));
+    notes = notes;
+    patient = (long, tt);
+  }
 
--- a connection is left that was as it was
-pub leaves_one : (place : ℕ) (end : Result ℕ FrontError) (old mid new : Places) (n m o : EndsView) (p : Place) → AllStay old mid → m ≡ n → mid place ≡ Some p → EndsSo end p.connection
-    → new place ≡ None → OthersStay place mid new → Notes (front_end end ∷ []) m o → Leaves old new n o
-leaves_one place end old mid new n m o p same kept was ends left others notes =
-    leaves_then old mid new n m o (leaves_none old mid n m same kept) (leaves_it place end mid new m o p was ends left others notes)
+-- ---- places one after the other
+
+-- one place more is ticked
+pub ticked_below : (old now new : Places) (place : ℕ) → ((other : ℕ) → other < place → now other ≡ ticked (old other)) → ((other : ℕ) → place ≤ other → now other ≡ old other)
+    → new place ≡ ticked (now place) → OthersStay place now new → (other : ℕ) → other < place + 1 → new other ≡ ticked (old other)
+ticked_below old now new place before after here others other below = by (cases_lt other place)
+  where
+    by : (other < place) ⊎ (place ≤ other) → new other ≡ ticked (old other)
+    by (inl less) = others other (λ e. absurd (omega (arith, e, less))) ∙ before other less
+    by (inr far) =
+        let same : other ≡ place = omega (arith, below, far) in
+        subst (λ (n : ℕ). new n ≡ ticked (old n)) (sym same) (here ∙ ap ticked (after place (omega arith)))
+
+-- all places are ticked, if those below this one are, and nobody stands at it or beyond
+pub all_ticked : (old new : Places) (place places : ℕ) → places ≤ place → ((other : ℕ) → other < place → new other ≡ ticked (old other))
+    → ((other : ℕ) → place ≤ other → new other ≡ old other) → ((other : ℕ) → places ≤ other → old other ≡ None) → AllTick old new
+all_ticked old new place places done below beyond nobody_there other = by (cases_lt other place)
+  where
+    by : (other < place) ⊎ (place ≤ other) → new other ≡ ticked (old other)
+    by (inl less) = below other less
+    by (inr far) =
+        let none : old other ≡ None = nobody_there other (omega (arith, far, done)) in
+        beyond other far ∙ (none ∙ ap ticked (sym none))
 
 -- one place more is free
 pub free_below : (old new : Places) (place : ℕ) → ((other : ℕ) → other < place → old other ≡ None) → new place ≡ None → OthersStay place old new

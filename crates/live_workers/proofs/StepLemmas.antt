@@ -5,7 +5,7 @@ use Rattle.map_core.specs.declared.op.Op.{Op}
 use Rattle.map_core.specs.declared.reply.Reply.{Reply}
 use Rattle.map_core.specs.declared.reply.AskError.{AskError}
 use Rattle.live_workers.specs.Arrivals.{News}
-use Rattle.live_workers.specs.Sessions.{Places, Step, Opens, Turns, Misses, Closes, Ends, Fails, OthersStay, AllStay, Takes, TakesAll, told_all, told_by, all_news, news_of}
+use Rattle.live_workers.specs.Sessions.{Places, Step, Opens, Turns, Misses, Ticks, Closes, GivesUp, Ends, Fails, ArePatient, IsPatient, OthersStay, AllStay, Takes, TakesAll, told_all, told_by, all_news, news_of, ticked}
 use Rattle.live_workers.specs.Private.Serving.{Serves}
 use Rattle.workers.specs.Ended.{EndsView, Notes, kept_of}
 use Rattle.workers.specs.declared.ended.SessionFault.{SessionFault}
@@ -31,13 +31,19 @@ notes_by xs ys m n same p = subst (λ (l : List (Result ℕ SessionFault)). Note
 news_then : (xs ys : List Step) (h k : List News) → all_news xs ≡ h → all_news ys ≡ k → all_news (xs ++ ys) ≡ h ++ k
 news_then xs ys h k p q = flat_map-append news_of xs ys ∙ (ap (λ (l : List News). l ++ all_news ys) p ∙ ap (λ (l : List News). h ++ l) q)
 
+pub patient_then : (most : ℕ) (xs ys : List Step) → ArePatient most xs → ArePatient most ys → ArePatient most (xs ++ ys)
+patient_then most [] ys p q = q
+patient_then most (x ∷ xs) ys p q = (p.0, patient_then most xs ys p.1 q)
+
 module _ {S : Type 0} (answers : S → Op → Result Reply AskError → S → Type 0) where
   -- places that are the same are left in the same way
   step_from : (step : Step) (old also : Places) (s : S) (new : Places × S) → AllStay old also → Takes answers step (old, s) new → Takes answers step (also, s) new
   step_from (Opens place start reads_only) old also s new same a = (same place ∙ a.0, a.1, λ other else. a.2 other else ∙ sym (same other), a.3)
-  step_from (Turns place ready after) old also s new same a = (a.0, a.1, same place ∙ a.2, a.3, a.4, a.5, λ other else. a.6 other else ∙ sym (same other))
+  step_from (Turns place ready after) old also s new same a = (a.0, a.1, same place ∙ a.2, a.3, a.4, a.5, a.6, λ other else. a.7 other else ∙ sym (same other))
   step_from (Misses place is_closing) old also s new same a = (same place ∙ a.0, λ other. a.1 other ∙ sym (same other), a.2)
+  step_from Ticks old also s new same a = (λ place. a.0 place ∙ ap ticked (sym (same place)), a.1)
   step_from (Closes place result) old also s new same a = (a.0, same place ∙ a.1, a.2, a.3, λ other else. a.4 other else ∙ sym (same other), a.5)
+  step_from (GivesUp place ticks error) old also s new same a = (a.0, same place ∙ a.1, a.2, a.3, a.4, λ other else. a.5 other else ∙ sym (same other), a.6)
   step_from (Ends place result) old also s new same a = (a.0, a.1, same place ∙ a.2, a.3, a.4, λ other else. a.5 other else ∙ sym (same other))
   step_from Fails old also s new same a = (λ place. a.0 place ∙ sym (same place), a.1)
 
@@ -50,33 +56,36 @@ module _ {S : Type 0} (answers : S → Op → Result Reply AskError → S → Ty
       steps_from ys b.0 a.0 a.1 c (λ place. sym (p.0 place)) (subst (λ (s : S). TakesAll answers ys (b.0, s) c) p.1 q)
   steps_then (x ∷ xs) ys a b c p q = (p.0, p.1, steps_then xs ys p.0 b c p.2 q)
 
+module _ {S : Type 0} (answers : S → Op → Result Reply AskError → S → Type 0) (most : ℕ) where
   -- nothing is done
-  pub serves_none : (old new : Places) (noted : EndsView) (s : S) → AllStay old new → Serves answers [] old new noted noted s s
-  serves_none old new noted s same = record { steps = []; takes = (same, refl); notes = notes_none noted; follows = refl }
+  pub serves_none : (old new : Places) (noted : EndsView) (s : S) → AllStay old new → Serves answers most [] old new noted noted s s
+  serves_none old new noted s same = record { steps = []; takes = (same, refl); notes = notes_none noted; follows = refl; patient = tt }
 
   -- one step that ends a session
-  pub serves_ending : (step : Step) (old new : Places) (noted noted_new : EndsView) (s t : S) → Takes answers step (old, s) (new, t)
-      → Notes (told_by step) noted noted_new → Serves answers (news_of step) old new noted noted_new s t
-  serves_ending step old new noted noted_new s t a notes = record {
+  pub serves_ending : (step : Step) (old new : Places) (noted noted_new : EndsView) (s t : S) → Takes answers step (old, s) (new, t) → IsPatient most step
+      → Notes (told_by step) noted noted_new → Serves answers most (news_of step) old new noted noted_new s t
+  serves_ending step old new noted noted_new s t a patient notes = record {
     steps = step ∷ [];
     takes = ((new, t), a, (all_stay new, refl));
     notes = notes_by (told_by step) (told_all (step ∷ [])) noted noted_new (sym (append-nil (told_by step))) notes;
     follows = append-nil (news_of step);
+    patient = (patient, tt);
   }
 
   -- one step that ends no session
-  pub serves_quietly : (step : Step) (old new : Places) (noted noted_new : EndsView) (s t : S) → Takes answers step (old, s) (new, t)
-      → told_by step ≡ [] → noted_new ≡ noted → Serves answers (news_of step) old new noted noted_new s t
-  serves_quietly step old new noted noted_new s t a none same =
-      serves_ending step old new noted noted_new s t a
+  pub serves_quietly : (step : Step) (old new : Places) (noted noted_new : EndsView) (s t : S) → Takes answers step (old, s) (new, t) → IsPatient most step
+      → told_by step ≡ [] → noted_new ≡ noted → Serves answers most (news_of step) old new noted noted_new s t
+  serves_quietly step old new noted noted_new s t a patient none same =
+      serves_ending step old new noted noted_new s t a patient
       (subst (λ (n : EndsView). Notes (told_by step) noted n) (sym same) (notes_by [] (told_by step) noted noted (sym none) (notes_none noted)))
 
   -- some steps, and then others
-  pub serves_then : (h k : List News) (a b c : Places) (m n o : EndsView) (s t u : S) → Serves answers h a b m n s t → Serves answers k b c n o t u
-      → Serves answers (h ++ k) a c m o s u
+  pub serves_then : (h k : List News) (a b c : Places) (m n o : EndsView) (s t u : S) → Serves answers most h a b m n s t → Serves answers most k b c n o t u
+      → Serves answers most (h ++ k) a c m o s u
   serves_then h k a b c m n o s t u p q = record {
     steps = p.steps ++ q.steps;
-    takes = steps_then p.steps q.steps (a, s) (b, t) (c, u) p.takes q.takes;
+    takes = steps_then answers p.steps q.steps (a, s) (b, t) (c, u) p.takes q.takes;
     notes = notes_then p.steps q.steps m n o p.notes q.notes;
     follows = news_then p.steps q.steps h k p.follows q.follows;
+    patient = patient_then most p.steps q.steps p.patient q.patient;
   }

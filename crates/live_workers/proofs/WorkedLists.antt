@@ -59,14 +59,14 @@ module _ (opens : ℕ → ℕ → Bool → Type 0) (store : StoreView) where
   )
 
   -- what was given in each place was worked for the pass in that place, under that number, and follows what came there
-  pub followed_in_place : {E V F : Type 0} (start : E → ConnectionView) (comes : V → Arrival E → V → Type 0) (workers : List (Worker V)) (passes : List PassView) (arrivals : List V)
+  pub followed_in_place : {E V F : Type 0} (most_silent : ℕ) (start : E → ConnectionView) (comes : V → ℕ → Arrival E → V → Type 0) (workers : List (Worker V)) (passes : List PassView) (arrivals : List V)
       (given : List (Result Worked F)) (all : List Worked)
       → map (λ (w : Worker V). w.pass) workers ≡ passes → map (λ (w : Worker V). w.arrivals) workers ≡ arrivals → AreNumbered 0 (map (λ (w : Worker V). w.number) workers)
       → map Ok all ≡ given → length given ≡ length workers
       → ((i : ℕ) (r : Result Worked F) → i < length workers
-      → (job : Worker V) × (job ≡ get_or workers i job) × IfOk (get_or given i r) (λ w. HasFollowed opens start comes store job.number job.pass job.arrivals w))
-      → AllFollowed opens start comes store passes arrivals all
-  followed_in_place {E} {V} {F} start comes workers passes arrivals given all same same_arrivals numbered gave long each =
+      → (job : Worker V) × (job ≡ get_or workers i job) × IfOk (get_or given i r) (λ w. HasFollowed opens most_silent start comes store job.number job.pass job.arrivals w))
+      → AllFollowed opens most_silent start comes store passes arrivals all
+  followed_in_place {E} {V} {F} most_silent start comes workers passes arrivals given all same same_arrivals numbered gave long each =
       let pass_of : Worker V → PassView = λ w. w.pass in
       let arrivals_of : Worker V → V = λ w. w.arrivals in
       let number_of : Worker V → ℕ = λ w. w.number in
@@ -84,15 +84,15 @@ module _ (opens : ℕ → ℕ → Bool → Type 0) (store : StoreView) where
       ∙ number_in_place 0 (map number_of workers) i e.0.number numbered (omega (arith, length-map workers number_of)) in
       let number_is : e.0.number ≡ i = omega (arith, number_first) in
       let gave_is : get_or given i (Ok w) ≡ Ok (get_or all i w) = ap (λ (gs : List (Result Worked F)). get_or gs i (Ok w)) (sym gave) ∙ get_or-map Ok all i w (Ok w) in_all in
-      subst (λ (n : ℕ). HasFollowed opens start comes store n (get_or passes i p) (get_or arrivals i v) (get_or all i w)) number_is
-      (subst (λ (q : PassView). HasFollowed opens start comes store e.0.number q (get_or arrivals i v) (get_or all i w)) (sym pass_is)
-      (subst (λ (u : V). HasFollowed opens start comes store e.0.number e.0.pass u (get_or all i w)) (sym arrivals_is)
-      (subst (λ (r : Result Worked F). IfOk r (λ x. HasFollowed opens start comes store e.0.number e.0.pass e.0.arrivals x)) gave_is e.2)))
+      subst (λ (n : ℕ). HasFollowed opens most_silent start comes store n (get_or passes i p) (get_or arrivals i v) (get_or all i w)) number_is
+      (subst (λ (q : PassView). HasFollowed opens most_silent start comes store e.0.number q (get_or arrivals i v) (get_or all i w)) (sym pass_is)
+      (subst (λ (u : V). HasFollowed opens most_silent start comes store e.0.number e.0.pass u (get_or all i w)) (sym arrivals_is)
+      (subst (λ (r : Result Worked F). IfOk r (λ x. HasFollowed opens most_silent start comes store e.0.number e.0.pass e.0.arrivals x)) gave_is e.2)))
 
   -- who has followed all has served
-  pub served_in_place : {E V : Type 0} (start : E → ConnectionView) (comes : V → Arrival E → V → Type 0) (passes : List PassView) (arrivals : List V) (all : List Worked)
-      → length all ≡ length passes → ((i : ℕ) → Worked → i < length passes → V) → AllFollowed opens start comes store passes arrivals all → AllServed opens store 0 passes all
-  served_in_place start comes passes arrivals all long some each =
+  pub served_in_place : {E V : Type 0} (most_silent : ℕ) (start : E → ConnectionView) (comes : V → ℕ → Arrival E → V → Type 0) (passes : List PassView) (arrivals : List V) (all : List Worked)
+      → length all ≡ length passes → ((i : ℕ) → Worked → i < length passes → V) → AllFollowed opens most_silent start comes store passes arrivals all → AllServed opens store 0 passes all
+  served_in_place most_silent start comes passes arrivals all long some each =
       all_from_places 0 passes all long (λ i p w l. subst (λ (n : ℕ). HasServed opens store n (get_or passes i p) (get_or all i w)) (omega arith) (each i p (some i w l) w l).0)
 
   -- their passes have the numbers that they had

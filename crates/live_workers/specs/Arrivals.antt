@@ -9,24 +9,30 @@ abbrev pub IsStop : {E : Type 0} → Arrival E → Type 0
 IsStop Stops = ⊤
 IsStop arrival = ⊥
 
--- What a worker has to follow: a client has connected, a stream is ready, the listener has failed, or it is to stop.
+-- What a worker has to follow: a client has connected, for whom this place was told; a stream is ready; some time has passed; the
+-- listener has failed; or it is to stop.
 pub data News : Type 0 where
-  NewClient : (start : ConnectionView) → (reads_only : Bool) → News
+  NewClient : (place : ℕ) → (start : ConnectionView) → (reads_only : Bool) → News
   IsReady : (place : ℕ) → (is_closing : Bool) → News
+  HasTicked : News
   HasFailed : News
   IsToStop : News
 
 module _ {E : Type 0} (start : E → ConnectionView) where
-  -- the news in what came
-  abbrev pub news_in : Arrival E → List News
-  news_in (Opens end reads_only) = NewClient (start end) reads_only ∷ []
-  news_in (Ready place is_closing) = IsReady place is_closing ∷ []
-  news_in Tick = []
-  news_in Nothing = []
-  news_in Fails = HasFailed ∷ []
-  news_in Stops = IsToStop ∷ []
+  -- the news in what came after a place was told to be free
+  abbrev pub news_in : ℕ → Arrival E → List News
+  news_in free (Opens end reads_only) = NewClient free (start end) reads_only ∷ []
+  news_in free (Ready place is_closing) = IsReady place is_closing ∷ []
+  news_in free Tick = HasTicked ∷ []
+  news_in free Nothing = []
+  news_in free Fails = HasFailed ∷ []
+  news_in free Stops = IsToStop ∷ []
 
--- all this came from a source, one after the other
-abbrev pub ComesAll : {E V : Type 0} → (V → Arrival E → V → Type 0) → List (Arrival E) → V → V → Type 0
+  -- of a place that was told and what came then
+  abbrev pub news_of_both : ℕ × Arrival E → List News
+  news_of_both both = news_in both.0 both.1
+
+-- all this came from a source, one after the other, each after this place was told to be free
+abbrev pub ComesAll : {E V : Type 0} → (V → ℕ → Arrival E → V → Type 0) → List (ℕ × Arrival E) → V → V → Type 0
 ComesAll comes [] old new = new ≡ old
-ComesAll {E} {V} comes (arrival ∷ arrivals) old new = (mid : V) × comes old arrival mid × ComesAll comes arrivals mid new
+ComesAll {E} {V} comes (both ∷ more) old new = (mid : V) × comes old both.0 both.1 mid × ComesAll comes more mid new

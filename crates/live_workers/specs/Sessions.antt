@@ -1,24 +1,25 @@
 -- What becomes of the connections of a worker.
-use Rattle.std.specs.Prelude.{◌≡◌, ◌≢◌, ◌⊎◌, ℕ, List, [], ◌∷◌, ◌++◌, Option, Some, None, Bool, false, Result, Ok, Err}
-use Rattle.std.specs.List.{flat_map}
+use Rattle.std.specs.Prelude.{◌≡◌, ◌≢◌, ◌≤◌, ℕ, ◌+◌, ⊤, List, [], ◌∷◌, ◌++◌, Option, Some, None, Bool, false, Result, Ok, Err}
+use Rattle.std.specs.List.{AllByRecursion, flat_map}
 use Rattle.map_core.specs.declared.op.Op.{Op}
 use Rattle.map_core.specs.declared.reply.Reply.{Reply}
 use Rattle.map_core.specs.declared.reply.AskError.{AskError}
 use Rattle.frame_front.specs.declared.error.FrontError.{FrontError}
-use Rattle.connections.specs.Connection.{ConnectionView, LastTurn, Owes, StopsFor, Turn, told, turn_rounds}
+use Rattle.connections.specs.Connection.{ConnectionView, LastTurn, Owes, StopsFor, Turn, counted, told, turn_rounds}
 use Rattle.connections.specs.declared.after.After.{After}
 use Rattle.connections.specs.declared.after.After.TheVariants.{Over}
-use Rattle.live_workers.specs.Arrivals.{News, NewClient, IsReady, HasFailed, IsToStop, ComesAll, news_in}
+use Rattle.live_workers.specs.Arrivals.{News, NewClient, IsReady, HasTicked, HasFailed, IsToStop, ComesAll, news_of_both}
 use Rattle.live_workers.specs.AtPort.{PortAnswer}
 use Rattle.live_workers.specs.declared.arrivals.Arrival.{Arrival}
 use Rattle.workers.specs.Ended.{EndsView, kept_of}
 use Rattle.workers.specs.declared.ended.SessionFault.{SessionFault}
 use Rattle.workers.specs.declared.ended.SessionFault.TheVariants.{Front, Listen}
 
--- one connection of a worker, and whether it may only read
+-- one connection of a worker, whether it may only read, and how many ticks have passed since its last turn
 pub record Place : Type 0 where
   pub connection : ConnectionView
   pub reads_only : Bool
+  pub silent : ℕ
 
 -- the connections that are open, by the numbers of their places
 abbrev pub Places : Type 0
@@ -28,14 +29,22 @@ Places = ℕ → Option Place
 abbrev pub nobody : Places
 nobody place = None
 
+-- a tick more has passed
+abbrev pub ticked : Option Place → Option Place
+ticked None = None
+ticked (Some place) = Some (record place { silent = counted (place.silent + 1) })
+
 -- One thing that a worker does: it takes a connection at a free place; it gives the one at a place a turn, since its stream is
--- ready, and maybe closing, or of its own accord; it finds nobody there whose stream would be ready; it leaves a connection; it
--- gives one its last turn and leaves it; or it learns that its listener failed.
+-- ready, and maybe closing, or of its own accord; it finds nobody there whose stream would be ready; it counts a tick; it leaves a
+-- connection whose session is over; it gives a client up that owes something, so many ticks after its last turn; it gives a
+-- connection its last turn and leaves it; or it learns that its listener failed.
 pub data Step : Type 0 where
   Opens : (place : ℕ) → (start : ConnectionView) → (reads_only : Bool) → Step
   Turns : (place : ℕ) → (ready : Option Bool) → (after : After) → Step
   Misses : (place : ℕ) → (is_closing : Bool) → Step
+  Ticks : Step
   Closes : (place : ℕ) → (result : Result ℕ FrontError) → Step
+  GivesUp : (place : ℕ) → (ticks : ℕ) → (error : FrontError) → Step
   Ends : (place : ℕ) → (result : Result ℕ FrontError) → Step
   Fails : Step
 
@@ -46,6 +55,7 @@ front_end (Err error) = Err (Front error)
 -- what a step tells of the end of a session
 abbrev pub told_by : Step → List (Result ℕ SessionFault)
 told_by (Closes place result) = front_end result ∷ []
+told_by (GivesUp place ticks error) = front_end (Err error) ∷ []
 told_by (Ends place result) = front_end result ∷ []
 told_by Fails = Err Listen ∷ []
 told_by step = []
@@ -55,10 +65,11 @@ told_all steps = flat_map told_by steps
 
 -- the news that a step follows
 abbrev pub news_of : Step → List News
-news_of (Opens place start reads_only) = NewClient start reads_only ∷ []
+news_of (Opens place start reads_only) = NewClient place start reads_only ∷ []
 news_of (Turns place (Some is_closing) after) = IsReady place is_closing ∷ []
 news_of (Turns place None after) = []
 news_of (Misses place is_closing) = IsReady place is_closing ∷ []
+news_of Ticks = HasTicked ∷ []
 news_of Fails = HasFailed ∷ []
 news_of step = []
 
@@ -70,15 +81,6 @@ abbrev pub closing_of : Option Bool → Bool
 closing_of (Some is_closing) = is_closing
 closing_of None = false
 
--- the client owes this
-abbrev pub IsOwed : Result ℕ FrontError → ConnectionView → Type 0
-IsOwed (Ok count) c = ⊥
-IsOwed (Err error) c = Owes (Some error) c
-
--- A connection is left so: its session is over, or its client owes something.
-abbrev pub EndsSo : Result ℕ FrontError → ConnectionView → Type 0
-EndsSo result c = StopsFor (Over result) c ⊎ IsOwed result c
-
 -- at all other places it is as it was
 abbrev pub OthersStay : ℕ → Places → Places → Type 0
 OthersStay place old new = (other : ℕ) → other ≢ place → new other ≡ old other
@@ -86,15 +88,22 @@ OthersStay place old new = (other : ℕ) → other ≢ place → new other ≡ o
 abbrev pub AllStay : Places → Places → Type 0
 AllStay old new = (place : ℕ) → new place ≡ old place
 
+-- at each place a tick has passed
+abbrev pub AllTick : Places → Places → Type 0
+AllTick old new = (place : ℕ) → new place ≡ ticked (old place)
+
 module _ {S : Type 0} (answers : S → Op → Result Reply AskError → S → Type 0) where
   abbrev pub Takes : Step → Places × S → Places × S → Type 0
-  Takes (Opens place start reads_only) old new = (old.0 place ≡ None) × (new.0 place ≡ Some (record { connection = start; reads_only = reads_only }))
+  Takes (Opens place start reads_only) old new = (old.0 place ≡ None) × (new.0 place ≡ Some (record { connection = start; reads_only = reads_only; silent = 0 }))
       × OthersStay place old.0 new.0 × (new.1 ≡ old.1)
   Takes (Turns place ready after) old new = (p : Place) × (q : Place) × (old.0 place ≡ Some p) × (new.0 place ≡ Some q)
       × Turn turn_rounds (PortAnswer answers p.reads_only) after (told (closing_of ready) p.connection) q.connection old.1 new.1
-      × (q.reads_only ≡ p.reads_only) × OthersStay place old.0 new.0
+      × (q.reads_only ≡ p.reads_only) × (q.silent ≡ 0) × OthersStay place old.0 new.0
   Takes (Misses place is_closing) old new = (old.0 place ≡ None) × AllStay old.0 new.0 × (new.1 ≡ old.1)
-  Takes (Closes place result) old new = (p : Place) × (old.0 place ≡ Some p) × EndsSo result p.connection × (new.0 place ≡ None)
+  Takes Ticks old new = AllTick old.0 new.0 × (new.1 ≡ old.1)
+  Takes (Closes place result) old new = (p : Place) × (old.0 place ≡ Some p) × StopsFor (Over result) p.connection × (new.0 place ≡ None)
+      × OthersStay place old.0 new.0 × (new.1 ≡ old.1)
+  Takes (GivesUp place ticks error) old new = (p : Place) × (old.0 place ≡ Some p) × Owes (Some error) p.connection × (ticks ≡ p.silent) × (new.0 place ≡ None)
       × OthersStay place old.0 new.0 × (new.1 ≡ old.1)
   Takes (Ends place result) old new = (p : Place) × (last : ConnectionView) × (old.0 place ≡ Some p)
       × LastTurn (PortAnswer answers p.reads_only) result p.connection last old.1 new.1 × (new.0 place ≡ None) × OthersStay place old.0 new.0
@@ -111,8 +120,19 @@ module _ {S : Type 0} (answers : S → Op → Result Reply AskError → S → Ty
     pub takes : TakesAll steps (nobody, old) (nobody, new)
     pub ends : kept ≡ kept_of (told_all steps)
 
--- The steps follow all news that came, in order, up to the first stop.
-pub record Follows {E V : Type 0} (start : E → ConnectionView) (comes : V → Arrival E → V → Type 0) (steps : List Step) (old new : V) : Type 0 where
-  pub arrivals : List (Arrival E)
+-- a client is given up only after so many ticks
+abbrev pub IsPatient : ℕ → Step → Type 0
+IsPatient most (GivesUp place ticks error) = most ≤ ticks
+IsPatient most step = ⊤
+
+abbrev pub ArePatient : ℕ → List Step → Type 0
+ArePatient most steps = AllByRecursion (IsPatient most) steps
+
+-- The steps follow all news that came, in order, up to the first stop: so each client stands at the place that was told just before
+-- it came. No client is given up before it has owed something for so many ticks.
+pub record Follows (most_silent : ℕ) {E V : Type 0} (start : E → ConnectionView) (comes : V → ℕ → Arrival E → V → Type 0) (steps : List Step)
+    (old new : V) : Type 0 where
+  pub arrivals : List (ℕ × Arrival E)
   pub came : ComesAll comes arrivals old new
-  pub all : flat_map (news_in start) arrivals ≡ all_news steps ++ IsToStop ∷ []
+  pub all : flat_map (news_of_both start) arrivals ≡ all_news steps ++ IsToStop ∷ []
+  pub patient : ArePatient most_silent steps

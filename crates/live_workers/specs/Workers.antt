@@ -23,10 +23,10 @@ module _ (opens : ℕ → ℕ → Bool → Type 0) where
   AllServed store first [] (worked ∷ all) = ⊥
   AllServed store first (pass ∷ passes) [] = ⊥
 
-  module _ {E V : Type 0} (start : E → ConnectionView) (comes : V → Arrival E → V → Type 0) where
+  module _ (most_silent : ℕ) {E V : Type 0} (start : E → ConnectionView) (comes : V → ℕ → Arrival E → V → Type 0) where
     -- a worker has served, and followed all that came to it, up to a stop
     abbrev pub HasFollowed : StoreView → ℕ → PassView → V → Worked → Type 0
-    HasFollowed store worker pass arrivals worked = (served : HasServed store worker pass worked) × ((end : V) × Follows start comes served.served.steps arrivals end)
+    HasFollowed store worker pass arrivals worked = (served : HasServed store worker pass worked) × ((end : V) × Follows most_silent start comes served.served.steps arrivals end)
 
     -- each worker in its place
     abbrev pub AllFollowed : StoreView → List PassView → List V → List Worked → Type 0

@@ -7,10 +7,12 @@
 
 mod arrivals;
 mod at_port;
+mod limits;
 mod run;
 mod serving;
 
 pub use arrivals::{Arrival, Arrivals};
 pub use at_port::AtPort;
+pub use limits::Limits;
 pub use run::run_arrivals;
 pub use serving::serve_arrivals;

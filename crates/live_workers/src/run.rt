@@ -8,6 +8,7 @@ ghost use Rattle.live_workers.specs.Private.Numbers.{AreNumbered};
 
 use crate::arrivals::Arrivals;
 use crate::at_port::AtPort;
+use crate::limits::Limits;
 use crate::serving::serve_arrivals;
 use shard_store::{Pass, Store};
 use std::alloc::{AllocError, Global};
@@ -30,22 +31,21 @@ fn work<C: Clock, V: Arrivals + Drop, G: Gate, L: Log>(
     alloc: Global,
     store: &Store,
     gate: &G,
-    retries: u64,
     log: &L,
-    most_silent: u64,
+    limits: Limits,
     worker: Worker<V>,
 ) -> Result<Worked, AllocError>
     requires own { IsOf worker.pass store.now }
-    ensures { IfOk result (λ worked. HasFollowed (G.opens gate.now) (λ end. opened (V.End.may end) (V.End.left end) (V.End.held end)) V.comes store.now worker.number worker.pass worker.arrivals worked) }
+    ensures { IfOk result (λ worked. HasFollowed (G.opens gate.now) limits.most_silent (λ end. opened limits.turns (V.End.may end) (V.End.left end) (V.End.held end) (V.End.reads end)) V.comes store.now worker.number worker.pass worker.arrivals worked) }
 {
     let Worker {
         number,
         pass,
         mut arrivals,
     } = worker;
-    let logged = Logged::new(store, pass, clock, retries, log, number);
+    let logged = Logged::new(store, pass, clock, limits.retries, *log, number);
     let mut port = AtPort::new(Gated::new(logged, gate, number), false);
-    let ends = serve_arrivals(alloc, &mut arrivals, &mut port, most_silent, log, number)?;
+    let ends = serve_arrivals(alloc, &mut arrivals, &mut port, limits, log, number)?;
     let AtPort {
         ask: gated,
         reads_only: _,
@@ -120,10 +120,9 @@ fn all_worked(
 }
 
 /// Runs a worker for each pass, in a thread of its own if one can be made, and joins them. Each serves its connections
-/// through the gate, beside each other; what the store answers while others are in the way is asked again, at most
-/// `retries` times, and a client that owes something for `most_silent` ticks is left. The log is told of changes and of
-/// the ends of sessions. What the workers give back stands in the order of the passes. If memory runs out, the passes are
-/// gone, and sessions may have been served.
+/// through the gate, beside each other, and goes with its clients as far as the limits say. The log is told of changes and
+/// of the ends of sessions. What the workers give back stands in the order of the passes. If memory runs out, the passes
+/// are gone, and sessions may have been served.
 pub fn run_arrivals<
     R: Threads + Clock + Sync,
     V: Arrivals + Send + Drop,
@@ -136,20 +135,19 @@ pub fn run_arrivals<
     passes: Vec<Pass>,
     arrivals: Vec<V>,
     gate: &G,
-    retries: u64,
-    most_silent: u64,
     log: &L,
+    limits: Limits,
 ) -> Result<Vec<Worked>, AllocError>
     requires same { vec_len passes ≡ vec_len arrivals }
     requires own { All (λ pass. IsOf pass store.now) passes.items }
     ensures served { IfOk result (λ all. AllServed (G.opens gate.now) store.now 0 passes.items all.items) }
-    ensures followed { IfOk result (λ all. AllFollowed (G.opens gate.now) (λ end. opened (V.End.may end) (V.End.left end) (V.End.held end)) V.comes store.now passes.items arrivals.items all.items) }
+    ensures followed { IfOk result (λ all. AllFollowed (G.opens gate.now) limits.most_silent (λ end. opened limits.turns (V.End.may end) (V.End.left end) (V.End.held end) (V.End.reads end)) V.comes store.now passes.items arrivals.items all.items) }
 {
     let workers = workers_of(alloc, passes, arrivals)?;
     let run = |worker: Worker<V>| -> Result<Worked, AllocError>
         requires { IsOf worker.pass store.now }
-        ensures { IfOk result (λ worked. HasFollowed (G.opens gate.entry.now) (λ end. opened (V.End.may end) (V.End.left end) (V.End.held end)) V.comes store.entry.now worker.number worker.pass worker.arrivals worked) }
-    { work(rt, alloc, store, gate, retries, log, most_silent, worker) };
+        ensures { IfOk result (λ worked. HasFollowed (G.opens gate.entry.now) limits.most_silent (λ end. opened limits.turns (V.End.may end) (V.End.left end) (V.End.held end) (V.End.reads end)) V.comes store.entry.now worker.number worker.pass worker.arrivals worked) }
+    { work(rt, alloc, store, gate, log, limits, worker) };
     let given = thread::map_vec(rt, workers, &run)?;
     all_worked(alloc, given)
 }

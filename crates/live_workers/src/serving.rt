@@ -1,14 +1,15 @@
 //! Serving many connections beside each other.
-ghost use Rattle.std.specs.Prelude.{◌≡◌, ◌++◌, [], ◌∷◌, Bool, Option, None, Some, Err, IfOk, OnOk, IfSome};
+ghost use Rattle.std.specs.Prelude.{◌≡◌, ◌≤◌, ◌++◌, ℕ, [], ◌∷◌, Bool, Option, None, Some, Err, IfOk, OnOk, IfSome};
 ghost use Rattle.slab.specs.Slab.{get};
 ghost use Rattle.workers.specs.Ended.{kept_of, Notes};
-ghost use Rattle.connections.specs.Connection.{opened};
+ghost use Rattle.connections.specs.Connection.{Owes, opened};
 ghost use Rattle.live_workers.specs.Arrivals.{IsStop, NewClient, news_in};
-ghost use Rattle.live_workers.specs.Sessions.{Place, AllStay, Fails, EndsSo, Follows, OthersStay, ServedAll, closing_of, front_end, nobody, told_by};
+ghost use Rattle.live_workers.specs.Sessions.{Place, AllTick, Fails, Follows, OthersStay, ServedAll, closing_of, front_end, nobody, ticked, told_by};
 ghost use Rattle.live_workers.specs.Private.Serving.{HadLastTurn, HadTurn, Leaves, Serves, turn_news};
 
 use crate::arrivals::{Arrival, Arrivals};
 use crate::at_port::AtPort;
+use crate::limits::Limits;
 use connections::{After, Connection, ROOM_BYTES, Stream};
 use frame_front::FrontError;
 use map_core::Ask;
@@ -24,7 +25,7 @@ use workers::{Log, SessionEnds, SessionFault};
 struct Placed<E: Stream + Drop> {
     connection: Connection<E>,
     reads_only: bool,
-    /// How many ticks have passed since its stream was ready last.
+    /// How many ticks have passed since its last turn.
     silent: u64,
 }
 
@@ -43,7 +44,7 @@ impl<E: Stream + Drop> Model for Placed<E> {
 
     ghost Value = { Place };
 
-    ghost view = { λ p. record { connection = p.connection; reads_only = p.reads_only } };
+    ghost view = { λ p. record { connection = p.connection; reads_only = p.reads_only; silent = p.silent } };
 }
 
 impl<E: Stream + Drop> Served<E> {
@@ -61,13 +62,13 @@ impl<E: Stream + Drop> Served<E> {
     }
 
     /// Takes a connection at the next free place.
-    fn take(&mut self, alloc: Global, end: E, reads_only: bool) -> Result<usize, AllocError>
+    fn take(&mut self, connection: Connection<E>, reads_only: bool) -> Result<usize, AllocError>
+        ensures next { IfOk result (λ place. place ≡ self.old.open.vacant_key) }
         ensures free { IfOk result (λ place. get self.old.open place ≡ None) }
-        ensures taken { IfOk result (λ place. get self.new.open place ≡ Some (record { connection = opened (E.may end) (E.left end) (E.held end); reads_only = reads_only })) }
+        ensures taken { IfOk result (λ place. get self.new.open place ≡ Some (record { connection = connection; reads_only = reads_only; silent = 0 })) }
         ensures others { IfOk result (λ place. OthersStay place (get self.old.open) (get self.new.open)) }
         ensures ends { self.new.ends ≡ self.old.ends }
     {
-        let connection = Connection::new(alloc, end)?;
         let placed = Placed {
             connection,
             reads_only,
@@ -143,7 +144,7 @@ impl<E: Stream + Drop> Served<E> {
         log: &L,
         worker: u64,
     ) -> Result<(), AllocError>
-        ensures { OnOk result ((ready : Option Bool) → closing_of ready ≡ is_closing → Serves A.answers (turn_news place ready) (get self.old.open) (get self.new.open) self.old.ends self.new.ends ask.old.ask ask.new.ask) }
+        ensures { OnOk result ((most : ℕ) (ready : Option Bool) → closing_of ready ≡ is_closing → Serves A.answers most (turn_news place ready) (get self.old.open) (get self.new.open) self.old.ends self.new.ends ask.old.ask ask.new.ask) }
     {
         match self.turn(room, place, is_closing, ask) {
             None => Ok(()),
@@ -156,17 +157,38 @@ impl<E: Stream + Drop> Served<E> {
         }
     }
 
-    /// Why the connection at a place is to be left: once its client has owed the rest of a frame, or the room for replies,
-    /// for so many ticks. Its memory that no byte needs is given back.
-    fn is_silent(&mut self, place: usize, most: u64) -> Option<FrontError>
-        ensures same { AllStay (get self.old.open) (get self.new.open) }
-        ensures why { IfSome result (λ error. (p : Place) × (get self.new.open place ≡ Some p) × EndsSo (Err error) p.connection) }
+    /// A tick has passed at a place. The memory of its connection that no byte needs is given back.
+    fn tick_at(&mut self, place: usize)
+        ensures ticked { get self.new.open place ≡ ticked (get self.old.open place) }
+        ensures others { OthersStay place (get self.old.open) (get self.new.open) }
         ensures ends { self.new.ends ≡ self.old.ends }
     {
-        let placed = self.open.get_mut(place)?;
-        placed.connection.rest();
+        if let Some(placed) = self.open.get_mut(place) {
+            placed.connection.rest();
+            placed.silent = placed.silent.saturating_add(1);
+        }
+    }
+
+    /// A tick has passed.
+    fn tick(&mut self)
+        ensures ticked { AllTick (get self.old.open) (get self.new.open) }
+        ensures ends { self.new.ends ≡ self.old.ends }
+    {
+        let places = self.open.capacity();
+        let mut place = 0;
+        while place < places {
+            self.tick_at(place);
+            place += 1;
+        }
+    }
+
+    /// Why the client at a place is to be given up: it owes the rest of a frame, or that it takes replies, and had no turn for
+    /// so many ticks.
+    fn is_silent(&self, place: usize, most: u64) -> Option<FrontError>
+        ensures { IfSome result (λ error. (p : Place) × (get self.now.open place ≡ Some p) × Owes (Some error) p.connection × (most ≤ p.silent)) }
+    {
+        let placed = self.open.get(place)?;
         let owed = placed.connection.owes()?;
-        placed.silent = placed.silent.saturating_add(1);
         if placed.silent < most {
             return None;
         }
@@ -181,7 +203,7 @@ impl<E: Stream + Drop> Served<E> {
         log: &L,
         worker: u64,
     ) -> Result<(), AllocError>
-        ensures { OnOk result (Leaves (get self.old.open) (get self.new.open) self.old.ends self.new.ends) }
+        ensures { OnOk result (Leaves most (get self.old.open) (get self.new.open) self.old.ends self.new.ends) }
     {
         match self.is_silent(place, most) {
             Some(error) => self.close(place, Err(error), log, worker),
@@ -191,7 +213,7 @@ impl<E: Stream + Drop> Served<E> {
 
     /// Leaves each connection whose client has been silent for too long.
     fn leave_silent<L: Log>(&mut self, most: u64, log: &L, worker: u64) -> Result<(), AllocError>
-        ensures { OnOk result (Leaves (get self.old.open) (get self.new.open) self.old.ends self.new.ends) }
+        ensures { OnOk result (Leaves most (get self.old.open) (get self.new.open) self.old.ends self.new.ends) }
     {
         let places = self.open.capacity();
         let mut place = 0;
@@ -211,7 +233,7 @@ impl<E: Stream + Drop> Served<E> {
         log: &L,
         worker: u64,
     ) -> Result<(), AllocError>
-        ensures served { OnOk result (Serves A.answers [] (get self.old.open) (get self.new.open) self.old.ends self.new.ends ask.old.ask ask.new.ask) }
+        ensures served { OnOk result ((most : ℕ) → Serves A.answers most [] (get self.old.open) (get self.new.open) self.old.ends self.new.ends ask.old.ask ask.new.ask) }
         ensures left { OnOk result (get self.new.open place ≡ None) }
         ensures others { OthersStay place (get self.old.open) (get self.new.open) }
     {
@@ -229,7 +251,7 @@ impl<E: Stream + Drop> Served<E> {
         log: &L,
         worker: u64,
     ) -> Result<(), AllocError>
-        ensures { OnOk result (Serves A.answers [] (get self.old.open) nobody self.old.ends self.new.ends ask.old.ask ask.new.ask) }
+        ensures { OnOk result ((most : ℕ) → Serves A.answers most [] (get self.old.open) nobody self.old.ends self.new.ends ask.old.ask ask.new.ask) }
     {
         let places = self.open.capacity();
         let mut place = 0;
@@ -243,17 +265,16 @@ impl<E: Stream + Drop> Served<E> {
     /// Takes a connection at the next free place, and gives it a turn.
     fn begin<A: Ask, L: Log>(
         &mut self,
-        alloc: Global,
         room: &mut [u8; ROOM_BYTES],
-        end: E,
+        connection: Connection<E>,
         reads_only: bool,
         ask: &mut AtPort<A>,
         log: &L,
         worker: u64,
     ) -> Result<(), AllocError>
-        ensures { OnOk result (Serves A.answers (NewClient (opened (E.may end) (E.left end) (E.held end)) reads_only ∷ []) (get self.old.open) (get self.new.open) self.old.ends self.new.ends ask.old.ask ask.new.ask) }
+        ensures { OnOk result ((most : ℕ) → Serves A.answers most (NewClient self.old.open.vacant_key connection reads_only ∷ []) (get self.old.open) (get self.new.open) self.old.ends self.new.ends ask.old.ask ask.new.ask) }
     {
-        let place = self.take(alloc, end, reads_only)?;
+        let place = self.take(connection, reads_only)?;
         self.serve(room, place, false, ask, log, worker)
     }
 
@@ -274,22 +295,26 @@ impl<E: Stream + Drop> Served<E> {
         alloc: Global,
         room: &mut [u8; ROOM_BYTES],
         arrival: Arrival<E>,
-        most_silent: u64,
+        limits: Limits,
         ask: &mut AtPort<A>,
         log: &L,
         worker: u64,
     ) -> Result<(), AllocError>
         requires { ¬ (IsStop arrival) }
-        ensures { OnOk result (Serves A.answers (news_in (λ end. opened (E.may end) (E.left end) (E.held end)) arrival) (get self.old.open) (get self.new.open) self.old.ends self.new.ends ask.old.ask ask.new.ask) }
+        ensures { OnOk result (Serves A.answers limits.most_silent (news_in (λ end. opened limits.turns (E.may end) (E.left end) (E.held end) (E.reads end)) self.old.open.vacant_key arrival) (get self.old.open) (get self.new.open) self.old.ends self.new.ends ask.old.ask ask.new.ask) }
     {
         match arrival {
             Arrival::Opens { end, reads_only } => {
-                self.begin(alloc, room, end, reads_only, ask, log, worker)
+                let connection = Connection::new(alloc, end, limits.turns)?;
+                self.begin(room, connection, reads_only, ask, log, worker)
             }
             Arrival::Ready { place, is_closing } => {
                 self.serve(room, place, is_closing, ask, log, worker)
             }
-            Arrival::Tick => self.leave_silent(most_silent, log, worker),
+            Arrival::Tick => {
+                self.tick();
+                self.leave_silent(limits.most_silent, log, worker)
+            }
             Arrival::Fails => self.note_failure(log, worker),
             Arrival::Nothing => Ok(()),
             Arrival::Stops => unreachable!(),
@@ -304,7 +329,7 @@ impl<E: Stream + Drop> Served<E> {
         log: &L,
         worker: u64,
     ) -> Result<(), AllocError>
-        ensures { OnOk result (Serves A.answers [] (get self.old.open) (get self.new.open) self.old.ends self.new.ends ask.old.ask ask.new.ask) }
+        ensures { OnOk result ((most : ℕ) → Serves A.answers most [] (get self.old.open) (get self.new.open) self.old.ends self.new.ends ask.old.ask ask.new.ask) }
     {
         match self.again.pop_front() {
             Some(place) => self.serve(room, place, false, ask, log, worker),
@@ -314,27 +339,29 @@ impl<E: Stream + Drop> Served<E> {
 }
 
 /// Serves connections beside each other until no more come: each whose stream is ready has a turn, and one that has had its
-/// share has another after one of the others. A client that owes the rest of a frame, or room for replies, for
-/// `most_silent` ticks is left. Once no more come, what was read is answered, as far as the clients take it at once. The
-/// answer is what is kept of how the sessions ended, in this order; the log is told of each end.
+/// share has another after one of the others. A session may make `limits.turns` reads. A client that owes the rest of a
+/// frame, or that it takes replies, is given up after `limits.most_silent` ticks without a turn. Once no more come, what was
+/// read is answered, as far as the clients take it at once. The answer is what is kept of how the sessions ended, in this
+/// order; the log is told of each end.
 pub fn serve_arrivals<V: Arrivals, A: Ask, L: Log>(
     alloc: Global,
     arrivals: &mut V,
     ask: &mut AtPort<A>,
-    most_silent: u64,
+    limits: Limits,
     log: &L,
     worker: u64,
 ) -> Result<SessionEnds, AllocError>
     ensures { IfOk result (λ ends. (served : ServedAll A.answers ends ask.old.ask ask.new.ask)
-        × Follows (λ end. opened (V.End.may end) (V.End.left end) (V.End.held end)) V.comes served.steps arrivals.old arrivals.new) }
+        × Follows limits.most_silent (λ end. opened limits.turns (V.End.may end) (V.End.left end) (V.End.held end) (V.End.reads end)) V.comes served.steps arrivals.old arrivals.new) }
 {
     let mut served = Served::new(alloc);
     let mut room = [0; ROOM_BYTES];
     loop {
+        let free = served.open.vacant_key();
         let is_busy = !served.again.is_empty();
-        match arrivals.next(served.open.vacant_key(), served.open.len(), is_busy) {
+        match arrivals.next(free, served.open.len(), is_busy) {
             Arrival::Stops => break,
-            arrival => served.follow(alloc, &mut room, arrival, most_silent, ask, log, worker)?,
+            arrival => served.follow(alloc, &mut room, arrival, limits, ask, log, worker)?,
         }
         served.serve_again(&mut room, ask, log, worker)?;
     }

@@ -1,6 +1,7 @@
 //! Connections in memory, which come in pieces and wait between them.
 mod ends;
 mod gates;
+mod limits;
 mod logs;
 mod memory;
 mod ports;
@@ -9,7 +10,7 @@ mod threads;
 mod turns;
 
 use connections::Stream;
-use live_workers::{Arrival, Arrivals, AtPort, serve_arrivals};
+use live_workers::{Arrival, Arrivals, AtPort, Limits, serve_arrivals};
 use map_core::Contents;
 use std::alloc::{AllocError, Global};
 use std::fmt::Debug;
@@ -43,7 +44,9 @@ impl<'i, 'o> Stream for Client<'i, 'o> {
 
     ghost held = { λ _. None };
 
-    ghost may = { λ _. record { block = true; leave_room = true; fail = true } };
+    ghost reads = { λ _. None };
+
+    ghost may = { λ _. record { read_waits = true; leaves_room = true; read_fails = true; write_waits = true; write_fails = true } };
 
     fn read(&mut self, buf: &mut [u8]) -> io::Result<usize> {
         self.is_awaited = !self.is_awaited;
@@ -88,6 +91,13 @@ fn sends(input: &[u8], piece: usize) -> Plan<'_> {
 /// How often an arrival may come.
 const MOST_ARRIVALS: u64 = 100_000;
 
+/// A client is given up after three ticks, and reads have no limit.
+const LIMITS: Limits = Limits {
+    retries: 1_000_000,
+    most_silent: 3,
+    turns: u64::MAX,
+};
+
 /// Clients that come one after the other; then each is ready in turn, until all have left or time is up.
 #[derive(Drop)]
 struct Clients<'i, 'o> {
@@ -106,7 +116,7 @@ impl<'i, 'o> Arrivals for Clients<'i, 'o> {
 
     ghost left = { λ clients. clients.left };
 
-    ghost comes = { λ _ _ _. ⊤ };
+    ghost comes = { λ _ _ _ _. ⊤ };
 
     fn next(&mut self, _free: usize, open: usize, _is_busy: bool) -> Arrival<Client<'i, 'o>> {
         if self.left == 0 {
@@ -191,16 +201,32 @@ fn ends_of(
     outputs: &mut [Vec<u8>],
     left: u64,
     ticks: u64,
+    turns: u64,
 ) -> Result<SessionEnds, AllocError> {
     let mut clients = clients_of(alloc, plans, outputs, left, ticks)?;
     let mut port = AtPort::new(Contents::new(alloc), false);
-    serve_arrivals(alloc, &mut clients, &mut port, 3, &Quiet, 0)
+    let limits = Limits { turns, ..LIMITS };
+    serve_arrivals(alloc, &mut clients, &mut port, limits, &Quiet, 0)
 }
 
 /// Serves clients of these plans over an empty map.
 fn serve(alloc: Global, plans: &[Plan<'_>], left: u64, ticks: u64) -> Result<Ended, AllocError> {
     let mut outputs = outputs_of(alloc, plans.len())?;
-    let ends = ends_of(alloc, plans, outputs.as_mut_slice(), left, ticks)?;
+    let ends = ends_of(alloc, plans, outputs.as_mut_slice(), left, ticks, u64::MAX)?;
+    Ok(Ended { ends, outputs })
+}
+
+/// Serves clients of these plans over an empty map, each of whose sessions may make so many reads.
+fn serve_within(alloc: Global, plans: &[Plan<'_>], turns: u64) -> Result<Ended, AllocError> {
+    let mut outputs = outputs_of(alloc, plans.len())?;
+    let ends = ends_of(
+        alloc,
+        plans,
+        outputs.as_mut_slice(),
+        MOST_ARRIVALS,
+        0,
+        turns,
+    )?;
     Ok(Ended { ends, outputs })
 }
 

@@ -129,7 +129,7 @@ impl<'a, C: Clock> Arrivals for Incoming<'a, C> {
 
     ghost left = { λ incoming. incoming.left };
 
-    ghost comes = { λ _ _ _. ⊤ };
+    ghost comes = { λ _ _ _ _. ⊤ };
 
     fn next(&mut self, free: usize, _open: usize, is_busy: bool) -> Arrival<Stream<'a>> {
         if self.left == 0 || self.shared.is_asked() {

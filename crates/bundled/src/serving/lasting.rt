@@ -18,7 +18,7 @@ use crate::serving::shared::{Seat, Shared, Watch};
 use command_line::{Lasting, Settings};
 use commands::Fault;
 use frame_front::{Counted, FrontError};
-use live_workers::run_arrivals;
+use live_workers::{Limits, run_arrivals};
 use server::{Said, SetUp, report, say};
 use shard_store::{Pass, Store};
 use std::alloc::{AllocError, Global};
@@ -116,18 +116,14 @@ fn run<H: Threads + Clock + Sync, L: Log + Sync>(
     requires own { All (λ pass. IsOf pass work.now.store.now) passes.items }
     ensures { IfOk result (λ all. AllServed always_open work.now.store.now 0 passes.items all.items) }
 {
-    let (host, retries) = (work.host, work.settings.retries);
-    let most_silent = work.lasting.idle.saturating_mul(TICKS_A_SECOND);
+    let (host, settings) = (work.host, work.settings);
+    let limits = Limits {
+        retries: settings.retries,
+        most_silent: work.lasting.idle.saturating_mul(TICKS_A_SECOND),
+        turns: settings.turns,
+    };
     run_arrivals(
-        host.rt,
-        host.alloc,
-        work.store,
-        passes,
-        incoming,
-        &Open,
-        retries,
-        most_silent,
-        host.log,
+        host.rt, host.alloc, work.store, passes, incoming, &Open, host.log, limits,
     )
 }
 

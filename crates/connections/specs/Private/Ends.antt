@@ -1,8 +1,9 @@
 -- What one read or write of a stream does for a session.
-use Rattle.std.specs.Prelude.{◌≡◌, ◌≢◌, ℕ, ◌<◌, List, [], ◌++◌, length, Option, Result, Ok, Err, Bool, true, false}
+use Rattle.std.specs.Prelude.{◌≡◌, ◌≢◌, ℕ, ◌+◌, ◌<◌, List, [], ◌++◌, length, Option, Result, Ok, Err, Bool, true, false}
 use Rattle.std.specs.Io.KnownBytes.{Consumes, IsAtEnd}
 use Rattle.frame_front.specs.Live.{LiveView, Feeds}
-use Rattle.connections.specs.Stream.{May}
+use Rattle.connections.specs.Stream.{May, read_more}
+use Rattle.connections.specs.Reads.{reads_for}
 use Rattle.connections.specs.declared.ends.Broken.{Broken}
 use Rattle.connections.specs.declared.ends.Came.{Came}
 use Rattle.connections.specs.declared.ends.Came.TheVariants.{Piece, Nothing, End, NoMemory, Broken as Fails}
@@ -10,25 +11,35 @@ use Rattle.connections.specs.declared.ends.Came.TheVariants.{Piece, Nothing, End
 -- all is written, or bytes are left
 abbrev pub IsSentAs : Result Bool Broken → May → List ℕ → Type 0
 IsSentAs (Ok true) may left = left ≡ []
-IsSentAs (Ok false) may left = (left ≢ []) × (may.block ≡ true)
-IsSentAs (Err broken) may left = (left ≢ []) × (may.fail ≡ true)
+IsSentAs (Ok false) may left = (left ≢ []) × (may.write_waits ≡ true)
+IsSentAs (Err broken) may left = (left ≢ []) × (may.write_fails ≡ true)
 
 -- whether a read that left some of its room says so
 abbrev pub LeavesAs : Bool → May → Type 0
-LeavesAs has_left may = has_left ≡ true → may.leave_room ≡ true
+LeavesAs has_left may = has_left ≡ true → may.leaves_room ≡ true
 
 -- If no piece came, the session is as it was. Only if memory was refused, bytes are lost; at the end none is left to be read.
 abbrev pub TakesUntil : Came → List ℕ → List ℕ → May → Option (List ℕ) → LiveView → LiveView → Type 0
 TakesUntil (Piece has_left) piece lost may left old new = (lost ≡ []) × (0 < length piece) × LeavesAs has_left may
-TakesUntil Nothing piece lost may left old new = (lost ≡ []) × (new ≡ old) × (may.block ≡ true)
+TakesUntil Nothing piece lost may left old new = (lost ≡ []) × (new ≡ old) × (may.read_waits ≡ true)
 TakesUntil End piece lost may left old new = (lost ≡ []) × (new ≡ old) × IsAtEnd left
 TakesUntil NoMemory piece lost may left old new = (new ≡ old) × (0 < length lost)
-TakesUntil Fails piece lost may left old new = (lost ≡ []) × (new ≡ old) × (may.fail ≡ true)
+TakesUntil Fails piece lost may left old new = (lost ≡ []) × (new ≡ old) × (may.read_fails ≡ true)
+
+-- whether a read that came to this counts
+abbrev pub read_for : Came → ℕ
+read_for (Piece has_left) = 1
+read_for Nothing = 0
+read_for End = 0
+read_for NoMemory = 1
+read_for Fails = 0
 
 -- a piece was read, and fed to the session, and these bytes were lost
-pub record Takes (came : Came) (may : May) (left_old left_new : Option (List ℕ)) (old new : LiveView) : Type 0 where
+pub record Takes (came : Came) (may : May) (left_old left_new : Option (List ℕ)) (reads_old reads_new : Option ℕ) (old new : LiveView) : Type 0 where
   pub piece : List ℕ
   pub lost : List ℕ
   pub feeds : Feeds piece old new
   pub consumes : Consumes left_old left_new (piece ++ lost)
+  pub reads : reads_new ≡ read_more (read_for came) reads_old
+  pub one_read : read_for came ≡ reads_for piece + reads_for lost
   pub until : TakesUntil came piece lost may left_new old new

@@ -8,7 +8,8 @@ use Rattle.frame_front.specs.Live.{Feeds, Sends, most_frames}
 use Rattle.frame_front.specs.LiveCalls.{LiveCall, DoesAll, fed, sent, frames_of}
 use Rattle.connections.specs.declared.after.After.{After}
 use Rattle.connections.specs.declared.ends.Broken.{Broken}
-use Rattle.connections.specs.Connection.{ConnectionView, counted, EndsHere, HadShare, IsLost, LosesOnly, StopsFor}
+use Rattle.connections.specs.Connection.{ConnectionView, counted, EndsHere, HadShare, IsLost, LosesOnly, MakesReads, StopsFor}
+use Rattle.connections.specs.Reads.{reads_for, reads_of}
 use Rattle.connections.specs.Private.Ends.{IsSentAs, LeavesAs}
 
 -- Its stream may come to the same, and its client is known to have closed its side, or not, as before.
@@ -21,6 +22,8 @@ pub record SendsAs (result : Result Bool Broken) (old new : ConnectionView) : Ty
   pub sends : Sends bytes old.live new.live
   pub appends : Appends old.held new.held bytes
   pub left : new.left ≡ old.left
+  pub reads : new.reads ≡ old.reads
+  pub turns : new.turns ≡ old.turns
   pub answered : new.answered ≡ old.answered
   pub has_ended : new.has_ended ≡ old.has_ended
   pub has_lost : new.has_lost ≡ old.has_lost
@@ -37,6 +40,7 @@ pub record ReadsAs (result : Result Bool After) (old new : ConnectionView) : Typ
   pub lost : List ℕ
   pub feeds : Feeds piece old.live new.live
   pub consumes : Consumes old.left new.left (piece ++ lost)
+  pub makes : MakesReads (reads_for piece + reads_for lost) old new
   pub held : new.held ≡ old.held
   pub answered : new.answered ≡ old.answered
   pub stays : StaysSo old new
@@ -52,6 +56,7 @@ module _ {S : Type 0} (answers : S → Op → Result Reply AskError → S → Ty
     pub does : DoesAll answers calls (old.live, map_old) (new.live, map_new)
     pub consumes : Consumes old.left new.left (fed calls ++ lost)
     pub appends : Appends old.held new.held (sent calls)
+    pub makes : MakesReads (reads_of calls + reads_for lost) old new
     pub answered : new.answered ≡ counted (old.answered + frames_of calls)
     pub share : frames_of calls ≤ most
     pub stays : StaysSo old new
@@ -62,7 +67,7 @@ module _ {S : Type 0} (answers : S → Op → Result Reply AskError → S → Ty
   abbrev pub Answers : ConnectionView → ConnectionView → S → S → Type 0
   Answers old new map_old map_new = Goes most_frames [] old new map_old map_new × (new.has_ended ≡ old.has_ended)
 
-  -- One round of a turn, which ends the turn, or goes on: then a byte was read, or enough were sent.
+  -- One round of a turn, which ends the turn, or goes on: then a piece was read, or enough bytes were sent.
   abbrev pub Round : Result Bool After → ConnectionView → ConnectionView → S → S → Type 0
   Round (Err after) old new map_old map_new =
       (lost : List ℕ) × Goes most_frames lost old new map_old map_new × IsLost after lost × EndsHere old new × StopsFor after new

@@ -15,18 +15,24 @@ struct Notes {
 }
 
 /// A log that keeps notes.
-#[derive(Drop)]
+#[derive(Clone, Copy)]
 struct Noted<'a, R: Wait> {
     rt: &'a R,
-    notes: Mutex<Notes>,
+    notes: &'a Mutex<Notes>,
 }
 
 impl<'a, R: Wait> Log for Noted<'a, R> {
+    ghost use Rattle.std.specs.Prelude.{⊤, true};
+
+    ghost wants = { λ _. true };
+
+    ghost tells = { λ _ worker change _. ⊤ };
+
     fn is_on(&self) -> bool {
         true
     }
 
-    fn changed(&self, _worker: u64, change: &Changed<'_>) {
+    fn changed(&mut self, _worker: u64, change: &Changed<'_>) {
         let mut notes = self.notes.lock(self.rt);
         notes.changes = notes.changes.saturating_add(1);
         notes.last = Some((change.how, change.before, change.after));
@@ -41,13 +47,14 @@ impl<'a, R: Wait> Log for Noted<'a, R> {
 // Of six requests three change a bundle: a set of what stands there, a get and a refused removal change none.
 #[test]
 fn a_log_is_told_of_changes_alone(rt: HostRuntime) -> Result<(), Fail> {
+    let notes = Mutex::new(Notes {
+        changes: 0,
+        last: None,
+        ends: 0,
+    });
     let log = Noted {
         rt: &rt,
-        notes: Mutex::new(Notes {
-            changes: 0,
-            last: None,
-            ends: 0,
-        }),
+        notes: &notes,
     };
     let requests =
         b"\x00\x00\x00\x22S\x01a{\"keys\":[],\"spiffe_sequence\":7}\x00\x00\x00\x22S\x01a{\"keys\":[],\"spiffe_sequence\":7}\x00\x00\x00\x03G\x01a\x00\x00\x00\x41A\x01a{\"use\":\"jwt-svid\",\"kty\":\"RSA\",\"kid\":\"k\",\"n\":\"AQAB\",\"e\":\"AQAB\"}\x00\x00\x00\x03R\x01b\x00\x00\x00\x03R\x01a".as_slice();
@@ -57,7 +64,7 @@ fn a_log_is_told_of_changes_alone(rt: HostRuntime) -> Result<(), Fail> {
         &ended.first.as_slice(),
         &b"\x00\x00\x00\x01s\x00\x00\x00\x01u\x00\x00\x00\x20f{\"keys\":[],\"spiffe_sequence\":7}\x00\x00\x00\x0ap\x01\x00\x00\x00\x00\x00\x00\x00\x08\x00\x00\x00\x01\x1e\x00\x00\x00\x01d".as_slice(),
     );
-    let notes = log.notes.lock(&rt);
+    let notes = notes.lock(&rt);
     is_equal(&rt, &notes.changes, &3);
     assert!(&rt; notes.last == Some((How::Removed, Some(Expect::Sequence(8)), Expect::Absent)));
     is_equal(&rt, &notes.ends, &2);

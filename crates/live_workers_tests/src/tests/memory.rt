@@ -1,4 +1,5 @@
 //! Two workers that have one client each, over memory.
+use super::LIMITS;
 use super::threads::store_for_two;
 use connections::Stream;
 use live_workers::{Arrival, Arrivals, run_arrivals};
@@ -23,7 +24,9 @@ impl<'i, 'o> Stream for Memory<'i, 'o> {
 
     ghost held = { λ _. None };
 
-    ghost may = { λ _. record { block = true; leave_room = true; fail = true } };
+    ghost reads = { λ _. None };
+
+    ghost may = { λ _. record { read_waits = true; leaves_room = true; read_fails = true; write_waits = true; write_fails = true } };
 
     fn read(&mut self, buf: &mut [u8]) -> io::Result<usize> {
         self.input.read(buf)
@@ -49,7 +52,7 @@ impl<'i, 'o> Arrivals for Once<'i, 'o> {
 
     ghost left = { λ once. once.left };
 
-    ghost comes = { λ _ _ _. ⊤ };
+    ghost comes = { λ _ _ _ _. ⊤ };
 
     fn next(&mut self, _free: usize, open: usize, _is_busy: bool) -> Arrival<Memory<'i, 'o>> {
         if self.left == 0 {
@@ -121,7 +124,7 @@ pub(super) fn run_two_noted<R: Threads + Clock + Sync, G: Gate + Sync, L: Log + 
     let mut arrivals = Vec::new(alloc);
     arrivals.push(one_client(inputs.0, &mut first, failures))?;
     arrivals.push(one_client(inputs.1, &mut second, failures))?;
-    let worked = run_arrivals(rt, alloc, &store, passes, arrivals, gate, 1_000_000, 3, log)?;
+    let worked = run_arrivals(rt, alloc, &store, passes, arrivals, gate, log, LIMITS)?;
     let mut begun: u64 = 0;
     let mut have_come = true;
     let mut faults = Vec::new(alloc);

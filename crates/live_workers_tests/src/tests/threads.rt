@@ -3,7 +3,7 @@ ghost use Rattle.std.specs.Prelude.{◌≡◌, vec_len, IfOk};
 ghost use Rattle.std.specs.List.{All};
 ghost use Rattle.shard_store.specs.Pass.{IsOf};
 
-use super::{MOST_ARRIVALS, is_equal};
+use super::{LIMITS, MOST_ARRIVALS, is_equal};
 use connections::Stream;
 use live_workers::{Arrival, Arrivals, run_arrivals};
 use shard_store::{Pass, Store};
@@ -36,7 +36,9 @@ impl<'a> Stream for Counting<'a> {
 
     ghost held = { λ _. None };
 
-    ghost may = { λ _. record { block = true; leave_room = true; fail = true } };
+    ghost reads = { λ _. None };
+
+    ghost may = { λ _. record { read_waits = true; leaves_room = true; read_fails = true; write_waits = true; write_fails = true } };
 
     fn read(&mut self, buf: &mut [u8]) -> io::Result<usize> {
         self.input.read(buf)
@@ -71,7 +73,7 @@ impl<'a> Arrivals for Queue<'a> {
 
     ghost left = { λ queue. queue.left };
 
-    ghost comes = { λ _ _ _. ⊤ };
+    ghost comes = { λ _ _ _ _. ⊤ };
 
     fn next(&mut self, _free: usize, _open: usize, _is_busy: bool) -> Arrival<Counting<'a>> {
         if self.left == 0 || self.clients == 0 {
@@ -124,9 +126,7 @@ fn run_two<R: Threads + Clock + Sync>(
     let mut arrivals = Vec::new(alloc);
     arrivals.push(queue_of(clients, taken))?;
     arrivals.push(queue_of(clients, taken))?;
-    let worked = run_arrivals(
-        rt, alloc, &store, passes, arrivals, &Open, 1_000_000, 3, &Quiet,
-    )?;
+    let worked = run_arrivals(rt, alloc, &store, passes, arrivals, &Open, &Quiet, LIMITS)?;
     Ok(count_ends(worked.as_slice()))
 }
 

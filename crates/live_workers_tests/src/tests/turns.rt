@@ -18,7 +18,7 @@ struct Once<'i, 'o> {
     reads: &'o mut u64,
 }
 
-/// A client that gives a frame at each read, which waits for it, and then its end; and takes all.
+/// A client that gives a frame at each read, and then its end; and takes all.
 #[derive(Drop)]
 struct Steady<'i, 'o> {
     input: &'i [u8],
@@ -32,7 +32,9 @@ impl<'i, 'o> Stream for Once<'i, 'o> {
 
     ghost held = { λ _. None };
 
-    ghost may = { λ _. record { block = true; leave_room = true; fail = true } };
+    ghost reads = { λ _. None };
+
+    ghost may = { λ _. record { read_waits = true; leaves_room = true; read_fails = true; write_waits = true; write_fails = true } };
 
     fn read(&mut self, buf: &mut [u8]) -> io::Result<usize> {
         *self.reads = self.reads.saturating_add(1);
@@ -51,7 +53,9 @@ impl<'i, 'o> Stream for Steady<'i, 'o> {
 
     ghost held = { λ _. None };
 
-    ghost may = { λ _. record { block = true; leave_room = true; fail = true } };
+    ghost reads = { λ _. None };
+
+    ghost may = { λ _. record { read_waits = true; leaves_room = true; read_fails = true; write_waits = true; write_fails = true } };
 
     fn read(&mut self, buf: &mut [u8]) -> io::Result<usize> {
         let most = SET_A.len().min(buf.len());
@@ -62,14 +66,16 @@ impl<'i, 'o> Stream for Steady<'i, 'o> {
     fn write(&mut self, buf: &[u8]) -> io::Result<usize> {
         self.output.write(buf)
     }
-
-    fn reads_wait(&self) -> bool {
-        true
-    }
 }
 
-/// What a turn of a client comes to which sets `a` so many times, one after the other.
-fn steady_turn_of(alloc: Global, sets: usize, output: &mut Vec<u8>) -> Result<After, AllocError> {
+/// What a turn of a client comes to which sets `a` so many times, one after the other, and then closes its side, if so many
+/// reads may be made.
+fn steady_turn_of(
+    alloc: Global,
+    sets: usize,
+    turns: u64,
+    output: &mut Vec<u8>,
+) -> Result<After, AllocError> {
     let mut input = Vec::new(alloc);
     for _ in 0..sets {
         input.extend_from_slice(SET_A)?;
@@ -78,36 +84,48 @@ fn steady_turn_of(alloc: Global, sets: usize, output: &mut Vec<u8>) -> Result<Af
         input: input.as_slice(),
         output,
     };
-    let mut connection = Connection::new(alloc, client)?;
+    let mut connection = Connection::new(alloc, client, turns)?;
     let mut documents = DocumentReader::new(alloc);
     let mut map = Contents::new(alloc);
     let mut room = [0; ROOM_BYTES];
-    Ok(connection.turn(&mut documents, &mut room, &mut map, false))
+    Ok(connection.turn(&mut documents, &mut room, &mut map, true))
 }
 
-/// What a turn of a client that sets `a` so many times comes to, and how many bytes it has got.
-fn is_steady(
-    rt: &impl Abort,
-    alloc: Global,
-    sets: usize,
-    wanted: (After, usize),
-) -> Result<(), Fail> {
+/// How many sets, how many reads may be made, what the turn comes to, and how many sets are answered.
+type Row = (usize, u64, After, usize);
+
+const USED_UP: After = After::Over(Err(FrontError::TurnsUsed));
+
+// A turn has 8 reads, and what the last of them gave is not answered yet. A read that finds the end does not count; what was read
+// under the limit is answered.
+static ROWS: [Row; 7] = [
+    (3, u64::MAX, After::Over(Ok(3)), 3),
+    (9, u64::MAX, After::Again, 7),
+    (3, 4, After::Over(Ok(3)), 3),
+    (3, 3, USED_UP, 3),
+    (5, 3, USED_UP, 3),
+    (9, 7, USED_UP, 7),
+    (1, 0, USED_UP, 0),
+];
+
+fn is_steady(rt: &impl Abort, alloc: Global, row: Row) -> Result<(), Fail> {
+    let (sets, turns, after, answered) = row;
     let mut output = Vec::new(alloc);
-    let after = steady_turn_of(alloc, sets, &mut output)?;
-    is_equal(rt, &(after, output.len()), &wanted);
+    let found = steady_turn_of(alloc, sets, turns, &mut output)?;
+    is_equal(
+        rt,
+        &(found, output.len()),
+        &(after, answered.saturating_mul(STORED.len())),
+    );
     Ok(())
 }
 
-// Each read has left some of its room, and the next one waits for what the client sends then.
 #[test]
-fn a_client_whose_reads_wait_is_read_again_in_its_turn(rt: HostRuntime) -> Result<(), Fail> {
-    is_steady(&rt, rt.alloc(), 3, (After::Over(Ok(3)), 3 * STORED.len()))
-}
-
-// It has its share of 8 reads. The last one is not answered yet.
-#[test]
-fn a_client_whose_reads_wait_has_a_turn_of_8_reads(rt: HostRuntime) -> Result<(), Fail> {
-    is_steady(&rt, rt.alloc(), 9, (After::Again, 7 * STORED.len()))
+fn a_turn_ends_after_its_reads(rt: HostRuntime) -> Result<(), Fail> {
+    for &row in &ROWS {
+        is_steady(&rt, rt.alloc(), row)?;
+    }
+    Ok(())
 }
 
 /// What a turn of a client comes to that gives all in one piece, and how often it was read.
@@ -123,7 +141,7 @@ fn turn_of(
         output,
         reads: &mut reads,
     };
-    let mut connection = Connection::new(alloc, client)?;
+    let mut connection = Connection::new(alloc, client, u64::MAX)?;
     let mut documents = DocumentReader::new(alloc);
     let mut map = Contents::new(alloc);
     let mut room = [0; ROOM_BYTES];
@@ -187,7 +205,7 @@ fn last_turn_of(
         output,
         reads: &mut reads,
     };
-    let mut connection = Connection::new(alloc, client)?;
+    let mut connection = Connection::new(alloc, client, u64::MAX)?;
     let mut documents = DocumentReader::new(alloc);
     let mut map = Contents::new(alloc);
     let mut room = [0; ROOM_BYTES];

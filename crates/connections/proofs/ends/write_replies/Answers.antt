@@ -18,5 +18,6 @@ loop-end-preserved g c =
       ),
       Appends-trans (g.E.Stream.held c.args.end.now) (g.E.Stream.held c.loop-end.end) (g.E.Stream.held c.write.new.self) inv.0 piece inv.2 wrote,
       c.in-Ok.ensures.left ∙ inv.3,
-      c.in-Ok.ensures.same ∙ inv.4,
+      c.in-Ok.ensures.reads ∙ inv.4,
+      c.in-Ok.ensures.same ∙ inv.5,
     )

@@ -6,7 +6,8 @@ use Rattle.connections.proofs.ends.write_replies.Given as goal
 abbrev pub invariant-loop-end : goal.invariant-loop-end
 invariant-loop-end g l =
     (bytes : List ℕ) × Sends bytes l.fn.live l.live × Appends (g.E.Stream.held l.fn.end) (g.E.Stream.held l.end) bytes
-    × (g.E.Stream.left l.end ≡ g.E.Stream.left l.fn.end) × (g.E.Stream.may l.end ≡ g.E.Stream.may l.fn.end)
+    × (g.E.Stream.left l.end ≡ g.E.Stream.left l.fn.end) × (g.E.Stream.reads l.end ≡ g.E.Stream.reads l.fn.end)
+    × (g.E.Stream.may l.end ≡ g.E.Stream.may l.fn.end)
 
 abbrev pub decreases-loop-end : goal.decreases-loop-end
 decreases-loop-end g l = length l.live.ready

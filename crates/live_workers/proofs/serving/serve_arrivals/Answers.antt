@@ -1,4 +1,4 @@
-use Rattle.std.proofs.Common.{◌++◌, [], List, refl, sym, ap, ◌∙◌, append-nil, arith, length}
+use Rattle.std.proofs.Common.{◌++◌, ℕ, [], List, refl, sym, ap, ◌∙◌, append-nil, arith, length, subst}
 use Rattle.slab.specs.Slab.{get}
 use Rattle.workers.specs.Ended.{kept_of}
 use Rattle.connections.specs.Connection.{ConnectionView, opened}
@@ -12,25 +12,27 @@ use Rattle.live_workers.proofs.serving.serve_arrivals.Goals as goal
 
 pub loop-arrival-init : goal.loop-arrival-init
 loop-arrival-init g c =
-    let start : g.row.V-End.Denot → ConnectionView = λ end. opened (g.V.End.Stream.may end) (g.V.End.Stream.left end) (g.V.End.Stream.held end) in
-    let none : Serves g.A.Ask.answers [] nobody (get c.new-served.result.open) (kept_of []) c.new-served.result.ends c.args.ask.now.ask c.args.ask.now.ask =
-    stays_serves g.A.Ask.answers nobody (get c.new-served.result.open) (kept_of []) c.new-served.result.ends c.args.ask.now.ask c.args.ask.now.ask
+    let start : g.row.V-End.Denot → ConnectionView = λ end. opened c.args.limits.turns (g.V.End.Stream.may end) (g.V.End.Stream.left end) (g.V.End.Stream.held end) (g.V.End.Stream.reads end) in
+    let none : Serves g.A.Ask.answers c.args.limits.most_silent [] nobody (get c.new-served.result.open) (kept_of []) c.new-served.result.ends c.args.ask.now.ask c.args.ask.now.ask =
+    stays_serves g.A.Ask.answers c.args.limits.most_silent nobody (get c.new-served.result.open) (kept_of []) c.new-served.result.ends c.args.ask.now.ask c.args.ask.now.ask
     (λ place. beyond c.new-served.result.open place (omega (arith, ap length c.new-served.ensures.open))) c.new-served.ensures.ends refl in
     ([], none, heard_none start g.V.Arrivals.comes c.args.arrivals.now)
 
 pub loop-arrival-preserved : goal.loop-arrival-preserved
 loop-arrival-preserved g c =
-    let start : g.row.V-End.Denot → ConnectionView = λ end. opened (g.V.End.Stream.may end) (g.V.End.Stream.left end) (g.V.End.Stream.held end) in
+    let start : g.row.V-End.Denot → ConnectionView = λ end. opened c.args.limits.turns (g.V.End.Stream.may end) (g.V.End.Stream.left end) (g.V.End.Stream.held end) (g.V.End.Stream.reads end) in
     let inv = c.loop-arrival.invariant in
-    let news : List News = news_in start c.next.result in
+    let free : ℕ = c.loop-arrival.served.open.vacant_key in
+    let news : List News = news_in start free c.next.result in
+    let came = subst (λ (n : ℕ). g.V.Arrivals.comes c.loop-arrival.arrivals n c.next.result c.next.new.self) c.vacant_key-free.ensures.value c.next.ensures.comes in
     let both =
-    unchanged_news g.A.Ask.answers news _ _ _ _ _ _
-    (serves_then g.A.Ask.answers news [] (get c.loop-arrival.served.open) (get c.follow.new.self.open) (get c.serve_again.new.self.open) c.loop-arrival.served.ends c.follow.new.self.ends
-    c.serve_again.new.self.ends c.loop-arrival.ask.ask c.follow.new.ask.ask c.serve_again.new.ask.ask c.in_ok-follow-in_default.ensures c.in_ok-serve_again.ensures) in (
+    unchanged_news g.A.Ask.answers c.args.limits.most_silent news _ _ _ _ _ _
+    (serves_then g.A.Ask.answers c.args.limits.most_silent news [] (get c.loop-arrival.served.open) (get c.follow.new.self.open) (get c.serve_again.new.self.open) c.loop-arrival.served.ends c.follow.new.self.ends
+    c.serve_again.new.self.ends c.loop-arrival.ask.ask c.follow.new.ask.ask c.serve_again.new.ask.ask c.in_ok-follow-in_default.ensures (c.in_ok-serve_again.ensures c.args.limits.most_silent)) in (
       inv.0 ++ news,
-      serves_then g.A.Ask.answers inv.0 news nobody (get c.loop-arrival.served.open) (get c.serve_again.new.self.open) (kept_of []) c.loop-arrival.served.ends c.serve_again.new.self.ends
+      serves_then g.A.Ask.answers c.args.limits.most_silent inv.0 news nobody (get c.loop-arrival.served.open) (get c.serve_again.new.self.open) (kept_of []) c.loop-arrival.served.ends c.serve_again.new.self.ends
           c.args.ask.now.ask c.loop-arrival.ask.ask c.serve_again.new.ask.ask inv.1 both,
-      heard_more start g.V.Arrivals.comes inv.0 c.next.result c.args.arrivals.now c.loop-arrival.arrivals c.next.new.self inv.2 c.next.ensures.comes,
+      heard_more start g.V.Arrivals.comes inv.0 free c.next.result c.args.arrivals.now c.loop-arrival.arrivals c.next.new.self inv.2 came,
     )
 
 pub loop-arrival-smaller : goal.loop-arrival-smaller
@@ -38,16 +40,17 @@ loop-arrival-smaller g c = goes_on c.next.result c.next.ensures.end c.in_default
 
 pub returns : goal.returns
 returns g c =
-    let start : g.row.V-End.Denot → ConnectionView = λ end. opened (g.V.End.Stream.may end) (g.V.End.Stream.left end) (g.V.End.Stream.held end) in
+    let start : g.row.V-End.Denot → ConnectionView = λ end. opened c.args.limits.turns (g.V.End.Stream.may end) (g.V.End.Stream.left end) (g.V.End.Stream.held end) (g.V.End.Stream.reads end) in
     let inv = c.loop-arrival.invariant in
     let all =
-    serves_then g.A.Ask.answers inv.0 [] nobody (get c.loop-arrival.served.open) nobody (kept_of []) c.loop-arrival.served.ends c.end_all.new.self.ends c.args.ask.now.ask c.loop-arrival.ask.ask c.end_all.new.ask.ask
-    inv.1 c.in_ok-end_all.ensures in
-    let heard = heard_more start g.V.Arrivals.comes inv.0 c.next.result c.args.arrivals.now c.loop-arrival.arrivals c.next.new.self inv.2 c.next.ensures.comes in (
+    serves_then g.A.Ask.answers c.args.limits.most_silent inv.0 [] nobody (get c.loop-arrival.served.open) nobody (kept_of []) c.loop-arrival.served.ends c.end_all.new.self.ends c.args.ask.now.ask c.loop-arrival.ask.ask c.end_all.new.ask.ask
+    inv.1 (c.in_ok-end_all.ensures c.args.limits.most_silent) in
+    let heard = heard_more start g.V.Arrivals.comes inv.0 c.vacant_key-free.result c.next.result c.args.arrivals.now c.loop-arrival.arrivals c.next.new.self inv.2 c.next.ensures.comes in (
       record { steps = all.steps; takes = all.takes; ends = all.notes [] refl },
       record {
         arrivals = heard.arrivals;
         came = heard.came;
-        all = heard.all ∙ (ap (λ (l : List News). l ++ news_in start c.next.result) (sym (append-nil inv.0) ∙ sym all.follows) ∙ ap (λ a. all_news all.steps ++ news_in start a) c.in-Stops.is);
+        all = heard.all ∙ (ap (λ (l : List News). l ++ news_in start c.vacant_key-free.result c.next.result) (sym (append-nil inv.0) ∙ sym all.follows) ∙ ap (λ a. all_news all.steps ++ news_in start c.vacant_key-free.result a) c.in-Stops.is);
+        patient = all.patient;
       },
     )

@@ -25,7 +25,7 @@ returns-in-Write g c =
     let all : c.answer-wants.new.self.live.ready ≡ c.send.ensures.bytes =
     c.send.ensures.sends.0 ∙ (ap (λ (l : List ℕ). c.send.ensures.bytes ++ l) sent ∙ append-nil c.send.ensures.bytes) in
     let many : reply_limit ≤ length c.send.ensures.bytes = subst (λ (l : List ℕ). reply_limit ≤ length l) all (subst (λ w. StopsAt (Ok w) c.answer-wants.new.self.live) c.in-Write.is c.in-Ok.ensures.stops) in
-    (goes.0, c.send.ensures.has_ended ∙ p.1, (0, 1, omega arith, omega arith, omega (arith, goes.1, many)), λ e. ap (λ m. m.leave_room) (c.send.ensures.stays.0 ∙ p.0.stays.0) ∙ c.requires e)
+    (goes.0, c.send.ensures.has_ended ∙ p.1, (1, omega arith, omega (arith, goes.1, many)), λ e. ap (λ m. m.leaves_room) (c.send.ensures.stays.0 ∙ p.0.stays.0) ∙ c.requires e)
 
 pub returns-in-Read : goal.returns-in-Read
 returns-in-Read g c =

@@ -6,7 +6,7 @@ use Rattle.live_workers.proofs.serving.Served.end_all.Given as goal
 
 abbrev pub invariant-loop-place : goal.invariant-loop-place
 invariant-loop-place g l =
-    Serves g.A.Ask.answers [] (get l.fn.self.open) (get l.self.open) l.fn.self.ends l.self.ends l.fn.ask.ask l.ask.ask
+    ((most : ℕ) → Serves g.A.Ask.answers most [] (get l.fn.self.open) (get l.self.open) l.fn.self.ends l.self.ends l.fn.ask.ask l.ask.ask)
     × ((other : ℕ) → other < l.place → get l.self.open other ≡ None)
     × ((other : ℕ) → l.places ≤ other → get l.self.open other ≡ None)
 

@@ -12,8 +12,8 @@ pub returns-clause-turn : goal.returns-clause-turn
 returns-clause-turn g c =
     let inside = c.placed.inside in
     let reads_only = inside.reads_only in
-    let before : Place = record { connection = inside.connection; reads_only = reads_only } in
-    let behind : Place = record { connection = c.last_turn.new.self; reads_only = reads_only } in
+    let before : Place = record { connection = inside.connection; reads_only = reads_only; silent = inside.silent } in
+    let behind : Place = record { connection = c.last_turn.new.self; reads_only = reads_only; silent = inside.silent } in
     let was : get c.args.self.now.open c.args.place ≡ Some before = sym c.in_ok-placed.ensures.value ∙ ap Some (sym c.placed.view_is) in
     let put = put_back c.args.self.now.open c.args.place before behind was in
     let last = c.last_turn.ensures in

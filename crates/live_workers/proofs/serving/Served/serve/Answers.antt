@@ -1,4 +1,4 @@
-use Rattle.std.proofs.Common.{[], inl, rules}
+use Rattle.std.proofs.Common.{[], rules}
 use Rattle.slab.specs.Slab.{get}
 use Rattle.connections.specs.Connection.{StopsFor}
 use Rattle.connections.specs.declared.after.After.TheVariants.{Over}
@@ -9,29 +9,28 @@ use Rattle.live_workers.proofs.serving.Served.serve.Goals as goal
 
 pub returns-in_ok-push_back-in-Some-Again : goal.returns-in_ok-push_back-in-Some-Again
 returns-in_ok-push_back-in-Some-Again g c =
-    turn_serves g.A.Ask.answers c.args.place c.args.is_closing _ (get c.args.self.now.open) (get c.turn.new.self.open) c.args.self.now.ends c.turn.new.self.ends
+    λ most. turn_serves g.A.Ask.answers most c.args.place c.args.is_closing _ (get c.args.self.now.open) (get c.turn.new.self.open) c.args.self.now.ends c.turn.new.self.ends
     c.args.ask.now.ask c.turn.new.ask.ask c.in-Some-Again.ensures.turn c.turn.ensures.ends
 
 pub returns-in-Some-Over : goal.returns-in-Some-Over
 returns-in-Some-Over g c =
     let turn = c.in-Some-Over.ensures.turn in
     let ends : StopsFor (Over c.in-Some-Over.end) turn.behind = search rules in
-    let before =
-    turn_serves g.A.Ask.answers c.args.place c.args.is_closing _ (get c.args.self.now.open) (get c.turn.new.self.open) c.args.self.now.ends c.turn.new.self.ends
-    c.args.ask.now.ask c.turn.new.ask.ask turn c.turn.ensures.ends in
-    on_ok_then c.close.result (λ noted ready closes.
-    unchanged_news g.A.Ask.answers (turn_news c.args.place ready) _ _ _ _ _ _
-    (serves_then g.A.Ask.answers (turn_news c.args.place ready) [] (get c.args.self.now.open) (get c.turn.new.self.open) (get c.close.new.self.open) c.args.self.now.ends c.turn.new.self.ends c.close.new.self.ends
-    c.args.ask.now.ask c.turn.new.ask.ask c.turn.new.ask.ask (before ready closes)
-    (close_serves g.A.Ask.answers c.args.place c.in-Some-Over.end (get c.turn.new.self.open) (get c.close.new.self.open) c.turn.new.self.ends c.close.new.self.ends
-    c.turn.new.ask.ask _ turn.is (inl ends) c.close.ensures.left c.close.ensures.others noted))) c.close.ensures.noted
+    on_ok_then c.close.result (λ noted most ready closes.
+    unchanged_news g.A.Ask.answers most (turn_news c.args.place ready) _ _ _ _ _ _
+    (serves_then g.A.Ask.answers most (turn_news c.args.place ready) [] (get c.args.self.now.open) (get c.turn.new.self.open) (get c.close.new.self.open) c.args.self.now.ends c.turn.new.self.ends c.close.new.self.ends
+    c.args.ask.now.ask c.turn.new.ask.ask c.turn.new.ask.ask
+    (turn_serves g.A.Ask.answers most c.args.place c.args.is_closing _ (get c.args.self.now.open) (get c.turn.new.self.open) c.args.self.now.ends c.turn.new.self.ends
+    c.args.ask.now.ask c.turn.new.ask.ask turn c.turn.ensures.ends ready closes)
+    (close_serves g.A.Ask.answers most c.args.place c.in-Some-Over.end (get c.turn.new.self.open) (get c.close.new.self.open) c.turn.new.self.ends c.close.new.self.ends
+    c.turn.new.ask.ask _ turn.is ends c.close.ensures.left c.close.ensures.others noted))) c.close.ensures.noted
 
 pub returns-in-Some-Waits : goal.returns-in-Some-Waits
 returns-in-Some-Waits g c =
-    turn_serves g.A.Ask.answers c.args.place c.args.is_closing _ (get c.args.self.now.open) (get c.turn.new.self.open) c.args.self.now.ends c.turn.new.self.ends
+    λ most. turn_serves g.A.Ask.answers most c.args.place c.args.is_closing _ (get c.args.self.now.open) (get c.turn.new.self.open) c.args.self.now.ends c.turn.new.self.ends
     c.args.ask.now.ask c.turn.new.ask.ask c.in-Some-Waits.ensures.turn c.turn.ensures.ends
 
 pub returns-in-None : goal.returns-in-None
 returns-in-None g c =
-    λ ready closes. missed_serves g.A.Ask.answers c.args.place (get c.args.self.now.open) (get c.turn.new.self.open) c.args.self.now.ends c.turn.new.self.ends
+    λ most ready closes. missed_serves g.A.Ask.answers most c.args.place (get c.args.self.now.open) (get c.turn.new.self.open) c.args.self.now.ends c.turn.new.self.ends
     c.args.ask.now.ask c.turn.new.ask.ask c.in-None.ensures.turn c.turn.ensures.ends ready
