@@ -62,6 +62,22 @@ impl<'a> Seats<'a> {
         }
     }
 
+    /// The store's only pass, as `p`.
+    pub(crate) fn alone(store: &'a Store, shards: usize, p: Pass) -> Seats<'a>
+        requires own { IsOf p store.now }
+        requires shards { store.now.id.slots ≡ shards }
+        ensures { result ≡ store.now }
+    {
+        Seats {
+            store,
+            shards,
+            p: Some(p),
+            q: None,
+            r: None,
+            held: None,
+        }
+    }
+
     /// The pass, which leaves its seat.
     pub(crate) fn take(&mut self, who: char) -> Result<Pass, Fail>
         ensures store { self.new ≡ self.old }
