@@ -195,7 +195,26 @@ fn two_workers_meet(rt: HostRuntime) -> Result<(), Fail> {
     has_ended(&ended, (NO_DOMAIN, NO_DOMAIN), 1)
 }
 
-/// One of the workers, run to its end before the other begins.
+/// The gate as one worker's, which is run alone and has no number of its own.
+#[derive(Drop)]
+struct As<'a, G> {
+    gate: &'a G,
+    worker: u64,
+}
+
+impl<'a, G: Gate> Gate for As<'a, G> {
+    ghost opens = { λ one _ call is_open. G.opens one.gate.now one.worker call is_open };
+
+    fn before(&self, _worker: u64, call: u64) -> bool {
+        self.gate.before(self.worker, call)
+    }
+
+    fn after(&self, _worker: u64, call: u64) {
+        self.gate.after(self.worker, call);
+    }
+}
+
+/// One of the workers, run to its end before the other begins, or after the other's.
 fn run_alone<R: Threads + Sync, G: Gate + Sync>(
     rt: &R,
     alloc: Global,
@@ -215,16 +234,35 @@ fn run_alone<R: Threads + Sync, G: Gate + Sync>(
     Ok(written)
 }
 
-// The first of two workers that are run one after the other finds the gate shut.
+/// Of the workers of these numbers, run one after the other, the one that comes first finds the gate shut.
+fn do_not_meet<R: Threads + Wait + Sync>(
+    rt: &R,
+    alloc: Global,
+    (first, second): (u64, u64),
+) -> Result<(), Fail> {
+    let (store, mut pass) = Store::new(alloc, 4, 3, 1_000_000)?;
+    let other = store.split(&mut pass, 1);
+    let meeting = Meeting::new(rt);
+    let gate = &meeting;
+    let as_first = As {
+        gate,
+        worker: first,
+    };
+    let written = run_alone(rt, alloc, &store, pass, &as_first)?;
+    is_equal_at(&written.as_slice(), &SHUT, &first)?;
+    let as_second = As {
+        gate,
+        worker: second,
+    };
+    let written = run_alone(rt, alloc, &store, other, &as_second)?;
+    is_equal_at(&written.as_slice(), &NO_DOMAIN, &second)
+}
+
+// In either order. The one that comes last finds that both have come to the gate.
 #[test]
 fn workers_in_turn_do_not_meet(rt: HostRuntime) -> Result<(), Fail> {
-    let gate = Meeting::new(&rt);
-    let (store, mut first) = Store::new(rt.alloc(), 4, 3, 1_000_000)?;
-    let second = store.split(&mut first, 1);
-    let written = run_alone(&rt, rt.alloc(), &store, first, &gate)?;
-    is_equal(&written.as_slice(), &SHUT)?;
-    drop(second);
-    Ok(())
+    do_not_meet(&rt, rt.alloc(), (0, 1))?;
+    do_not_meet(&rt, rt.alloc(), (1, 0))
 }
 
 /// A gate that is shut for worker 0.
