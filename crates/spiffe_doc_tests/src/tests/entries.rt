@@ -1,7 +1,7 @@
 //! What an entry comes to, by itself and in a document, and what is kept of it.
 use super::documents::{Outcome, comes_to};
 use super::{Parts, authority, bundle, holds_at, is_equal_at, text_of};
-use spiffe_doc::{Authority, Curve, DocError, KeyMember, PublicKey, read_entry};
+use spiffe_doc::{Authority, Bundle, Curve, DocError, KeyMember, PublicKey, read_entry};
 use std::alloc::{AllocError, Global};
 use std::process::Abort;
 use std::test::Fail;
@@ -197,7 +197,7 @@ static ENTRIES: [(Parts, Outcome); 47] = [
     ),
     (
         &[(
-            "{\"use\":\"sig\",\"kty\":\"EC\",\"crv\":\"P-256\",\"x5c\":[\"MAA=\",\"MAA=\"]}",
+            "{\"use\":\"sig\",\"kty\":\"EC\",\"crv\":\"P-256\",\"x\":\"AAAAAAAAAAAAAAAAAAAAAAAAAAAAAAAAAAAAAAAAAAA\",\"y\":\"AAAAAAAAAAAAAAAAAAAAAAAAAAAAAAAAAAAAAAAAAAA\",\"x5c\":[\"MAA=\",\"MAA=\"]}",
             1,
         )],
         Ok(0),
@@ -249,7 +249,7 @@ fn entries(rt: HostRuntime) -> Result<(), AllocError> {
 type Members<'a> = (Option<Curve>, &'a [u8], &'a [u8]);
 
 /// An entry, the bytes of its certificate or of its key id, and the members of its key.
-static KEPT: [(Parts, &[u8], Members<'static>); 6] = [
+static KEPT: [(Parts, &[u8], Members<'static>); 7] = [
     (
         &[(P256, 1), ("A", 43), (Y, 1), ("A", 43), (MAA, 1)],
         b"\x30\x00",
@@ -268,6 +268,14 @@ static KEPT: [(Parts, &[u8], Members<'static>); 6] = [
             b"\x10\0\0\0\0\0\0\0\0\0\0\0\0\0\0\0\0\0\0\0\0\0\0\0\0\0\0\0\0\0\0\0",
             &[0; 32],
         ),
+    ),
+    (
+        &[(
+            "{\"use\":\"x509-svid\",\"kty\":\"RSA\",\"n\":\"AQAB\",\"e\":\"AQAB\",\"x5c\":[\"MAA=\"]}",
+            1,
+        )],
+        b"\x30\x00",
+        (None, b"\x01\x00\x01", b"\x01\x00\x01"),
     ),
     (
         &[(N, 1), ("AQAB\"}", 1)],
@@ -358,6 +366,23 @@ fn is_kept_of(
     is_kept(rt, key, other, wanted)
 }
 
+/// The document has one authority, with this certificate or key id and these members.
+fn is_in_document(
+    rt: &impl Abort,
+    document: &Bundle,
+    other: &Authority,
+    own: &[u8],
+    wanted: Members<'_>,
+) -> Result<(), AllocError> {
+    let authorities = document.authorities();
+    is_equal_at(rt, &authorities.len(), &1, &own);
+    match authorities.first() {
+        Some(authority) => is_kept_of(rt, authority, other, own, wanted),
+        None => Ok(()),
+    }
+}
+
+// By itself, and in a document, which has no room for the spaces behind an entry.
 #[test]
 fn members(rt: HostRuntime) -> Result<(), Fail> {
     let others = bundle(rt.alloc(), OTHER)?;
@@ -366,6 +391,11 @@ fn members(rt: HostRuntime) -> Result<(), Fail> {
         let entry = text_of(rt.alloc(), parts)?;
         let read = authority(rt.alloc(), &entry)?;
         let is_so = is_copied(&rt, &read, other, own, wanted);
+        drop(read);
+        is_so?;
+        let document = format!(in rt.alloc(); "{{\"keys\":[{}]}}", entry.as_str().trim_end())?;
+        let read = bundle(rt.alloc(), &document)?;
+        let is_so = is_in_document(&rt, &read, other, own, wanted);
         drop(read);
         is_so?;
     }
