@@ -1,11 +1,12 @@
 #!/usr/bin/env python3
-"""Runs the examples of the README, and compares what they print with what stands there.
+"""Runs the examples of the README and of the pages that continue it, and compares what they print with what stands there.
 
 usage: gate/examples.py   (over the program that rt ci or rt run has built in crates/bundled/out/)
 
 An example is a block of lines, four spaces in, with a command after each '$' and below it what it prints. The commands of a
-block are run by one shell, at the top of the repository, after the aliases of the blocks before it. What they print comes in
-one order, at each run: two commands that run beside each other don't both print, and one in the background is waited for.
+block are run by one shell, at the top of the repository, after the aliases of the blocks before it, those of the README for
+the other pages too. What they print comes in one order, at each run: two commands that run beside each other don't both print,
+and one in the background is waited for.
 """
 import functools
 import os
@@ -18,16 +19,20 @@ sys.dont_write_bytecode = True
 
 from checks import ROOT, Room, bytes_of, run_checks, unused_port  # noqa: E402
 
+PAGES = ("README.md", "docs/USING.md", "docs/FETCH-ALL.md")
 # The port that the texts name; another one is asked in its place.
 PORT = "8443"
 SECONDS = 300
 # A server in the background is ready when it says so.
 UNTIL_READY = f'for _ in $(seq {SECONDS}0); do grep -q ^listening "$OUTPUT" && break; sleep 0.1; done'
 
+# (that a block has killed its server at the end is no output of a command)
+UNTIL_ENDED = "wait 2> /dev/null"
 
-def examples():
-    """Yields of each block with commands its line, the commands, and what they print."""
-    text = bytes_of(f"{ROOT}/README.md").decode()
+
+def examples(page):
+    """Yields of each block of the page with commands its line, the commands, and what they print."""
+    text = bytes_of(f"{ROOT}/{page}").decode()
     for block in re.finditer(r"^    \$ .*\n(?:    .*\n|\n(?=    ))*", text, re.M):
         lines = [it[4:] for it in block[0].split("\n")[:-1]]
         commands = [it[2:] for it in lines if it.startswith("$ ")]
@@ -40,7 +45,7 @@ def printed(commands):
     for command in commands:
         script += [command, UNTIL_READY] if command.endswith("&") else [command]
     room = Room()
-    words = ["bash", room.write("script", "\n".join([*script, "wait", ""]).encode())]
+    words = ["bash", room.write("script", "\n".join([*script, UNTIL_ENDED, ""]).encode())]
     with open(f"{room.path}/output", "wb") as output:
         how = {"cwd": ROOT, "env": {**os.environ, "OUTPUT": output.name, "TMPDIR": room.path}, "stdin": subprocess.DEVNULL}
         with subprocess.Popen(words, **how, stdout=output, stderr=subprocess.STDOUT, start_new_session=True) as running:
@@ -73,11 +78,12 @@ def prints(commands, wanted):
 
 
 def checks():
-    """A check for each example, by its line."""
+    """A check for each example, by its page and line."""
     aliases, found = [], {}
-    for line, commands, wanted in examples():
-        found[f"README.md:{line}"] = functools.partial(prints, [*aliases, *commands], wanted)
-        aliases += [it for it in commands if it.startswith("alias ")]
+    for page in PAGES:
+        for line, commands, wanted in examples(page):
+            found[f"{page}:{line}"] = functools.partial(prints, [*aliases, *commands], wanted)
+            aliases += [it for it in commands if it.startswith("alias ")]
     return found
 
 
