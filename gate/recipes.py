@@ -97,7 +97,7 @@ def is_read_in_go():
     room = a_store()
     os.mkdir(f"{room.path}/program")
     room.write("program/main.go", BLOCKS["Read it in Go"][0].replace(PORT, room.port).encode())
-    room.write("program/go.mod", f"module program\ngo 1.19\nrequire hopslintel v0.0.0\nreplace hopslintel => {ROOT}/clients/go\n".encode())
+    room.write("program/go.mod", f"module program\ngo 1.19\nrequire hopslintel.example/hopslintel v1.0.0\nreplace hopslintel.example/hopslintel => {ROOT}/clients/go\n".encode())
     # The first build takes its time.
     lines = room.run("cd program && CGO_ENABLED=0 go run .", seconds=10 * SECONDS).splitlines()
     assert lines == [A.decode(), *(f"{it} {len(BOTH[it])}" for it in BOTH)], lines
