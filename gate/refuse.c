@@ -1,6 +1,6 @@
 /* Refuses memory to a program that it is preloaded into (LD_PRELOAD): of the program's growths, which are the calls
-   of malloc and realloc counted from 1, those from REFUSE_FROM to REFUSE_TO fail. To the descriptor REFUSE_REPORT it
-   writes a '+' as it starts and a '-' for each growth that it refuses.
+   of malloc and realloc counted from 1, those from REFUSE_FROM to REFUSE_TO fail. If REFUSE_THREADS is not 0, no thread
+   can be made. To the descriptor REFUSE_REPORT it writes a '+' as it starts and a '-' for each growth that it refuses.
 
    Names are declared here, since the compiler of the Rattle kit, which compiles this file, comes without headers. */
 
@@ -13,12 +13,15 @@ long write(int descriptor, const void *bytes, size_t count);
 int *__errno_location(void);
 
 #define NEXT_LIBRARY ((void *)-1L)
+#define TRY_AGAIN 11
 #define OUT_OF_MEMORY 12
 
 static void *(*next_malloc)(size_t);
 static void *(*next_realloc)(void *, size_t);
+static int (*next_thread)(void *, const void *, void *(*)(void *), void *);
 static unsigned long first, last, growths;
 static int report;
+static int refuses_threads;
 
 static unsigned long number(const char *name) {
     const char *text = getenv(name);
@@ -30,6 +33,8 @@ __attribute__((constructor)) static void start(void) {
         return;
     next_realloc = dlsym(NEXT_LIBRARY, "realloc");
     next_malloc = dlsym(NEXT_LIBRARY, "malloc");
+    next_thread = dlsym(NEXT_LIBRARY, "pthread_create");
+    refuses_threads = number("REFUSE_THREADS") != 0;
     first = number("REFUSE_FROM");
     last = number("REFUSE_TO");
     report = number("REFUSE_REPORT");
@@ -52,4 +57,8 @@ void *malloc(size_t size) {
 
 void *realloc(void *old, size_t size) {
     return is_refused() ? 0 : next_realloc(old, size);
+}
+
+int pthread_create(void *thread, const void *how, void *(*body)(void *), void *given) {
+    return refuses_threads ? TRY_AGAIN : next_thread(thread, how, body, given);
 }

@@ -20,6 +20,7 @@ sys.dont_write_bytecode = True
 
 from checks import BUNDLES, DUE, EMPTY, ENTRY, SECONDS, Beside, Lasting, Room, Server, bytes_of, canonical, dump_of_real  # noqa: E402
 from checks import frame, frame_of, named, numbered, received, rest_of, run_checks, run_words, wait_until  # noqa: E402
+from refusals import build_shim  # noqa: E402
 
 SET_A, GET_A = named(b"S", "a", EMPTY), named(b"G", "a")
 STORED, FOUND, NO_DOMAIN = frame(b"s"), frame(b"f" + EMPTY), frame(b"\x1e")
@@ -56,6 +57,20 @@ def one_after_the_other():
     first.close()
     assert received(second, len(FOUND)) == FOUND
     second.close()
+    assert server.ended() == (0, "served 2\ndomains 1\n", ""), "ended otherwise"
+
+
+def workers_without_threads():
+    """Where no thread can be made the caller's serves for all workers, each client to its end before the next."""
+    server = Server("--workers", "2", env={"LD_PRELOAD": build_shim(Room().path), "REFUSE_THREADS": "1"})
+    first, second = server.connections(2)
+    second.sendall(GET_A)
+    second.shutdown(socket.SHUT_WR)
+    first.sendall(SET_A)
+    assert received(first, len(STORED)) == STORED
+    assert int(server.of_system("Threads")) == 1
+    first.close()
+    assert rest_of(second) == FOUND
     assert server.ended() == (0, "served 2\ndomains 1\n", ""), "ended otherwise"
 
 
@@ -433,10 +448,10 @@ def set_until_it_ends(server, number, stored, is_over):
         assert is_over.is_set(), "the connection is lost"
 
 
-CHECKS = [two_workers, one_after_the_other, reads_that_are_counted, side_by_side, real_bundles, filled_stores, clients_that_fail,
-          many_workers, ports_and_outputs, silent_clients, client_that_never_reads, replies_before_a_bad_length,
-          stops_at_the_end_of_input, told_changes, a_thousand_connections, connections_in_wait, read_only_port,
-          one_client_that_asks_steadily, flood_beside_others, stops_while_clients_write]
+CHECKS = [two_workers, one_after_the_other, workers_without_threads, reads_that_are_counted, side_by_side, real_bundles,
+          filled_stores, clients_that_fail, many_workers, ports_and_outputs, silent_clients, client_that_never_reads,
+          replies_before_a_bad_length, stops_at_the_end_of_input, told_changes, a_thousand_connections, connections_in_wait,
+          read_only_port, one_client_that_asks_steadily, flood_beside_others, stops_while_clients_write]
 
 
 if __name__ == "__main__":
