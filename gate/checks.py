@@ -8,6 +8,7 @@ import contextlib
 import faulthandler
 import json
 import os
+import re
 import shutil
 import socket
 import subprocess
@@ -157,6 +158,11 @@ def built(crate, name):
 
 def program(name="bundled"):
     return built(name, name)
+
+
+def version():
+    """The version of the program, by its source."""
+    return re.search(r'\.version\("(.+?)"\)', bytes_of(f"{ROOT}/crates/command_line/src/building.rt").decode())[1]
 
 
 def run_words(*words, given=None, out=subprocess.PIPE, err=subprocess.PIPE, seconds=SECONDS):

@@ -10,7 +10,7 @@ import sys
 
 sys.dont_write_bytecode = True
 
-from checks import EMPTY, ROOT, Room, bytes_of, canonical, dump_of, frame, pem_of, run_checks, run_words  # noqa: E402
+from checks import EMPTY, ROOT, Room, bytes_of, canonical, dump_of, frame, pem_of, run_checks, run_words, version  # noqa: E402
 
 FIRST_RUN = frame(b"S\x01a" + EMPTY) + frame(b"G\x01a")
 FIRST_REPLIES = frame(b"s") + frame(b"f" + EMPTY)
@@ -132,7 +132,7 @@ FAULTS = [
 
 # What is asked for, and a part of what is shown.
 SHOWN = [
-    ("--version", "bundled 1.0.0\n"),
+    ("--version", f"bundled {version()}\n"),
     ("--help", "A frame is a length of 4 bytes"),
     ("-h", "Usage: bundled <COMMAND>"),
     ("help", "migrate"),

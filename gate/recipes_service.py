@@ -23,7 +23,7 @@ def unit_names():
 
 def unit_texts():
     """The units as they stand, but for the path of the program."""
-    return {it: bytes_of(f"{UNITS}/{it}").decode().replace("/opt/hopslintel/bundled", program()) for it in unit_names()}
+    return {it: bytes_of(f"{UNITS}/{it}").decode().replace("/opt/hopslintel/bin/bundled", program()) for it in unit_names()}
 
 
 def value_of(unit, name):
@@ -259,14 +259,16 @@ def server_that_is_away(room, recipe):
 
 def cron_refreshes():
     """The crontab of the page under cron itself, in a mount namespace where it has no other: at the next minute all is set."""
-    assert BLOCKS["Fill it over HTTPS"][1] in bytes_of(f"{EXAMPLES}/cron/crontab").decode()
+    table = bytes_of(f"{EXAMPLES}/cron/crontab").decode()
+    # (the page has it as it is installed)
+    assert BLOCKS["Fill it over HTTPS"][1] in table.replace("/opt/hopslintel", "/usr/local")
     room = a_store(is_filled=False)
     room.write("list", b"a.example https://localhost/a https_spiffe spiffe://a.example/s\n")
-    os.mkdir(f"{room.path}/opt")
-    os.symlink(f"{EXAMPLES}/cron", f"{room.path}/opt/cron")
-    os.symlink(program(), f"{room.path}/opt/bundled")
+    for name, target in (("bin/bundled", program()), ("share/hopslintel/cron", f"{EXAMPLES}/cron")):
+        os.makedirs(os.path.dirname(f"{room.path}/opt/{name}"))
+        os.symlink(target, f"{room.path}/opt/{name}")
     os.mkdir(f"{room.path}/crontabs")
-    table = bytes_of(f"{EXAMPLES}/cron/crontab").decode().replace("/opt/hopslintel", f"{room.path}/opt").replace("/var/lib/hopslintel", room.path)
+    table = table.replace("/opt/hopslintel", f"{room.path}/opt").replace("/var/lib/hopslintel", room.path)
     os.chmod(room.write("crontabs/root", table.replace("8443", room.port).encode()), 0o600)
     empty = ["/etc/cron.d", "/etc/cron.hourly", "/etc/cron.daily"]
     lines = [f"mount -t tmpfs none {it}" for it in empty if os.path.isdir(it)]

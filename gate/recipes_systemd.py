@@ -7,9 +7,10 @@ import os
 import subprocess
 import time
 
-from checks import AFTERWARDS, ROOT, SECONDS, LeftOut, Room, canonical, program, wait_until
+from checks import AFTERWARDS, ROOT, SECONDS, LeftOut, Room, canonical, wait_until
 from recipe_rooms import BLOCKS
 from recipes_tls import DEBIAN_PYTHON
+from releases import made, tarball
 
 SYSTEMD = "/lib/systemd/systemd"
 # The hierarchies of control groups that it needs to itself.
@@ -21,7 +22,7 @@ USER, GROUP = "60001", "hopslintel-writers"
 
 NAMESPACES = ["--mount", "--pid", "--net", "--ipc", "--uts", "--cgroup"]
 
-# Run as the first process, over a folder of targets.
+# Run as the first process, over a folder of targets and the tarball of a release.
 START = f"""set -e
 ip link set lo up
 mount -t proc proc /proc
@@ -32,9 +33,10 @@ mkdir -p /run/etc/systemd/system
 mount --bind /run/etc /etc
 mount -t tmpfs tmpfs /opt
 mkdir -p /opt/hopslintel/python /opt/hopslintel/documents
-cp {program()} /opt/hopslintel/bundled
+cp "$2" "$2.sha256" /opt/hopslintel
 cp -r {ROOT}/clients/python/hopslintel /opt/hopslintel/python
 chmod -R a+rX /opt/hopslintel
+mount -t tmpfs tmpfs /usr/local
 mount -t tmpfs tmpfs /var/lib
 mount --bind "$1" /usr/lib/systemd/system
 mount -t tmpfs tmpfs {GROUPS}
@@ -55,10 +57,13 @@ class Systemd:
         os.mkdir(units)
         for it in TARGETS:
             self.room.write(f"units/{it}.target", b"[Unit]\nDefaultDependencies=no\n")
+        for it in (tarball(), f"{tarball()}.sha256"):
+            self.room.write(it, made()[it])
         AFTERWARDS.callback(wait_until, self.remove_groups, "the control groups are gone")
         # A process of control groups of its own, and below it the first process of the namespaces.
         lines = ["set -e", *(f"mkdir {it}; echo $$ > {it}/cgroup.procs" for it in self.paths_of_groups())]
-        lines.append(f"exec unshare --kill-child --fork {' '.join(NAMESPACES)} sh {self.room.write('start', START.encode())} {units}")
+        given = f"{self.room.write('start', START.encode())} {units} {self.room.path}/{tarball()}"
+        lines.append(f"exec unshare --kill-child --fork {' '.join(NAMESPACES)} sh {given}")
         with open(f"{self.room.path}/errors", "wb") as errors:
             how = {"stdin": subprocess.DEVNULL, "stdout": errors, "stderr": errors, "start_new_session": True}
             self.started = subprocess.Popen(["sh", "-c", "\n".join(lines)], **how)
@@ -151,4 +156,4 @@ def keeps_all_at_a_stop(systemd, writers):
     assert "hopslintel-dump.timer" in systemd.run("systemctl list-timers --no-pager")
 
 
-CHECKS = {runs_under_systemd: [SYSTEMD, "unshare", "nsenter", "setpriv", "ip", DEBIAN_PYTHON, *([] if os.geteuid() == 0 else ["rights of root"])]}
+CHECKS = {runs_under_systemd: [SYSTEMD, "git", "rt", "unshare", "nsenter", "setpriv", "ip", DEBIAN_PYTHON, *([] if os.geteuid() == 0 else ["rights of root"])]}

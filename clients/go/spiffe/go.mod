@@ -5,7 +5,7 @@ go 1.22.11
 
 require (
 	github.com/spiffe/go-spiffe/v2 v2.5.0
-	hopslintel.example/hopslintel v1.0.0
+	hopslintel.example/hopslintel v1.1.0
 )
 
 replace hopslintel.example/hopslintel => ../

@@ -32,6 +32,12 @@ def read(path):
         return file.read()
 
 
+def of_python(version):
+    """The program's version as PEP 440 writes it: they differ between two
+    releases."""
+    return version.replace("-dev", ".dev0")
+
+
 def has_module(name):
     return importlib.util.find_spec(name) is not None
 
@@ -45,7 +51,11 @@ class PackageTest(unittest.TestCase):
     def test_the_version_is_that_of_the_program(self):
         said = subprocess.run([PROGRAM, "--version"], check=True,
                               stdout=subprocess.PIPE).stdout.split()
-        self.assertEqual(said[-1].decode(), hopslintel.__version__)
+        self.assertEqual(of_python(said[-1].decode()), hopslintel.__version__)
+
+    def test_a_version_between_two_releases(self):
+        self.assertEqual(of_python("1.2.0-dev"), "1.2.0.dev0")
+        self.assertRegex(hopslintel.__version__, r"^\d+\.\d+\.\d+(\.dev0)?$")
 
     def test_each_file_names_its_license(self):
         for name in sorted(os.listdir(FOLDER)):
