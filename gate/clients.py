@@ -4,7 +4,8 @@
 usage: gate/clients.py   (over the program that rt ci or rt run has built in crates/bundled/out/)
 
 Neither the tests nor the exchanges take what they expect from the program. What of them a machine has no program for, such
-as go, is left out.
+as go, is left out. go-spiffe is looked for in the folder that HOPSLINTEL_GO_SPIFFE names, into which .ci/go-spiffe has put it
+with a Go that compiles it, and else among Debian's packages.
 """
 import os
 import re
@@ -20,8 +21,8 @@ from checks import BUNDLES, ROOT, SHOWN, Told, bytes_of, program, run_words  # n
 
 SECONDS = 600
 LETTERS = set(b"SARGFVC")
-# Where Debian's packages of Go put their sources, and that of go-spiffe among them.
-GO_SOURCES, GO_SPIFFE = "usr/share/gocode", "github.com/spiffe/go-spiffe"
+# Where Debian's packages of Go put their sources, and that of go-spiffe among them; and where its Go 1.24 stands.
+GO_SOURCES, GO_SPIFFE, GO_ROOT = "usr/share/gocode", "github.com/spiffe/go-spiffe", "usr/lib/go-1.24"
 
 
 class Exchanges(unittest.TestCase):
@@ -67,8 +68,12 @@ class InGo:
     def follows_for_go_spiffe(self, home):
         """The module for go-spiffe, over the go-spiffe that Debian has as sources and without go.mod files."""
         folders = [*os.environ.get("GOPATH", "").split(":"), f"/{GO_SOURCES}"]
+        unpacked = os.environ.get("HOPSLINTEL_GO_SPIFFE")
+        if unpacked:
+            folders = [f"{unpacked}/{GO_SOURCES}"]
+            self.env.update(GOROOT=f"{unpacked}/{GO_ROOT}", PATH=f"{unpacked}/{GO_ROOT}/bin:{os.environ['PATH']}")
         found = [it for it in folders if os.path.isdir(f"{it}/src/{GO_SPIFFE}")]
-        if not found or not shutil.which("go"):
+        if not found or not (unpacked or shutil.which("go")):
             self.lacks("the source for go-spiffe", "go" if found else "go-spiffe")
             return
         # The two modules, as they would lie among those sources.
