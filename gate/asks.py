@@ -11,7 +11,7 @@ import sys
 sys.dont_write_bytecode = True
 
 from checks import EMPTY, SECONDS, FakeServer, Room, Server, dump_of, frame, frame_of  # noqa: E402
-from checks import line_of, named, run_checks, run_words, start, unused_port  # noqa: E402
+from checks import line_of, named, part, run_checks, run_words, start, unused_port  # noqa: E402
 
 SET_A, GET_A = named(b"S", "a", EMPTY), named(b"G", "a")
 GREETING, GREETED = frame(b"V\x02"), frame(b"v\x02")
@@ -99,10 +99,12 @@ def asked_again():
         (1, (MOVED, frame(b"\x16")), (3, b"memory\n", b"")),
         (0, (MOVED,), (3, b"moved 0 3 4\n", b"")),
     ):
-        server, heard = server_that_says(*replies)
-        assert asked(server.port, "--retry", str(retries), "set", "a", EMPTY.decode()) == told, (retries, told)
-        server.end()
-        assert heard == [GREETING, *[SET_A] * len(replies), b""], heard
+        with part(retries=retries):
+            server, heard = server_that_says(*replies)
+            ended = asked(server.port, "--retry", str(retries), "set", "a", EMPTY.decode())
+            assert ended == told, ended
+            server.end()
+            assert heard == [GREETING, *[SET_A] * len(replies), b""], heard
 
 
 def replies_that_are_none():
@@ -115,10 +117,12 @@ def replies_that_are_none():
         (BUNDLE_A, b"", b"fault 58\n"),
         (frame(b"a" + (2).to_bytes(8, "big")) + BUNDLE_A, b"all 2\nbundle a " + EMPTY + b"\n", b"fault 52\n"),
     ):
-        server, heard = server_that_says(reply)
-        assert asked(server.port, "get", "a") == (1, shown, told), (reply, told)
-        server.end()
-        assert heard[:2] == [GREETING, GET_A], heard
+        with part(reply=reply):
+            server, heard = server_that_says(reply)
+            ended = asked(server.port, "get", "a")
+            assert ended == (1, shown, told), ended
+            server.end()
+            assert heard[:2] == [GREETING, GET_A], heard
 
 
 def ends_that_fail():

@@ -1,7 +1,7 @@
 """What the checks of the gate share: how they are run, servers under test and servers that answer anything, frames and documents.
 
-A check is a function that raises if something is not as it should be. What it starts by a class or function of this module
-ends after it, whether it failed or not: a server, a thread, a folder, a port that is kept.
+A check is a function that raises if something is not as it should be; unittest runs it as a test. What it starts by a class or
+function of this module ends after it, whether it failed or not: a server, a thread, a folder, a port that is kept.
 """
 import base64
 import contextlib
@@ -10,6 +10,7 @@ import json
 import os
 import re
 import shutil
+import signal
 import socket
 import subprocess
 import sys
@@ -18,6 +19,7 @@ import textwrap
 import threading
 import time
 import traceback
+import unittest
 
 ROOT = os.path.dirname(os.path.dirname(os.path.abspath(__file__)))
 BUNDLES = f"{ROOT}/gate/bundles"
@@ -26,15 +28,129 @@ SECONDS = 60
 LONGEST = 1800
 # How much of each line is shown of what a check says.
 SHOWN = 2000
-# Whether a check that is left out for want of a program fails the gate: .ci/run says so once it has installed all.
+# Whether a check that is left out fails: .ci/run says so once it has installed all.
 IS_ALL_NEEDED = os.environ.get("NOTHING_LEFT_OUT") == "1"
 
 # What the check that runs has started.
 AFTERWARDS = contextlib.ExitStack()
 
 
-class LeftOut(Exception):
-    """A check finds that this machine does not let it run."""
+class LeftOut(unittest.SkipTest):
+    """A check finds that this machine does not let it run, whatever is installed. That is told and counted, and fails nothing."""
+
+
+class TooLong(BaseException):
+    """A check has not ended in time. (What suppresses errors does not suppress this.)"""
+
+
+class Told(unittest.TestResult):
+    """A line for each check as it is done, or for each test, and at the end how many there were."""
+
+    def __init__(self, is_quiet=False):
+        super().__init__()
+        self.is_quiet = is_quiet
+        self.passed = self.failed = self.left_out = 0
+
+    def passes(self, name, said=""):
+        self.passed += 1
+        if not self.is_quiet:
+            print(f"{name}: as it should be{said}", flush=True)
+
+    def fails(self, name, wrong):
+        self.failed += 1
+        print(f"{name}: FAILED: {wrong}", flush=True)
+
+    def leaves_out(self, name, why, is_allowed=False):
+        is_failure = IS_ALL_NEEDED and not is_allowed
+        self.left_out, self.failed = self.left_out + 1, self.failed + is_failure
+        print(f"{name}: {'FAILED: ' * is_failure}left out, since {why}", flush=True)
+
+    def end(self):
+        """Tells how many there were, and answers the status for the script to end with."""
+        if self.left_out:
+            print(f"{self.left_out} left out")
+        print(f"{self.passed} passed, {self.failed} failed")
+        return 1 if self.failed else 0
+
+    # What unittest calls.
+
+    def startTest(self, test):
+        super().startTest(test)
+        # One that never ends is ended, and so is what then waits for ever.
+        signal.signal(signal.SIGALRM, end_it)
+        signal.setitimer(signal.ITIMER_REAL, LONGEST, 5 * SECONDS)
+
+    def stopTest(self, test):
+        signal.setitimer(signal.ITIMER_REAL, 0)
+        super().stopTest(test)
+
+    def addSuccess(self, test):
+        self.passes(name_of(test), getattr(test, "said", ""))
+
+    def addError(self, test, error):
+        self.fails(name_of(test), what_went_wrong(error[1]))
+
+    addFailure = addError
+
+    def addSubTest(self, test, part, error):
+        if error:
+            self.fails(name_of(test) + part.id()[len(test.id()):], what_went_wrong(error[1]))
+
+    def addSkip(self, test, reason):
+        self.leaves_out(name_of(test), reason, getattr(test, "is_not_let", False))
+
+
+def name_of(test):
+    return test.name if isinstance(test, Check) else test.id().rpartition(".")[2].replace("test_", "", 1)
+
+
+# The functions by which a check is run and ended.
+OF_RUNNING = ("runTest", "part", "end_it")
+
+
+def end_it(*_):
+    """Tells where each thread stands, and raises where the check does."""
+    faulthandler.dump_traceback()
+    raise TooLong(f"it has not ended after {LONGEST} seconds")
+
+
+class Check(unittest.TestCase):
+    """A function as a test, which is skipped if the machine lacks a program that it needs, or a file by its path. What the
+    function has started ends after it."""
+
+    running = None
+
+    def __init__(self, name, does, needs=()):
+        super().__init__()
+        self.name, self.does, self.needs = name, does, needs
+        self.said, self.is_not_let = "", False
+
+    def id(self):
+        return self.name
+
+    def runTest(self):
+        lacking = [it for it in self.needs if not (shutil.which(it) or os.path.exists(it))]
+        if lacking:
+            self.skipTest(f"this machine has no {lacking[0]}")
+        Check.running = self
+        try:
+            with AFTERWARDS:
+                self.said = self.does() or ""
+        except LeftOut:
+            self.is_not_let = True
+            raise
+
+
+@contextlib.contextmanager
+def part(**what):
+    """A part of the check that runs, such as a row of a table: if it fails that is told, and the check goes on. What it has
+    started ends with it."""
+    others = AFTERWARDS.pop_all()
+    try:
+        with Check.running.subTest(**what), AFTERWARDS:
+            yield
+    finally:
+        AFTERWARDS.push(others)
 
 
 def run_checks(checks, *, needs=None, is_quiet=False):
@@ -44,47 +160,15 @@ def run_checks(checks, *, needs=None, is_quiet=False):
     to be told. Some need programs, or files by their paths, that not every machine has: without them they are left out.
     """
     by_name = checks if isinstance(checks, dict) else {it.__name__: it for it in checks}
-    passed = failed = left_out = 0
+    told = Told(is_quiet)
     for name, check in by_name.items():
-        lacking = [it for it in (needs or {}).get(check, []) if not (shutil.which(it) or os.path.exists(it))]
-        if lacking:
-            left_out += 1
-            failed += IS_ALL_NEEDED
-            print(f"{name}: {'FAILED: ' * IS_ALL_NEEDED}left out, since this machine has no {lacking[0]}", flush=True)
-            continue
-        try:
-            wrong, said = outcome_of(check)
-        except LeftOut as why:
-            left_out += 1
-            print(f"{name}: left out, since {why}", flush=True)
-            continue
-        passed, failed = passed + (not wrong), failed + bool(wrong)
-        if wrong or not is_quiet:
-            print(f"{name}: FAILED: {wrong}" if wrong else f"{name}: as it should be{said}", flush=True)
-    if left_out:
-        print(f"{left_out} left out")
-    print(f"{passed} passed, {failed} failed")
-    return 1 if failed else 0
-
-
-def outcome_of(check):
-    """Runs the check, and ends what it has started. Answers what went wrong, if anything did, and what the check says."""
-    # One that never ends tells where it stands, and ends the script.
-    faulthandler.dump_traceback_later(LONGEST, exit=True)
-    try:
-        with AFTERWARDS:
-            return None, check() or ""
-    except LeftOut:
-        raise
-    except Exception as error:
-        return what_went_wrong(error), ""
-    finally:
-        faulthandler.cancel_dump_traceback_later()
+        Check(name, check, (needs or {}).get(check, ())).run(told)
+    return told.end()
 
 
 def what_went_wrong(error):
     """The error with the lines of the gate that it came through, and below it the one that it came of."""
-    through = [it for it in traceback.extract_tb(error.__traceback__) if it.filename.startswith(ROOT) and it.name != outcome_of.__name__]
+    through = [it for it in traceback.extract_tb(error.__traceback__) if it.filename.startswith(ROOT) and it.name not in OF_RUNNING]
     lines = [repr(error), *(f"    {os.path.relpath(it.filename, ROOT)}:{it.lineno}: {it.line}" for it in through)]
     before = error.__cause__ or error.__context__
     return "\n".join([*(it[:SHOWN] for it in lines), *([f"after {what_went_wrong(before)}"] if before else [])])

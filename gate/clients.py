@@ -4,9 +4,9 @@
 usage: gate/clients.py   (over the program that rt ci or rt run has built in crates/bundled/out/)
 
 Neither the tests nor the exchanges take what they expect from the program. What of them a machine has no program for, such
-as go, is left out.
+as go, is left out. go-spiffe is looked for in the folder that HOPSLINTEL_GO_SPIFFE names, into which .ci/go-spiffe has put it
+with a Go that compiles it, and else among Debian's packages.
 """
-import faulthandler
 import os
 import re
 import shutil
@@ -17,12 +17,12 @@ import unittest
 
 sys.dont_write_bytecode = True
 
-from checks import BUNDLES, ROOT, bytes_of, program, run_words  # noqa: E402
+from checks import BUNDLES, ROOT, SHOWN, Told, bytes_of, program, run_words  # noqa: E402
 
 SECONDS = 600
 LETTERS = set(b"SARGFVC")
-# Where Debian's packages of Go put their sources, and that of go-spiffe among them.
-GO_SOURCES, GO_SPIFFE = "/usr/share/gocode", "github.com/spiffe/go-spiffe"
+# Where Debian's packages of Go put their sources, and that of go-spiffe among them; and where its Go 1.24 stands.
+GO_SOURCES, GO_SPIFFE, GO_ROOT = "usr/share/gocode", "github.com/spiffe/go-spiffe", "usr/lib/go-1.24"
 
 
 class Exchanges(unittest.TestCase):
@@ -36,89 +36,65 @@ class Exchanges(unittest.TestCase):
         self.assertEqual((status, out.hex(" "), err), (0, wanted.hex(" "), b""))
 
 
-class Told(unittest.TestResult):
-    """A line for each test."""
-
-    passed = 0
-
-    def addSuccess(self, test):
-        self.passed += 1
-        print(f"{self.name_of(test)}: as it should be", flush=True)
-
-    def addError(self, test, error):
-        super().addError(test, error)
-        self.tell(test, self.errors)
-
-    def addFailure(self, test, error):
-        super().addFailure(test, error)
-        self.tell(test, self.failures)
-
-    def addSkip(self, test, reason):
-        super().addSkip(test, reason)
-        print(f"{self.name_of(test)}: left out, since {reason}", flush=True)
-
-    def tell(self, test, found):
-        print(f"{self.name_of(test)}: FAILED: {found[-1][1]}"[:2000], flush=True)
-
-    def name_of(self, test):
-        return test.id().rpartition(".")[2].replace("test_", "", 1)
-
-
 class InGo:
-    """What is checked of the clients in Go, over the go of this machine: how many checks passed and failed, and how many
-    were left out."""
+    """What is checked of the clients in Go, over the go of this machine."""
 
-    def __init__(self):
-        self.passed = self.failed = self.left_out = 0
+    def __init__(self, told):
+        self.told = told
 
-    def leave_out(self, what, why):
-        self.left_out += 1
-        print(f"{what}: left out, since this machine has no {why}", flush=True)
+    def lacks(self, what, program):
+        self.told.leaves_out(what, f"this machine has no {program}")
 
-    def count(self, name, wrong=""):
-        self.passed, self.failed = self.passed + (not wrong), self.failed + bool(wrong)
-        print(f"{name}: FAILED: {wrong[-2000:]}" if wrong else f"{name}: as it should be", flush=True)
+    def check(self, name, wrong):
+        if wrong:
+            self.told.fails(name, wrong[-SHOWN:])
+        else:
+            self.told.passes(name)
 
     def run(self):
-        if not shutil.which("go"):
-            self.leave_out("the client in Go", "go")
-            return
         with tempfile.TemporaryDirectory(prefix="go-tests-") as home:
-            self.env = {"HOME": home, **os.environ, "GOFLAGS": "", "CGO_ENABLED": "0"}
-            self.is_formatted()
-            self.is_vetted_and_tested("go", f"{ROOT}/clients/go")
+            self.env = {"HOME": home, **os.environ, "GOFLAGS": "", "GOTOOLCHAIN": "local", "CGO_ENABLED": "0"}
+            if shutil.which("go"):
+                self.is_formatted()
+                self.is_vetted_and_tested("go", f"{ROOT}/clients/go")
+            else:
+                self.lacks("the client in Go", "go")
             self.follows_for_go_spiffe(home)
 
     def is_formatted(self):
         status, said = self.said("gofmt", "-l", f"{ROOT}/clients/go")
-        self.count("gofmt", said or ("gofmt failed" if status else ""))
+        self.check("gofmt", said or ("gofmt failed" if status else ""))
 
     def follows_for_go_spiffe(self, home):
-        """The module for go-spiffe, over the go-spiffe that Debian installs as sources and without go.mod files."""
-        installed = [it for it in [*os.environ.get("GOPATH", "").split(":"), GO_SOURCES] if os.path.isdir(f"{it}/src/{GO_SPIFFE}")]
-        if not installed:
-            self.leave_out("the source for go-spiffe", "go-spiffe")
+        """The module for go-spiffe, over the go-spiffe that Debian has as sources and without go.mod files."""
+        folders = [*os.environ.get("GOPATH", "").split(":"), f"/{GO_SOURCES}"]
+        unpacked = os.environ.get("HOPSLINTEL_GO_SPIFFE")
+        if unpacked:
+            folders = [f"{unpacked}/{GO_SOURCES}"]
+            self.env.update(GOROOT=f"{unpacked}/{GO_ROOT}", PATH=f"{unpacked}/{GO_ROOT}/bin:{os.environ['PATH']}")
+        found = [it for it in folders if os.path.isdir(f"{it}/src/{GO_SPIFFE}")]
+        if not found or not (unpacked or shutil.which("go")):
+            self.lacks("the source for go-spiffe", "go" if found else "go-spiffe")
             return
         # The two modules, as they would lie among those sources.
         folder = f"{home}/sources/src/hopslintel.example/hopslintel"
         shutil.copytree(f"{ROOT}/clients/go", folder, ignore=lambda at, names: [it for it in names if at == f"{ROOT}/clients/go" and it.endswith("_test.go")])
-        self.env.update(GO111MODULE="off", GOPATH=f"{home}/sources:{installed[0]}", BUNDLES=BUNDLES)
+        self.env.update(GO111MODULE="off", GOPATH=f"{home}/sources:{found[0]}", BUNDLES=BUNDLES)
         self.is_vetted_and_tested("go-spiffe", f"{folder}/spiffe")
 
     def is_vetted_and_tested(self, name, folder):
         status, said = self.said("go", "vet", ".", cwd=folder)
-        self.count(f"{name} vet", said or ("go vet failed" if status else ""))
+        self.check(f"{name} vet", said or ("go vet failed" if status else ""))
         race = []
         if shutil.which("gcc"):
             race, self.env["CGO_ENABLED"] = ["-race"], "1"
         else:
-            self.leave_out(f"{name} test with the race detector", "gcc")
+            self.lacks(f"{name} test with the race detector", "gcc")
         status, said = self.said("go", "test", "-count=1", f"-timeout={SECONDS}s", "-v", *race, ".", cwd=folder)
         for test in re.findall(r"^--- PASS: (\w+)", said, re.M):
-            self.count(f"{name} {test}")
-        skipped = re.findall(r"^--- SKIP: (\w+)", said, re.M)
-        if status or skipped or "--- PASS" not in said:
-            self.count(f"{name} test", said)
+            self.told.passes(f"{name} {test}")
+        if status or "--- SKIP" in said or "--- PASS" not in said:
+            self.told.fails(f"{name} test", said[-SHOWN:])
 
     def said(self, *words, cwd=ROOT):
         """The status of a command, and what it says."""
@@ -128,23 +104,14 @@ class InGo:
 
 
 def main():
-    # A client that is blocked for ever ends here.
-    faulthandler.dump_traceback_later(SECONDS, exit=True)
     os.environ["BUNDLED"] = program()
     sys.path.insert(0, f"{ROOT}/clients/python")
     load = unittest.defaultTestLoader
     told = Told()
     load.loadTestsFromTestCase(Exchanges).run(told)
     load.loadTestsFromName("test_hopslintel").run(told)
-    faulthandler.cancel_dump_traceback_later()
-    in_go = InGo()
-    in_go.run()
-    left_out = len(told.skipped) + in_go.left_out
-    if left_out:
-        print(f"{left_out} left out")
-    failed = len(told.errors) + len(told.failures) + in_go.failed
-    print(f"{told.passed + in_go.passed} passed, {failed} failed")
-    return 1 if failed else 0
+    InGo(told).run()
+    return told.end()
 
 
 if __name__ == "__main__":

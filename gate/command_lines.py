@@ -10,7 +10,7 @@ import sys
 
 sys.dont_write_bytecode = True
 
-from checks import EMPTY, ROOT, Room, bytes_of, canonical, dump_of, frame, pem_of, run_checks, run_words, version  # noqa: E402
+from checks import EMPTY, ROOT, Room, bytes_of, canonical, dump_of, frame, part, pem_of, run_checks, run_words, version  # noqa: E402
 
 FIRST_RUN = frame(b"S\x01a" + EMPTY) + frame(b"G\x01a")
 FIRST_REPLIES = frame(b"s") + frame(b"f" + EMPTY)
@@ -235,29 +235,36 @@ def ran(line, given=FIRST_RUN, **how):
 
 def runs_what_the_line_wants():
     for line, given, output in RUNS:
-        assert ran(line, given) == (0, output, b""), line
+        with part(line=line):
+            ended = ran(line, given)
+            assert ended == (0, output, b""), ended
 
 
 def faults():
     for line, given, output, told in FAULTS:
-        assert ran(line, given) == (1, output, told), line
+        with part(line=line):
+            ended = ran(line, given)
+            assert ended == (1, output, told), ended
 
 
 def shows_what_is_asked_for():
     """On standard output; if it is not taken, that is a fault."""
-    for line, part in SHOWN:
-        status, output, told = ran(line)
-        assert (status, told) == (0, b"") and part in output.decode(), line
-        with open("/dev/full", "wb") as full:
-            assert ran(line, out=full) == (1, None, b"fault 54\n"), line
+    for line, text in SHOWN:
+        with part(line=line):
+            status, output, told = ran(line)
+            assert (status, told) == (0, b"") and text in output.decode(), (status, output, told)
+            with open("/dev/full", "wb") as full:
+                ended = ran(line, out=full)
+                assert ended == (1, None, b"fault 54\n"), ended
 
 
 def refuses_other_lines():
     """On standard error, with status 2."""
-    for line, part in REFUSED:
-        status, output, told = ran(line)
-        assert (status, output) == (2, b""), line
-        assert told.startswith(b"error: ") and part in told.decode(), line
+    for line, text in REFUSED:
+        with part(line=line):
+            status, output, told = ran(line)
+            assert (status, output) == (2, b""), (status, output)
+            assert told.startswith(b"error: ") and text in told.decode(), told
 
 
 def races():
@@ -271,15 +278,15 @@ def races():
 
 def tells_what_is_kept():
     """Of documents: status 0 if all is kept, 3 if something is ignored, 1 if one is not a bundle or cannot be read."""
-    whole, part = f"{ROOT}/gate/bundles/rotation.json", f"{ROOT}/gate/bundles/with-unknown.json"
+    whole, lacking = f"{ROOT}/gate/bundles/rotation.json", f"{ROOT}/gate/bundles/with-unknown.json"
     status, output, told = ran(f"check {whole}")
     assert (status, told, output.count(b"\n")) == (0, b"", 1)
     assert output.startswith(f"{whole}: bundle of 4 authorities (2 X.509, 2 JWT), sequence 7".encode()), output
-    status, output, told = ran(f"check {whole} {part}")
-    assert (status, told) == (3, b"") and f"{part}: keys[".encode() in output and b"is ignored: " in output, output
-    status, output, told = ran(f"check {part} {ROOT}/README.md {whole}")
+    status, output, told = ran(f"check {whole} {lacking}")
+    assert (status, told) == (3, b"") and f"{lacking}: keys[".encode() in output and b"is ignored: " in output, output
+    status, output, told = ran(f"check {lacking} {ROOT}/README.md {whole}")
     assert (status, told) == (1, b"") and f"{ROOT}/README.md: not a bundle: ".encode() in output, output
-    status, output, told = ran(f"check {whole} {ROOT}/nowhere {part}")
+    status, output, told = ran(f"check {whole} {ROOT}/nowhere {lacking}")
     assert (status, told, output.count(b"\n")) == (1, b"fault 77 2\n", 1), (status, told)
 
 

@@ -275,6 +275,9 @@ class Store:
 # What is written into a document as it stands there: numbers in other forms, and what is no JSON.
 AS_THEY_STAND = ["#NaN", "#-Infinity", "#1e400", "#-1e400", "#1e-400", "#-0", "#7e0", "#7.0", "#07", "#+7", "#" + 400 * "9"]
 
+# What stands behind a name that is written without it.
+AGAIN = "#again"
+
 
 class Requests:
     """Requests at random: most of them can be done, and some are wrong in one place."""
@@ -327,10 +330,22 @@ class Requests:
             tree["other"] = json.loads("[" * 126 + "]" * 126) if self.is_rare(0.5) else json.loads("[" * 127 + "]" * 127)
         return tree if not self.is_rare(0.01) else self.anything()
 
+    def with_one_twice(self, tree):
+        """The tree, one of whose objects has a member twice: a second name of it is written as the first is."""
+        if not isinstance(tree, dict) or not tree:
+            return tree
+        name = self.random.choice(list(tree))
+        if name == "keys" and isinstance(tree[name], list) and not self.is_rare(0.2):
+            return {**tree, name: [self.with_one_twice(it) for it in tree[name]]}
+        members = [*tree.items(), (name + AGAIN, self.anything())]
+        self.random.shuffle(members)
+        return dict(members)
+
     def text(self, tree):
-        """JSON of the tree, in one of many layouts; or what is not JSON."""
+        """JSON of the tree, in one of many layouts; or what is not JSON. Now and then an object has a member twice."""
         layout = self.random.choice([{}, {"indent": 1}, {"ensure_ascii": False}, {"separators": (",", ":")}])
-        text = re.sub('"#([^"]*)"', r"\1", json.dumps(tree, **layout)).encode(errors="surrogatepass")
+        text = json.dumps(self.with_one_twice(tree) if self.is_rare(0.05) else tree, **layout)
+        text = re.sub('"#([^"]*)"', r"\1", text.replace(AGAIN, "")).encode(errors="surrogatepass")
         if self.is_rare():
             cut = self.random.randrange(len(text))
             text = self.random.choice([text[:cut], text + b"}", text[:cut] + b"\xff" + text[cut:], b""])

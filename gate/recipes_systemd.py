@@ -1,9 +1,10 @@
 """The units of docs/USING.md under a systemd of their own: in namespaces, with no other unit, and with folders that end with it.
 
-Not every machine lets one run so; there the units are only judged, as gate/recipes_service.py does.
+Not every machine lets one run so; there it is left out, and the units are only judged, as gate/recipes_service.py does.
 """
 import contextlib
 import os
+import re
 import subprocess
 import time
 
@@ -13,14 +14,16 @@ from recipes_tls import DEBIAN_PYTHON
 from releases import made, tarball
 
 SYSTEMD = "/lib/systemd/systemd"
-# The hierarchies of control groups that it needs to itself.
+# The hierarchy of control groups of version 2, of which it needs a part to itself: beside those of version 1, or the only one.
 GROUPS = "/sys/fs/cgroup"
-HIERARCHIES = {"systemd": "-t cgroup -o none,name=systemd", "unified": "-t cgroup2"}
+UNIFIED = f"{GROUPS}/unified" if os.path.isdir(f"{GROUPS}/unified") else GROUPS
 TARGETS = ["basic", "default", "multi-user", "shutdown", "sockets", "sysinit", "timers"]
 # Nobody who has something here, and the group of the page.
 USER, GROUP = "60001", "hopslintel-writers"
 
 NAMESPACES = ["--mount", "--pid", "--net", "--ipc", "--uts", "--cgroup"]
+# What is said on a machine that does not let one make these, or mount there.
+NOT_LET = re.compile(rb"not permitted|denied|Read-only file system")
 
 # Run as the first process, over a folder of targets and the tarball of a release.
 START = f"""set -e
@@ -39,9 +42,7 @@ chmod -R a+rX /opt/hopslintel
 mount -t tmpfs tmpfs /usr/local
 mount -t tmpfs tmpfs /var/lib
 mount --bind "$1" /usr/lib/systemd/system
-mount -t tmpfs tmpfs {GROUPS}
-mkdir {' '.join(f'{GROUPS}/{it}' for it in HIERARCHIES)}
-{'; '.join(f'mount {how} none {GROUPS}/{it}' for it, how in HIERARCHIES.items())}
+mount -t cgroup2 none {GROUPS}
 export container=hopslintel
 exec {SYSTEMD} --system --unit=default.target --log-target=null --show-status=no
 """
@@ -52,7 +53,7 @@ class Systemd:
 
     def __init__(self):
         self.room = Room()
-        self.group = f"hopslintel-gate-{os.getpid()}"
+        self.group = f"{UNIFIED}/hopslintel-gate-{os.getpid()}"
         units = f"{self.room.path}/units"
         os.mkdir(units)
         for it in TARGETS:
@@ -60,8 +61,8 @@ class Systemd:
         for it in (tarball(), f"{tarball()}.sha256"):
             self.room.write(it, made()[it])
         AFTERWARDS.callback(wait_until, self.remove_groups, "the control groups are gone")
-        # A process of control groups of its own, and below it the first process of the namespaces.
-        lines = ["set -e", *(f"mkdir {it}; echo $$ > {it}/cgroup.procs" for it in self.paths_of_groups())]
+        # A process of a control group of its own, and below it the first process of the namespaces.
+        lines = ["set -e", f"mkdir {self.group}", f"echo $$ > {self.group}/cgroup.procs"]
         given = f"{self.room.write('start', START.encode())} {units} {self.room.path}/{tarball()}"
         lines.append(f"exec unshare --kill-child --fork {' '.join(NAMESPACES)} sh {given}")
         with open(f"{self.room.path}/errors", "wb") as errors:
@@ -70,16 +71,12 @@ class Systemd:
         AFTERWARDS.callback(self.end)
         self.wait_until_up()
 
-    def paths_of_groups(self):
-        return [f"{GROUPS}/{it}/{self.group}" for it in HIERARCHIES]
-
     def remove_groups(self):
         """Whether they are gone: one that has a process is not removed."""
-        for path in self.paths_of_groups():
-            for at, _, _ in os.walk(path, topdown=False):
-                with contextlib.suppress(OSError):
-                    os.rmdir(at)
-        return not any(os.path.exists(it) for it in self.paths_of_groups())
+        for at, _, _ in os.walk(self.group, topdown=False):
+            with contextlib.suppress(OSError):
+                os.rmdir(at)
+        return not os.path.exists(self.group)
 
     def wait_until_up(self):
         until = time.monotonic() + SECONDS
@@ -90,7 +87,9 @@ class Systemd:
                 self.first = first
                 return
             time.sleep(0.05)
-        raise LeftOut(f"this machine lets no systemd run in namespaces: {self.room.read('errors')[-200:]!r}")
+        said = self.room.read("errors")
+        assert NOT_LET.search(said), f"systemd has not started: {said!r}"
+        raise LeftOut(f"this machine lets no systemd run in namespaces: {said[-200:]!r}")
 
     def first_process(self):
         with open(f"/proc/{self.started.pid}/task/{self.started.pid}/children", encoding="ascii") as it:
@@ -156,4 +155,5 @@ def keeps_all_at_a_stop(systemd, writers):
     assert "hopslintel-dump.timer" in systemd.run("systemctl list-timers --no-pager")
 
 
-CHECKS = {runs_under_systemd: [SYSTEMD, "git", "rt", "unshare", "nsenter", "setpriv", "ip", DEBIAN_PYTHON, *([] if os.geteuid() == 0 else ["rights of root"])]}
+CHECKS = {runs_under_systemd: [SYSTEMD, "git", "rt", "unshare", "nsenter", "setpriv", "ip", DEBIAN_PYTHON, f"{UNIFIED}/cgroup.procs",
+                                *([] if os.geteuid() == 0 else ["rights of root"])]}

@@ -14,7 +14,7 @@ import time
 sys.dont_write_bytecode = True
 
 from checks import BUNDLES, DUE, EMPTY, FakeServer, Room, answers_with, canonical, frame, frame_of  # noqa: E402
-from checks import named, replies_of, run_checks, run_words, start, unused_port  # noqa: E402
+from checks import named, part, replies_of, run_checks, run_words, start, unused_port  # noqa: E402
 
 KEYS = b'{"keys":[{"e":"AQAB","kid":"k","kty":"RSA","n":"AQAB","use":"jwt-svid"}],"spiffe_sequence":7}'
 
@@ -100,9 +100,10 @@ def refused_lists():
     rows += [("a https://x.example https_spiffe", "fault 79 1 62"), ("a https://x https_spiffe spiffe://a/", "fault 79 1 5")]
     rows += [(b"\xff", "fault 70 1"), (b" " * 16_777_217, "fault 71")]
     for list, fault in rows:
-        room = Refresher(list, [("a", EMPTY)])
-        ended = room.run("--now", "1000")
-        assert ended == (1, b"", f"{fault}\n"), (list[:80], ended)
+        with part(list=list[:80]):
+            ended = Refresher(list, [("a", EMPTY)]).run("--now", "1000")
+            assert ended == (1, b"", f"{fault}\n"), ended
+    room = Refresher(good)
     room.list = f"{room.path}/none"
     assert room.run() == (1, b"", "fault 53\n"), room.run()
 
@@ -157,12 +158,13 @@ def servers_that_fail():
     rows = [(b"", "52"), (b"\0\0\0", "52"), (b"\0\0\0\2s", "52"), (b"\0\0\0\0", "50"), (b"\0\x10\x01\xa9", "50")]
     rows += [(frame(b"z"), "58"), (frame(b"ss"), "58"), (frame(b"\x33"), "58")]
     for reply, fault in rows:
-        ended = room.run("--port", str(FakeServer(answers_with(reply)).port))
-        assert ended == (1, b"", f"fault {fault}\n"), (reply, ended)
+        with part(reply=reply):
+            ended = room.run("--port", str(FakeServer(answers_with(reply)).port))
+            assert ended == (1, b"", f"fault {fault}\n"), ended
     for reply, said in ((b"\x16", None), (b"\x2a\0\0\0\3" + bytes(7) + b"\5", "given up held 3 5")):
-        ended = room.run("--now", "1000", "--port", str(FakeServer(answers_with(frame(reply))).port))
-        wanted = (3, f"1000 a {said} due 1300\n".encode(), "") if said else (1, b"", "fault 22\n")
-        assert ended == wanted, (reply, ended)
+        with part(reply=reply):
+            ended = room.run("--now", "1000", "--port", str(FakeServer(answers_with(frame(reply))).port))
+            assert ended == ((3, f"1000 a {said} due 1300\n".encode(), "") if said else (1, b"", "fault 22\n")), ended
     ended = room.run("--port", str(unused_port()))
     assert ended == (1, b"", "fault 78\n"), ended
 

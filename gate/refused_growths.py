@@ -15,7 +15,7 @@ from concurrent.futures import ThreadPoolExecutor
 
 sys.dont_write_bytecode = True
 
-from checks import what_went_wrong  # noqa: E402
+from checks import Told, what_went_wrong  # noqa: E402
 from program_runs import program_runs  # noqa: E402
 from refusals import MOST_GROWTHS, Run, build_shim, run_once, sweep, tests_of  # noqa: E402
 
@@ -65,18 +65,20 @@ def swept(run, shim):
 
 
 def main():
+    told = Told()
     with tempfile.TemporaryDirectory(prefix="refused-growths-") as room:
         shim = build_shim(room)
-        runs, passed, failed = [*program_runs(), *test_runs()], 0, 0
+        runs = [*program_runs(), *test_runs()]
         with ThreadPoolExecutor(os.cpu_count()) as pool:
             for run, (growths, why) in zip(runs, pool.map(lambda it: swept(it, shim), runs)):
                 if growths is None:
-                    print(f"{run.name}: left out, since it has over {MOST_GROWTHS} growths", flush=True)
-                    continue
-                passed, failed = passed + (why is None), failed + (why is not None)
-                print(f"{run.name}: {f'FAILED: {why}' if why else f'{growths} growths refused'}", flush=True)
-    print(f"{passed} passed, {failed} failed")
-    return 1 if failed else 0
+                    # (no machine could try them all, so this one is not to blame)
+                    told.leaves_out(run.name, f"it has over {MOST_GROWTHS} growths", is_allowed=True)
+                elif why:
+                    told.fails(run.name, why)
+                else:
+                    told.passes(run.name, f"; {growths} growths refused")
+    return told.end()
 
 
 if __name__ == "__main__":

@@ -17,8 +17,8 @@ import time
 sys.dont_write_bytecode = True
 
 from checks import DUE, EMPTY, SECONDS, Beside, FakeServer, Room, Server, answers_with, bytes_of, canonical, dump_of  # noqa: E402
-from checks import dump_of_real, frame, frame_of, line_of, named, numbered, pem_of, program, run_checks, run_words  # noqa: E402
-from checks import start, unused_port, wait_until  # noqa: E402
+from checks import dump_of_real, frame, frame_of, line_of, named, numbered, part, pem_of, program, run_checks  # noqa: E402
+from checks import run_words, start, unused_port, wait_until  # noqa: E402
 from refusals import MOST_GROWTHS, build_shim, run_once  # noqa: E402
 
 DUMP_OF_NONE = dump_of({})
@@ -217,8 +217,9 @@ def answers_that_are_none():
     assert take(FakeServer(answers_with(whole)).port, room.folder) == shown(1, 2)
     before = room.marks()
     for reply, number in torn + others:
-        status, out, err = take(FakeServer(answers_with(reply)).port, room.folder)
-        assert (status, out, err) == (1, "", f"fault {number}\n"), (reply, err)
+        with part(reply=reply):
+            ended = take(FakeServer(answers_with(reply)).port, room.folder)
+            assert ended == (1, "", f"fault {number}\n"), ended
     assert take(unused_port(), room.folder) == (1, "", "fault 78\n")
     assert room.marks() == before
 

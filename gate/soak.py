@@ -19,7 +19,7 @@ import time
 
 sys.dont_write_bytecode = True
 
-from checks import AFTERWARDS, SECONDS, Beside, Lasting, frame, frame_of, named, numbered, what_went_wrong  # noqa: E402
+from checks import AFTERWARDS, SECONDS, Beside, Lasting, Told, frame, frame_of, named, numbered, what_went_wrong  # noqa: E402
 
 DOMAINS = [b"d%02d" % number for number in range(20)]
 SET, READ = "set", "read"
@@ -292,23 +292,22 @@ def main():
     parser.add_argument("--workers", type=int, default=4)
     parser.add_argument("--round", type=int, default=20)
     wanted = parser.parse_args()
-    rounds, failed = 0, 0
+    told, rounds = Told(is_quiet=True), max(wanted.seconds // wanted.round, 1)
     try:
         with AFTERWARDS:
             check_of_the_checker()
             soak = Soak(wanted)
             memory = soak.server.kilobytes()
-            for rounds in range(max(wanted.seconds // wanted.round, 1)):
+            for number in range(rounds):
                 soak.round()
+                told.passes(f"round {number}")
             print(f"{soak.deeds} operations by {wanted.clients} clients, {soak.passed} of them given up; "
                   f"memory has grown by {soak.server.kilobytes() - memory} kB; the operations of each round are linearizable")
             soak.end()
-            rounds += 1
+            told.passes("the end")
     except Exception as error:
-        failed = 1
-        print(f"FAILED: {what_went_wrong(error)}")
-    print(f"{rounds} passed, {failed} failed")
-    return failed
+        told.fails(f"after {told.passed} of {rounds} rounds", what_went_wrong(error))
+    return told.end()
 
 
 if __name__ == "__main__":

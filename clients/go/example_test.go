@@ -24,7 +24,12 @@ func TestMain(m *testing.M) {
 }
 
 func run(m *testing.M) int {
-	server := exec.Command(os.Getenv("BUNDLED"), "serve", "--port", "0", "--connections", "unlimited")
+	server := exec.Command(os.Getenv("BUNDLED"), "serve", "--port", "0", "--connections", "unlimited", "--until-eof")
+	_, err := server.StdinPipe() // it ends with this process, however that ends
+	if err != nil {
+		log.Print(err)
+		return 1
+	}
 	output, err := server.StdoutPipe()
 	if err == nil {
 		err = server.Start()

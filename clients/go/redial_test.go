@@ -80,10 +80,7 @@ func TestChangesAreSentOnce(t *testing.T) {
 
 // What a connection failed of is kept.
 func TestCauses(t *testing.T) {
-	silent, err := net.Listen("tcp", "127.0.0.1:0")
-	check(t, err)
-	silent.Close()
-	_, err = Dial(soon(t), silent.Addr().String())
+	_, err := Dial(soon(t), keepAddress(t))
 	is(t, err, ErrDisconnected, syscall.ECONNREFUSED)
 	var operation *net.OpError
 	equal(t, errors.As(err, &operation), true)

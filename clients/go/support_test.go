@@ -10,6 +10,7 @@ import (
 	"bufio"
 	"context"
 	"errors"
+	"fmt"
 	"io"
 	"net"
 	"os"
@@ -17,6 +18,7 @@ import (
 	"reflect"
 	"strings"
 	"sync"
+	"syscall"
 	"testing"
 	"time"
 )
@@ -43,10 +45,13 @@ func program(t testing.TB) string {
 	return path
 }
 
-// serve starts the program behind a port, and gives what stands in its line after "listening".
+// serve starts the program behind a port, and gives what stands in its line after "listening". It ends with its input, so
+// that it ends with the test, however that ends.
 func serve(t testing.TB, options ...string) []string {
-	words := append([]string{"serve", "--port", "0", "--workers", "2", "--connections", "unlimited"}, options...)
+	words := append([]string{"serve", "--port", "0", "--workers", "2", "--connections", "unlimited", "--until-eof"}, options...)
 	server := exec.Command(program(t), words...)
+	_, err := server.StdinPipe()
+	check(t, err)
 	output, err := server.StdoutPipe()
 	check(t, err)
 	check(t, server.Start())
@@ -121,6 +126,20 @@ const (
 
 func found(text string) string { return framed("f" + text) }
 
+// keepAddress is an address that the system gives to nobody until the test ends, and at which nobody listens but who is
+// told of it.
+func keepAddress(t testing.TB) string {
+	kept, err := syscall.Socket(syscall.AF_INET, syscall.SOCK_STREAM, 0)
+	check(t, err)
+	t.Cleanup(func() { syscall.Close(kept) })
+	syscall.CloseOnExec(kept)
+	check(t, syscall.SetsockoptInt(kept, syscall.SOL_SOCKET, syscall.SO_REUSEADDR, 1))
+	check(t, syscall.Bind(kept, &syscall.SockaddrInet4{Addr: [4]byte{127, 0, 0, 1}}))
+	name, err := syscall.Getsockname(kept)
+	check(t, err)
+	return fmt.Sprintf("127.0.0.1:%d", name.(*syscall.SockaddrInet4).Port)
+}
+
 // server answers each request of a connection by the next reply of its list, and then ends it. It takes as many
 // connections as there are lists, one after the other; nobody listens once the last one is taken.
 type server struct {
@@ -132,7 +151,7 @@ type server struct {
 }
 
 func answer(t testing.TB, sessions ...[]string) *server {
-	listener, err := net.Listen("tcp", "127.0.0.1:0")
+	listener, err := net.Listen("tcp", keepAddress(t))
 	check(t, err)
 	s := &server{listener: listener, sessions: sessions, came: make(chan string, 1000)}
 	ended := make(chan struct{})

@@ -52,8 +52,11 @@ func is(t *testing.T, err, wanted error) {
 	}
 }
 
+// serve is a client of a server that ends with its input, so that it ends with the test, however that ends.
 func serve(t *testing.T) *hopslintel.Client {
-	server := exec.Command(os.Getenv("BUNDLED"), "serve", "--port", "0", "--connections", "unlimited")
+	server := exec.Command(os.Getenv("BUNDLED"), "serve", "--port", "0", "--connections", "unlimited", "--until-eof")
+	_, err := server.StdinPipe()
+	check(t, err)
 	output, err := server.StdoutPipe()
 	check(t, err)
 	check(t, server.Start())

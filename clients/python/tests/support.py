@@ -95,6 +95,15 @@ def take_payload(stream):
     return take(stream, int.from_bytes(take(stream, 4), "big"))
 
 
+def wait_until(is_so):
+    """Waits for it, at most a minute."""
+    until = time.monotonic() + 60
+    while not is_so():
+        if time.monotonic() > until:
+            raise AssertionError("it is not so after a minute")
+        time.sleep(0.001)
+
+
 STAYS = object()
 """In place of a reply: nothing comes, and the client ends the connection."""
 
@@ -104,13 +113,17 @@ class Server:
     after the other: each request gets the next reply of its list, and then
     the connection is closed.
 
-    Nobody listens any more as soon as the last one is taken. `asked` has the
+    Nobody listens any more as soon as the last one is taken: the port stays
+    bound until the end, so that no other program gets it. `asked` has the
     requests of each connection.
     """
 
     def __init__(self, *sessions):
         self.sessions, self.asked = sessions, []
-        self.listener = socket.create_server(("127.0.0.1", 0))
+        self.kept = socket.socket()
+        self.kept.setsockopt(socket.SOL_SOCKET, socket.SO_REUSEADDR, 1)
+        self.kept.bind(("127.0.0.1", 0))
+        self.listener = socket.create_server(self.kept.getsockname())
         self.port = self.listener.getsockname()[1]
         self.thread = threading.Thread(target=self._serve, daemon=True)
         self.thread.start()
@@ -123,8 +136,12 @@ class Server:
             self.listener.shutdown(socket.SHUT_RDWR)  # it ends its `accept`
         self.thread.join(60)
         self.listener.close()
+        self.kept.close()
         if self.thread.is_alive():
             raise AssertionError("the server has not ended")
+
+    def has_been_asked(self):
+        return any(self.asked)
 
     def _serve(self):
         for number, replies in enumerate(self.sessions, 1):
@@ -140,14 +157,14 @@ class Server:
                     self._answer(stream, reply)
 
     def _answer(self, stream, reply):
-        if reply is STAYS:
-            while stream.recv(65536):
-                pass
-            return
         payload = take_payload(stream)
         if not payload:
             raise OSError("the client is gone")
         self.asked[-1].append(payload)
+        if reply is STAYS:
+            while stream.recv(65536):
+                pass
+            return
         for piece in reply if isinstance(reply, list) else [reply]:
             stream.sendall(piece)
             if isinstance(reply, list):

@@ -22,6 +22,14 @@ TWO = frame(b"v\x02")
 HELD = frame(b"\x2a\0\0\0\1" + bytes(8))
 
 
+async def wait_until(is_so):
+    """Waits for it, at most a minute."""
+    until = time.monotonic() + 60
+    while not is_so():
+        assert time.monotonic() < until
+        await asyncio.sleep(0.001)
+
+
 class InterfaceTest(unittest.TestCase):
     def test_it_is_that_of_the_client_that_blocks(self):
         """The same methods with the same words, and the same docs or one
@@ -109,7 +117,7 @@ class TasksTest(unittest.IsolatedAsyncioTestCase):
         with Server([slow], [found(b"b")]) as server:
             async with await Client.connect(server.port) as store:
                 getting = asyncio.ensure_future(store.get("a"))
-                await asyncio.sleep(0.1)
+                await wait_until(server.has_been_asked)
                 getting.cancel()
                 with self.assertRaises(asyncio.CancelledError):
                     await getting
@@ -121,9 +129,10 @@ class TasksTest(unittest.IsolatedAsyncioTestCase):
         with Server([slow, found(b"c")]) as server:
             async with await Client.connect(server.port) as store:
                 getting = asyncio.ensure_future(store.get("a"))
-                await asyncio.sleep(0.1)
+                await wait_until(server.has_been_asked)
                 waiting = asyncio.ensure_future(store.get("b"))
-                await asyncio.sleep(0.05)
+                for _ in range(10):
+                    await asyncio.sleep(0)  # it goes on until it waits
                 waiting.cancel()
                 self.assertEqual(await getting, b"a" * 20)
                 with self.assertRaises(asyncio.CancelledError):
@@ -165,7 +174,7 @@ class TasksTest(unittest.IsolatedAsyncioTestCase):
         with Server([b"", STAYS]) as server:
             store = await Client.connect(server.port)
             getting = asyncio.ensure_future(store.get("a"))
-            await asyncio.sleep(0.1)
+            await wait_until(server.has_been_asked)
             await store.close()
             with self.assertRaises(DisconnectedError):
                 await asyncio.wait_for(getting, 10)
@@ -217,7 +226,6 @@ class RedialTest(unittest.IsolatedAsyncioTestCase):
                 with self.assertRaises(ProtocolError):
                     await store.get("a")
                 self.assertEqual(await store.get("b"), b"b")
-                await asyncio.sleep(0.05)
                 with self.assertRaises(ProtocolError):
                     await store.get("d")
 
@@ -264,17 +272,21 @@ class FollowTest(unittest.IsolatedAsyncioTestCase):
                     await store.follow(0.001).__anext__()
 
     async def test_it_ends_with_the_client(self):
+        """Between two fetch-alls, or inside of one."""
         for replies in [[all_of({}), STAYS], [STAYS]]:
             with Server(replies) as server:
                 store = await Client.connect(server.port)
+                yielded = asyncio.Event()
 
-                async def close_soon():
-                    await asyncio.sleep(0.1)
+                async def close():
+                    if len(replies) > 1:
+                        await yielded.wait()
+                    await wait_until(server.has_been_asked)
                     await store.close()
 
-                closing = asyncio.ensure_future(close_soon())
+                closing = asyncio.ensure_future(close())
                 begun = time.monotonic()
                 async for _ in store.follow(60):
-                    pass
+                    yielded.set()
                 await closing
                 self.assertLess(time.monotonic() - begun, 10)

@@ -1,6 +1,6 @@
 """What the package is to those who install it or copy its folder."""
+import contextlib
 import importlib
-import importlib.util
 import os
 import re
 import shutil
@@ -38,8 +38,15 @@ def of_python(version):
     return version.replace("-dev", ".dev0")
 
 
-def has_module(name):
-    return importlib.util.find_spec(name) is not None
+def python_that_builds():
+    """A Python that has what pyproject.toml asks for: Debian's, or this."""
+    for python in ["/usr/bin/python3", sys.executable]:
+        words = [python, "-c", "import setuptools, wheel"]
+        with contextlib.suppress(FileNotFoundError):
+            ran = subprocess.run(words, stderr=subprocess.DEVNULL)
+            if ran.returncode == 0:
+                return python
+    return None
 
 
 class PackageTest(unittest.TestCase):
@@ -71,7 +78,7 @@ class PackageTest(unittest.TestCase):
         self.assertTrue(callable(getattr(importlib.import_module(module),
                                          name)))
         self.assertIn('dynamic = ["version"]', text)
-        self.assertIn('license = "Apache-2.0"', text)
+        self.assertIn('license = {text = "Apache-2.0"}', text)
         for file in ["README.md", "LICENSE", "hopslintel/py.typed"]:
             self.assertTrue(os.path.isfile(f"{HERE}/{file}"), file)
 
@@ -91,26 +98,36 @@ class PackageTest(unittest.TestCase):
                 self.assertEqual((ran.returncode, ran.stderr), (0, b""))
 
     def test_a_wheel(self):
-        if not has_module("flit_core"):
-            self.skipTest("this Python has no flit_core")
-        script = ("import sys\nfrom flit_core import buildapi\n"
-                  "print(buildapi.build_wheel(sys.argv[1]))")
+        """It is built without a network, of a copy: the build leaves files."""
+        python = python_that_builds()
+        if not python:
+            self.skipTest("no Python here has setuptools and wheel")
+        script = ("import sys\nfrom setuptools import build_meta\n"
+                  "build_meta.build_wheel(sys.argv[1])")
         with tempfile.TemporaryDirectory() as folder:
-            name = subprocess.run([sys.executable, "-c", script, folder],
-                                  cwd=HERE, stdout=subprocess.PIPE,
-                                  check=True).stdout.decode().strip()
+            shutil.copytree(HERE, f"{folder}/copy", ignore=lambda *_: [
+                "tests", "__pycache__"])
+            ran = subprocess.run([python, "-c", script, folder],
+                                 cwd=f"{folder}/copy", stdout=subprocess.PIPE,
+                                 stderr=subprocess.STDOUT)
+            self.assertEqual(ran.returncode, 0, ran.stdout.decode())
             version = hopslintel.__version__
-            self.assertEqual(name, f"hopslintel-{version}-py3-none-any.whl")
-            with zipfile.ZipFile(f"{folder}/{name}") as wheel:
+            about = f"hopslintel-{version}"
+            with zipfile.ZipFile(
+                    f"{folder}/{about}-py3-none-any.whl") as wheel:
                 names = set(wheel.namelist())
-                about = f"hopslintel-{version}.dist-info"
+                about += ".dist-info"
                 said = wheel.read(f"{about}/METADATA").decode().splitlines()
+                commands = wheel.read(f"{about}/entry_points.txt").decode()
         modules = {f"hopslintel/{it}" for it in os.listdir(FOLDER)
                    if not it.startswith("__pycache__")}
         self.assertEqual({it for it in names if not it.startswith(about)},
                          modules)
-        self.assertIn(f"{about}/licenses/LICENSE", names)
-        self.assertIn("License-Expression: Apache-2.0", said)
+        self.assertIn(f"{about}/LICENSE", names)
+        for line in ["Name: hopslintel", f"Version: {version}",
+                     "License: Apache-2.0", "Requires-Python: >=3.8"]:
+            self.assertIn(line, said)
+        self.assertIn("hopslintel = hopslintel.command_line:main", commands)
 
 
 class TypesTest(unittest.TestCase):

@@ -4,6 +4,7 @@ import os
 import signal
 import subprocess
 import sys
+import threading
 import time
 import unittest
 import unittest.mock
@@ -12,7 +13,7 @@ from hopslintel import (Client, DisconnectedError, Found, GivenUpError,
                         Request, TimedOutError)
 
 from .support import (EMPTY, STAYS, Server, answered_by, beside, found, frame,
-                      naming, real, run_together)
+                      naming, real, run_together, wait_until)
 
 
 class ThreadsTest(unittest.TestCase):
@@ -87,12 +88,13 @@ class ThreadsTest(unittest.TestCase):
         return a_process(f"sys.stdin.buffer.read(7); write({found(EMPTY)!r})")
 
 
-def a_process(text):
+def a_process(text, **how):
     """A client of a process in Python, which has `write`."""
     script = ("import sys, time\ndef write(data):\n  sys.stdout.buffer.write("
               f"data)\n  sys.stdout.flush()\n{text}\nsys.stdin.read()")
     process = subprocess.Popen([sys.executable, "-c", script],
-                               stdin=subprocess.PIPE, stdout=subprocess.PIPE)
+                               stdin=subprocess.PIPE, stdout=subprocess.PIPE,
+                               **how)
     return OfProcess(process)
 
 
@@ -164,11 +166,13 @@ class DeadlinesTest(unittest.TestCase):
     def test_waiting_for_another_thread(self):
         """The call that had the connection is not disturbed."""
         slow = [bytes([byte]) for byte in found(b"x" * 20)]
-        with answered_by(slow, found(EMPTY)) as store:
-            with beside(lambda: self.assertEqual(store.get("a"), b"x" * 20)):
-                time.sleep(0.1)
-                self.late(store.get, "a", timeout=0.05)
-            self.assertEqual(store.get("a"), EMPTY)
+        with Server([slow, found(EMPTY)]) as server:
+            with Client.connect(server.port) as store:
+                with beside(lambda: self.assertEqual(store.get("a"),
+                                                     b"x" * 20)):
+                    wait_until(server.has_been_asked)
+                    self.late(store.get, "a", timeout=0.05)
+                self.assertEqual(store.get("a"), EMPTY)
 
     def test_a_process(self):
         """One that is silent, and one that takes nothing."""
@@ -185,25 +189,30 @@ class DeadlinesTest(unittest.TestCase):
 
 
 class ClosingTest(unittest.TestCase):
-    def close_soon(self, store):
-        time.sleep(0.2)
-        store.close()
+    def ends(self, store, wait_until_asked):
+        """A call ends if the client is closed once it has been asked."""
+        def close():
+            wait_until_asked()
+            store.close()
+
+        with beside(close):
+            begun = time.monotonic()
+            self.assertRaises(DisconnectedError, store.get, "a")
+            self.assertLess(time.monotonic() - begun, 10)
 
     def test_a_call_of_another_thread_ends(self):
         for timeout in [30, math.inf]:
-            with answered_by(b"", STAYS, timeout=timeout) as store:
-                with beside(lambda: self.close_soon(store)):
-                    begun = time.monotonic()
-                    self.assertRaises(DisconnectedError, store.get, "a")
-                    self.assertLess(time.monotonic() - begun, 10)
+            with Server([b"", STAYS]) as server:
+                with Client.connect(server.port, timeout=timeout) as store:
+                    self.ends(store,
+                              lambda: wait_until(server.has_been_asked))
 
     def test_a_call_over_streams_ends(self):
         """With the process, which sees the end of its input."""
-        with a_process("") as store:
-            with beside(lambda: self.close_soon(store)):
-                begun = time.monotonic()
-                self.assertRaises(DisconnectedError, store.get, "a")
-                self.assertLess(time.monotonic() - begun, 10)
+        running = a_process("sys.stdin.buffer.read(7); print(file=sys.stderr)",
+                            stderr=subprocess.PIPE)
+        with running as store, running.process.stderr as told:
+            self.ends(store, told.readline)
 
     def test_a_closed_client_stays_closed(self):
         with Server([found(EMPTY)], [found(EMPTY)]) as server:
@@ -215,18 +224,23 @@ class ClosingTest(unittest.TestCase):
                 self.assertRaises(DisconnectedError, store.set, "a", EMPTY)
         self.assertEqual(server.asked, [[b"G\x01a"]])
 
-    @unittest.skipUnless(hasattr(signal, "setitimer"), "no such timer")
+    @unittest.skipUnless(hasattr(signal, "pthread_kill"), "no such signals")
     def test_a_call_that_is_interrupted(self):
         """Its reply is not taken for that of the next one."""
-        def interrupt(*_):
+        def raise_it(*_):
             raise KeyboardInterrupt
 
-        before = signal.signal(signal.SIGALRM, interrupt)
+        def interrupt():
+            wait_until(server.has_been_asked)
+            signal.pthread_kill(asking, signal.SIGUSR1)
+
+        asking = threading.get_ident()
+        before = signal.signal(signal.SIGUSR1, raise_it)
         try:
             with Server([b"", STAYS], [found(real("many"))]) as server:
                 with Client.connect(server.port) as store:
-                    signal.setitimer(signal.ITIMER_REAL, 0.1)
-                    self.assertRaises(KeyboardInterrupt, store.get, "a")
+                    with beside(interrupt):
+                        self.assertRaises(KeyboardInterrupt, store.get, "a")
                     self.assertEqual(store.get("b"), real("many"))
         finally:
-            signal.signal(signal.SIGALRM, before)
+            signal.signal(signal.SIGUSR1, before)
