@@ -1,9 +1,10 @@
 #!/usr/bin/env python3
 """How many requests a second a server answers over loopback, beside another program. No part of the gate.
 
-usage: gate/loopback.py PROGRAM PEER [--runs N] [--requests N] [--workers N,N] [--loads NAME,NAME]
+usage: gate/loopback.py PROGRAM PEER [--connections WORD] [--runs N] [--requests N] [--workers N,N] [--loads NAME,NAME]
 
-Both programs run `serve --port 0 --workers N --connections 1000 --shards 16` and say `listening PORT` first. Each load is asked
+Both programs run `serve --port 0 --workers N --connections 1000 --shards 16` and say `listening PORT` first; the program may be
+given other connections, as `--connections unlimited`. Each load is asked
 of the two in turns, by as many clients as the server has workers; the clients are load.c, which needs a C compiler. A line of a
 table is a load: for each number of workers the median of the program's runs and of the peer's, and after it the least and the
 greatest of each. The program's is in bold where it is at least the peer's. Behind it stands the ratio of the two, by the
@@ -43,8 +44,8 @@ DOMAINS = 1000
 class Server:
     """A program that listens."""
 
-    def __init__(self, program, workers):
-        command = [os.path.abspath(program), "serve", "--port", "0", "--workers", str(workers), "--connections", "1000"]
+    def __init__(self, program, workers, connections):
+        command = [os.path.abspath(program), "serve", "--port", "0", "--workers", str(workers), "--connections", connections]
         how = {"stdout": subprocess.PIPE, "stderr": subprocess.DEVNULL}
         self.running = subprocess.Popen(command + ["--shards", "16"], **how)
         said = re.match(r"listening (\d+)", self.running.stdout.readline().decode())
@@ -75,14 +76,14 @@ class Server:
 
 
 def measure(load, programs, workers, name, runs, requests):
-    """For each program, what each of its runs gave."""
+    """For each program, with its connections, what each of its runs gave."""
     _, batch, window, keys, kind, usual = LOADS[name]
     writes = max((requests or usual) // batch, 1)
     given = [[] for _ in programs]
     servers = []
     try:
-        for program in programs:
-            servers.append(Server(program, workers))
+        for program, connections in programs:
+            servers.append(Server(program, workers, connections))
             servers[-1].ask(load, 1, DOMAINS // 100, 100, 1, keys, "p")
         for _ in range(runs):
             for server, rates in zip(servers, given):
@@ -119,6 +120,7 @@ def cell(given):
 def main(words):
     ask = argparse.ArgumentParser(description=__doc__, formatter_class=argparse.RawDescriptionHelpFormatter)
     ask.add_argument("programs", nargs=2, metavar="PROGRAM")
+    ask.add_argument("--connections", default="1000")
     ask.add_argument("--runs", type=int, default=5)
     ask.add_argument("--requests", type=int, default=0)
     ask.add_argument("--workers", default="1,2,4")
@@ -128,11 +130,12 @@ def main(words):
     unknown = [name for name in wanted.loads.split(",") if name not in LOADS]
     if unknown:
         ask.error(f"there is no load {unknown[0]}; there are {', '.join(LOADS)}")
+    programs = list(zip(wanted.programs, [wanted.connections, "1000"]))
     with tempfile.TemporaryDirectory() as folder:
         load = os.path.join(folder, "load")
         subprocess.run(["cc", "-O2", "-pthread", "-o", load, os.path.join(HERE, "load.c")], check=True)
         for name in wanted.loads.split(","):
-            cells = [cell(measure(load, wanted.programs, number, name, wanted.runs, wanted.requests)) for number in workers]
+            cells = [cell(measure(load, programs, number, name, wanted.runs, wanted.requests)) for number in workers]
             print("| " + " | ".join([LOADS[name][0], *(medians for medians, _ in cells)]) + " |")
             for number, (_, ranges) in zip(workers, cells):
                 print(f"    {number} workers: {ranges}", flush=True)
