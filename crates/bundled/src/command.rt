@@ -38,7 +38,7 @@ pub fn command_over<
     R: Read,
     W: Write,
     E: Write,
-    N: Write + Copy + Sync,
+    N: Write + Copy + Send + Sync,
 >(
     alloc: Global,
     args: &V,
@@ -75,7 +75,7 @@ fn run_wanted<
     R: Read,
     W: Write,
     E: Write,
-    N: Write + Copy + Sync,
+    N: Write + Copy + Send + Sync,
 >(
     alloc: Global,
     host: &H,

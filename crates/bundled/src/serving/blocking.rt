@@ -113,7 +113,7 @@ fn clients_of<'a>(
 }
 
 /// Runs the workers, each of which has a pass and takes its clients. If memory runs out, clients may have been served.
-fn run_in_turn<R: Threads + Clock + Sync, L: Log + Sync>(
+fn run_in_turn<R: Threads + Clock + Sync, L: Log + Send + Sync>(
     host: &Host<'_, R, L>,
     store: &Store,
     retries: u64,
@@ -140,7 +140,7 @@ fn run_in_turn<R: Threads + Clock + Sync, L: Log + Sync>(
 /// `listening PORT` goes to the output first; no client is taken if it is not taken. At the end come `served N`, how many
 /// sessions there were, and `domains M`, how many domains have a bundle then. The faults of sessions are told in between, in
 /// order of the workers; they don't change the status, except that a listener that failed does.
-pub fn serve_on<R: Threads + Clock + Sync, L: Log + Sync, W: Write, E: Write>(
+pub fn serve_on<R: Threads + Clock + Sync, L: Log + Send + Sync, W: Write, E: Write>(
     host: &Host<'_, R, L>,
     listener: &TcpListener,
     settings: Settings,
