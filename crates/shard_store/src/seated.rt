@@ -11,18 +11,17 @@ use std::marker::Model;
 /// A pass at its store.
 #[derive(Drop)]
 pub struct Seated<'a> {
-    store: &'a Store,
-    pass: Pass,
+    pub store: &'a Store,
+    pub pass: Pass,
+    pub ghost own: { IsOf pass store.now },
 }
 
 impl<'a> Model for Seated<'a> {
-    ghost use Rattle.shard_store.specs.Pass.{SeatedView, IsOf};
+    ghost use Rattle.shard_store.specs.Pass.{SeatedView};
 
     ghost Value = { SeatedView };
 
     ghost view = { λ seated. record { store = seated.store.now; seen = seated.pass.seen } };
-
-    ghost invariant = { λ seated. IsOf seated.pass seated.store.now };
 }
 
 impl<'a> Seated<'a> {
