@@ -20,7 +20,7 @@ use dump_commands::{check_over, diff_over, digest_over, import_over, map_over, p
 use frame_front::{Counted, FrontError};
 use server::LineLog;
 use std::alloc::{AllocError, Global};
-use std::env::Env;
+use std::env::{Args, Env};
 use std::fs::{File, Files};
 use std::io::{Read, Write};
 use std::net::{Net, TcpListener, TcpStream};
@@ -60,13 +60,22 @@ pub fn command_over<
         Err(error) if error.kind() == io::ErrorKind::InvalidData => return refuse(NOT_TEXT, err),
         Err(_) => return Fault::Front(FrontError::Memory).tell(err),
     };
-    let Ok(words) = words.collect::<Vec<String>>(alloc) else {
+    let Ok(words) = gather(alloc, words) else {
         return Fault::Front(FrontError::Memory).tell(err);
     };
     match wanted_by(alloc, words.as_slice()) {
         Ok(wanted) => run_wanted(alloc, host, &wanted, reader, out, err, notes),
         Err(error) => show(alloc, &error, out, err),
     }
+}
+
+/// The arguments in a list. (`collect` would ask for room for all of them first, and go on if that is refused.)
+fn gather(alloc: Global, arguments: Args) -> Result<Vec<String>, AllocError> {
+    let mut words = Vec::new(alloc);
+    for word in arguments {
+        words.push(word)?;
+    }
+    Ok(words)
 }
 
 /// Runs the command that is wanted, and answers the exit status.

@@ -378,7 +378,7 @@ const LONG: &[(&str, &str)] = &[(
     "{\"keys\":[{\"use\":\"jwt-svid\",\"kty\":\"RSA\",\"kid\":\"k\",\"n\":\"AQAB\",\"e\":\"AQAB\"}]}",
 )];
 
-/// Refreshes over an empty map, and again if memory runs out.
+/// Refreshes over an empty map, and again if memory runs out, which is told as an error.
 fn refreshes_again(
     rt: &impl Abort,
     alloc: Global,
@@ -406,6 +406,9 @@ fn refreshes_again(
     }
     let found = (schedule.next(), map.len(), source.fetches);
     is_equal_at(rt, &found, &(Some((0, 1300)), 1, tries), &"stored");
+    if tries == 2 {
+        return Err(AllocError);
+    }
     Ok(())
 }
 

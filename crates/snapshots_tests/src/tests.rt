@@ -298,15 +298,22 @@ fn a_refused_growth_shows_nothing(rt: HostRuntime) -> Result<(), Fail> {
     let alloc = rt.alloc();
     let mut folder = Told::new(alloc, 100, &[]);
     let found = updated(alloc, &mut folder, &[("a", X509)])?;
+    let was_refused = found.is_err();
     let is_told = match found {
         Ok(is_new) => is_new && folder.lines.as_str().ends_with("show\n"),
         Err(error) => { error == SnapshotError::Memory && !folder.lines.as_str().contains("show") }
     };
     holds_at(is_told, &folder.lines)?;
-    let is_given = match fetched(alloc, ALL_OF_ONE) {
+    let ended = fetched(alloc, ALL_OF_ONE);
+    let was_refused = was_refused || ended.is_err();
+    let is_given = match ended {
         Ok(count) => count == 1,
         Err(FetchError::Refused(why)) => why == AskError::Memory,
         Err(FetchError::Ended(why)) => why == ClientError::Memory,
     };
-    holds_at(is_given, &"a fetch")
+    holds_at(is_given, &"a fetch")?;
+    if was_refused {
+        return Err(Fail::from(AllocError));
+    }
+    Ok(())
 }

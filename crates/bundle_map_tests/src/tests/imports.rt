@@ -3,6 +3,7 @@ use super::bundles::{EXAMPLE, PARTNER, SPACED_MAP, WITHDRAWN};
 use super::{Domains, frames_of, holds_at, is_equal_at};
 use bundle_map::{MapError, MemberFault, requests_of_map};
 use spiffe_doc::{DocError, NameError};
+use std::alloc::AllocError;
 use std::test::Fail;
 
 /// A file, and the domains that its requests set.
@@ -139,7 +140,10 @@ fn a_refused_growth_gives_no_requests(rt: HostRuntime) -> Result<(), Fail> {
             requests.as_slice() == wanted.as_slice(),
             &"both requests",
         ),
-        Err(error) => is_equal_at(&rt, &error, &MapError::Memory, &"a refused growth"),
+        Err(error) => {
+            is_equal_at(&rt, &error, &MapError::Memory, &"a refused growth");
+            return Err(Fail::from(AllocError));
+        }
     }
     Ok(())
 }

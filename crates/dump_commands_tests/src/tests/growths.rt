@@ -2,6 +2,7 @@
 use super::examples::{DIGEST, DUMP, MAP, PEM, SETS};
 use super::{Command, left_by};
 use bundle_map::Profile;
+use std::alloc::AllocError;
 use std::test::Fail;
 use test_kit::ends::{Left, Sink, Source};
 use test_kit::holds_at;
@@ -42,6 +43,9 @@ fn a_refused_growth_is_told(rt: HostRuntime) -> Result<(), Fail> {
         let (out, err) = (Sink::new(alloc), Sink::new(alloc));
         let left = left_by(alloc, command, Source::new(input), out, err)?;
         holds_at(is_left_by(&left, output), &output)?;
+        if left.status != 0 {
+            return Err(Fail::from(AllocError));
+        }
     }
     Ok(())
 }

@@ -3,7 +3,7 @@ use super::bundles::{DEFAULT, ROTATION, WITHDRAWN};
 use super::{Domains, dump_of};
 use dump_views::{DiffError, put_diff, put_dump_diff};
 use frame_front::{DumpError, read_dump};
-use std::alloc::Global;
+use std::alloc::{AllocError, Global};
 use std::test::Fail;
 use test_kit::is_equal_at;
 
@@ -214,11 +214,16 @@ fn a_refused_growth_leaves_no_part_of_a_diff(rt: HostRuntime) -> Result<(), Fail
     let alloc = rt.alloc();
     let (old, new) = (dump_of(alloc, &OLD)?, dump_of(alloc, &OTHERS)?);
     let mut out = Vec::from_slice(alloc, b"before\n")?;
-    let size = if is_put(alloc, &old, &new, &mut out)? {
+    let is_whole = is_put(alloc, &old, &new, &mut out)?;
+    let size = if is_whole {
         WHOLE.len()
     } else {
         b"before\n".len()
     };
     let (wanted, _) = WHOLE.split_at(size);
-    is_equal_at(&out.as_slice(), &wanted, &"whole, or nothing")
+    is_equal_at(&out.as_slice(), &wanted, &"whole, or nothing")?;
+    if is_whole {
+        return Ok(());
+    }
+    Err(Fail::from(AllocError))
 }

@@ -3,7 +3,7 @@ use super::bundles::{DEFAULT, LARGE_CURVE, LARGE_KEY, ROTATION, WITHDRAWN};
 use super::{dump_of, put_all};
 use dump_views::{PemError, put_dump_pem, put_pem};
 use spiffe_doc::{TrustDomain, read_document};
-use std::alloc::Global;
+use std::alloc::{AllocError, Global};
 use std::test::Fail;
 use test_kit::{holds_at, is_equal_at};
 
@@ -170,12 +170,13 @@ fn a_refused_growth_leaves_no_part_of_a_pem(rt: HostRuntime) -> Result<(), Fail>
     let alloc = rt.alloc();
     let (document, pem) = BUNDLES[2];
     let mut out = Vec::from_slice(alloc, b"before\n")?;
-    let size = if is_put(alloc, document.as_bytes(), &mut out)? {
-        pem.len()
-    } else {
-        0
-    };
+    let is_whole = is_put(alloc, document.as_bytes(), &mut out)?;
+    let size = if is_whole { pem.len() } else { 0 };
     let (wanted, _) = pem.as_bytes().split_at(size);
     let added = out.as_slice().strip_prefix(b"before\n");
-    is_equal_at(&added, &Some(wanted), &"whole, or nothing")
+    is_equal_at(&added, &Some(wanted), &"whole, or nothing")?;
+    if is_whole {
+        return Ok(());
+    }
+    Err(Fail::from(AllocError))
 }

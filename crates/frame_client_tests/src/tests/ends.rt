@@ -4,7 +4,7 @@ use super::is_answered;
 use frame_client::{Client, ClientError};
 use frame_front::{Counted, FaultyReader, FaultyWriter};
 use map_core::{Ask, AskError};
-use std::alloc::Global;
+use std::alloc::{AllocError, Global};
 use std::test::Fail;
 use test_kit::protocol::{ALL_OF_ONE, FOUND};
 use test_kit::{holds_at, is_equal_at, operation};
@@ -71,13 +71,15 @@ fn a_writer_that_fails(rt: HostRuntime) -> Result<(), Fail> {
     Ok(())
 }
 
-/// If memory runs out before the request, the client says so and goes on; if it runs out at the reply, it has ended.
+/// If memory runs out before the request, the client says so and goes on; if it runs out at the reply, it has ended. The
+/// test tells that as an error.
 fn without_memory(alloc: Global, line: &str, reply: &[u8]) -> Result<(), Fail> {
     // Room for the request, so that the writer has no growth of its own.
     let room = Vec::with_capacity(alloc, 128)?;
     let request = operation(alloc, line)?;
     let mut client = Client::new(alloc, Counted::new(reply), Counted::new(room));
     let answer = client.ask(request);
+    let was_refused = answer.is_err();
     let ended = client.ended();
     let (reader, writer) = client.into_ends();
     let is_read = reader.end.is_empty();
@@ -87,10 +89,14 @@ fn without_memory(alloc: Global, line: &str, reply: &[u8]) -> Result<(), Fail> {
         Err(AskError::GateShut) => ended == Some(ClientError::Memory) && is_read,
         _ => false,
     };
-    holds_at(allowed, &ended)
+    holds_at(allowed, &ended)?;
+    if was_refused {
+        return Err(Fail::from(AllocError));
+    }
+    Ok(())
 }
 
-/// To be run with each allocation refused in turn.
+/// To be run with each allocation refused in turn: it passes only if nothing was refused.
 #[test]
 fn a_refused_growth_of_each_kind(rt: HostRuntime) -> Result<(), Fail> {
     without_memory(rt.alloc(), "get a", FOUND)?;

@@ -204,24 +204,28 @@ fn a_live_session_ends_at_a_frame(rt: HostRuntime) -> Result<(), Fail> {
     Ok(())
 }
 
-/// Feeds each piece and sends what is answered, again if memory runs out.
-fn feed_again(seat: &mut Seat, pieces: &[&[u8]], sent: &mut Vec<u8>) -> Result<(), Fail> {
+/// Feeds each piece and sends what is answered, again if memory runs out. Answers whether it did.
+fn feed_again(seat: &mut Seat, pieces: &[&[u8]], sent: &mut Vec<u8>) -> Result<bool, Fail> {
+    let mut was_refused = false;
     for piece in pieces {
         if seat.live.feed(piece).is_err() {
+            was_refused = true;
             // Nothing is kept of it, so it is fed again.
             is_equal(&seat.live.feed(piece), &Ok(piece.len()))?;
         }
         let mut answered = seat.live.answer(&mut seat.documents, &mut seat.contents);
         if answered.next == Err(FrontError::Memory) {
+            was_refused = true;
             answered = seat.live.answer(&mut seat.documents, &mut seat.contents);
         }
         is_equal(&answered.next, &Ok(Wants::Read))?;
         seat.send(64, sent)?;
     }
-    Ok(())
+    Ok(was_refused)
 }
 
-/// To be run with each allocation refused in turn: what was answered is answered once, and a later call goes on.
+/// To be run with each allocation refused in turn: what was answered is answered once, and a later call goes on. The test
+/// tells that as an error, so it passes only if nothing was refused.
 #[test]
 fn a_refused_growth_is_met_again(rt: HostRuntime) -> Result<(), Fail> {
     // Room for all replies, so that only the session grows.
@@ -229,11 +233,15 @@ fn a_refused_growth_is_met_again(rt: HostRuntime) -> Result<(), Fail> {
     let mut seat = Seat::new(rt.alloc())?;
     let is_fed = feed_again(&mut seat, &[SET, GET], &mut sent);
     drop(seat);
-    is_fed?;
+    let was_refused = is_fed?;
     let stored: &[u8] = b"\x00\x00\x00\x01s\x00\x00\x00\x0cf{\"keys\":[]}";
     let told: &[u8] = b"\x00\x00\x00\x01\x16\x00\x00\x00\x01\x1e";
     let found: &[u8] = b"\x00\x00\x00\x01s\x00\x00\x00\x01\x16";
     let written = sent.as_slice();
     let is_so = written == stored || written == told || written == found;
-    holds_at(is_so, &written)
+    holds_at(is_so, &written)?;
+    if was_refused || written != stored {
+        return Err(Fail::from(AllocError));
+    }
+    Ok(())
 }

@@ -1,7 +1,7 @@
 //! Streams of lines become frames.
 use super::OneText;
 use frame_lines::{EncodeError, Encoder};
-use std::alloc::Global;
+use std::alloc::{AllocError, Global};
 use std::test::Fail;
 use test_kit::{holds_at, is_equal_at};
 
@@ -137,5 +137,9 @@ fn a_refused_growth_leaves_whole_frames(rt: HostRuntime) -> Result<(), Fail> {
         Err(EncodeError::Memory) => out.is_empty() || out.as_slice() == GET_A,
         Err(_) => false,
     };
-    holds_at(is_so, &(ended, out.as_slice()))
+    holds_at(is_so, &(ended, out.as_slice()))?;
+    if ended.is_err() {
+        return Err(Fail::from(AllocError));
+    }
+    Ok(())
 }

@@ -171,5 +171,9 @@ fn a_refused_growth_appends_nothing(rt: HostRuntime) -> Result<(), Fail> {
         put_line_of(b"f{\"keys\":[]}", &mut out)?;
     }
     let wanted = b"before found {\"keys\":[]}\n".as_slice();
-    is_equal_at(&out.as_slice(), &wanted, &put)
+    is_equal_at(&out.as_slice(), &wanted, &put)?;
+    if put.is_err() {
+        return Err(Fail::from(AllocError));
+    }
+    Ok(())
 }

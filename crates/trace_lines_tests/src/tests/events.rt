@@ -190,6 +190,7 @@ fn a_refused_growth_gives_no_events(rt: HostRuntime) -> Result<(), Fail> {
     let input = b"begin 1 set a-name-of-over-24-bytes.example {\"keys\":[]}\nstep 1\nend 1\n";
     match read_events(rt.alloc(), input.as_slice()) {
         Ok(events) => is_equal_at(&events.len(), &3, &"all lines"),
+        Err(LinesError::Memory) => Err(Fail::from(AllocError)),
         Err(error) => is_equal_at(&error, &LinesError::Memory, &"a refused growth"),
     }
 }
