@@ -214,7 +214,7 @@ static TRACE: Row = Row {
 
 static RACE: Row = Row {
     name: "race",
-    about: "Shows why a fetch-all matters: counts the maps that never were of a naive reader, and of a fetch-all",
+    about: "Shows why a fetch-all matters: counts inconsistent readings, of a reader that gets domains one by one and of a fetch-all (always 0)",
     notes: texts::RACE,
     arguments: &[SECONDS],
 };

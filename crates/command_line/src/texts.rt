@@ -133,8 +133,8 @@ The first example: a domain is set while a fetch-all has read its shard, and the
 pub const RACE: &str = "\
 Two writers set four domains each, in turn, over and over, each to the number of the round. So at any moment the
 first few of four have a number, and the others have the number before it. Beside them one reader gets the domains
-one by one, and another fetches all. A reading that is not of that form shows a map that never was: how many there
-are is told of both, and the first. The status is 0 if a fetch-all showed none.";
+one by one, and another fetches all. Any other reading is a state that the store was never in: how many there were
+is told of each reader, and the first. The status is 0 if a fetch-all showed none.";
 
 pub const RELATIONSHIPS: &str = "\
 Each line of the list is a relationship: a trust domain, the URL of its bundle endpoint, the profile of the
