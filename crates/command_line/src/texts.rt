@@ -41,7 +41,7 @@ nothing. Names and documents are not judged here: whoever is asked does that. A 
 frame carries, is `fault 70 LINE`, and a file that cannot be read `fault 77 LINE`, status 1; what the lines before
 it became has been written.
 
-  printf 'set a {\"keys\":[]}\nget a\n' | bundled encode | bundled run | bundled decode
+  printf 'set a {\"keys\":[]}\\nget a\\n' | bundled encode | bundled run | bundled decode
 
   stored
   found {\"keys\":[]}";
@@ -79,8 +79,8 @@ The status is 0 if each request was done, 3 if some reply is a refusal, and 1 af
 listens, 50, 52, 53, 54 or 58 if the exchange with it failed: whether its request took effect is not known. A word with
 a line feed is `fault 70 1`, and nothing is asked: give such a document as @FILE.";
 
-pub const REPORTS: &str = "\
-  a.json: bundle of 2 authorities (1 X.509, 1 JWT), sequence 1, refresh hint 300
+pub const REPORTS: &str =
+    "  a.json: bundle of 2 authorities (1 X.509, 1 JWT), sequence 1, refresh hint 300
   a.json: keys[1] is ignored: its kty is \"OKP\", not EC or RSA
   b.json: not a bundle: keys[0] has a malformed x: it has to be 32 bytes of unpadded base64url (17)
 
@@ -95,8 +95,7 @@ A dump is the reply to a fetch-all. The file has under each name the bundle, in 
 gRPC reads it as spiffe_trust_bundle_map_file, and Envoy in its SPIFFECertValidatorConfig; --x509 is for readers that
 refuse uses that they do not know. A NAME that the dump has not is `fault 75 NAME`, counted from 1, status 1.";
 
-pub const IMPORTS: &str = "\
-  bundled import < map.json | bundled run | bundled decode
+pub const IMPORTS: &str = "  bundled import < map.json | bundled run | bundled decode
 
 An input that is not a bundle map is `fault 64`; a member of `trust_domains` whose name is not that of a trust domain or
 stands twice, or whose value is not a bundle, is `fault 65 MEMBER`, counted from 0. Then nothing is written.";
