@@ -2,13 +2,13 @@
 use Rattle.std.specs.Prelude.{◌≡◌, ℕ, ◌+◌, ◌<◌, min, List, map, Option, Some, None, Result, Ok, Err}
 use Rattle.std.specs.List.{All}
 use Rattle.std.specs.declared.net.TcpStream.{TcpStream}
+use Rattle.frame_front.specs.declared.counted.Counted.{Counted}
 use Rattle.shard_store.specs.Pass.{StoreView, PassView}
 use Rattle.workers.specs.Run.{AllWorked, kept}
-use Rattle.workers.specs.Sessions.{Opened}
 use Rattle.workers.specs.declared.ended.Worked.{Worked}
 use Rattle.workers.specs.declared.run.Finished.{Finished}
 use Rattle.workers.specs.declared.sessions.ListenFault.{ListenFault}
-use Rattle.workers.specs.declared.sessions.Session.{Session}
+use Rattle.workers.specs.declared.session.Session.{Session}
 use Rattle.live_workers.specs.Workers.{AllServed}
 use Rattle.command_line.specs.declared.settings.Connections.{Connections}
 use Rattle.command_line.specs.declared.settings.Connections.TheVariants.{Each, Unlimited}
@@ -16,15 +16,19 @@ use Rattle.server.specs.Serve.{always_open}
 use Rattle.bundled.specs.declared.serving.blocking.Client.{Client}
 use Rattle.bundled.specs.declared.serving.clients.Clients.{Clients}
 
--- of a client's connection it is known only how many reads may be made of it
-abbrev pub client : Session Client TcpStream → Opened
-client session = record { turns = session.turns; left = None; held = None }
+-- nothing is known of what a client's connection has left, nor of what it holds
+abbrev pub unknown : {E : Type 0} → E → Option (List ℕ)
+unknown end = None
 
 -- Each client that comes is one of those that a worker may take, and no more comes after the last; or the listener has failed.
 abbrev pub ClientComes : Clients → Result (Option (Session Client TcpStream)) ListenFault → Clients → Type 0
 ClientComes old (Ok (Some session)) new = (new.left + 1 ≡ old.left) × (new.turns ≡ old.turns) × (session.turns ≡ old.turns)
 ClientComes old (Ok None) new = (old.left ≡ 0) × (new ≡ old)
 ClientComes old (Err fault) new = (0 < old.left) × (new ≡ old)
+
+-- A client whose session is over is let go, and changes nothing for those that come.
+abbrev pub EndsClient : Clients → Counted Client → Counted TcpStream → Clients → Type 0
+EndsClient old reader writer new = new ≡ old
 
 -- each worker may take so many clients, and make so many reads of each
 abbrev pub MayTake : ℕ → ℕ → List Clients → Type 0
@@ -33,7 +37,7 @@ MayTake count turns all = All (λ clients. (clients.left ≡ count) × (clients.
 -- Each worker has served its clients one after the other.
 abbrev pub ServedInTurn : ℕ → ℕ → StoreView → List PassView → List Worked → Type 0
 ServedInTurn count turns store passes worked = (clients : List Clients) × (finished : List Finished) × MayTake count turns clients
-    × AllWorked always_open client ClientComes store 0 passes clients finished × (worked ≡ map kept finished)
+    × AllWorked always_open unknown unknown EndsClient ClientComes store 0 passes clients finished × (worked ≡ map kept finished)
 
 -- how many clients a worker takes in turn; a server that lasts sets no bound
 abbrev pub most_taken : Connections → ℕ

@@ -7,12 +7,13 @@ use Rattle.std.proofs.lemmas.List.{get_or-map, length-map, map_push}
 use Rattle.std.proofs.lemmas.List.Elements.{All-cons}
 use Rattle.workers.specs.Run.{HasWorked, AllWorked, kept}
 use Rattle.workers.specs.declared.ended.Worked.{Worked}
-use Rattle.workers.specs.Sessions.{Opened}
 use Rattle.workers.specs.Private.Numbers.{AreNumbered}
 use Rattle.shard_store.specs.Pass.{StoreView, PassView, IsOf}
 use Rattle.workers.specs.declared.run.Worker.{Worker}
 use Rattle.workers.specs.declared.run.Finished.{Finished}
 use Rattle.workers.specs.declared.sessions.ListenFault.{ListenFault}
+use Rattle.workers.specs.declared.session.Session.{Session}
+use Rattle.frame_front.specs.declared.counted.Counted.{Counted}
 
 pub nil_if : {X : Type 0} (xs : List X) → length xs ≡ 0 → xs ≡ []
 nil_if [] e = refl
@@ -45,20 +46,21 @@ pass_in_place {S} store workers passes same own i x l is =
     let at : get_or passes i x.pass ≡ x.pass = ap (λ (ps : List PassView). get_or ps i x.pass) (sym same) ∙ (get_or-map pass_of workers i x x.pass l ∙ ap pass_of (sym is)) in
     subst (λ (p : PassView). IsOf p store) at (own i x.pass (omega arith))
 
-module _ (opens : ℕ → ℕ → Bool → Type 0) {V X : Type 0} (start : X → Opened) (comes : V → Result (Option X) ListenFault → V → Type 0) (store : StoreView) where
+module _ (opens : ℕ → ℕ → Bool → Type 0) {V R W : Type 0} (remaining : R → Option (List ℕ)) (contents : W → Option (List ℕ)) (takes_back : V → Counted R → Counted W → V → Type 0)
+    (comes : V → Result (Option (Session R W)) ListenFault → V → Type 0) (store : StoreView) where
   -- what holds at each place holds of the three lists
   all_from_places : (first : ℕ) (passes : List PassView) (sessions : List V) (all : List Finished) → length all ≡ length passes → length sessions ≡ length passes
-      → ((i : ℕ) (p : PassView) (v : V) (f : Finished) → i < length passes → HasWorked opens start comes store (first + i) (get_or passes i p) (get_or sessions i v) (get_or all i f))
-      → AllWorked opens start comes store first passes sessions all
+      → ((i : ℕ) (p : PassView) (v : V) (f : Finished) → i < length passes → HasWorked opens remaining contents takes_back comes store (first + i) (get_or passes i p) (get_or sessions i v) (get_or all i f))
+      → AllWorked opens remaining contents takes_back comes store first passes sessions all
   all_from_places first [] [] [] long same each = tt
   all_from_places first [] [] (f ∷ all) long same each = absurd (omega (arith, long))
   all_from_places first [] (v ∷ sessions) all long same each = absurd (omega (arith, same))
   all_from_places first (p ∷ passes) [] all long same each = absurd (omega (arith, same))
   all_from_places first (p ∷ passes) (v ∷ sessions) [] long same each = absurd (omega (arith, long))
   all_from_places first (p ∷ passes) (v ∷ sessions) (f ∷ all) long same each = (
-    subst (λ (n : ℕ). HasWorked opens start comes store n p v f) (omega arith) (each 0 p v f (omega arith)),
+    subst (λ (n : ℕ). HasWorked opens remaining contents takes_back comes store n p v f) (omega arith) (each 0 p v f (omega arith)),
     all_from_places (suc first) passes sessions all (omega (arith, long)) (omega (arith, same))
-        (λ i q u g l. subst (λ (n : ℕ). HasWorked opens start comes store n (get_or passes i q) (get_or sessions i u) (get_or all i g)) (omega arith) (each (suc i) q u g (omega (arith, l)))),
+        (λ i q u g l. subst (λ (n : ℕ). HasWorked opens remaining contents takes_back comes store n (get_or passes i q) (get_or sessions i u) (get_or all i g)) (omega arith) (each (suc i) q u g (omega (arith, l)))),
   )
 
   -- what was given in each place was worked for the pass and the sessions in that place, under that number
@@ -66,8 +68,8 @@ module _ (opens : ℕ → ℕ → Bool → Type 0) {V X : Type 0} (start : X →
       → map (λ (w : Worker V). w.pass) workers ≡ passes → map (λ (w : Worker V). w.sessions) workers ≡ sessions → AreNumbered 0 (map (λ (w : Worker V). w.number) workers)
       → map Ok all ≡ given → length given ≡ length workers
       → ((i : ℕ) (r : Result Finished F) → i < length workers
-      → (job : Worker V) × (job ≡ get_or workers i job) × IfOk (get_or given i r) (λ f. HasWorked opens start comes store job.number job.pass job.sessions f))
-      → AllWorked opens start comes store 0 passes sessions all
+      → (job : Worker V) × (job ≡ get_or workers i job) × IfOk (get_or given i r) (λ f. HasWorked opens remaining contents takes_back comes store job.number job.pass job.sessions f))
+      → AllWorked opens remaining contents takes_back comes store 0 passes sessions all
   worked_in_place {F} workers passes sessions given all same same_sessions numbered gave long each =
       let pass_of : Worker V → PassView = λ w. w.pass in
       let sessions_of : Worker V → V = λ w. w.sessions in
@@ -86,13 +88,13 @@ module _ (opens : ℕ → ℕ → Bool → Type 0) {V X : Type 0} (start : X →
       ap number_of e.1 ∙ sym (get_or-map number_of workers i e.0 e.0.number in_workers)
       ∙ number_in_place 0 (map number_of workers) i e.0.number numbered (omega (arith, length-map workers number_of)) in
       let gave_is : get_or given i (Ok f) ≡ Ok (get_or all i f) = ap (λ (gs : List (Result Finished F)). get_or gs i (Ok f)) (sym gave) ∙ get_or-map Ok all i f (Ok f) in_all in
-      subst (λ (n : ℕ). HasWorked opens start comes store n (get_or passes i p) (get_or sessions i v) (get_or all i f)) number_is
-      (subst (λ (q : PassView). HasWorked opens start comes store e.0.number q (get_or sessions i v) (get_or all i f)) (sym pass_is)
-      (subst (λ (u : V). HasWorked opens start comes store e.0.number e.0.pass u (get_or all i f)) (sym sessions_is)
-      (subst (λ (r : Result Finished F). IfOk r (λ x. HasWorked opens start comes store e.0.number e.0.pass e.0.sessions x)) gave_is e.2))))
+      subst (λ (n : ℕ). HasWorked opens remaining contents takes_back comes store n (get_or passes i p) (get_or sessions i v) (get_or all i f)) number_is
+      (subst (λ (q : PassView). HasWorked opens remaining contents takes_back comes store e.0.number q (get_or sessions i v) (get_or all i f)) (sym pass_is)
+      (subst (λ (u : V). HasWorked opens remaining contents takes_back comes store e.0.number e.0.pass u (get_or all i f)) (sym sessions_is)
+      (subst (λ (r : Result Finished F). IfOk r (λ x. HasWorked opens remaining contents takes_back comes store e.0.number e.0.pass e.0.sessions x)) gave_is e.2))))
 
   -- their passes have the numbers that they had
-  pub ranges_same : (first : ℕ) (passes : List PassView) (sessions : List V) (all : List Finished) → AllWorked opens start comes store first passes sessions all
+  pub ranges_same : (first : ℕ) (passes : List PassView) (sessions : List V) (all : List Finished) → AllWorked opens remaining contents takes_back comes store first passes sessions all
       → flat_map (λ (f : Finished). f.pass.seen.ranges) all ≡ ranges_of passes
   ranges_same first [] [] [] h = refl
   ranges_same first [] [] (f ∷ all) h = absurd h
@@ -103,7 +105,7 @@ module _ (opens : ℕ → ℕ → Bool → Type 0) {V X : Type 0} (start : X →
       ap (λ (r : List (ℕ × ℕ)). r ++ flat_map (λ (g : Finished). g.pass.seen.ranges) all) h.0.further.0
       ∙ ap (λ (r : List (ℕ × ℕ)). p.seen.ranges ++ r) (ranges_same (suc first) passes sessions all h.1)
 
-  pub all_long : (first : ℕ) (passes : List PassView) (sessions : List V) (all : List Finished) → AllWorked opens start comes store first passes sessions all → length all ≡ length passes
+  pub all_long : (first : ℕ) (passes : List PassView) (sessions : List V) (all : List Finished) → AllWorked opens remaining contents takes_back comes store first passes sessions all → length all ≡ length passes
   all_long first [] [] [] h = refl
   all_long first [] [] (f ∷ all) h = absurd h
   all_long first [] (v ∷ sessions) all h = absurd h
@@ -112,7 +114,7 @@ module _ (opens : ℕ → ℕ → Bool → Type 0) {V X : Type 0} (start : X →
   all_long first (p ∷ passes) (v ∷ sessions) (f ∷ all) h = ap suc (all_long (suc first) passes sessions all h.1)
 
   -- all passes come from the store
-  pub all_own : (first : ℕ) (passes : List PassView) (sessions : List V) (all : List Finished) → AllWorked opens start comes store first passes sessions all → All (λ f. IsOf f.pass store) all
+  pub all_own : (first : ℕ) (passes : List PassView) (sessions : List V) (all : List Finished) → AllWorked opens remaining contents takes_back comes store first passes sessions all → All (λ f. IsOf f.pass store) all
   all_own first [] [] [] h = λ k d l. absurd (omega arith)
   all_own first [] [] (f ∷ all) h = absurd h
   all_own first [] (v ∷ sessions) all h = absurd h

@@ -4,6 +4,7 @@ use Rattle.std.specs.Prelude.{ℕ, Option, Result, Ok, Err}
 use Rattle.map_core.specs.declared.op.Op.{Op}
 use Rattle.map_core.specs.declared.reply.Reply.{Reply}
 use Rattle.map_core.specs.declared.reply.AskError.{AskError}
+use Rattle.frame_front.specs.declared.counted.Counted.{Counted}
 use Rattle.frame_front.specs.declared.error.FrontError.{FrontError}
 use Rattle.frame_front.specs.declared.request.Request.{Request}
 use Rattle.frame_front.specs.declared.request.Request.TheVariants.{Ask, SetVersion}
@@ -13,7 +14,8 @@ use Rattle.frame_front.specs.Session.{SessionState, AnswersRequest, Answers, Ans
 use Rattle.frame_front.specs.Transcript.{Transcript}
 use Rattle.workers.specs.declared.sessions.ListenFault.{ListenFault}
 use Rattle.workers.specs.declared.ended.SessionFault.{SessionFault}
-use Rattle.workers.specs.Sessions.{Opened, ServedAll, ServedEach}
+use Rattle.workers.specs.declared.session.Session.{Session}
+use Rattle.workers.specs.Sessions.{ServedAll, ServedEach}
 
 module _ {S : Type 0} (answers : S → Op → Result Reply AskError → S → Type 0) (Keeps : S → S → Type 0)
     (same : (s : S) → Keeps s s) (further : (s t u : S) → Keeps s t → Keeps t u → Keeps s u)
@@ -41,12 +43,13 @@ module _ {S : Type 0} (answers : S → Op → Result Reply AskError → S → Ty
   pub served_keeps : (result : Result ℕ FrontError) (turns : ℕ) (a b c d : Option (List ℕ)) (old new : S) → Transcript answers result turns a b c d old new → Keeps old new
   served_keeps result turns a b c d old new t = all_keep _ t.session.payloads t.session.texts _ t.session.serves.answered
 
-  module _ {V X : Type 0} (start : X → Opened) (comes : V → Result (Option X) ListenFault → V → Type 0) where
-    each_keep : (results : List (Result ℕ FrontError)) (old new : V × S) → ServedEach answers start comes results old new → Keeps old.1 new.1
+  module _ {V R W : Type 0} (remaining : R → Option (List ℕ)) (contents : W → Option (List ℕ)) (takes_back : V → Counted R → Counted W → V → Type 0)
+      (comes : V → Result (Option (Session R W)) ListenFault → V → Type 0) where
+    each_keep : (results : List (Result ℕ FrontError)) (old new : V × S) → ServedEach answers remaining contents takes_back comes results old new → Keeps old.1 new.1
     each_keep [] old new a = kept_where_same old.1 new.1 (ap (λ (s : V × S). s.1) a)
     each_keep (result ∷ results) old new a =
-        further old.1 a.1.1 new.1 (served_keeps result _ _ _ _ _ old.1 a.1.1 a.3.transcript) (each_keep results a.1 new a.4)
+        further old.1 a.2.1 new.1 (served_keeps result _ _ _ _ _ old.1 a.2.1 a.4.transcript) (each_keep results a.2 new a.5)
 
     -- and so do all sessions of a worker
-    pub sessions_keep : (ends : List (Result ℕ SessionFault)) (old new : V × S) → ServedAll answers start comes ends old new → Keeps old.1 new.1
+    pub sessions_keep : (ends : List (Result ℕ SessionFault)) (old new : V × S) → ServedAll answers remaining contents takes_back comes ends old new → Keeps old.1 new.1
     sessions_keep ends old new a = each_keep a.results old (a.between, new.1) a.served

@@ -1,44 +1,59 @@
 -- One session more.
-use Rattle.std.proofs.Common.{◌≡◌, List, [], ◌∷◌, ◌++◌, map, subst, sym, ap, ◌∙◌, refl}
-use Rattle.std.specs.Prelude.{ℕ, Option, Result, Ok, Some}
+use Rattle.std.proofs.Common.{◌≡◌, ◌<◌, List, [], ◌∷◌, ◌++◌, map, subst, sym, ap, ◌∙◌, refl}
+use Rattle.std.specs.Prelude.{ℕ, Option, Result, Ok, Err, Some}
 use Rattle.std.proofs.lemmas.List.{map_push}
 use Rattle.map_core.specs.declared.op.Op.{Op}
 use Rattle.map_core.specs.declared.reply.Reply.{Reply}
 use Rattle.map_core.specs.declared.reply.AskError.{AskError}
+use Rattle.frame_front.specs.declared.counted.Counted.{Counted}
 use Rattle.frame_front.specs.declared.error.FrontError.{FrontError}
+use Rattle.frame_front.specs.declared.error.FrontError.TheVariants.{ReadFault, WriteFault, TurnsUsed}
+use Rattle.frame_front.specs.Counted.{MakesReads, reads_of}
+use Rattle.frame_front.specs.Transcript.{Transcript}
 use Rattle.workers.specs.declared.ended.SessionFault.{SessionFault}
 use Rattle.workers.specs.declared.sessions.ListenFault.{ListenFault}
-use Rattle.workers.specs.Sessions.{NoMoreCome, Opened, Runs, ServedAll, ServedEach, session_end}
+use Rattle.workers.specs.declared.session.Session.{Session}
+use Rattle.workers.specs.Sessions.{Runs, ServedEach, session_end}
 
-module _ {S : Type 0} (answers : S → Op → Result Reply AskError → S → Type 0) {V X : Type 0} (start : X → Opened)
-    (comes : V → Result (Option X) ListenFault → V → Type 0) where
+module _ {S : Type 0} (answers : S → Op → Result Reply AskError → S → Type 0) {V R W : Type 0} (remaining : R → Option (List ℕ)) (contents : W → Option (List ℕ))
+    (takes_back : V → Counted R → Counted W → V → Type 0) (comes : V → Result (Option (Session R W)) ListenFault → V → Type 0) where
+  -- what was served over ends that were counted from 0
+  pub runs_over : (session : Session R W) (result : Result ℕ FrontError) (old new : V × S) (reader_old reader : Counted R) (writer_old writer : Counted W)
+      → reader_old.end ≡ session.reader → reader_old.faults ≡ 0 → reads_of reader_old ≡ 0 → writer_old.end ≡ session.writer → writer_old.faults ≡ 0
+      → Transcript answers result session.turns (remaining reader_old.end) (remaining reader.end) (contents writer_old.end) (contents writer.end) old.1 new.1
+      → MakesReads session.turns (result ≡ Err TurnsUsed) (reads_of reader_old) (reads_of reader)
+      → (result ≡ Err ReadFault → reader_old.faults < reader.faults) → (result ≡ Err WriteFault → writer_old.faults < writer.faults)
+      → takes_back old.0 reader writer new.0 → Runs answers remaining contents takes_back session result old new
+  runs_over session result old new reader_old reader writer_old writer reads_it no_read_fault unread writes_it no_write_fault transcript reads read_fault write_fault taken = record {
+    reader = reader;
+    writer = writer;
+    transcript =
+        subst (λ (r : R). Transcript answers result session.turns (remaining r) (remaining reader.end) (contents session.writer) (contents writer.end) old.1 new.1) reads_it
+        (subst (λ (w : W). Transcript answers result session.turns (remaining reader_old.end) (remaining reader.end) (contents w) (contents writer.end) old.1 new.1) writes_it transcript);
+    reads = subst (λ (n : ℕ). MakesReads session.turns (result ≡ Err TurnsUsed) n (reads_of reader)) unread reads;
+    read_fault = λ failed. subst (λ (n : ℕ). n < reader.faults) no_read_fault (read_fault failed);
+    write_fault = λ failed. subst (λ (n : ℕ). n < writer.faults) no_write_fault (write_fault failed);
+    taken = taken;
+  }
+
+  abbrev Each : List (Result ℕ FrontError) → V × S → V × S → Type 0
+  Each results old new = ServedEach answers remaining contents takes_back comes results old new
+
   -- what has been served so far
   abbrev pub ServedSoFar : List (Result ℕ SessionFault) → V × S → V × S → Type 0
-  ServedSoFar ends old new = (results : List (Result ℕ FrontError)) × ServedEach answers start comes results old new × (ends ≡ map session_end results)
+  ServedSoFar ends old new = (results : List (Result ℕ FrontError)) × ServedEach answers remaining contents takes_back comes results old new × (ends ≡ map session_end results)
 
-  each_more : (results : List (Result ℕ FrontError)) (result : Result ℕ FrontError) (old mid new : V × S) → ServedEach answers start comes results old mid
-      → ServedEach answers start comes (result ∷ []) mid new → ServedEach answers start comes (results ++ result ∷ []) old new
-  each_more [] result old mid new a b = subst (λ (s : V × S). ServedEach answers start comes (result ∷ []) s new) a b
-  each_more (first ∷ results) result old mid new a b = (a.0, a.1, a.2, a.3, each_more results result a.1 mid new a.4 b)
+  each_more : (results : List (Result ℕ FrontError)) (result : Result ℕ FrontError) (old mid new : V × S) → Each results old mid
+      → Each (result ∷ []) mid new → Each (results ++ result ∷ []) old new
+  each_more [] result old mid new a b = subst (λ (s : V × S). Each (result ∷ []) s new) a b
+  each_more (first ∷ results) result old mid new a b = (a.0, a.1, a.2, a.3, a.4, each_more results result a.2 mid new a.5 b)
 
-  pub served_more : (ends : List (Result ℕ SessionFault)) (end : Result ℕ SessionFault) (result : Result ℕ FrontError) (old mid new : V × S) (session : X)
-      → ServedSoFar ends old mid → comes mid.0 (Ok (Some session)) new.0 → Runs answers (start session) result mid.1 new.1 → end ≡ session_end result
+  pub served_more : (ends : List (Result ℕ SessionFault)) (end : Result ℕ SessionFault) (result : Result ℕ FrontError) (old mid : V × S) (begun : V) (new : V × S) (session : Session R W)
+      → ServedSoFar ends old mid → comes mid.0 (Ok (Some session)) begun → Runs answers remaining contents takes_back session result (begun, mid.1) new → end ≡ session_end result
       → ServedSoFar (ends ++ end ∷ []) old new
-  served_more ends end result old mid new session so_far came ran is = (
+  served_more ends end result old mid begun new session so_far came ran is = (
     so_far.0 ++ result ∷ [],
-    each_more so_far.0 result old mid new so_far.1 (session, new, came, ran, refl),
+    each_more so_far.0 result old mid new so_far.1 (session, begun, new, came, ran, refl),
     ap (λ (l : List (Result ℕ SessionFault)). l ++ end ∷ []) so_far.2
         ∙ (ap (λ (e : Result ℕ SessionFault). map session_end so_far.0 ++ e ∷ []) is ∙ sym (map_push session_end so_far.0 result)),
   )
-
-  -- nothing more comes
-  pub served_all : (ends last : List (Result ℕ SessionFault)) (old mid new : V × S) → ServedSoFar ends old mid → mid.1 ≡ new.1 → NoMoreCome answers start comes last mid.0 new.0
-      → ServedAll answers start comes (ends ++ last) old new
-  served_all ends last old mid new so_far same no_more = record {
-    results = so_far.0;
-    last = last;
-    between = mid.0;
-    served = subst (λ (s : S). ServedEach answers start comes so_far.0 old (mid.0, s)) same so_far.1;
-    no_more = no_more;
-    all = ap (λ (l : List (Result ℕ SessionFault)). l ++ last) so_far.2;
-  }

@@ -4,6 +4,7 @@ use Rattle.std.specs.Prelude.{ℕ, Option, Result, Ok, Err}
 use Rattle.map_core.specs.declared.op.Op.{Op}
 use Rattle.map_core.specs.declared.reply.Reply.{Reply}
 use Rattle.map_core.specs.declared.reply.AskError.{AskError}
+use Rattle.frame_front.specs.declared.counted.Counted.{Counted}
 use Rattle.frame_front.specs.declared.error.FrontError.{FrontError}
 use Rattle.frame_front.specs.declared.request.Request.{Request}
 use Rattle.frame_front.specs.declared.request.Request.TheVariants.{Ask, SetVersion}
@@ -12,7 +13,8 @@ use Rattle.frame_front.specs.Request.{request_of}
 use Rattle.frame_front.specs.Session.{SessionState, AnswersRequest, Answers, AnswersAll}
 use Rattle.workers.specs.declared.sessions.ListenFault.{ListenFault}
 use Rattle.workers.specs.declared.ended.SessionFault.{SessionFault}
-use Rattle.workers.specs.Sessions.{Opened, Runs, ServedAll, ServedEach}
+use Rattle.workers.specs.declared.session.Session.{Session}
+use Rattle.workers.specs.Sessions.{Runs, ServedAll, ServedEach}
 
 module _ {S T : Type 0} (answers : S → Op → Result Reply AskError → S → Type 0) (answers_seen : T → Op → Result Reply AskError → T → Type 0)
     (seen : S → T) (Stays : S → Type 0)
@@ -44,49 +46,55 @@ module _ {S T : Type 0} (answers : S → Op → Result Reply AskError → S → 
   all_seen old [] (text ∷ texts) new stays a = absurd a
   all_seen old (payload ∷ payloads) [] new stays a = absurd a
 
-  run_seen : (opened : Opened) (result : Result ℕ FrontError) (old new : S) → Stays old → Runs answers opened result old new → Stays new × Runs answers_seen opened result (seen old) (seen new)
-  run_seen opened result old new stays r =
-      let t = r.transcript in
-      let session = t.session in
-      let serves = session.serves in
-      let all = all_seen _ session.payloads session.texts _ stays serves.answered in (
-        all.0,
-        record {
-          left = r.left;
-          held = r.held;
-          transcript = record {
-            read = t.read;
-            written = t.written;
-            version = t.version;
-            consumes = t.consumes;
-            appends = t.appends;
-            session = record {
-              payloads = session.payloads;
-              texts = session.texts;
-              rest = session.rest;
-              serves = record { whole = serves.whole; each = serves.each; answered = all.1 };
-              ends = session.ends;
-              writes = session.writes;
+  module _ {V R W : Type 0} (remaining : R → Option (List ℕ)) (contents : W → Option (List ℕ)) (takes_back : V → Counted R → Counted W → V → Type 0) where
+    run_seen : (session : Session R W) (result : Result ℕ FrontError) (old new : V × S) → Stays old.1 → Runs answers remaining contents takes_back session result old new
+        → Stays new.1 × Runs answers_seen remaining contents takes_back session result (old.0, seen old.1) (new.0, seen new.1)
+    run_seen session result old new stays r =
+        let t = r.transcript in
+        let served = t.session in
+        let serves = served.serves in
+        let all = all_seen _ served.payloads served.texts _ stays serves.answered in (
+          all.0,
+          record {
+            reader = r.reader;
+            writer = r.writer;
+            transcript = record {
+              read = t.read;
+              written = t.written;
+              version = t.version;
+              consumes = t.consumes;
+              appends = t.appends;
+              session = record {
+                payloads = served.payloads;
+                texts = served.texts;
+                rest = served.rest;
+                serves = record { whole = serves.whole; each = serves.each; answered = all.1 };
+                ends = served.ends;
+                writes = served.writes;
+              };
+              few_read = t.few_read;
+              used = t.used;
+              ended = t.ended;
             };
-            few_read = t.few_read;
-            used = t.used;
-            ended = t.ended;
-          };
-        },
-      )
+            reads = r.reads;
+            read_fault = r.read_fault;
+            write_fault = r.write_fault;
+            taken = r.taken;
+          },
+        )
 
-  module _ {V X : Type 0} (start : X → Opened) (comes : V → Result (Option X) ListenFault → V → Type 0) where
-    each_seen : (results : List (Result ℕ FrontError)) (old new : V × S) → Stays old.1 → ServedEach answers start comes results old new
-        → Stays new.1 × ServedEach answers_seen start comes results (old.0, seen old.1) (new.0, seen new.1)
-    each_seen [] old new stays a =
-        (subst (λ (s : V × S). Stays s.1) (sym a) stays, ap (λ (s : V × S). (s.0, seen s.1)) a)
-    each_seen (result ∷ results) old new stays a =
-        let one = run_seen (start a.0) result old.1 a.1.1 stays a.3 in
-        let rest = each_seen results a.1 new one.0 a.4 in
-        (rest.0, (a.0, (a.1.0, seen a.1.1), a.2, one.1, rest.1))
+    module _ (comes : V → Result (Option (Session R W)) ListenFault → V → Type 0) where
+      each_seen : (results : List (Result ℕ FrontError)) (old new : V × S) → Stays old.1 → ServedEach answers remaining contents takes_back comes results old new
+          → Stays new.1 × ServedEach answers_seen remaining contents takes_back comes results (old.0, seen old.1) (new.0, seen new.1)
+      each_seen [] old new stays a =
+          (subst (λ (s : V × S). Stays s.1) (sym a) stays, ap (λ (s : V × S). (s.0, seen s.1)) a)
+      each_seen (result ∷ results) old new stays a =
+          let one = run_seen a.0 result (a.1, old.1) a.2 stays a.4 in
+          let rest = each_seen results a.2 new one.0 a.5 in
+          (rest.0, (a.0, a.1, (a.2.0, seen a.2.1), a.3, one.1, rest.1))
 
-    pub sessions_seen : (ends : List (Result ℕ SessionFault)) (old new : V × S) → Stays old.1 → ServedAll answers start comes ends old new
-        → Stays new.1 × ServedAll answers_seen start comes ends (old.0, seen old.1) (new.0, seen new.1)
-    sessions_seen ends old new stays a =
-        let each = each_seen a.results old (a.between, new.1) stays a.served in
-        (each.0, record { results = a.results; last = a.last; between = a.between; served = each.1; no_more = a.no_more; all = a.all })
+      pub sessions_seen : (ends : List (Result ℕ SessionFault)) (old new : V × S) → Stays old.1 → ServedAll answers remaining contents takes_back comes ends old new
+          → Stays new.1 × ServedAll answers_seen remaining contents takes_back comes ends (old.0, seen old.1) (new.0, seen new.1)
+      sessions_seen ends old new stays a =
+          let each = each_seen a.results old (a.between, new.1) stays a.served in
+          (each.0, record { results = a.results; last = a.last; between = a.between; served = each.1; no_more = a.no_more; all = a.all })

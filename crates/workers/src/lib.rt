@@ -18,6 +18,7 @@ mod passes;
 mod retrying;
 mod run;
 mod seating;
+mod session;
 mod sessions;
 
 pub use closing::close_store;
@@ -31,4 +32,5 @@ pub use passes::passes_of;
 pub use retrying::Retrying;
 pub use run::{Finished, kept_all, run_workers};
 pub use seating::{Patient, Seating};
-pub use sessions::{ListenFault, Session, Sessions};
+pub use session::Session;
+pub use sessions::{ListenFault, Sessions};

@@ -55,7 +55,7 @@ fn work<P: Seating, S: Sessions + Drop, G: Gate>(
     worker: Worker<S>,
 ) -> Result<Finished, AllocError>
     requires own { IsOf worker.pass (P.store place.now) }
-    ensures { IfOk result (λ finished. HasWorked (G.opens gate.now) (λ session. record { turns = session.turns; left = S.Reader.remaining session.reader; held = S.Writer.contents session.writer }) S.comes (P.store place.now) worker.number worker.pass worker.sessions finished) }
+    ensures { IfOk result (λ finished. HasWorked (G.opens gate.now) S.Reader.remaining S.Writer.contents S.takes_back S.comes (P.store place.now) worker.number worker.pass worker.sessions finished) }
 {
     let Worker {
         number,
@@ -152,12 +152,12 @@ pub fn run_workers<
 ) -> Result<Vec<Finished>, AllocError>
     requires same { vec_len passes ≡ vec_len sessions }
     requires own { All (λ pass. IsOf pass (P.store store)) passes.items }
-    ensures { IfOk result (λ all. AllWorked (G.opens gate.now) (λ session. record { turns = session.turns; left = S.Reader.remaining session.reader; held = S.Writer.contents session.writer }) S.comes (P.store store) 0 passes.items sessions.items all.items) }
+    ensures { IfOk result (λ all. AllWorked (G.opens gate.now) S.Reader.remaining S.Writer.contents S.takes_back S.comes (P.store store) 0 passes.items sessions.items all.items) }
 {
     let workers = workers_of(alloc, passes, sessions)?;
     let run = |worker: Worker<S>| -> Result<Finished, AllocError>
         requires { IsOf worker.pass (P.store store) }
-        ensures { IfOk result (λ finished. HasWorked (G.opens gate.entry.now) (λ session. record { turns = session.turns; left = S.Reader.remaining session.reader; held = S.Writer.contents session.writer }) S.comes (P.store store) worker.number worker.pass worker.sessions finished) }
+        ensures { IfOk result (λ finished. HasWorked (G.opens gate.entry.now) S.Reader.remaining S.Writer.contents S.takes_back S.comes (P.store store) worker.number worker.pass worker.sessions finished) }
     { work(alloc, &store, gate, worker) };
     let given = thread::map_vec(rt, workers, &run)?;
     all_finished(alloc, given)

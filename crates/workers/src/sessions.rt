@@ -4,21 +4,13 @@ ghost use Rattle.workers.specs.Sessions.{Runs, ServedAll, session_end};
 
 use crate::ended::SessionFault;
 use crate::seating::Seating;
+use crate::session::Session;
 use frame_front::{Counted, FrontError, serve};
 use map_core::Ask;
 use std::alloc::{AllocError, Global};
 use std::io::{Read, Write};
 use std::vec::IntoIter;
 use thiserror::Error;
-
-/// A client's reader and writer, and how many reads may be made of it.
-#[derive(Drop)]
-pub struct Session<R, W> {
-    pub reader: R,
-    pub writer: W,
-    pub turns: u64,
-    pub ghost few: { turns ≤ 1000000000 },
-}
 
 /// No session came: the listener failed.
 #[derive(Clone, Copy, Debug, PartialEq, Eq, Error)]
@@ -27,8 +19,9 @@ pub struct ListenFault;
 
 /// The source of a worker's sessions: a list in memory, or a listener.
 pub trait Sessions {
-    ghost use Rattle.std.specs.Prelude.{ℕ, ◌<◌, Option, Result, IfOk, IfSome};
-    ghost use Rattle.workers.specs.declared.sessions.Session.{Session};
+    ghost use Rattle.std.specs.Prelude.{ℕ, ◌<◌, ◌≤◌, Option, Result, IfOk, IfSome};
+    ghost use Rattle.frame_front.specs.declared.counted.Counted.{Counted};
+    ghost use Rattle.workers.specs.declared.session.Session.{Session};
     ghost use Rattle.workers.specs.declared.sessions.ListenFault.{ListenFault};
 
     type Reader: Read + Drop + Send;
@@ -41,18 +34,28 @@ pub trait Sessions {
     // What may come, and what comes after it.
     ghost comes: { Self → Result (Option (Session Self.Reader Self.Writer)) ListenFault → Self → Type 0 };
 
+    // What becomes of it when it has taken the reader and the writer of a session back.
+    ghost takes_back: { Self → Counted Self.Reader → Counted Self.Writer → Self → Type 0 };
+
     /// Waits for the next session; none if all have come.
     fn next(&mut self) -> Result<Option<Session<Self::Reader, Self::Writer>>, ListenFault>
         ensures fewer { IfOk result (λ next. IfSome next (λ _. left self.new < left self.old)) }
         ensures comes { comes self.old result self.new };
+
+    /// Takes the reader and the writer of a session back, once it is over. They know how many calls of them failed, and how
+    /// often the session read.
+    fn take_back(&mut self, reader: Counted<Self::Reader>, writer: Counted<Self::Writer>)
+        ensures no_more { left self.new ≤ left self.old }
+        ensures taken { takes_back self.old reader writer self.new };
 }
 
-/// A list in memory: all its sessions come, in their order, and then no more.
+/// A list in memory: all its sessions come, in their order, and then no more. What is taken back is dropped.
 impl<R: Read + Drop + Send, W: Write + Drop + Send> Sessions for IntoIter<Session<R, W>> {
     type Reader = R;
 
     type Writer = W;
 
+    ghost use Rattle.std.specs.Prelude.{◌≡◌, ◌≤◌};
     ghost use Rattle.std.specs.Vec.Iter.{into_iter_len};
     ghost use Rattle.workers.specs.Sessions.{ListComes};
 
@@ -60,18 +63,27 @@ impl<R: Read + Drop + Send, W: Write + Drop + Send> Sessions for IntoIter<Sessio
 
     ghost comes = { ListComes };
 
+    ghost takes_back = { λ old _ _ new. new ≡ old };
+
     fn next(&mut self) -> Result<Option<Session<R, W>>, ListenFault> {
         Ok(Iterator::next(self))
     }
+
+    fn take_back(&mut self, _reader: Counted<R>, _writer: Counted<W>)
+        ensures no_more { into_iter_len self.new ≤ into_iter_len self.old }
+        ensures taken { self.new ≡ self.old }
+    {}
 }
 
-/// Serves one session to its end.
-fn serve_session<R: Read + Drop, W: Write + Drop, A: Ask>(
+/// Serves one session to its end, and gives its reader and its writer back to the source that it came from.
+fn serve_session<S: Sessions, A: Ask>(
     alloc: Global,
-    session: Session<R, W>,
+    sessions: &mut S,
+    session: Session<S::Reader, S::Writer>,
     ask: &mut A,
 ) -> Result<u64, FrontError>
-    ensures { Runs A.answers (record { turns = session.turns; left = R.remaining session.reader; held = W.contents session.writer }) result ask.old ask.new }
+    ensures no_more { S.left sessions.new ≤ S.left sessions.old }
+    ensures runs { Runs A.answers S.Reader.remaining S.Writer.contents S.takes_back session result (sessions.old, ask.old) (sessions.new, ask.new) }
 {
     let Session {
         reader,
@@ -80,7 +92,9 @@ fn serve_session<R: Read + Drop, W: Write + Drop, A: Ask>(
     } = session;
     let mut reader = Counted::new(reader);
     let mut writer = Counted::new(writer);
-    serve(alloc, &mut reader, &mut writer, ask, turns)
+    let ended = serve(alloc, &mut reader, &mut writer, ask, turns);
+    sessions.take_back(reader, writer);
+    ended
 }
 
 /// How a session ended, among the ends of a worker's sessions.
@@ -103,13 +117,13 @@ pub(crate) fn serve_sessions<S: Sessions, A: Ask, P: Seating>(
     place: &P,
     worker: u64,
 ) -> Result<Vec<Result<u64, SessionFault>>, AllocError>
-    ensures { IfOk result (λ results. ServedAll A.answers (λ session. record { turns = session.turns; left = S.Reader.remaining session.reader; held = S.Writer.contents session.writer }) S.comes results.items (sessions.old, ask.old) (sessions.new, ask.new)) }
+    ensures { IfOk result (λ results. ServedAll A.answers S.Reader.remaining S.Writer.contents S.takes_back S.comes results.items (sessions.old, ask.old) (sessions.new, ask.new)) }
 {
     let mut results = Vec::new(alloc);
     loop {
         match sessions.next() {
             Ok(Some(session)) => {
-                let end = end_of(serve_session(alloc, session, ask));
+                let end = end_of(serve_session(alloc, sessions, session, ask));
                 place.ended(worker, &end);
                 results.push(end)?;
             }

@@ -1,12 +1,12 @@
 //! The form of a server in which each worker serves its clients one after the other, and waits in each.
-ghost use Rattle.std.specs.Prelude.{◌≡◌, ◌<◌, ◌-◌, ◌^◌, List, map, IfOk, vec_len};
+ghost use Rattle.std.specs.Prelude.{◌≡◌, ◌<◌, ◌≤◌, ◌-◌, ◌^◌, List, map, IfOk, vec_len};
 ghost use Rattle.std.specs.List.{All};
 ghost use Rattle.shard_store.specs.Pass.{IsOf};
 ghost use Rattle.workers.specs.Run.{AllWorked, kept};
 ghost use Rattle.workers.specs.declared.run.Finished.{Finished};
 ghost use Rattle.commands.specs.Streams.{end_of};
 ghost use Rattle.server.specs.Serve.{SetUpRun, always_open};
-ghost use Rattle.bundled.specs.Serve.{ClientComes, MayTake, ServedInTurn, client, most_taken as taken_by, most_turns as turns_of};
+ghost use Rattle.bundled.specs.Serve.{ClientComes, EndsClient, MayTake, ServedInTurn, most_taken as taken_by, most_turns as turns_of, unknown};
 
 use crate::serving::clients::Clients;
 use crate::serving::host::Host;
@@ -58,11 +58,13 @@ impl<'a> Sessions for Clients<'a> {
 
     type Writer = TcpStream;
 
-    ghost use Rattle.bundled.specs.Serve.{ClientComes};
+    ghost use Rattle.bundled.specs.Serve.{ClientComes, EndsClient};
 
     ghost left = { λ clients. clients.left };
 
     ghost comes = { ClientComes };
+
+    ghost takes_back = { EndsClient };
 
     fn next(&mut self) -> Result<Option<Session<Client, TcpStream>>, ListenFault> {
         if self.left == 0 {
@@ -77,6 +79,14 @@ impl<'a> Sessions for Clients<'a> {
             writer,
             turns: self.turns,
         }))
+    }
+
+    fn take_back(&mut self, reader: Counted<Client>, writer: Counted<TcpStream>)
+        ensures no_more { self.new.left ≤ self.old.left }
+        ensures taken { EndsClient self.old reader writer self.new }
+    {
+        drop(writer);
+        drop(reader);
     }
 }
 
@@ -113,7 +123,7 @@ fn clients_of<'a>(
 }
 
 /// Runs the workers, each of which has a pass and takes its clients. If memory runs out, clients may have been served.
-fn run_in_turn<R: Threads + Clock + Sync, L: Log + Send + Sync>(
+fn run_in_turn<R: Threads + Clock + Sync, L: Log + Copy + Send + Sync>(
     host: &Host<'_, R, L>,
     store: &Store,
     retries: u64,
@@ -122,7 +132,7 @@ fn run_in_turn<R: Threads + Clock + Sync, L: Log + Send + Sync>(
 ) -> Result<Vec<Worked>, AllocError>
     requires same { vec_len passes ≡ vec_len clients }
     requires own { All (λ pass. IsOf pass store.now) passes.items }
-    ensures { IfOk result (λ worked. (finished : List Finished) × AllWorked always_open client ClientComes store.now 0 passes.items clients.entry.items finished × (worked.items ≡ map kept finished)) }
+    ensures { IfOk result (λ worked. (finished : List Finished) × AllWorked always_open unknown unknown EndsClient ClientComes store.now 0 passes.items clients.entry.items finished × (worked.items ≡ map kept finished)) }
 {
     let patient = Patient {
         store,
@@ -140,7 +150,7 @@ fn run_in_turn<R: Threads + Clock + Sync, L: Log + Send + Sync>(
 /// `listening PORT` goes to the output first; no client is taken if it is not taken. At the end come `served N`, how many
 /// sessions there were, and `domains M`, how many domains have a bundle then. The faults of sessions are told in between, in
 /// order of the workers; they don't change the status, except that a listener that failed does.
-pub fn serve_on<R: Threads + Clock + Sync, L: Log + Send + Sync, W: Write, E: Write>(
+pub fn serve_on<R: Threads + Clock + Sync, L: Log + Copy + Send + Sync, W: Write, E: Write>(
     host: &Host<'_, R, L>,
     listener: &TcpListener,
     settings: Settings,

@@ -3,7 +3,7 @@ ghost use Rattle.std.specs.Prelude.{◌≡◌, vec_len, IfOk};
 ghost use Rattle.std.specs.List.{All};
 ghost use Rattle.shard_store.specs.Pass.{IsOf};
 
-use frame_front::FrontError;
+use frame_front::{Counted, FrontError};
 use shard_store::{Pass, Store};
 use std::alloc::{AllocError, Global};
 use std::sync::{Mutex, Wait};
@@ -41,11 +41,13 @@ impl<'a> Sessions for Failing<'a> {
 
     type Writer = &'a mut Vec<u8>;
 
-    ghost use Rattle.std.specs.Prelude.{⊤};
+    ghost use Rattle.std.specs.Prelude.{⊤, ◌≤◌};
 
     ghost left = { λ failing. failing.left };
 
     ghost comes = { λ _ _ _. ⊤ };
+
+    ghost takes_back = { λ _ reader writer _. ⊤ };
 
     fn next(&mut self) -> Result<Option<Memory<'a>>, ListenFault> {
         if self.left == 0 {
@@ -61,6 +63,11 @@ impl<'a> Sessions for Failing<'a> {
         self.failures -= 1;
         Err(ListenFault)
     }
+
+    fn take_back(&mut self, _reader: Counted<&'a [u8]>, _writer: Counted<&'a mut Vec<u8>>)
+        ensures no_more { self.new.left ≤ self.old.left }
+        ensures taken { ⊤ }
+    {}
 }
 
 /// A store of four shards, and a pass for each of two workers.

@@ -3,7 +3,7 @@ use Rattle.workers.proofs.sessions.serve_sessions.Given as goal
 
 abbrev pub invariant-loop-session : goal.invariant-loop-session
 invariant-loop-session g l =
-    ServedSoFar g.A.Ask.answers (λ session. record { turns = session.turns; left = g.S.Reader.Read.remaining session.reader; held = g.S.Writer.Write.contents session.writer }) g.S.Sessions.comes
+    ServedSoFar g.A.Ask.answers g.S.Reader.Read.remaining g.S.Writer.Write.contents g.S.Sessions.takes_back g.S.Sessions.comes
     l.results.items (l.fn.sessions, l.fn.ask) (l.sessions, l.ask)
 
 abbrev pub decreases-loop-session : goal.decreases-loop-session

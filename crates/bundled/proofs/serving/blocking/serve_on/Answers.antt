@@ -9,27 +9,27 @@ use Rattle.workers.specs.declared.ended.Worked.{Worked}
 use Rattle.workers.proofs.FinishedLists.{all_long, all_own, kept_own, kept_ranges, ranges_same}
 use Rattle.server.specs.Serve.{always_open, Reports}
 use Rattle.commands.specs.Streams.{TellsUnlessFailed, end_of}
-use Rattle.bundled.specs.Serve.{ClientComes, client}
+use Rattle.bundled.specs.Serve.{ClientComes, EndsClient, unknown}
 use Rattle.bundled.proofs.serving.blocking.serve_on.Goals as goal
 
 pub report-requires-clause-some : goal.report-requires-clause-some
 report-requires-clause-some g c =
     let ran = c.in-Ok-run_in_turn.ensures in
-    let long = all_long always_open client ClientComes c.in-Ok.set_up.store 0 c.in-Ok.set_up.passes.items c.in-Ok-clients_of.clients.items ran.0 ran.1 in
+    let long = all_long always_open unknown unknown EndsClient ClientComes c.in-Ok.set_up.store 0 c.in-Ok.set_up.passes.items c.in-Ok-clients_of.clients.items ran.0 ran.1 in
     omega (arith, ap length ran.2, length-map ran.0 kept, long, c.in-Ok.ensures.set_up.workers, c.args.settings.some.0, c.in-Ok-run_in_turn.worked.ok)
 
 pub report-requires-clause-own : goal.report-requires-clause-own
 report-requires-clause-own g c =
     let ran = c.in-Ok-run_in_turn.ensures in
     let store = c.in-Ok.set_up.store in
-    let own = all_own always_open client ClientComes store 0 c.in-Ok.set_up.passes.items c.in-Ok-clients_of.clients.items ran.0 ran.1 in
+    let own = all_own always_open unknown unknown EndsClient ClientComes store 0 c.in-Ok.set_up.passes.items c.in-Ok-clients_of.clients.items ran.0 ran.1 in
     subst (λ (worked : List Worked). All (λ w. IsOf w.pass store) worked) (sym ran.2) (kept_own store ran.0 own)
 
 pub report-requires-clause-all : goal.report-requires-clause-all
 report-requires-clause-all g c =
     let ran = c.in-Ok-run_in_turn.ensures in
     let ranges : List Worked → List (ℕ × ℕ) = λ worked. flat_map (λ (w : Worked). w.pass.seen.ranges) worked in
-    let same = ranges_same always_open client ClientComes c.in-Ok.set_up.store 0 c.in-Ok.set_up.passes.items c.in-Ok-clients_of.clients.items ran.0 ran.1 in
+    let same = ranges_same always_open unknown unknown EndsClient ClientComes c.in-Ok.set_up.store 0 c.in-Ok.set_up.passes.items c.in-Ok-clients_of.clients.items ran.0 ran.1 in
     subst AreAll (sym (ap ranges ran.2 ∙ (kept_ranges ran.0 ∙ same))) c.in-Ok.ensures.set_up.all
 
 pub returns-in-Ok-run_in_turn : goal.returns-in-Ok-run_in_turn

@@ -1,0 +1,11 @@
+//! A session that comes to a worker.
+ghost use Rattle.std.specs.Prelude.{◌≤◌};
+
+/// A client's reader and writer, and how many reads may be made of it.
+#[derive(Drop)]
+pub struct Session<R, W> {
+    pub reader: R,
+    pub writer: W,
+    pub turns: u64,
+    pub ghost few: { turns ≤ 1000000000 },
+}
