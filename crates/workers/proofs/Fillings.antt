@@ -118,10 +118,6 @@ next_stored n count left less same =
     let all : suc (n + (count - suc n)) ≡ count = omega (arith, less) in
     (rest, append_cancel_left (stored_replies n) left (reply_frames Stored ++ rest) (sym same ∙ (ap stored_replies (sym all) ∙ more)))
 
--- all replies leave none over
-pub none_over : (count : ℕ) (left : List ℕ) → stored_replies count ≡ stored_replies count ++ left → left ≡ []
-none_over count left same = append_cancel_left (stored_replies count) left [] (sym same ∙ sym (append-nil (stored_replies count)))
-
 -- the first reply is to the request for version 2
 pub version_first : (count : ℕ) → (rest : List ℕ) × (stored_replies count ≡ version_frame Two ++ rest)
 version_first zero = ([], sym (append-nil (version_frame Two)))

@@ -2,7 +2,7 @@
 ghost use Rattle.std.specs.Prelude.{◌≡◌, ◌<◌, ◌≤◌, ◌∷◌, [], IfOk, vec_len};
 ghost use Rattle.std.specs.List.{All};
 ghost use Rattle.shard_store.specs.Pass.{IsOf};
-ghost use Rattle.workers.specs.Closing.{AreAll, ranges_of};
+ghost use Rattle.workers.specs.Closing.{AreAll, AreShared, ranges_of};
 
 use shard_store::{Pass, Store};
 use std::alloc::{AllocError, Global};
@@ -21,6 +21,7 @@ pub fn passes_of(
     ensures count { IfOk result (λ passes. vec_len passes ≡ workers) }
     ensures own { IfOk result (λ passes. All (λ pass. IsOf pass store.now) passes.items) }
     ensures all { IfOk result (λ passes. AreAll (ranges_of passes.items)) }
+    ensures shared { IfOk result (λ passes. AreShared passes.items) }
     ensures logs { IfOk result (λ passes. All (λ pass. pass.seen.log ≡ first.seen.log) passes.items) }
 {
     let mut passes = Vec::new(alloc);
