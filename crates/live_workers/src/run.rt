@@ -26,7 +26,7 @@ struct Worker<V> {
 }
 
 /// Serves the connections of one worker.
-fn work<C: Clock, V: Arrivals + Drop, G: Gate, L: Log>(
+fn work<C: Clock, V: Arrivals + Drop, G: Gate, L: Log + Copy>(
     clock: &C,
     alloc: Global,
     store: &Store,
@@ -127,7 +127,7 @@ pub fn run_arrivals<
     R: Threads + Clock + Sync,
     V: Arrivals + Send + Drop,
     G: Gate + Sync,
-    L: Log + Sync,
+    L: Log + Copy + Sync,
 >(
     rt: &R,
     alloc: Global,

@@ -17,22 +17,22 @@ pub enum How {
 pub struct Changed<'a> {
     pub how: How,
     pub domain: &'a str,
-    /// What stood there when the worker looked, just before its change; none if it got no answer.
+    /// What stood there when the worker looked, just before its change; none if the store did not say.
     pub before: Option<Expect>,
     /// What stands there by the change.
     pub after: Expect,
 }
 
-/// What takes note of changes and of the ends of sessions. Each worker tells a copy of its own, and all copies may take
-/// note in one place.
-pub trait Log: Copy + Drop {
+/// What takes note of changes and of the ends of sessions. A log that can be copied may be told by many workers: each tells
+/// a copy of its own, and all copies may take note in one place.
+pub trait Log: Drop {
     ghost use Rattle.std.specs.Prelude.{◌≡◌, ℕ, Bool};
     ghost use Rattle.workers.specs.Log.{ChangeView, change_view};
 
     // Whether changes are to be told.
     ghost wants: { Self → Bool };
 
-    // What a copy is told by the worker of this number, and what becomes of the copy.
+    // What it is told by the worker of this number, and what becomes of it.
     ghost tells: { Self → ℕ → ChangeView → Self → Type 0 };
 
     /// Whether changes are to be told. If not, nothing is asked of the store for their sake.

@@ -74,7 +74,7 @@ pub struct Patient<'a, C, L> {
     pub log: &'a L,
 }
 
-impl<'a, C: Clock + Sync, L: Log + Send + Sync> Seating for Patient<'a, C, L> {
+impl<'a, C: Clock + Sync, L: Log + Copy + Send + Sync> Seating for Patient<'a, C, L> {
     type Seat = Logged<'a, C, L>;
 
     ghost store = { λ patient. patient.store.now };

@@ -107,7 +107,7 @@ fn incoming_of<'a, C: Clock>(
 }
 
 /// Runs the workers.
-fn run<H: Threads + Clock + Sync, L: Log + Send + Sync>(
+fn run<H: Threads + Clock + Sync, L: Log + Copy + Sync>(
     work: &Work<'_, '_, '_, '_, H, L>,
     passes: Vec<Pass>,
     incoming: Vec<Incoming<'_, H>>,
@@ -128,7 +128,7 @@ fn run<H: Threads + Clock + Sync, L: Log + Send + Sync>(
 }
 
 /// Runs the workers, and beside them waits for the end of the input: then they are to stop.
-fn run_until_end<H: Threads + Clock + Sync, I: Read, L: Log + Send + Sync>(
+fn run_until_end<H: Threads + Clock + Sync, I: Read, L: Log + Copy + Sync>(
     work: &Work<'_, '_, '_, '_, H, L>,
     passes: Vec<Pass>,
     incoming: Vec<Incoming<'_, H>>,
@@ -148,7 +148,7 @@ fn run_until_end<H: Threads + Clock + Sync, I: Read, L: Log + Send + Sync>(
 }
 
 /// Runs the workers; if they are to stop at the end of the input, that is waited for beside them.
-fn run_all<H: Threads + Clock + Sync, I: Read, L: Log + Send + Sync>(
+fn run_all<H: Threads + Clock + Sync, I: Read, L: Log + Copy + Sync>(
     work: &Work<'_, '_, '_, '_, H, L>,
     passes: Vec<Pass>,
     incoming: Vec<Incoming<'_, H>>,
@@ -178,7 +178,7 @@ fn serve_at<
     I: Read,
     W: Write,
     E: Write,
-    L: Log + Send + Sync,
+    L: Log + Copy + Sync,
 >(
     host: &Host<'_, H, L>,
     task: Task,
@@ -251,7 +251,7 @@ pub fn serve_many<
     I: Read,
     W: Write,
     E: Write,
-    L: Log + Send + Sync,
+    L: Log + Copy + Sync,
 >(
     host: &Host<'_, H, L>,
     at: At,

@@ -52,7 +52,7 @@ fn serve_in_turn<
     H: Threads + Clock + Net<Listener = TcpListener, Stream = TcpStream> + Sync,
     W: Write,
     E: Write,
-    L: Log + Send + Sync,
+    L: Log + Copy + Send + Sync,
 >(
     host: &Host<'_, H, L>,
     port: u16,
@@ -77,7 +77,7 @@ fn serve_as<
     I: Read,
     W: Write,
     E: Write,
-    L: Log + Send + Sync,
+    L: Log + Copy + Send + Sync,
 >(
     host: &Host<'_, H, L>,
     serving: Serving<'_>,
@@ -112,7 +112,7 @@ pub fn serve_over<
     I: Read,
     W: Write,
     E: Write,
-    L: Log + Send + Sync,
+    L: Log + Copy + Send + Sync,
 >(
     host: &Host<'_, H, L>,
     serving: Serving<'_>,

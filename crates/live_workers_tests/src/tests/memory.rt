@@ -110,7 +110,7 @@ pub(super) fn run_two<R: Threads + Clock + Sync, G: Gate + Sync>(
 }
 
 /// And if a log is told of them.
-pub(super) fn run_two_noted<R: Threads + Clock + Sync, G: Gate + Sync, L: Log + Sync>(
+pub(super) fn run_two_noted<R: Threads + Clock + Sync, G: Gate + Sync, L: Log + Copy + Sync>(
     rt: &R,
     alloc: Global,
     inputs: (&[u8], &[u8]),
