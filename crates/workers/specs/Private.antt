@@ -1,2 +1,3 @@
 -- Definitions that no public contract rests on: private contracts and proofs use them.
 pub mod Numbers
+pub mod Names

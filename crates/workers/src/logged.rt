@@ -1,16 +1,18 @@
 //! A store that a worker asks, and whose changes it tells.
-ghost use Rattle.std.specs.Prelude.{◌≡◌, Some, IfSome, option_copied, option_map};
-ghost use Rattle.map_core.specs.Op.{domain_of};
+ghost use Rattle.std.specs.Prelude.{◌≡◌, Some, IfOk, option_copied, option_map};
 ghost use Rattle.map_core.specs.Table.{expect_sequence};
 ghost use Rattle.shard_store.specs.Pass.{IsOf};
 ghost use Rattle.shard_store.specs.Promise.{IsLater};
-ghost use Rattle.workers.specs.Log.{change_told, change_view, found_in, HasFound};
+ghost use Rattle.map_core.specs.Name.{Name};
+ghost use Rattle.workers.specs.Log.{change_told, change_view, found_in, HasLooked};
+ghost use Rattle.workers.specs.Private.Names.{changed_name};
 
 use crate::log::{Changed, How, Log};
 use crate::retrying::Retrying;
 use map_core::{Ask, AskError, Expect, Op, Reply, Viewer};
 use shard_store::{Pass, Seated, Store};
 use spiffe_doc::TrustDomain;
+use std::alloc::AllocError;
 use std::time::Clock;
 
 /// A pass at its store, asked again while others are in the way. The worker of this number tells its log what it changes.
@@ -32,7 +34,7 @@ fn numbered(sequence: Option<u64>) -> Expect
 
 /// The name of the bundle that an operation asks to change, if it asks for a change.
 fn name_to_change(op: &Op) -> Option<&TrustDomain>
-    ensures { IfSome (option_copied result) (λ domain. domain_of op.now ≡ Some domain) }
+    ensures { option_copied result ≡ changed_name op.now }
 {
     match op {
         Op::Set(domain, _) | Op::SetIf(domain, _, _) | Op::Append(domain, _) => Some(domain),
@@ -41,14 +43,15 @@ fn name_to_change(op: &Op) -> Option<&TrustDomain>
     }
 }
 
-/// What stands under a name by the answer to a get.
-fn found_by(answer: Result<Reply, AskError>) -> Option<Expect>
+/// What stands under a name by the answer to a get, if that says so. Errors only if memory ran out.
+fn found_by(answer: Result<Reply, AskError>) -> Result<Option<Expect>, AllocError>
     ensures { result ≡ found_in answer }
 {
     match answer {
-        Ok(Reply::Found(bundle)) => Some(numbered(bundle.sequence())),
-        Ok(Reply::Refused(_)) => Some(Expect::Absent),
-        _ => None,
+        Ok(Reply::Found(bundle)) => Ok(Some(numbered(bundle.sequence()))),
+        Ok(Reply::Refused(_)) => Ok(Some(Expect::Absent)),
+        Err(AskError::Memory) => Err(AllocError),
+        _ => Ok(None),
     }
 }
 
@@ -122,16 +125,18 @@ impl<'a, C: Clock, L: Log> Logged<'a, C, L> {
         seated.into_pass()
     }
 
-    /// What stands now under the name of the bundle that the operation asks to change, if the store answers.
-    fn look(&mut self, op: &Op) -> Option<Expect>
+    /// What stands now under the name of the bundle that the operation asks to change, if the store says so. Errors only if
+    /// memory runs out.
+    fn look(&mut self, op: &Op) -> Result<Option<Expect>, AllocError>
         ensures same { (self.new.log ≡ self.old.log) × (self.new.worker ≡ self.old.worker) }
         ensures later { (self.new.patient.ask.store ≡ self.old.patient.ask.store) × IsLater self.new.patient.ask.seen self.old.patient.ask.seen }
-        ensures found { IfSome result (HasFound op.now self.old.patient.ask self.new.patient.ask) }
+        ensures looked { IfOk result (λ before. (domain : Name) → changed_name op.now ≡ Some domain → HasLooked domain self.old.patient.ask self.new.patient.ask before) }
     {
-        let Ok(domain) = name_to_change(op)?.copy() else {
-            return None;
+        let Some(domain) = name_to_change(op) else {
+            return Ok(None);
         };
-        found_by(self.patient.ask_get(domain))
+        let copy = domain.copy()?;
+        found_by(self.patient.ask_get(copy))
     }
 }
 
@@ -148,7 +153,7 @@ impl<'a, C: Clock, L: Log> Ask for Logged<'a, C, L> {
     ghost answers_plainly = { λ old op answer new m none answered. seated_answers_plainly old.patient.ask op answer new.patient.ask m none answered.1.answered };
 
     /// Asks. If changes are to be told, it looks at what stands there before, and tells of the change that the answer tells
-    /// of; it is out of memory, and has asked nothing, if there is no room for a copy of the operation.
+    /// of. It is out of memory, and has changed nothing, if there is no room for a copy of the operation or for the look.
     fn ask(&mut self, op: Op) -> Result<Reply, AskError> {
         if !self.log.is_on() {
             return self.patient.ask(op);
@@ -157,7 +162,11 @@ impl<'a, C: Clock, L: Log> Ask for Logged<'a, C, L> {
             drop(op);
             return Err(AskError::Memory);
         };
-        let before = self.look(&copy);
+        let Ok(before) = self.look(&copy) else {
+            drop(op);
+            drop(copy);
+            return Err(AskError::Memory);
+        };
         let answer = self.patient.ask(op);
         if let Some(change) = change_by(&copy, before, &answer) {
             self.log.changed(self.worker, &change);

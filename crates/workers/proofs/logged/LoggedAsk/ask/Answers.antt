@@ -4,7 +4,7 @@ use Rattle.map_core.specs.declared.op.Op.{Op}
 use Rattle.shard_store.specs.Seated.{SeatedAnswer}
 use Rattle.workers.specs.Log.{StoodBefore, IsTold, change_told, change_view}
 use Rattle.workers.proofs.LoggedLaws.{patient_answer, continued}
-use Rattle.workers.proofs.LogLaws.{off_told, stood_before, told_as}
+use Rattle.workers.proofs.LogLaws.{off_logged, stood_before, told_as}
 use Rattle.workers.proofs.logged.LoggedAsk.ask.Goals.{in-Some, in_default-change_by}
 use Rattle.workers.proofs.logged.LoggedAsk.ask.Goals as goal
 
@@ -12,16 +12,9 @@ pub returns-then-not-is_on : goal.returns-then-not-is_on
 returns-then-not-is_on g c =
     let old = c.args.self.now in
     let off : false ≡ g.L.Log.wants old.log = grind (arith, c.is_on.ensures, c.if-not-is_on.true) in
+    let answered = patient_answer old.patient.retries old.patient.ask c.args.op c.ask.result c.ask.new.self.ask c.ask.ensures.answered.1 in
     record {
-      answered = (
-        refl,
-        record {
-          answered = patient_answer old.patient.retries old.patient.ask c.args.op c.ask.result c.ask.new.self.ask c.ask.ensures.answered.1;
-          before = None;
-          stood = tt;
-          told = off_told g.L.Log.tells old.worker old.log old.log (g.L.Log.wants old.log) (change_told None c.args.op c.ask.result) off refl;
-        },
-      );
+      answered = (refl, off_logged g.L.Log.tells g.L.Log.wants old.worker (old.patient.ask, old.log) (c.ask.new.self.ask, old.log) c.args.op c.ask.result off answered refl);
     }
 
 pub returns : goal.returns
@@ -30,13 +23,13 @@ returns g c =
     let op = c.args.op in
     let copy = c.in-Ok.copy in
     let old = c.args.self.now in
-    let mid = c.look-before.new.self in
+    let mid = c.look.new.self in
     let new = c.ask-answer.new.self in
     let end = c.match-change_by.self in
     let answer = c.ask-answer.result in
-    let before = c.look-before.result in
-    let same = c.look-before.ensures.same in
-    let later = c.look-before.ensures.later in
+    let before = c.in-Ok-look.before in
+    let same = c.in-Ok-look.ensures.same in
+    let later = c.in-Ok-look.ensures.later in
     let asked = patient_answer mid.patient.retries mid.patient.ask op answer new.ask c.ask-answer.ensures.answered.1 in
     let wanted = g.L.Log.wants old.log in
     let on : true ≡ wanted = grind (arith, c.is_on.ensures, c.if-not-is_on.false) in
@@ -64,8 +57,8 @@ returns g c =
           answered = subst (λ patient. SeatedAnswer old.patient.ask op answer patient.ask) ends.1
               (continued old.patient.ask mid.patient.ask new.ask op answer later.0 later.1 asked);
           before = before;
-          stood = subst (λ patient. IfSome before (StoodBefore op answer old.patient.ask patient.ask)) ends.1
-              (stood_before before copy op answer old.patient.ask mid.patient.ask new.ask c.in-Ok.ensures c.look-before.ensures.found asked);
+          stood = λ told. subst (λ patient. IfSome made (StoodBefore op answer old.patient.ask patient.ask)) ends.1
+              (stood_before before copy op answer old.patient.ask mid.patient.ask new.ask c.in-Ok.ensures c.in-Ok-look.ensures.looked asked);
           told = ends.2;
         },
       );

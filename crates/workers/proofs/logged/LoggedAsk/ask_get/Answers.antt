@@ -1,22 +1,15 @@
-use Rattle.std.proofs.Common.{None, refl}
+use Rattle.std.proofs.Common.{refl}
 use Rattle.map_core.specs.declared.op.Op.TheVariants.{Get}
-use Rattle.workers.specs.Log.{change_told}
 use Rattle.workers.proofs.LoggedLaws.{patient_answer}
-use Rattle.workers.proofs.LogLaws.{none_told}
+use Rattle.workers.proofs.LogLaws.{nothing_logged}
 use Rattle.workers.proofs.logged.LoggedAsk.ask_get.Goals as goal
 
 pub returns : goal.returns
 returns g c =
     let get = Get c.args.domain in
     let old = c.args.self.now in
+    let new = c.ask_get.new.self in
+    let answered = patient_answer old.patient.retries old.patient.ask get c.ask_get.result new.ask c.ask_get.ensures.answered.1 in
     record {
-      answered = (
-        refl,
-        record {
-          answered = patient_answer old.patient.retries old.patient.ask get c.ask_get.result c.ask_get.new.self.ask c.ask_get.ensures.answered.1;
-          before = None;
-          stood = tt;
-          told = none_told g.L.Log.tells old.worker old.log old.log (g.L.Log.wants old.log) (change_told None get c.ask_get.result) refl refl;
-        },
-      );
+      answered = (refl, nothing_logged g.L.Log.tells g.L.Log.wants old.worker (old.patient.ask, old.log) (new.ask, old.log) get c.ask_get.result refl answered refl);
     }

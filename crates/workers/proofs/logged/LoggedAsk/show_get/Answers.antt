@@ -1,14 +1,14 @@
-use Rattle.std.proofs.Common.{◌≡◌, None, refl}
+use Rattle.std.proofs.Common.{◌≡◌, refl}
 use Rattle.std.specs.Prelude.{Result}
 use Rattle.map_core.specs.declared.op.Op.TheVariants.{Get}
 use Rattle.map_core.specs.declared.reply.Reply.{Reply}
 use Rattle.map_core.specs.declared.reply.AskError.{AskError}
 use Rattle.map_core.proofs.Shows.{shows_as}
 use Rattle.shard_store.specs.Seated.{SeatedAnswer}
-use Rattle.workers.specs.Log.{LoggedAnswer, change_told}
+use Rattle.workers.specs.Log.{LoggedAnswer}
 use Rattle.workers.specs.Retrying.{Retried}
 use Rattle.workers.proofs.LoggedLaws.{patient_answer}
-use Rattle.workers.proofs.LogLaws.{none_told}
+use Rattle.workers.proofs.LogLaws.{nothing_logged}
 use Rattle.workers.proofs.logged.LoggedAsk.show_get.Goals as goal
 
 pub returns : goal.returns
@@ -22,12 +22,8 @@ returns g c =
           (g.V.Viewer.noted c.args.viewer.now) c.show_get.result (g.V.Viewer.noted c.show_get.new.viewer)
           (λ (answer : Result Reply AskError) (asked : (new.retries ≡ old.patient.retries) × Retried SeatedAnswer old.patient.retries old.patient.ask get answer new.ask). (
             refl,
-            record {
-              answered = patient_answer old.patient.retries old.patient.ask get answer new.ask asked.1;
-              before = None;
-              stood = tt;
-              told = none_told g.L.Log.tells old.worker old.log old.log (g.L.Log.wants old.log) (change_told None get answer) refl refl;
-            },
+            nothing_logged g.L.Log.tells g.L.Log.wants old.worker (old.patient.ask, old.log) (new.ask, old.log) get answer refl
+                (patient_answer old.patient.retries old.patient.ask get answer new.ask asked.1) refl,
           ))
           c.show_get.ensures.shown;
     }
