@@ -15,9 +15,9 @@ use Rattle.connections.specs.declared.after.After.TheVariants.{Over}
 use Rattle.live_workers.specs.AtPort.{PortAnswer}
 use Rattle.live_workers.specs.Arrivals.{News, NewClient, HasTicked}
 use Rattle.workers.specs.Ended.{EndsView, Notes}
-use Rattle.live_workers.specs.Sessions.{Place, Places, Step, Opens, Turns, Misses, Ticks, Closes, GivesUp, Ends, Fails, AllStay, AllTick, OthersStay, TakesAll, told_by, closing_of, front_end, news_of, all_news, ticked}
-use Rattle.live_workers.specs.Private.Serving.{Asks, GiveUp, HadTurn, HadLastTurn, Leaves, NobodyThere, Serves, turn_news}
-use Rattle.live_workers.proofs.StepLemmas.{all_stay, notes_none, notes_then, patient_then, serves_ending, serves_none, serves_quietly, serves_then, stay_then, steps_then}
+use Rattle.live_workers.specs.Sessions.{Place, Places, Step, Opens, Turns, Misses, Ticks, Closes, GivesUp, Ends, Fails, AllStay, AllTick, IsPatient, NoneIsLast, OthersStay, TakesAll, told_by, closing_of, front_end, news_of, all_news, ticked}
+use Rattle.live_workers.specs.Private.Serving.{Asks, EndsSome, GiveUp, HadTurn, HadLastTurn, Leaves, NobodyThere, Serves, turn_news}
+use Rattle.live_workers.proofs.StepLemmas.{all_stay, all_then, ends_none, notes_none, notes_then, serves_ending, serves_none, serves_quietly, serves_then, stay_then, steps_then}
 
 on_ok : {X E : Type 0} {P Q : Type 0} (r : Result X E) → OnOk r P → (P → Q) → OnOk r Q
 on_ok (Ok x) p f = f p
@@ -37,6 +37,23 @@ beyond s place far = get_or_past s.slots place None far
 
 -- ---- turns and ends as steps
 
+module _ {S : Type 0} (answers : S → Op → Result Reply AskError → S → Type 0) where
+  -- a last turn, and then the connection is left
+  pub last_ends : (place : ℕ) (end : Result ℕ FrontError) (old mid new : Places) (noted kept noted_new : EndsView) (s t : S)
+      → HadLastTurn answers place (Some end) old mid s t → kept ≡ noted → new place ≡ None → OthersStay place mid new → Notes (front_end end ∷ []) kept noted_new
+      → EndsSome answers old new noted noted_new s t
+  last_ends place end old mid new noted kept noted_new s t h same left others notes = record {
+    steps = Ends place end ∷ [];
+    takes = ((new, t), (h.before, h.behind, h.was, h.does, left, stay_then place old mid new h.others others), (all_stay new, refl));
+    notes = subst (λ (n : EndsView). Notes (front_end end ∷ []) n noted_new) same notes;
+    ending = (tt, tt);
+  }
+
+  pub stays_ends : (old new : Places) (noted noted_new : EndsView) (s t : S) → AllStay old new → noted_new ≡ noted → t ≡ s → EndsSome answers old new noted noted_new s t
+  stays_ends old new noted noted_new s t same kept still =
+      subst (λ (u : S). EndsSome answers old new noted noted_new s u) (sym still)
+      (subst (λ (n : EndsView). EndsSome answers old new noted n s s) (sym kept) (ends_none answers old new noted s same))
+
 module _ {S : Type 0} (answers : S → Op → Result Reply AskError → S → Type 0) (most : ℕ) where
   -- a turn, whatever it follows
   pub turn_serves : (place : ℕ) (is_closing : Bool) (after : After) (old new : Places) (noted noted_new : EndsView) (s t : S)
@@ -44,13 +61,13 @@ module _ {S : Type 0} (answers : S → Op → Result Reply AskError → S → Ty
       → (ready : Option Bool) → closing_of ready ≡ is_closing → Serves answers most (turn_news place ready) old new noted noted_new s t
   turn_serves place is_closing after old new noted noted_new s t h same None closes =
       serves_quietly answers most (Turns place None after) old new noted noted_new s t
-      (h.before, record { connection = h.behind; reads_only = h.before.reads_only; silent = 0 }, h.was, h.is, told_so, refl, refl, h.others) tt refl same
+      (h.before, record { connection = h.behind; reads_only = h.before.reads_only; silent = 0 }, h.was, h.is, told_so, refl, refl, h.others) (λ e. e) tt refl same
     where
       told_so : Turn turn_rounds (PortAnswer answers h.before.reads_only) after (told (closing_of None) h.before.connection) h.behind s t
       told_so = subst (λ b. Turn turn_rounds (PortAnswer answers h.before.reads_only) after (told b h.before.connection) h.behind s t) (sym closes) h.does
   turn_serves place is_closing after old new noted noted_new s t h same (Some b) closes =
       serves_quietly answers most (Turns place (Some b) after) old new noted noted_new s t
-      (h.before, record { connection = h.behind; reads_only = h.before.reads_only; silent = 0 }, h.was, h.is, told_so, refl, refl, h.others) tt refl same
+      (h.before, record { connection = h.behind; reads_only = h.before.reads_only; silent = 0 }, h.was, h.is, told_so, refl, refl, h.others) (λ e. e) tt refl same
     where
       told_so : Turn turn_rounds (PortAnswer answers h.before.reads_only) after (told b h.before.connection) h.behind s t
       told_so = subst (λ d. Turn turn_rounds (PortAnswer answers h.before.reads_only) after (told d h.before.connection) h.behind s t) (sym closes) h.does
@@ -74,22 +91,13 @@ module _ {S : Type 0} (answers : S → Op → Result Reply AskError → S → Ty
       → NobodyThere answers place old new s t → noted_new ≡ noted → (ready : Option Bool) → Serves answers most (turn_news place ready) old new noted noted_new s t
   missed_serves place old new noted noted_new s t n same None = stays_serves old new noted noted_new s t n.1 same n.2
   missed_serves place old new noted noted_new s t n same (Some b) =
-      serves_quietly answers most (Misses place b) old new noted noted_new s t (n.0, n.1, n.2) tt refl same
+      serves_quietly answers most (Misses place b) old new noted noted_new s t (n.0, n.1, n.2) (λ e. e) tt refl same
 
   pub close_serves : (place : ℕ) (end : Result ℕ FrontError) (old new : Places) (noted noted_new : EndsView) (s : S) (p : Place) → old place ≡ Some p
       → StopsFor (Over end) p.connection → new place ≡ None → OthersStay place old new → Notes (front_end end ∷ []) noted noted_new
       → Serves answers most [] old new noted noted_new s s
   close_serves place end old new noted noted_new s p was ends left others notes =
-      serves_ending answers most (Closes place end) old new noted noted_new s s (p, was, ends, left, others, refl) tt notes
-
-  -- a last turn, and then the connection is left
-  pub last_serves : (place : ℕ) (end : Result ℕ FrontError) (old mid new : Places) (noted kept noted_new : EndsView) (s t : S)
-      → HadLastTurn answers place (Some end) old mid s t → kept ≡ noted → new place ≡ None → OthersStay place mid new → Notes (front_end end ∷ []) kept noted_new
-      → Serves answers most [] old new noted noted_new s t
-  last_serves place end old mid new noted kept noted_new s t h same left others notes =
-      serves_ending answers most (Ends place end) old new noted noted_new s t
-      (h.before, h.behind, h.was, h.does, left, stay_then place old mid new h.others others) tt
-      (subst (λ (n : EndsView). Notes (front_end end ∷ []) n noted_new) same notes)
+      serves_ending answers most (Closes place end) old new noted noted_new s s (p, was, ends, left, others, refl) (λ e. e) tt notes
 
   -- clients may be given up in any run
   given_up_anywhere : (steps : List Step) (p q : Places) (s : S) → GiveUp steps → TakesAll Asks steps (p, tt) (q, tt) → TakesAll answers steps (p, s) (q, s)
@@ -116,12 +124,24 @@ module _ {S : Type 0} (answers : S → Op → Result Reply AskError → S → Ty
   no_news (Ends place result ∷ steps) ends = absurd ends
   no_news (Fails ∷ steps) ends = absurd ends
 
+  no_last : (steps : List Step) → GiveUp steps → NoneIsLast steps
+  no_last [] ends = tt
+  no_last (GivesUp place ticks error ∷ steps) ends = (λ e. e, no_last steps ends)
+  no_last (Opens place start reads_only ∷ steps) ends = absurd ends
+  no_last (Turns place ready after ∷ steps) ends = absurd ends
+  no_last (Misses place is_closing ∷ steps) ends = absurd ends
+  no_last (Ticks ∷ steps) ends = absurd ends
+  no_last (Closes place result ∷ steps) ends = absurd ends
+  no_last (Ends place result ∷ steps) ends = absurd ends
+  no_last (Fails ∷ steps) ends = absurd ends
+
   leaves_serves : (old new : Places) (n o : EndsView) (s : S) → Leaves most old new n o → Serves answers most [] old new n o s s
   leaves_serves old new n o s l = record {
     steps = l.steps;
     takes = given_up_anywhere l.steps old new s l.ends l.takes;
     notes = l.notes;
     follows = no_news l.steps l.ends;
+    going = no_last l.steps l.ends;
     patient = l.patient;
   }
 
@@ -130,18 +150,18 @@ module _ {S : Type 0} (answers : S → Op → Result Reply AskError → S → Ty
       → Serves answers most (HasTicked ∷ []) old new noted noted_new s s
   tick_serves old mid new noted kept noted_new s ticks same l =
       serves_then answers most (HasTicked ∷ []) [] old mid new noted kept noted_new s s s
-      (serves_quietly answers most Ticks old mid noted kept s s (ticks, refl) tt refl same) (leaves_serves mid new kept noted_new s l)
+      (serves_quietly answers most Ticks old mid noted kept s s (ticks, refl) (λ e. e) tt refl same) (leaves_serves mid new kept noted_new s l)
 
   -- a free place is taken
   pub take_serves : (place : ℕ) (start : ConnectionView) (reads_only : Bool) (old new : Places) (noted noted_new : EndsView) (s : S)
       → old place ≡ None → new place ≡ Some (record { connection = start; reads_only = reads_only; silent = 0 }) → OthersStay place old new → noted_new ≡ noted
       → Serves answers most (NewClient place start reads_only ∷ []) old new noted noted_new s s
   take_serves place start reads_only old new noted noted_new s free taken others same =
-      serves_quietly answers most (Opens place start reads_only) old new noted noted_new s s (free, taken, others, refl) tt refl same
+      serves_quietly answers most (Opens place start reads_only) old new noted noted_new s s (free, taken, others, refl) (λ e. e) tt refl same
 
   pub fails_serves : (old new : Places) (noted noted_new : EndsView) (s : S)
       → AllStay old new → Notes (told_by Fails) noted noted_new → Serves answers most (news_of Fails) old new noted noted_new s s
-  fails_serves old new noted noted_new s same notes = serves_ending answers most Fails old new noted noted_new s s (same, refl) tt notes
+  fails_serves old new noted noted_new s same notes = serves_ending answers most Fails old new noted noted_new s s (same, refl) (λ e. e) tt notes
 
 gives_up_then : (xs ys : List Step) → GiveUp xs → GiveUp ys → GiveUp (xs ++ ys)
 gives_up_then [] ys p q = q
@@ -164,7 +184,7 @@ module _ (most : ℕ) where
     ends = gives_up_then p.steps q.steps p.ends q.ends;
     takes = steps_then Asks p.steps q.steps (a, tt) (b, tt) (c, tt) p.takes q.takes;
     notes = notes_then p.steps q.steps m n o p.notes q.notes;
-    patient = patient_then most p.steps q.steps p.patient q.patient;
+    patient = all_then (IsPatient most) p.steps q.steps p.patient q.patient;
   }
 
   -- a client is given up

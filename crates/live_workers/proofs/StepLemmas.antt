@@ -1,12 +1,13 @@
 -- The steps of a worker, one after the other.
 use Rattle.std.proofs.Common.{◌≡◌, ℕ, List, [], ◌∷◌, ◌++◌, refl, sym, ap, ◌∙◌, subst, append_assoc, append-nil, Result}
+use Rattle.std.specs.List.{AllByRecursion}
 use Rattle.std.proofs.lemmas.Grind.{flat_map-append}
 use Rattle.map_core.specs.declared.op.Op.{Op}
 use Rattle.map_core.specs.declared.reply.Reply.{Reply}
 use Rattle.map_core.specs.declared.reply.AskError.{AskError}
 use Rattle.live_workers.specs.Arrivals.{News}
-use Rattle.live_workers.specs.Sessions.{Places, Step, Opens, Turns, Misses, Ticks, Closes, GivesUp, Ends, Fails, ArePatient, IsPatient, OthersStay, AllStay, Takes, TakesAll, told_all, told_by, all_news, news_of, ticked}
-use Rattle.live_workers.specs.Private.Serving.{Serves}
+use Rattle.live_workers.specs.Sessions.{Places, Step, Opens, Turns, Misses, Ticks, Closes, GivesUp, Ends, Fails, IsLast, IsPatient, OthersStay, AllStay, Takes, TakesAll, told_all, told_by, all_news, news_of, ticked}
+use Rattle.live_workers.specs.Private.Serving.{EndsSome, Serves}
 use Rattle.workers.specs.Ended.{EndsView, Notes, kept_of}
 use Rattle.workers.specs.declared.ended.SessionFault.{SessionFault}
 
@@ -31,9 +32,9 @@ notes_by xs ys m n same p = subst (λ (l : List (Result ℕ SessionFault)). Note
 news_then : (xs ys : List Step) (h k : List News) → all_news xs ≡ h → all_news ys ≡ k → all_news (xs ++ ys) ≡ h ++ k
 news_then xs ys h k p q = flat_map-append news_of xs ys ∙ (ap (λ (l : List News). l ++ all_news ys) p ∙ ap (λ (l : List News). h ++ l) q)
 
-pub patient_then : (most : ℕ) (xs ys : List Step) → ArePatient most xs → ArePatient most ys → ArePatient most (xs ++ ys)
-patient_then most [] ys p q = q
-patient_then most (x ∷ xs) ys p q = (p.0, patient_then most xs ys p.1 q)
+pub all_then : (P : Step → Type 0) (xs ys : List Step) → AllByRecursion P xs → AllByRecursion P ys → AllByRecursion P (xs ++ ys)
+all_then P [] ys p q = q
+all_then P (x ∷ xs) ys p q = (p.0, all_then P xs ys p.1 q)
 
 module _ {S : Type 0} (answers : S → Op → Result Reply AskError → S → Type 0) where
   -- places that are the same are left in the same way
@@ -59,24 +60,25 @@ module _ {S : Type 0} (answers : S → Op → Result Reply AskError → S → Ty
 module _ {S : Type 0} (answers : S → Op → Result Reply AskError → S → Type 0) (most : ℕ) where
   -- nothing is done
   pub serves_none : (old new : Places) (noted : EndsView) (s : S) → AllStay old new → Serves answers most [] old new noted noted s s
-  serves_none old new noted s same = record { steps = []; takes = (same, refl); notes = notes_none noted; follows = refl; patient = tt }
+  serves_none old new noted s same = record { steps = []; takes = (same, refl); notes = notes_none noted; follows = refl; going = tt; patient = tt }
 
   -- one step that ends a session
-  pub serves_ending : (step : Step) (old new : Places) (noted noted_new : EndsView) (s t : S) → Takes answers step (old, s) (new, t) → IsPatient most step
+  pub serves_ending : (step : Step) (old new : Places) (noted noted_new : EndsView) (s t : S) → Takes answers step (old, s) (new, t) → ¬ (IsLast step) → IsPatient most step
       → Notes (told_by step) noted noted_new → Serves answers most (news_of step) old new noted noted_new s t
-  serves_ending step old new noted noted_new s t a patient notes = record {
+  serves_ending step old new noted noted_new s t a going patient notes = record {
     steps = step ∷ [];
     takes = ((new, t), a, (all_stay new, refl));
     notes = notes_by (told_by step) (told_all (step ∷ [])) noted noted_new (sym (append-nil (told_by step))) notes;
     follows = append-nil (news_of step);
+    going = (going, tt);
     patient = (patient, tt);
   }
 
   -- one step that ends no session
-  pub serves_quietly : (step : Step) (old new : Places) (noted noted_new : EndsView) (s t : S) → Takes answers step (old, s) (new, t) → IsPatient most step
+  pub serves_quietly : (step : Step) (old new : Places) (noted noted_new : EndsView) (s t : S) → Takes answers step (old, s) (new, t) → ¬ (IsLast step) → IsPatient most step
       → told_by step ≡ [] → noted_new ≡ noted → Serves answers most (news_of step) old new noted noted_new s t
-  serves_quietly step old new noted noted_new s t a patient none same =
-      serves_ending step old new noted noted_new s t a patient
+  serves_quietly step old new noted noted_new s t a going patient none same =
+      serves_ending step old new noted noted_new s t a going patient
       (subst (λ (n : EndsView). Notes (told_by step) noted n) (sym same) (notes_by [] (told_by step) noted noted (sym none) (notes_none noted)))
 
   -- some steps, and then others
@@ -87,5 +89,20 @@ module _ {S : Type 0} (answers : S → Op → Result Reply AskError → S → Ty
     takes = steps_then answers p.steps q.steps (a, s) (b, t) (c, u) p.takes q.takes;
     notes = notes_then p.steps q.steps m n o p.notes q.notes;
     follows = news_then p.steps q.steps h k p.follows q.follows;
-    patient = patient_then most p.steps q.steps p.patient q.patient;
+    going = all_then (λ step. ¬ (IsLast step)) p.steps q.steps p.going q.going;
+    patient = all_then (IsPatient most) p.steps q.steps p.patient q.patient;
+  }
+
+module _ {S : Type 0} (answers : S → Op → Result Reply AskError → S → Type 0) where
+  -- no connection had its last turn yet
+  pub ends_none : (old new : Places) (noted : EndsView) (s : S) → AllStay old new → EndsSome answers old new noted noted s s
+  ends_none old new noted s same = record { steps = []; takes = (same, refl); notes = notes_none noted; ending = tt }
+
+  -- some last turns, and then others
+  pub ends_then : (a b c : Places) (m n o : EndsView) (s t u : S) → EndsSome answers a b m n s t → EndsSome answers b c n o t u → EndsSome answers a c m o s u
+  ends_then a b c m n o s t u p q = record {
+    steps = p.steps ++ q.steps;
+    takes = steps_then answers p.steps q.steps (a, s) (b, t) (c, u) p.takes q.takes;
+    notes = notes_then p.steps q.steps m n o p.notes q.notes;
+    ending = all_then IsLast p.steps q.steps p.ending q.ending;
   }

@@ -128,11 +128,30 @@ IsPatient most step = ⊤
 abbrev pub ArePatient : ℕ → List Step → Type 0
 ArePatient most steps = AllByRecursion (IsPatient most) steps
 
--- The steps follow all news that came, in order, up to the first stop: so each client stands at the place that was told just before
--- it came. No client is given up before it has owed something for so many ticks.
+-- a step gives a connection its last turn
+abbrev pub IsLast : Step → Type 0
+IsLast (Ends place result) = ⊤
+IsLast step = ⊥
+
+-- none of these steps does so
+abbrev pub NoneIsLast : List Step → Type 0
+NoneIsLast steps = AllByRecursion (λ step. ¬ (IsLast step)) steps
+
+-- each of them does
+abbrev pub AllAreLast : List Step → Type 0
+AllAreLast steps = AllByRecursion IsLast steps
+
+-- Steps before a stop follow all news that came, in order: so each client stands at the place that was told just before it came.
+-- None of them is a last turn, and after the stop there are only last turns. No client is given up before it has owed something for
+-- so many ticks.
 pub record Follows (most_silent : ℕ) {E V : Type 0} (start : E → ConnectionView) (comes : V → ℕ → Arrival E → V → Type 0) (steps : List Step)
     (old new : V) : Type 0 where
   pub arrivals : List (ℕ × Arrival E)
   pub came : ComesAll comes arrivals old new
-  pub all : flat_map (news_of_both start) arrivals ≡ all_news steps ++ IsToStop ∷ []
-  pub patient : ArePatient most_silent steps
+  pub before : List Step
+  pub last : List Step
+  pub parts : steps ≡ before ++ last
+  pub all : flat_map (news_of_both start) arrivals ≡ all_news before ++ IsToStop ∷ []
+  pub going : NoneIsLast before
+  pub ending : AllAreLast last
+  pub patient : ArePatient most_silent before

@@ -5,7 +5,7 @@ ghost use Rattle.workers.specs.Ended.{kept_of, Notes};
 ghost use Rattle.connections.specs.Connection.{Owes, opened};
 ghost use Rattle.live_workers.specs.Arrivals.{IsStop, NewClient, news_in};
 ghost use Rattle.live_workers.specs.Sessions.{Place, AllTick, Fails, Follows, OthersStay, ServedAll, closing_of, front_end, nobody, ticked, told_by};
-ghost use Rattle.live_workers.specs.Private.Serving.{HadLastTurn, HadTurn, Leaves, Serves, turn_news};
+ghost use Rattle.live_workers.specs.Private.Serving.{EndsSome, HadLastTurn, HadTurn, Leaves, Serves, turn_news};
 
 use crate::arrivals::{Arrival, Arrivals};
 use crate::at_port::AtPort;
@@ -233,7 +233,7 @@ impl<E: Stream + Drop> Served<E> {
         log: &L,
         worker: u64,
     ) -> Result<(), AllocError>
-        ensures served { OnOk result ((most : ℕ) → Serves A.answers most [] (get self.old.open) (get self.new.open) self.old.ends self.new.ends ask.old.ask ask.new.ask) }
+        ensures served { OnOk result (EndsSome A.answers (get self.old.open) (get self.new.open) self.old.ends self.new.ends ask.old.ask ask.new.ask) }
         ensures left { OnOk result (get self.new.open place ≡ None) }
         ensures others { OthersStay place (get self.old.open) (get self.new.open) }
     {
@@ -251,7 +251,7 @@ impl<E: Stream + Drop> Served<E> {
         log: &L,
         worker: u64,
     ) -> Result<(), AllocError>
-        ensures { OnOk result ((most : ℕ) → Serves A.answers most [] (get self.old.open) nobody self.old.ends self.new.ends ask.old.ask ask.new.ask) }
+        ensures { OnOk result (EndsSome A.answers (get self.old.open) nobody self.old.ends self.new.ends ask.old.ask ask.new.ask) }
     {
         let places = self.open.capacity();
         let mut place = 0;

@@ -9,7 +9,7 @@ use Rattle.connections.specs.Connection.{ConnectionView, LastTurn, Turn, told, t
 use Rattle.connections.specs.declared.after.After.{After}
 use Rattle.live_workers.specs.Arrivals.{News, IsReady, ComesAll, news_of_both}
 use Rattle.live_workers.specs.AtPort.{PortAnswer}
-use Rattle.live_workers.specs.Sessions.{Place, Places, ArePatient, OthersStay, AllStay, Step, GivesUp, TakesAll, told_all, all_news}
+use Rattle.live_workers.specs.Sessions.{Place, Places, ArePatient, OthersStay, AllStay, AllAreLast, NoneIsLast, Step, GivesUp, TakesAll, told_all, all_news}
 use Rattle.live_workers.specs.declared.arrivals.Arrival.{Arrival}
 use Rattle.workers.specs.Ended.{EndsView, Notes}
 
@@ -44,14 +44,22 @@ module _ {S : Type 0} (answers : S → Op → Result Reply AskError → S → Ty
       AtPlace place (λ p. p.silent) (λ p c. LastTurn (PortAnswer answers p.reads_only) end p.connection c map_old map_new) old new
   HadLastTurn place None old new map_old map_new = NobodyThere place old new map_old map_new
 
-  -- Steps were taken, one after the other, which follow this news, and each end of a session was noted. No client was given up
-  -- before so many ticks.
+  -- Steps were taken, one after the other, which follow this news, and each end of a session was noted. None was a last turn, and
+  -- no client was given up before so many ticks.
   pub record Serves (most : ℕ) (news : List News) (old new : Places) (noted_old noted_new : EndsView) (map_old map_new : S) : Type 0 where
     pub steps : List Step
     pub takes : TakesAll answers steps (old, map_old) (new, map_new)
     pub notes : Notes (told_all steps) noted_old noted_new
     pub follows : all_news steps ≡ news
+    pub going : NoneIsLast steps
     pub patient : ArePatient most steps
+
+  -- Connections had their last turns, one after the other, and each end of a session was noted.
+  pub record EndsSome (old new : Places) (noted_old noted_new : EndsView) (map_old map_new : S) : Type 0 where
+    pub steps : List Step
+    pub takes : TakesAll answers steps (old, map_old) (new, map_new)
+    pub notes : Notes (told_all steps) noted_old noted_new
+    pub ending : AllAreLast steps
 
 -- clients were given up, and nothing else was done
 abbrev pub GiveUp : List Step → Type 0

@@ -1,4 +1,4 @@
-use Rattle.std.proofs.Common.{◌++◌, ℕ, [], List, refl, sym, ap, ◌∙◌, append-nil, arith, length, subst}
+use Rattle.std.proofs.Common.{◌++◌, ℕ, [], List, refl, sym, ap, ◌∙◌, arith, length, subst}
 use Rattle.slab.specs.Slab.{get}
 use Rattle.workers.specs.Ended.{kept_of}
 use Rattle.connections.specs.Connection.{ConnectionView, opened}
@@ -6,7 +6,7 @@ use Rattle.live_workers.specs.Arrivals.{News, news_in}
 use Rattle.live_workers.specs.Sessions.{all_news, nobody}
 use Rattle.live_workers.specs.Private.Serving.{Serves}
 use Rattle.live_workers.proofs.ArrivalLemmas.{goes_on, heard_more, heard_none}
-use Rattle.live_workers.proofs.StepLemmas.{serves_then}
+use Rattle.live_workers.proofs.StepLemmas.{notes_then, serves_then, steps_then}
 use Rattle.live_workers.proofs.ServingLemmas.{beyond, stays_serves, unchanged_news}
 use Rattle.live_workers.proofs.serving.serve_arrivals.Goals as goal
 
@@ -42,15 +42,21 @@ pub returns : goal.returns
 returns g c =
     let start : g.row.V-End.Denot → ConnectionView = λ end. opened c.args.limits.turns (g.V.End.Stream.may end) (g.V.End.Stream.left end) (g.V.End.Stream.held end) (g.V.End.Stream.reads end) in
     let inv = c.loop-arrival.invariant in
-    let all =
-    serves_then g.A.Ask.answers c.args.limits.most_silent inv.0 [] nobody (get c.loop-arrival.served.open) nobody (kept_of []) c.loop-arrival.served.ends c.end_all.new.self.ends c.args.ask.now.ask c.loop-arrival.ask.ask c.end_all.new.ask.ask
-    inv.1 (c.in_ok-end_all.ensures c.args.limits.most_silent) in
+    let ended = c.in_ok-end_all.ensures in
+    let steps = inv.1.steps ++ ended.steps in
+    let takes = steps_then g.A.Ask.answers inv.1.steps ended.steps (nobody, c.args.ask.now.ask) (get c.loop-arrival.served.open, c.loop-arrival.ask.ask) (nobody, c.end_all.new.ask.ask) inv.1.takes ended.takes in
+    let notes = notes_then inv.1.steps ended.steps (kept_of []) c.loop-arrival.served.ends c.end_all.new.self.ends inv.1.notes ended.notes in
     let heard = heard_more start g.V.Arrivals.comes inv.0 c.vacant_key-free.result c.next.result c.args.arrivals.now c.loop-arrival.arrivals c.next.new.self inv.2 c.next.ensures.comes in (
-      record { steps = all.steps; takes = all.takes; ends = all.notes [] refl },
+      record { steps = steps; takes = takes; ends = notes [] refl },
       record {
         arrivals = heard.arrivals;
         came = heard.came;
-        all = heard.all ∙ (ap (λ (l : List News). l ++ news_in start c.vacant_key-free.result c.next.result) (sym (append-nil inv.0) ∙ sym all.follows) ∙ ap (λ a. all_news all.steps ++ news_in start c.vacant_key-free.result a) c.in-Stops.is);
-        patient = all.patient;
+        before = inv.1.steps;
+        last = ended.steps;
+        parts = refl;
+        all = heard.all ∙ (ap (λ (l : List News). l ++ news_in start c.vacant_key-free.result c.next.result) (sym inv.1.follows) ∙ ap (λ a. all_news inv.1.steps ++ news_in start c.vacant_key-free.result a) c.in-Stops.is);
+        going = inv.1.going;
+        ending = ended.ending;
+        patient = inv.1.patient;
       },
     )
