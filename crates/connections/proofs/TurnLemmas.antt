@@ -1,6 +1,6 @@
 -- The parts of a turn, one after the other.
 use Rattle.std.proofs.Common.{◌≡◌, ℕ, ◌+◌, ◌*◌, ◌≤◌, List, [], ◌∷◌, ◌++◌, length, refl, sym, ap, ◌∙◌, arith, append_assoc, append-nil, length-append, subst, inl, inr, Result, Ok, Err}
-use Rattle.std.specs.Prelude.{◌<◌, ◌⊎◌, Option, Bool, true}
+use Rattle.std.specs.Prelude.{◌<◌, ◌⊎◌, Option, Bool, true, false}
 use Rattle.std.specs.Io.KnownBytes.{Appends, Consumes}
 use Rattle.std.proofs.KnownBytes.{Appends-nil, Appends-trans, Consumes-nil, Consumes-trans}
 use Rattle.std.proofs.lemmas.Grind.{flat_map-append}
@@ -15,10 +15,10 @@ use Rattle.frame_front.specs.LiveCalls.{LiveCall, DoesAll, piece_of, bytes_of, F
 use Rattle.connections.specs.declared.after.After.{After}
 use Rattle.connections.specs.declared.ends.Broken.{Broken}
 use Rattle.connections.specs.declared.after.After.TheVariants.{Waits, Again, Over}
-use Rattle.connections.specs.Connection.{ConnectionView, EndsFor, EndsHere, HadShare, IsLost, LosesOnly, MakesReads, StopsFor, Turn}
+use Rattle.connections.specs.Connection.{ConnectionView, EndsFor, EndsHere, EndsShort, HadShare, IsLost, LosesOnly, MakesReads, StopsFor, Turn, WaitsFor, room_bytes}
 use Rattle.connections.specs.Reads.{reads_for, reads_of}
-use Rattle.connections.specs.Private.Goes.{Goes, GoesOn, ReadsAs, Round, SendsAs, StaysSo}
-use Rattle.connections.proofs.ReadLemmas.{makes_then, reads_none}
+use Rattle.connections.specs.Private.Goes.{Goes, GoesOn, ReadsAs, Round, SendsAs, StaysShort, StaysSo, StopsIn}
+use Rattle.connections.proofs.ReadLemmas.{makes_then}
 
 pub frames_append : (xs ys : List LiveCall) → frames_of (xs ++ ys) ≡ frames_of xs + frames_of ys
 frames_append [] ys = omega arith
@@ -38,6 +38,44 @@ share_then rounds xs ys h k = (
   omega (arith, h.1, k.1, reads_append xs ys),
   omega (arith, h.2, k.2, sent_append xs ys),
 )
+
+-- some calls, and then others, of which the last read was a short one
+short_after : (xs ys : List LiveCall) → EndsShort ys → EndsShort (xs ++ ys)
+short_after xs ys s = record {
+  before = xs ++ s.before;
+  piece = s.piece;
+  after = s.after;
+  parts = ap (λ (l : List LiveCall). xs ++ l) s.parts ∙ sym (append_assoc xs s.before (Feed s.piece ∷ s.after));
+  some = s.some;
+  short = s.short;
+  no_more = s.no_more;
+}
+
+-- or others that have no read
+short_before : (xs ys : List LiveCall) → EndsShort xs → reads_of ys ≡ 0 → EndsShort (xs ++ ys)
+short_before xs ys s none = record {
+  before = s.before;
+  piece = s.piece;
+  after = s.after ++ ys;
+  parts = ap (λ (l : List LiveCall). l ++ ys) s.parts ∙ append_assoc s.before (Feed s.piece ∷ s.after) ys;
+  some = s.some;
+  short = s.short;
+  no_more = omega (arith, reads_append s.after ys, s.no_more, none);
+}
+
+-- a connection that waits since it has read so, waits since it has read otherwise
+waits_by : (P Q : Type 0) (c : ConnectionView) → (P → Q) → WaitsFor P c → WaitsFor Q c
+waits_by P Q c f (inl writes) = inl writes
+waits_by P Q c f (inr reads) = inr (reads.0, reads.1, reads.2, reads.3, by reads.4)
+  where
+    by : (c.may.read_waits ≡ true) ⊎ ((c.may.leaves_room ≡ true) × (c.is_closing ≡ false) × P) → (c.may.read_waits ≡ true) ⊎ ((c.may.leaves_room ≡ true) × (c.is_closing ≡ false) × Q)
+    by (inl waits) = inl waits
+    by (inr short) = inr (short.0, short.1, f short.2)
+
+stops_by : (P Q : Type 0) (after : After) (c : ConnectionView) → (P → Q) → StopsIn P after c → StopsIn Q after c
+stops_by P Q Waits c f stops = waits_by P Q c f stops
+stops_by P Q Again c f stops = absurd stops
+stops_by P Q (Over result) c f stops = stops
 
 pub stays_then : (a b c : ConnectionView) → StaysSo a b → StaysSo b c → StaysSo a c
 stays_then a b c p q = (q.0 ∙ p.0, q.1 ∙ p.1)
@@ -89,15 +127,24 @@ module _ {S : Type 0} (answers : S → Op → Result Reply AskError → S → Ty
     }
 
   -- What is known of a turn after some rounds and its next part.
-  abbrev Further : ℕ → List ℕ → List LiveCall → ConnectionView → ConnectionView → S → S → Type 0
-  Further rounds lost calls a c m o = (goes : Goes answers ((rounds + 1) * most_frames) lost a c m o) × (HadShare 1 calls → HadShare (rounds + 1) goes.calls)
+  abbrev Further : ℕ → Bool → List ℕ → List LiveCall → ConnectionView → ConnectionView → S → S → Type 0
+  Further rounds had_left lost calls a c m o = (goes : Goes answers ((rounds + 1) * most_frames) lost a c m o) × (HadShare 1 calls → HadShare (rounds + 1) goes.calls)
+      × (EndsShort calls ⊎ StaysShort had_left calls → EndsShort goes.calls)
 
   -- a turn after some rounds, and the next part of it
-  pub goes_on : (rounds : ℕ) (lost : List ℕ) (a b c : ConnectionView) (m n o : S) → GoesOn answers rounds a b m n → (q : Goes answers most_frames lost b c n o)
-      → b.has_ended ≡ a.has_ended → Further rounds lost q.calls a c m o
-  goes_on rounds lost a b c m n o (inl none) q unended =
-      subst (λ s. Further rounds lost q.calls s c m o) none.1 (subst (λ s. Further rounds lost q.calls b c s o) none.2 (first, λ h. (h.0, omega (arith, none.0, h.1), h.2)))
+  pub goes_on : (rounds : ℕ) (had_left : Bool) (lost : List ℕ) (a b c : ConnectionView) (m n o : S) → GoesOn answers rounds had_left a b m n → (q : Goes answers most_frames lost b c n o)
+      → b.has_ended ≡ a.has_ended → Further rounds had_left lost q.calls a c m o
+  goes_on rounds had_left lost a b c m n o (inl none) q unended =
+      subst (λ s. Further rounds had_left lost q.calls s c m o) none.1 (subst (λ s. Further rounds had_left lost q.calls b c s o) none.2
+      (first, λ h. (h.0, omega (arith, none.0, h.1), h.2), short))
     where
+      no : (b : Bool) → b ≡ false → b ≡ true → ⊥
+      no b is e = cc
+
+      short : EndsShort q.calls ⊎ StaysShort had_left q.calls → EndsShort q.calls
+      short (inl s) = s
+      short (inr s) = absurd (no had_left none.3 s.0)
+
       first : Goes answers ((rounds + 1) * most_frames) lost b c n o
       first = record {
         calls = q.calls;
@@ -111,33 +158,45 @@ module _ {S : Type 0} (answers : S → Op → Result Reply AskError → S → Ty
         quiet = q.quiet;
         loses_only = q.loses_only;
       }
-  goes_on rounds lost a b c m n o (inr p) q unended = (
+  goes_on rounds had_left lost a b c m n o (inr p) q unended = (
     goes_then (rounds * most_frames) most_frames ((rounds + 1) * most_frames) lost a b c m n o p.0 q (omega arith) unended,
     λ h. share_then rounds p.0.calls q.calls p.1 h,
+    short,
   )
+    where
+      short : EndsShort q.calls ⊎ StaysShort had_left q.calls → EndsShort (p.0.calls ++ q.calls)
+      short (inl s) = short_after p.0.calls q.calls s
+      short (inr s) = short_before p.0.calls q.calls (p.2 s.0) s.1
 
   -- frames are answered, and replies written
   pub round_sent : (result : Result Bool Broken) (a b c : ConnectionView) (m n : S) → Goes answers most_frames [] a b m n → (q : SendsAs result b c)
-      → b.has_ended ≡ a.has_ended → (goes : Goes answers most_frames [] a c m n) × (length q.bytes ≤ length (sent goes.calls))
-  round_sent result a b c m n p q unended =
+      → b.has_ended ≡ a.has_ended → b.turns ≡ a.turns → (goes : Goes answers most_frames [] a c m n) × (length q.bytes ≤ length (sent goes.calls)) × (reads_of goes.calls ≡ 0)
+  round_sent result a b c m n p q unended unread =
       let sends : Goes answers 0 [] b c n n = record {
         calls = Send q.bytes ∷ [];
         does = ((c.live, n), (q.sends, refl), refl);
         consumes = subst (λ (l : Option (List ℕ)). Consumes b.left l []) (sym q.left) (Consumes-nil b.left);
         appends = subst (Appends b.held c.held) (sym (append-nil q.bytes)) q.appends;
-        makes = (omega (arith, q.turns), q.reads ∙ reads_none b.reads);
+        makes = omega (arith, q.turns);
         answered = omega (arith, p.answered, q.answered);
         share = omega arith;
         stays = q.stays;
         quiet = λ e. refl;
         loses_only = λ e. inl (sym q.has_lost ∙ e);
-      } in
-      (goes_then most_frames 0 most_frames [] a b c m n n p sends (omega arith) unended, omega (arith, sent_append p.calls (Send q.bytes ∷ []), length-append q.bytes []))
+      } in (
+        goes_then most_frames 0 most_frames [] a b c m n n p sends (omega arith) unended,
+        omega (arith, sent_append p.calls (Send q.bytes ∷ []), length-append q.bytes []),
+        omega (arith, reads_append p.calls (Send q.bytes ∷ []), p.makes, unread),
+      )
+
+  -- What is known of a round that has read this piece.
+  abbrev HasRead : List ℕ → List ℕ → ConnectionView → ConnectionView → S → S → Type 0
+  HasRead piece lost a c m n = (goes : Goes answers most_frames lost a c m n) × (reads_for piece ≤ reads_of goes.calls) × (0 < length piece → length piece < room_bytes → EndsShort goes.calls)
 
   -- and then a piece is read
-  pub round_read : (result : Result Bool After) (a b c : ConnectionView) (m n : S) → Goes answers most_frames [] a b m n → (q : ReadsAs result b c)
-      → b.has_ended ≡ a.has_ended → (goes : Goes answers most_frames q.lost a c m n) × (reads_for q.piece ≤ reads_of goes.calls)
-  round_read result a b c m n p q unended =
+  pub round_read : (had_left : Bool) (result : Result Bool After) (a b c : ConnectionView) (m n : S) → Goes answers most_frames [] a b m n → (q : ReadsAs had_left result b c)
+      → b.has_ended ≡ a.has_ended → HasRead q.piece q.lost a c m n
+  round_read had_left result a b c m n p q unended =
       let reads : Goes answers 0 q.lost b c n n = record {
         calls = Feed q.piece ∷ [];
         does = ((c.live, n), (q.feeds, refl), refl);
@@ -149,22 +208,28 @@ module _ {S : Type 0} (answers : S → Op → Result Reply AskError → S → Ty
         stays = q.stays;
         quiet = λ e. ap (λ (l : List ℕ). l ++ q.lost) (append-nil q.piece) ∙ q.quiet e;
         loses_only = q.loses_only;
-      } in
-      (goes_then most_frames 0 most_frames q.lost a b c m n n p reads (omega arith) unended, omega (arith, reads_append p.calls (Feed q.piece ∷ [])))
+      } in (
+        goes_then most_frames 0 most_frames q.lost a b c m n n p reads (omega arith) unended,
+        omega (arith, reads_append p.calls (Feed q.piece ∷ [])),
+        λ some short. record { before = p.calls; piece = q.piece; after = []; parts = refl; some = some; short = short; no_more = refl },
+      )
 
   -- what ends the read ends the round
-  pub round_ends : (result : Result Bool After) (a b c : ConnectionView) (m n : S) (q : ReadsAs result b c)
-      → (goes : Goes answers most_frames q.lost a c m n) × (reads_for q.piece ≤ reads_of goes.calls) → b.has_ended ≡ a.has_ended → Round answers result a c m n
-  round_ends (Err after) a b c m n q goes same = (q.lost, goes.0, q.until.0, ends_then a b c same q.until.1, q.until.2)
-  round_ends (Ok has_left) a b c m n q goes same =
-      subst (λ (lost : List ℕ). (g : Goes answers most_frames lost a c m n) × (reads_for q.piece ≤ reads_of g.calls) → Round answers (Ok has_left) a c m n) (sym q.until.0)
-      (λ g. (g.0, q.until.1 ∙ same, (0, omega (arith, g.1, q.until.2), omega arith), q.until.3)) goes
+  pub round_ends : (had_left : Bool) (result : Result Bool After) (a b c : ConnectionView) (m n : S) (q : ReadsAs had_left result b c)
+      → HasRead q.piece q.lost a c m n → b.has_ended ≡ a.has_ended → b.turns ≡ a.turns → Round answers had_left result a c m n
+  round_ends had_left (Err after) a b c m n q goes same unread =
+      let unmade : (had_left ≡ true) × (c.turns ≡ b.turns) → StaysShort had_left goes.0.calls = λ (h : (had_left ≡ true) × (c.turns ≡ b.turns)). (h.0, omega (arith, goes.0.makes, h.1, unread)) in
+      (q.lost, goes.0, q.until.0, ends_then a b c same q.until.1, stops_by ((had_left ≡ true) × (c.turns ≡ b.turns)) (StaysShort had_left goes.0.calls) after c unmade q.until.2)
+  round_ends had_left (Ok has_left) a b c m n q goes same unread =
+      subst (λ (lost : List ℕ). HasRead q.piece lost a c m n → Round answers had_left (Ok has_left) a c m n) (sym q.until.0)
+      (λ g. (g.0, q.until.1 ∙ same, (0, omega (arith, g.1, q.until.2), omega arith), q.until.3, λ e. inl (g.2 q.until.2 (q.until.4 e)))) goes
 
   -- a turn ends with a round
-  pub turn_ends : (most rounds : ℕ) (after : After) (a b c : ConnectionView) (m n o : S) → rounds < most → GoesOn answers rounds a b m n → b.has_ended ≡ a.has_ended
-      → Round answers (Err after) b c n o → Turn most answers after a c m o
-  turn_ends most rounds after a b c m n o few before same e =
-      let goes = (goes_on rounds e.0 a b c m n o before e.1 same).0 in
+  pub turn_ends : (most rounds : ℕ) (had_left : Bool) (after : After) (a b c : ConnectionView) (m n o : S) → rounds < most → GoesOn answers rounds had_left a b m n → b.has_ended ≡ a.has_ended
+      → Round answers had_left (Err after) b c n o → Turn most answers after a c m o
+  turn_ends most rounds had_left after a b c m n o few before same e =
+      let further = goes_on rounds had_left e.0 a b c m n o before e.1 same in
+      let goes = further.0 in
       record {
         calls = goes.calls;
         lost = e.0;
@@ -180,19 +245,19 @@ module _ {S : Type 0} (answers : S → Op → Result Reply AskError → S → Ty
         ends = ends_then a b c same e.3;
         quiet = goes.quiet;
         loses_only = goes.loses_only;
-        why = why after goes.calls e.4;
+        why = why after goes.calls (λ s. further.2 (inr s)) e.4;
       }
     where
-      why : (after : After) (calls : List LiveCall) → StopsFor after c → EndsFor most after calls c
-      why Waits calls stops = stops
-      why Again calls stops = absurd stops
-      why (Over result) calls stops = stops
+      why : (after : After) (calls : List LiveCall) → (StaysShort had_left e.1.calls → EndsShort calls) → StopsIn (StaysShort had_left e.1.calls) after c → EndsFor most after calls c
+      why Waits calls short stops = waits_by (StaysShort had_left e.1.calls) (EndsShort calls) c short stops
+      why Again calls short stops = absurd stops
+      why (Over result) calls short stops = stops
 
   -- or after all its rounds
-  pub turn_is_over : (most rounds : ℕ) (a b : ConnectionView) (m n : S) → 0 < most → rounds ≡ most → GoesOn answers rounds a b m n → b.has_ended ≡ a.has_ended
+  pub turn_is_over : (most rounds : ℕ) (had_left : Bool) (a b : ConnectionView) (m n : S) → 0 < most → rounds ≡ most → GoesOn answers rounds had_left a b m n → b.has_ended ≡ a.has_ended
       → Turn most answers Again a b m n
-  turn_is_over most rounds a b m n some all (inl none) same = absurd (omega (arith, all, some, none.0))
-  turn_is_over most rounds a b m n some all (inr p) same =
+  turn_is_over most rounds had_left a b m n some all (inl none) same = absurd (omega (arith, all, some, none.0))
+  turn_is_over most rounds had_left a b m n some all (inr p) same =
       let goes = p.0 in
       record {
         calls = goes.calls;
@@ -223,7 +288,7 @@ none_lost Memory = tt
 
 -- what ends a session ends its connection, once all is sent
 pub stops_for : (error : FrontError) (bytes : List ℕ) (b c : ConnectionView) → StopsAt (Err error) b.live → Sends bytes b.live c.live → c.live.ready ≡ []
-    → StopsFor (Over (Err error)) c
+    → StopsFor (Err error) c
 stops_for BadLength bytes b c stops sends none = (
   subst IsBadLength (sym sends.1) stops.0,
   ap (λ (l : List ℕ). l ++ c.live.later) none ∙ (sends.3 ∙ stops.1),

@@ -1,5 +1,5 @@
 -- A connection, and what one turn of it does.
-use Rattle.std.specs.Prelude.{◌≡◌, ◌≢◌, ℕ, ◌+◌, ◌-◌, ◌*◌, ◌^◌, ◌<◌, ◌≤◌, ◌⊎◌, min, ⊤, List, [], ◌++◌, length, Option, Some, None, Result, Ok, Err, Bool, true, false}
+use Rattle.std.specs.Prelude.{◌≡◌, ◌≢◌, ℕ, ◌+◌, ◌-◌, ◌*◌, ◌^◌, ◌<◌, ◌≤◌, ◌⊎◌, min, ⊤, List, [], ◌∷◌, ◌++◌, length, Option, Some, None, Result, Ok, Err, Bool, true, false}
 use Rattle.std.specs.Io.KnownBytes.{Appends, Consumes, IsAtEnd}
 use Rattle.map_core.specs.declared.op.Op.{Op}
 use Rattle.map_core.specs.declared.reply.Reply.{Reply}
@@ -9,16 +9,15 @@ use Rattle.frame_front.specs.declared.error.FrontError.TheVariants.{BadLength, T
 use Rattle.frame_front.specs.Frame.{IsUnfinished, IsBadLength}
 use Rattle.frame_front.specs.Decoder.{BeginsWithFrame}
 use Rattle.frame_front.specs.Live.{LiveView, live_start, most_frames, reply_limit, waiting}
-use Rattle.frame_front.specs.LiveCalls.{LiveCall, DoesAll, fed, sent, frames_of}
-use Rattle.connections.specs.Stream.{May, read_more}
+use Rattle.frame_front.specs.LiveCalls.{LiveCall, Feed, DoesAll, fed, sent, frames_of}
+use Rattle.connections.specs.Stream.{May}
 use Rattle.connections.specs.Reads.{reads_for, reads_of}
 use Rattle.connections.specs.declared.after.After.{After}
 use Rattle.connections.specs.declared.after.After.TheVariants.{Waits, Again, Over}
 
 -- A connection between two turns: its session, how many frames were answered, how many reads it may still make, whether its input
 -- has ended, whether bytes that were read are lost, and whether its client is known to have closed its side. Of its stream: what
--- its calls may come to and, where they are known, the bytes that it has left to read, those that were written to it, and how many
--- reads have given bytes.
+-- its calls may come to and, where they are known, the bytes that it has left to read, and those that were written to it.
 pub record ConnectionView : Type 0 where
   pub live : LiveView
   pub answered : ℕ
@@ -29,11 +28,10 @@ pub record ConnectionView : Type 0 where
   pub may : May
   pub left : Option (List ℕ)
   pub held : Option (List ℕ)
-  pub reads : Option ℕ
 
 -- a new connection over a stream, which may make so many reads
-abbrev pub opened : (turns : ℕ) → May → (left held : Option (List ℕ)) → (reads : Option ℕ) → ConnectionView
-opened turns may left held reads = record {
+abbrev pub opened : (turns : ℕ) → May → (left held : Option (List ℕ)) → ConnectionView
+opened turns may left held = record {
   live = live_start;
   answered = 0;
   turns = turns;
@@ -43,7 +41,6 @@ opened turns may left held reads = record {
   may = may;
   left = left;
   held = held;
-  reads = reads;
 }
 
 -- its input has ended
@@ -75,38 +72,55 @@ EndsHere old new = (new.has_ended ≡ old.has_ended) ⊎ ((new.has_ended ≡ tru
 abbrev pub AllSent : ConnectionView → Type 0
 AllSent new = waiting new.live ≡ []
 
--- So many of the reads that it may make were made, each of which gave bytes.
+-- Of the reads that it may make so many were made, and each gave bytes. The connection itself counts them, of any stream.
 abbrev pub MakesReads : ℕ → ConnectionView → ConnectionView → Type 0
-MakesReads reads old new = (new.turns + reads ≡ old.turns) × (new.reads ≡ read_more reads old.reads)
+MakesReads reads old new = new.turns + reads ≡ old.turns
 
 -- In each of so many rounds a piece was read, or as many bytes of replies were sent as are ready at once.
 abbrev pub HadShare : ℕ → List LiveCall → Type 0
 HadShare rounds calls = (writes : ℕ) × (rounds ≤ reads_of calls + writes) × (writes * reply_limit ≤ length (sent calls))
 
--- The stream has nothing more to read now: it would have to wait, or a read has left some of its room. That does not say that
--- there is no more if the client has closed its side.
-abbrev pub HasNoMore : ConnectionView → Type 0
-HasNoMore new = (new.may.read_waits ≡ true) ⊎ ((new.may.leaves_room ≡ true) × (new.is_closing ≡ false))
+-- how many bytes there is room for in one read
+abbrev pub room_bytes : ℕ
+room_bytes = 65536
 
--- Why a turn stops before it has had its share. A connection waits only while its stream takes no more replies, or no whole
--- frame is left, its input has not ended, it may read on, and there is no more to read now. If it may read no more, all whole
--- frames are answered and all replies sent. Out of memory, a part of a reply waits that could not be stored, or bytes are lost.
-abbrev pub StopsFor : After → ConnectionView → Type 0
-StopsFor Waits new = ((new.live.ready ≢ []) × (new.may.write_waits ≡ true))
-    ⊎ (IsUnfinished new.live.kept × AllSent new × (new.has_ended ≡ false) × (0 < new.turns) × HasNoMore new)
-StopsFor Again new = ⊥
-StopsFor (Over (Ok count)) new = (count ≡ new.answered) × (new.live.kept ≡ []) × AllSent new × (new.has_ended ≡ true)
-StopsFor (Over (Err BadLength)) new = IsBadLength new.live.kept × AllSent new
-StopsFor (Over (Err Truncated)) new = IsUnfinished new.live.kept × (new.live.kept ≢ []) × AllSent new × (new.has_ended ≡ true)
-StopsFor (Over (Err ReadFault)) new = IsUnfinished new.live.kept × AllSent new × (new.has_ended ≡ false) × (new.may.read_fails ≡ true)
-StopsFor (Over (Err WriteFault)) new = (new.live.ready ≢ []) × (new.may.write_fails ≡ true)
-StopsFor (Over (Err TurnsUsed)) new = IsUnfinished new.live.kept × AllSent new × (new.has_ended ≡ false) × (new.turns ≡ 0)
-StopsFor (Over (Err Memory)) new = (new.live.later ≢ []) ⊎ (new.has_lost ≡ true)
+-- The last read that these calls were fed with was a short one.
+pub record EndsShort (calls : List LiveCall) : Type 0 where
+  pub before : List LiveCall
+  pub piece : List ℕ
+  pub after : List LiveCall
+  pub parts : calls ≡ before ++ Feed piece ∷ after
+  pub some : 0 < length piece
+  pub short : length piece < room_bytes
+  pub no_more : reads_of after ≡ 0
+
+-- The stream has nothing more to read now: it would have to wait, or the last read has left some of its room. That does not say
+-- that there is no more if the client has closed its side.
+abbrev pub HasNoMore : (IsShort : Type 0) → ConnectionView → Type 0
+HasNoMore IsShort new = (new.may.read_waits ≡ true) ⊎ ((new.may.leaves_room ≡ true) × (new.is_closing ≡ false) × IsShort)
+
+-- A connection waits only while its stream takes no more replies, or no whole frame is left, its input has not ended, it may read
+-- on, and there is no more to read now.
+abbrev pub WaitsFor : (IsShort : Type 0) → ConnectionView → Type 0
+WaitsFor IsShort new = ((new.live.ready ≢ []) × (new.may.write_waits ≡ true))
+    ⊎ (IsUnfinished new.live.kept × AllSent new × (new.has_ended ≡ false) × (0 < new.turns) × HasNoMore IsShort new)
+
+-- Why a session is over. If its connection may read no more, all whole frames are answered and all replies sent. Out of memory, a
+-- part of a reply waits that could not be stored, or bytes are lost.
+abbrev pub StopsFor : Result ℕ FrontError → ConnectionView → Type 0
+StopsFor (Ok count) new = (count ≡ new.answered) × (new.live.kept ≡ []) × AllSent new × (new.has_ended ≡ true)
+StopsFor (Err BadLength) new = IsBadLength new.live.kept × AllSent new
+StopsFor (Err Truncated) new = IsUnfinished new.live.kept × (new.live.kept ≢ []) × AllSent new × (new.has_ended ≡ true)
+StopsFor (Err ReadFault) new = IsUnfinished new.live.kept × AllSent new × (new.has_ended ≡ false) × (new.may.read_fails ≡ true)
+StopsFor (Err WriteFault) new = (new.live.ready ≢ []) × (new.may.write_fails ≡ true)
+StopsFor (Err TurnsUsed) new = IsUnfinished new.live.kept × AllSent new × (new.has_ended ≡ false) × (new.turns ≡ 0)
+StopsFor (Err Memory) new = (new.live.later ≢ []) ⊎ (new.has_lost ≡ true)
 
 -- why a turn of so many rounds ends, in which these calls were made
 abbrev pub EndsFor : ℕ → After → List LiveCall → ConnectionView → Type 0
+EndsFor rounds Waits calls new = WaitsFor (EndsShort calls) new
 EndsFor rounds Again calls new = HadShare rounds calls
-EndsFor rounds after calls new = StopsFor after new
+EndsFor rounds (Over result) calls new = StopsFor result new
 
 -- What a client owes: the rest of a frame, or that it takes replies. It owes nothing if no reply is ready, and nothing is kept
 -- but whole frames.

@@ -8,6 +8,7 @@ ghost use Rattle.connections.specs.Private.Goes.{Answers, SendsAs, ReadsAs, Roun
 
 use crate::after::After;
 use crate::ends::{Broken, Came, ROOM_BYTES, read_piece, write_replies};
+use crate::limited::Limited;
 use crate::stream::Stream;
 use frame_front::{FrontError, LiveSession, Wants};
 use map_core::Ask;
@@ -24,12 +25,10 @@ const LAST_ROUNDS: u64 = 64;
 /// A stream whose reads and writes fail with `WouldBlock` where they would wait, and its session.
 #[derive(Drop)]
 pub struct Connection<E: Stream + Drop> {
-    end: E,
+    end: Limited<E>,
     live: LiveSession,
     /// How many frames were answered. It stays at 2^64 - 1 once there.
     answered: u64,
-    /// How many reads it may still make.
-    turns: u64,
     /// Whether no more input comes, or none is taken any more.
     has_ended: bool,
     /// Whether bytes that were read are lost, since memory for them was refused.
@@ -40,20 +39,20 @@ pub struct Connection<E: Stream + Drop> {
 
 impl<E: Stream + Drop> Model for Connection<E> {
     ghost use Rattle.connections.specs.Connection.{ConnectionView};
+    ghost use Rattle.connections.specs.Private.Limited.{stream_of, turns_of};
 
     ghost Value = { ConnectionView };
 
     ghost view = { λ c. record {
       live = c.live;
       answered = c.answered;
-      turns = c.turns;
+      turns = turns_of c.end;
       has_ended = c.has_ended;
       has_lost = c.has_lost;
       is_closing = c.is_closing;
-      may = E.may c.end;
-      left = E.left c.end;
-      held = E.held c.end;
-      reads = E.reads c.end;
+      may = E.may (stream_of c.end);
+      left = E.left (stream_of c.end);
+      held = E.held (stream_of c.end);
     } };
 }
 
@@ -61,13 +60,12 @@ impl<E: Stream + Drop> Connection<E> {
     /// Nothing has come yet. The connection may make so many reads; `u64::MAX` is as good as no limit. A read counts if it
     /// gives bytes: one that would have to wait does not count, since a stream may be told to be ready and have nothing.
     pub fn new(alloc: Global, end: E, turns: u64) -> Result<Connection<E>, AllocError>
-        ensures { IfOk result (λ new. new ≡ opened turns (E.may end) (E.left end) (E.held end) (E.reads end)) }
+        ensures { IfOk result (λ new. new ≡ opened turns (E.may end) (E.left end) (E.held end)) }
     {
         Ok(Connection {
-            end,
+            end: Limited::new(end, turns),
             live: LiveSession::new(alloc)?,
             answered: 0,
-            turns,
             has_ended: false,
             has_lost: false,
             is_closing: false,
@@ -116,17 +114,17 @@ impl<E: Stream + Drop> Connection<E> {
     }
 
     /// How the session ends, if its input ends here.
-    fn finish(&self) -> After
+    fn finish(&self) -> Result<u64, FrontError>
         requires unfinished { IsUnfinished self.now.live.kept }
         requires sent { waiting self.now.live ≡ [] }
         requires ended { self.now.has_ended ≡ true }
         ensures stops { StopsFor result self.now }
-        ensures none { IsLost result [] }
+        ensures none { IsLost (After.Over result) [] }
     {
         match self.live.finish() {
-            Ok(true) => After::Over(Ok(self.answered)),
+            Ok(true) => Ok(self.answered),
             Ok(false) => unreachable!(),
-            Err(error) => After::Over(Err(error)),
+            Err(error) => Err(error),
         }
     }
 
@@ -136,29 +134,25 @@ impl<E: Stream + Drop> Connection<E> {
         requires unfinished { IsUnfinished self.old.live.kept }
         requires sent { waiting self.old.live ≡ [] }
         requires left { LeavesAs has_left self.old.may }
-        ensures { ReadsAs result self.old self.new }
+        ensures { ReadsAs has_left result self.old self.new }
     {
         if self.has_ended {
-            return Err(self.finish());
+            return Err(After::Over(self.finish()));
         }
-        if self.turns == 0 {
+        if self.end.turns() == 0 {
             return Err(After::Over(Err(FrontError::TurnsUsed)));
         }
         if has_left && !self.is_closing {
             return Err(After::Waits);
         }
         match read_piece(&mut self.end, &mut self.live, room) {
-            Came::Piece(has_left) => {
-                self.turns -= 1;
-                Ok(has_left)
-            }
+            Came::Piece(has_left) => Ok(has_left),
             Came::Nothing => Err(After::Waits),
             Came::End => {
                 self.has_ended = true;
-                Err(self.finish())
+                Err(After::Over(self.finish()))
             }
             Came::NoMemory => {
-                self.turns -= 1;
                 self.has_lost = true;
                 Err(After::Over(Err(FrontError::Memory)))
             }
@@ -176,7 +170,7 @@ impl<E: Stream + Drop> Connection<E> {
         has_left: bool,
     ) -> Result<bool, After>
         requires { LeavesAs has_left self.old.may }
-        ensures { Round A.answers result self.old self.new ask.old ask.new }
+        ensures { Round A.answers has_left result self.old self.new ask.old ask.new }
     {
         let wants = self.answer(documents, ask);
         match self.send() {
@@ -218,11 +212,10 @@ impl<E: Stream + Drop> Connection<E> {
     }
 
     /// Answers what has come and what comes now, in order, until the stream has no more or takes no more, the session is
-    /// over, or the connection has had its share: 8 reads. After a read that left some of its room there is no more to
-    /// read, unless the client `is_closing`: then its side is closed, or the stream has failed, and reads go on until they
-    /// say so. Once the connection has made all reads that it may, what they gave is answered, the replies are written,
-    /// and the session ends with `TurnsUsed`. The connections of one thread can share the room for reading, and the reader
-    /// of documents.
+    /// over, or the connection has had its share: 8 reads. A short read is the last of the turn. One exception: the client
+    /// is closing (`is_closing`); then we read until the stream says so. Once the connection has made all reads that it
+    /// may, what they gave is answered, the replies are written, and the session ends with `TurnsUsed`. The connections of
+    /// one thread can share the room for reading, and the reader of documents.
     pub fn turn<A: Ask>(
         &mut self,
         documents: &mut DocumentReader,

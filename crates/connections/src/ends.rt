@@ -1,12 +1,14 @@
 //! What one read or write of a stream does for a session.
-ghost use Rattle.std.specs.Prelude.{◌≡◌, ◌≢◌, ℕ, List, true, false};
+ghost use Rattle.std.specs.Prelude.{◌≡◌, ◌≢◌, ◌<◌, ℕ, List, true, false};
 ghost use Rattle.std.specs.IoError.{error_kind};
 ghost use Rattle.std.specs.declared.io.ErrorKind.TheVariants.{WouldBlock};
 ghost use Rattle.std.specs.Io.KnownBytes.{Appends};
 ghost use Rattle.frame_front.specs.Frame.{IsUnfinished};
 ghost use Rattle.frame_front.specs.Live.{Sends};
 ghost use Rattle.connections.specs.Private.Ends.{IsSentAs, Takes};
+ghost use Rattle.connections.specs.Private.Limited.{stream_of, turns_of};
 
+use crate::limited::Limited;
 use crate::stream::Stream;
 use frame_front::LiveSession;
 use std::io;
@@ -41,12 +43,15 @@ fn would_wait(error: &io::Error) -> bool
 }
 
 /// Writes the replies that are ready. The answer is whether all are written; if not, the stream takes no more now.
-pub(crate) fn write_replies<E: Stream>(end: &mut E, live: &mut LiveSession) -> Result<bool, Broken>
-    ensures sends { (bytes : List ℕ) × Sends bytes live.old live.new × Appends (E.held end.old) (E.held end.new) bytes }
-    ensures left { E.left end.new ≡ E.left end.old }
-    ensures reads { E.reads end.new ≡ E.reads end.old }
-    ensures may { E.may end.new ≡ E.may end.old }
-    ensures until { IsSentAs result (E.may end.old) live.new.ready }
+pub(crate) fn write_replies<E: Stream>(
+    end: &mut Limited<E>,
+    live: &mut LiveSession,
+) -> Result<bool, Broken>
+    ensures sends { (bytes : List ℕ) × Sends bytes live.old live.new × Appends (E.held (stream_of end.old)) (E.held (stream_of end.new)) bytes }
+    ensures left { E.left (stream_of end.new) ≡ E.left (stream_of end.old) }
+    ensures turns { turns_of end.new ≡ turns_of end.old }
+    ensures may { E.may (stream_of end.new) ≡ E.may (stream_of end.old) }
+    ensures until { IsSentAs result (E.may (stream_of end.old)) live.new.ready }
 {
     while !live.replies().is_empty() {
         match end.write(live.replies()) {
@@ -61,14 +66,15 @@ pub(crate) fn write_replies<E: Stream>(end: &mut E, live: &mut LiveSession) -> R
 
 /// Reads once, and feeds what has come to the session.
 pub(crate) fn read_piece<E: Stream>(
-    end: &mut E,
+    end: &mut Limited<E>,
     live: &mut LiveSession,
     room: &mut [u8; ROOM_BYTES],
 ) -> Came
-    requires { IsUnfinished live.old.kept }
-    ensures takes { Takes result (E.may end.old) (E.left end.old) (E.left end.new) (E.reads end.old) (E.reads end.new) live.old live.new }
-    ensures held { E.held end.new ≡ E.held end.old }
-    ensures may { E.may end.new ≡ E.may end.old }
+    requires unfinished { IsUnfinished live.old.kept }
+    requires turns { 0 < turns_of end.old }
+    ensures takes { Takes result (E.may (stream_of end.old)) (E.left (stream_of end.old)) (E.left (stream_of end.new)) (turns_of end.old) (turns_of end.new) live.old live.new }
+    ensures held { E.held (stream_of end.new) ≡ E.held (stream_of end.old) }
+    ensures may { E.may (stream_of end.new) ≡ E.may (stream_of end.old) }
 {
     let (room, _) = room.split_at_mut(live.room().min(ROOM_BYTES));
     match end.read(room) {

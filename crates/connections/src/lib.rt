@@ -5,6 +5,7 @@
 mod after;
 mod connection;
 mod ends;
+mod limited;
 mod stream;
 
 pub use after::After;

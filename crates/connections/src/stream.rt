@@ -7,16 +7,13 @@ pub trait Stream {
     ghost use Rattle.std.specs.Prelude.{◌≡◌, ℕ, List, Option, length};
     ghost use Rattle.std.specs.Io.{ReadsAtMost, WritesAtMost};
     ghost use Rattle.std.specs.Io.KnownBytes.{ReadConsumes, WriteAppends};
-    ghost use Rattle.connections.specs.Stream.{May, ReadsAs, WritesAs, counts_for, read_more};
+    ghost use Rattle.connections.specs.Stream.{May, ReadsAs, WritesAs};
 
     // The bytes that are left to be read, where they are known.
     ghost left: { Self → Option (List ℕ) };
 
     // The bytes that were written, where they are known.
     ghost held: { Self → Option (List ℕ) };
-
-    // How many reads have given bytes, where that is known.
-    ghost reads: { Self → Option ℕ };
 
     // What its calls may come to.
     ghost may: { Self → May };
@@ -26,7 +23,6 @@ pub trait Stream {
         ensures bound { ReadsAtMost result buf.new }
         ensures bytes { ReadConsumes (left self.old) (left self.new) result buf.new }
         ensures held { held self.new ≡ held self.old }
-        ensures reads { reads self.new ≡ read_more (counts_for result) (reads self.old) }
         ensures may { ReadsAs (may self.old) (length buf.new) result }
         ensures same { may self.new ≡ may self.old };
 
@@ -35,7 +31,6 @@ pub trait Stream {
         ensures bound { WritesAtMost result buf.now }
         ensures bytes { WriteAppends (held self.old) (held self.new) result buf.now }
         ensures left { left self.new ≡ left self.old }
-        ensures reads { reads self.new ≡ reads self.old }
         ensures may { WritesAs (may self.old) result }
         ensures same { may self.new ≡ may self.old };
 }

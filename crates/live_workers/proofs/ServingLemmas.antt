@@ -11,7 +11,6 @@ use Rattle.map_core.specs.declared.reply.AskError.{AskError}
 use Rattle.frame_front.specs.declared.error.FrontError.{FrontError}
 use Rattle.connections.specs.Connection.{ConnectionView, Owes, StopsFor, Turn, told, turn_rounds}
 use Rattle.connections.specs.declared.after.After.{After}
-use Rattle.connections.specs.declared.after.After.TheVariants.{Over}
 use Rattle.live_workers.specs.AtPort.{PortAnswer}
 use Rattle.live_workers.specs.Arrivals.{News, NewClient, HasTicked}
 use Rattle.workers.specs.Ended.{EndsView, Notes}
@@ -94,7 +93,7 @@ module _ {S : Type 0} (answers : S → Op → Result Reply AskError → S → Ty
       serves_quietly answers most (Misses place b) old new noted noted_new s t (n.0, n.1, n.2) (λ e. e) tt refl same
 
   pub close_serves : (place : ℕ) (end : Result ℕ FrontError) (old new : Places) (noted noted_new : EndsView) (s : S) (p : Place) → old place ≡ Some p
-      → StopsFor (Over end) p.connection → new place ≡ None → OthersStay place old new → Notes (front_end end ∷ []) noted noted_new
+      → StopsFor end p.connection → new place ≡ None → OthersStay place old new → Notes (front_end end ∷ []) noted noted_new
       → Serves answers most [] old new noted noted_new s s
   close_serves place end old new noted noted_new s p was ends left others notes =
       serves_ending answers most (Closes place end) old new noted noted_new s s (p, was, ends, left, others, refl) (λ e. e) tt notes

@@ -7,7 +7,6 @@ use Rattle.map_core.specs.declared.reply.AskError.{AskError}
 use Rattle.frame_front.specs.declared.error.FrontError.{FrontError}
 use Rattle.connections.specs.Connection.{ConnectionView, LastTurn, Owes, StopsFor, Turn, counted, told, turn_rounds}
 use Rattle.connections.specs.declared.after.After.{After}
-use Rattle.connections.specs.declared.after.After.TheVariants.{Over}
 use Rattle.live_workers.specs.Arrivals.{News, NewClient, IsReady, HasTicked, HasFailed, IsToStop, ComesAll, news_of_both}
 use Rattle.live_workers.specs.AtPort.{PortAnswer}
 use Rattle.live_workers.specs.declared.arrivals.Arrival.{Arrival}
@@ -101,7 +100,7 @@ module _ {S : Type 0} (answers : S → Op → Result Reply AskError → S → Ty
       × (q.reads_only ≡ p.reads_only) × (q.silent ≡ 0) × OthersStay place old.0 new.0
   Takes (Misses place is_closing) old new = (old.0 place ≡ None) × AllStay old.0 new.0 × (new.1 ≡ old.1)
   Takes Ticks old new = AllTick old.0 new.0 × (new.1 ≡ old.1)
-  Takes (Closes place result) old new = (p : Place) × (old.0 place ≡ Some p) × StopsFor (Over result) p.connection × (new.0 place ≡ None)
+  Takes (Closes place result) old new = (p : Place) × (old.0 place ≡ Some p) × StopsFor result p.connection × (new.0 place ≡ None)
       × OthersStay place old.0 new.0 × (new.1 ≡ old.1)
   Takes (GivesUp place ticks error) old new = (p : Place) × (old.0 place ≡ Some p) × Owes (Some error) p.connection × (ticks ≡ p.silent) × (new.0 place ≡ None)
       × OthersStay place old.0 new.0 × (new.1 ≡ old.1)

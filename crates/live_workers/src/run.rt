@@ -36,7 +36,7 @@ fn work<C: Clock, V: Arrivals + Drop, G: Gate, L: Log + Copy>(
     worker: Worker<V>,
 ) -> Result<Worked, AllocError>
     requires own { IsOf worker.pass store.now }
-    ensures { IfOk result (λ worked. HasFollowed (G.opens gate.now) limits.most_silent (λ end. opened limits.turns (V.End.may end) (V.End.left end) (V.End.held end) (V.End.reads end)) V.comes store.now worker.number worker.pass worker.arrivals worked) }
+    ensures { IfOk result (λ worked. HasFollowed (G.opens gate.now) limits.most_silent (λ end. opened limits.turns (V.End.may end) (V.End.left end) (V.End.held end)) V.comes store.now worker.number worker.pass worker.arrivals worked) }
 {
     let Worker {
         number,
@@ -141,12 +141,12 @@ pub fn run_arrivals<
     requires same { vec_len passes ≡ vec_len arrivals }
     requires own { All (λ pass. IsOf pass store.now) passes.items }
     ensures served { IfOk result (λ all. AllServed (G.opens gate.now) store.now 0 passes.items all.items) }
-    ensures followed { IfOk result (λ all. AllFollowed (G.opens gate.now) limits.most_silent (λ end. opened limits.turns (V.End.may end) (V.End.left end) (V.End.held end) (V.End.reads end)) V.comes store.now passes.items arrivals.items all.items) }
+    ensures followed { IfOk result (λ all. AllFollowed (G.opens gate.now) limits.most_silent (λ end. opened limits.turns (V.End.may end) (V.End.left end) (V.End.held end)) V.comes store.now passes.items arrivals.items all.items) }
 {
     let workers = workers_of(alloc, passes, arrivals)?;
     let run = |worker: Worker<V>| -> Result<Worked, AllocError>
         requires { IsOf worker.pass store.now }
-        ensures { IfOk result (λ worked. HasFollowed (G.opens gate.entry.now) limits.most_silent (λ end. opened limits.turns (V.End.may end) (V.End.left end) (V.End.held end) (V.End.reads end)) V.comes store.entry.now worker.number worker.pass worker.arrivals worked) }
+        ensures { IfOk result (λ worked. HasFollowed (G.opens gate.entry.now) limits.most_silent (λ end. opened limits.turns (V.End.may end) (V.End.left end) (V.End.held end)) V.comes store.entry.now worker.number worker.pass worker.arrivals worked) }
     { work(rt, alloc, store, gate, log, limits, worker) };
     let given = thread::map_vec(rt, workers, &run)?;
     all_worked(alloc, given)

@@ -301,7 +301,7 @@ impl<E: Stream + Drop> Served<E> {
         worker: u64,
     ) -> Result<(), AllocError>
         requires { ¬ (IsStop arrival) }
-        ensures { OnOk result (Serves A.answers limits.most_silent (news_in (λ end. opened limits.turns (E.may end) (E.left end) (E.held end) (E.reads end)) self.old.open.vacant_key arrival) (get self.old.open) (get self.new.open) self.old.ends self.new.ends ask.old.ask ask.new.ask) }
+        ensures { OnOk result (Serves A.answers limits.most_silent (news_in (λ end. opened limits.turns (E.may end) (E.left end) (E.held end)) self.old.open.vacant_key arrival) (get self.old.open) (get self.new.open) self.old.ends self.new.ends ask.old.ask ask.new.ask) }
     {
         match arrival {
             Arrival::Opens { end, reads_only } => {
@@ -352,7 +352,7 @@ pub fn serve_arrivals<V: Arrivals, A: Ask, L: Log>(
     worker: u64,
 ) -> Result<SessionEnds, AllocError>
     ensures { IfOk result (λ ends. (served : ServedAll A.answers ends ask.old.ask ask.new.ask)
-        × Follows limits.most_silent (λ end. opened limits.turns (V.End.may end) (V.End.left end) (V.End.held end) (V.End.reads end)) V.comes served.steps arrivals.old arrivals.new) }
+        × Follows limits.most_silent (λ end. opened limits.turns (V.End.may end) (V.End.left end) (V.End.held end)) V.comes served.steps arrivals.old arrivals.new) }
 {
     let mut served = Served::new(alloc);
     let mut room = [0; ROOM_BYTES];

@@ -55,8 +55,6 @@ impl connections::Stream for Stream<'_> {
 
     ghost held = { λ _. None };
 
-    ghost reads = { λ _. None };
-
     ghost may = { λ _. record { read_waits = true; leaves_room = true; read_fails = true; write_waits = true; write_fails = true } };
 
     fn read(&mut self, buf: &mut [u8]) -> io::Result<usize> {

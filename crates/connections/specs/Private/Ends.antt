@@ -2,7 +2,8 @@
 use Rattle.std.specs.Prelude.{◌≡◌, ◌≢◌, ℕ, ◌+◌, ◌<◌, List, [], ◌++◌, length, Option, Result, Ok, Err, Bool, true, false}
 use Rattle.std.specs.Io.KnownBytes.{Consumes, IsAtEnd}
 use Rattle.frame_front.specs.Live.{LiveView, Feeds}
-use Rattle.connections.specs.Stream.{May, read_more}
+use Rattle.connections.specs.Stream.{May}
+use Rattle.connections.specs.Connection.{room_bytes}
 use Rattle.connections.specs.Reads.{reads_for}
 use Rattle.connections.specs.declared.ends.Broken.{Broken}
 use Rattle.connections.specs.declared.ends.Came.{Came}
@@ -18,9 +19,13 @@ IsSentAs (Err broken) may left = (left ≢ []) × (may.write_fails ≡ true)
 abbrev pub LeavesAs : Bool → May → Type 0
 LeavesAs has_left may = has_left ≡ true → may.leaves_room ≡ true
 
+-- whether what was read is short says so
+abbrev pub IsShortAs : Bool → List ℕ → Type 0
+IsShortAs has_left piece = has_left ≡ true → length piece < room_bytes
+
 -- If no piece came, the session is as it was. Only if memory was refused, bytes are lost; at the end none is left to be read.
 abbrev pub TakesUntil : Came → List ℕ → List ℕ → May → Option (List ℕ) → LiveView → LiveView → Type 0
-TakesUntil (Piece has_left) piece lost may left old new = (lost ≡ []) × (0 < length piece) × LeavesAs has_left may
+TakesUntil (Piece has_left) piece lost may left old new = (lost ≡ []) × (0 < length piece) × LeavesAs has_left may × IsShortAs has_left piece
 TakesUntil Nothing piece lost may left old new = (lost ≡ []) × (new ≡ old) × (may.read_waits ≡ true)
 TakesUntil End piece lost may left old new = (lost ≡ []) × (new ≡ old) × IsAtEnd left
 TakesUntil NoMemory piece lost may left old new = (new ≡ old) × (0 < length lost)
@@ -35,11 +40,11 @@ read_for NoMemory = 1
 read_for Fails = 0
 
 -- a piece was read, and fed to the session, and these bytes were lost
-pub record Takes (came : Came) (may : May) (left_old left_new : Option (List ℕ)) (reads_old reads_new : Option ℕ) (old new : LiveView) : Type 0 where
+pub record Takes (came : Came) (may : May) (left_old left_new : Option (List ℕ)) (turns_old turns_new : ℕ) (old new : LiveView) : Type 0 where
   pub piece : List ℕ
   pub lost : List ℕ
   pub feeds : Feeds piece old new
   pub consumes : Consumes left_old left_new (piece ++ lost)
-  pub reads : reads_new ≡ read_more (read_for came) reads_old
+  pub reads : turns_new + read_for came ≡ turns_old
   pub one_read : read_for came ≡ reads_for piece + reads_for lost
   pub until : TakesUntil came piece lost may left_new old new

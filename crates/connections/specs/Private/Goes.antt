@@ -1,5 +1,5 @@
 -- What a connection does in a part of its turn.
-use Rattle.std.specs.Prelude.{◌≡◌, ◌⊎◌, ℕ, ◌+◌, ◌*◌, ◌≤◌, ◌<◌, List, [], ◌++◌, length, Result, Ok, Err, Bool, true}
+use Rattle.std.specs.Prelude.{◌≡◌, ◌⊎◌, ℕ, ◌+◌, ◌*◌, ◌≤◌, ◌<◌, List, [], ◌++◌, length, Result, Ok, Err, Bool, true, false}
 use Rattle.std.specs.Io.KnownBytes.{Appends, Consumes}
 use Rattle.map_core.specs.declared.op.Op.{Op}
 use Rattle.map_core.specs.declared.reply.Reply.{Reply}
@@ -7,10 +7,11 @@ use Rattle.map_core.specs.declared.reply.AskError.{AskError}
 use Rattle.frame_front.specs.Live.{Feeds, Sends, most_frames}
 use Rattle.frame_front.specs.LiveCalls.{LiveCall, DoesAll, fed, sent, frames_of}
 use Rattle.connections.specs.declared.after.After.{After}
+use Rattle.connections.specs.declared.after.After.TheVariants.{Waits, Again, Over}
 use Rattle.connections.specs.declared.ends.Broken.{Broken}
-use Rattle.connections.specs.Connection.{ConnectionView, counted, EndsHere, HadShare, IsLost, LosesOnly, MakesReads, StopsFor}
+use Rattle.connections.specs.Connection.{ConnectionView, counted, EndsHere, EndsShort, HadShare, IsLost, LosesOnly, MakesReads, StopsFor, WaitsFor}
 use Rattle.connections.specs.Reads.{reads_for, reads_of}
-use Rattle.connections.specs.Private.Ends.{IsSentAs, LeavesAs}
+use Rattle.connections.specs.Private.Ends.{IsSentAs, IsShortAs, LeavesAs}
 
 -- Its stream may come to the same, and its client is known to have closed its side, or not, as before.
 abbrev pub StaysSo : ConnectionView → ConnectionView → Type 0
@@ -22,7 +23,6 @@ pub record SendsAs (result : Result Bool Broken) (old new : ConnectionView) : Ty
   pub sends : Sends bytes old.live new.live
   pub appends : Appends old.held new.held bytes
   pub left : new.left ≡ old.left
-  pub reads : new.reads ≡ old.reads
   pub turns : new.turns ≡ old.turns
   pub answered : new.answered ≡ old.answered
   pub has_ended : new.has_ended ≡ old.has_ended
@@ -30,12 +30,19 @@ pub record SendsAs (result : Result Bool Broken) (old new : ConnectionView) : Ty
   pub stays : StaysSo old new
   pub until : IsSentAs result new.may new.live.ready
 
--- Bytes were read, and fed to the session; nothing else was done. If memory was refused, they are lost.
-abbrev pub ReadsUntil : Result Bool After → List ℕ → List ℕ → ConnectionView → ConnectionView → Type 0
-ReadsUntil (Err after) piece lost old new = IsLost after lost × EndsHere old new × StopsFor after new
-ReadsUntil (Ok has_left) piece lost old new = (lost ≡ []) × (new.has_ended ≡ old.has_ended) × (0 < length piece) × LeavesAs has_left new.may
+-- Why a part of a turn ends it. It waits for more input after a short read only if that was short in this sense.
+abbrev pub StopsIn : (IsShort : Type 0) → After → ConnectionView → Type 0
+StopsIn IsShort Waits new = WaitsFor IsShort new
+StopsIn IsShort Again new = ⊥
+StopsIn IsShort (Over result) new = StopsFor result new
 
-pub record ReadsAs (result : Result Bool After) (old new : ConnectionView) : Type 0 where
+-- Bytes were read, and fed to the session; nothing else was done. If memory was refused, they are lost. If the read before has left
+-- some of its room, none may be made.
+abbrev pub ReadsUntil : Bool → Result Bool After → List ℕ → List ℕ → ConnectionView → ConnectionView → Type 0
+ReadsUntil had_left (Err after) piece lost old new = IsLost after lost × EndsHere old new × StopsIn ((had_left ≡ true) × (new.turns ≡ old.turns)) after new
+ReadsUntil had_left (Ok has_left) piece lost old new = (lost ≡ []) × (new.has_ended ≡ old.has_ended) × (0 < length piece) × LeavesAs has_left new.may × IsShortAs has_left piece
+
+pub record ReadsAs (had_left : Bool) (result : Result Bool After) (old new : ConnectionView) : Type 0 where
   pub piece : List ℕ
   pub lost : List ℕ
   pub feeds : Feeds piece old.live new.live
@@ -46,7 +53,11 @@ pub record ReadsAs (result : Result Bool After) (old new : ConnectionView) : Typ
   pub stays : StaysSo old new
   pub quiet : old.has_ended ≡ true → piece ++ lost ≡ []
   pub loses_only : LosesOnly lost old new
-  pub until : ReadsUntil result piece lost old new
+  pub until : ReadsUntil had_left result piece lost old new
+
+-- the last read before these calls was a short one, and they have none
+abbrev pub StaysShort : Bool → List LiveCall → Type 0
+StaysShort had_left calls = (had_left ≡ true) × (reads_of calls ≡ 0)
 
 module _ {S : Type 0} (answers : S → Op → Result Reply AskError → S → Type 0) where
   -- Calls of its session, one after the other, fed with what was read, and whose replies were written. At most so many frames
@@ -65,16 +76,18 @@ module _ {S : Type 0} (answers : S → Op → Result Reply AskError → S → Ty
 
   -- frames were answered, and nothing was read or written
   abbrev pub Answers : ConnectionView → ConnectionView → S → S → Type 0
-  Answers old new map_old map_new = Goes most_frames [] old new map_old map_new × (new.has_ended ≡ old.has_ended)
+  Answers old new map_old map_new = Goes most_frames [] old new map_old map_new × (new.has_ended ≡ old.has_ended) × (new.turns ≡ old.turns)
 
-  -- One round of a turn, which ends the turn, or goes on: then a piece was read, or enough bytes were sent.
-  abbrev pub Round : Result Bool After → ConnectionView → ConnectionView → S → S → Type 0
-  Round (Err after) old new map_old map_new =
-      (lost : List ℕ) × Goes most_frames lost old new map_old map_new × IsLost after lost × EndsHere old new × StopsFor after new
-  Round (Ok has_left) old new map_old map_new =
+  -- One round of a turn, which ends the turn, or goes on: then a piece was read, or enough bytes were sent. The last read before it
+  -- may have been a short one.
+  abbrev pub Round : Bool → Result Bool After → ConnectionView → ConnectionView → S → S → Type 0
+  Round had_left (Err after) old new map_old map_new =
+      (lost : List ℕ) × (goes : Goes most_frames lost old new map_old map_new) × IsLost after lost × EndsHere old new × StopsIn (StaysShort had_left goes.calls) after new
+  Round had_left (Ok has_left) old new map_old map_new =
       (goes : Goes most_frames [] old new map_old map_new) × (new.has_ended ≡ old.has_ended) × HadShare 1 goes.calls × LeavesAs has_left new.may
+      × (has_left ≡ true → EndsShort goes.calls ⊎ StaysShort had_left goes.calls)
 
   -- After so many rounds of a turn. In the first one nothing was done yet.
-  abbrev pub GoesOn : ℕ → ConnectionView → ConnectionView → S → S → Type 0
-  GoesOn rounds old new map_old map_new = ((rounds ≡ 0) × (new ≡ old) × (map_new ≡ map_old))
-      ⊎ ((goes : Goes (rounds * most_frames) [] old new map_old map_new) × HadShare rounds goes.calls)
+  abbrev pub GoesOn : ℕ → Bool → ConnectionView → ConnectionView → S → S → Type 0
+  GoesOn rounds has_left old new map_old map_new = ((rounds ≡ 0) × (new ≡ old) × (map_new ≡ map_old) × (has_left ≡ false))
+      ⊎ ((goes : Goes (rounds * most_frames) [] old new map_old map_new) × HadShare rounds goes.calls × (has_left ≡ true → EndsShort goes.calls))

@@ -32,8 +32,6 @@ impl<'i, 'o> Stream for Once<'i, 'o> {
 
     ghost held = { λ _. None };
 
-    ghost reads = { λ _. None };
-
     ghost may = { λ _. record { read_waits = true; leaves_room = true; read_fails = true; write_waits = true; write_fails = true } };
 
     fn read(&mut self, buf: &mut [u8]) -> io::Result<usize> {
@@ -52,8 +50,6 @@ impl<'i, 'o> Stream for Steady<'i, 'o> {
     ghost left = { λ _. None };
 
     ghost held = { λ _. None };
-
-    ghost reads = { λ _. None };
 
     ghost may = { λ _. record { read_waits = true; leaves_room = true; read_fails = true; write_waits = true; write_fails = true } };
 

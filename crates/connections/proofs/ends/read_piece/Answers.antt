@@ -1,5 +1,4 @@
-use Rattle.std.proofs.Common.{ℕ, [], ◌∙◌, refl, ap, arith, take, length-take}
-use Rattle.connections.specs.Stream.{read_more}
+use Rattle.std.proofs.Common.{[], ◌∙◌, refl, arith, take, length-take}
 use Rattle.connections.proofs.ReadLemmas.{feeds_nothing, nothing_taken}
 use Rattle.connections.proofs.ends.read_piece.Goals as goal
 
@@ -9,7 +8,7 @@ returns-in-Err-feed-clause-takes g c = record {
   lost = take c.in-Ok.count c.read.new.buf;
   feeds = c.in-Err-feed.ensures.err ∙ feeds_nothing c.args.live.now;
   consumes = c.in-Ok.ensures.bytes.0;
-  reads = c.in-Ok.ensures.reads ∙ ap (λ (n : ℕ). read_more n (g.E.Stream.reads c.args.end.now)) (omega (arith, c.in-Ok.count-test));
+  reads = omega (arith, c.in-Ok.ensures.counted, c.in-Ok.count-test);
   one_read = omega (arith, length-take c.in-Ok.count c.read.new.buf, c.in-Ok.ensures.bound, c.in-Ok.count-test);
   until = (c.in-Err-feed.ensures.err, omega (arith, length-take c.in-Ok.count c.read.new.buf, c.in-Ok.ensures.bound, c.in-Ok.count-test));
 }
@@ -20,7 +19,7 @@ returns-else-would_wait-clause-takes g c = record {
   lost = [];
   feeds = feeds_nothing c.args.live.now;
   consumes = nothing_taken _ _ c.in-Err.ensures.bytes;
-  reads = c.in-Err.ensures.reads;
+  reads = c.in-Err.ensures.counted;
   one_read = refl;
   until = (refl, refl, c.in-Err.ensures.may.1 (c.would_wait.ensures.fails c.if-would_wait.false));
 }

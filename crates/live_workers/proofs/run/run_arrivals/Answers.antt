@@ -10,7 +10,7 @@ map_vec-requires-after_bounds g c κs within =
 
 pub returns-clause-followed : goal.returns-clause-followed
 returns-clause-followed g c =
-    let start : g.row.V-End.Denot → ConnectionView = λ end. opened c.args.limits.turns (g.V.End.Stream.may end) (g.V.End.Stream.left end) (g.V.End.Stream.held end) (g.V.End.Stream.reads end) in
+    let start : g.row.V-End.Denot → ConnectionView = λ end. opened c.args.limits.turns (g.V.End.Stream.may end) (g.V.End.Stream.left end) (g.V.End.Stream.held end) in
     if_ok_then c.all_worked.result (λ all gave.
     followed_in_place (g.G.Gate.opens c.args.gate.now) c.args.store.now c.args.limits.most_silent start g.V.Arrivals.comes c.in_ok-workers.workers.items c.args.passes.items c.args.arrivals.items c.in_ok-given.given.items all.items
     c.in_ok-workers.ensures.passes c.in_ok-workers.ensures.arrivals c.in_ok-workers.ensures.numbers gave (omega (arith, c.in_ok-given.ensures.len, c.in_ok-given.given.ok, c.in_ok-workers.workers.ok))
@@ -18,7 +18,7 @@ returns-clause-followed g c =
 
 pub returns-clause-served : goal.returns-clause-served
 returns-clause-served g c =
-    let start : g.row.V-End.Denot → ConnectionView = λ end. opened c.args.limits.turns (g.V.End.Stream.may end) (g.V.End.Stream.left end) (g.V.End.Stream.held end) (g.V.End.Stream.reads end) in
+    let start : g.row.V-End.Denot → ConnectionView = λ end. opened c.args.limits.turns (g.V.End.Stream.may end) (g.V.End.Stream.left end) (g.V.End.Stream.held end) in
     if_ok_then c.all_worked.result (λ all gave.
     let long : length c.in_ok-given.given.items ≡ length c.in_ok-workers.workers.items = omega (arith, c.in_ok-given.ensures.len, c.in_ok-given.given.ok, c.in_ok-workers.workers.ok) in
     let passes_long : length c.args.passes.items ≡ length c.in_ok-workers.workers.items =

@@ -51,6 +51,6 @@ returns g c =
     let all : AtWork → AtWork → Type 0 = λ x y. (b : ServedAll (WorkerAnswer opens number) c.in_ok-ends.ends x y) × (b.steps ≡ steps) in
     let both : all (at_work store c.args.worker.pass.seen 0) (at_work store c.into_pass.result.seen done.calls) =
     subst (λ s. all s (at_work store c.into_pass.result.seen done.calls)) start (subst (λ s. all (begins_at, begun.calls) s) end served) in
-    let begins : g.row.V-End.Denot → ConnectionView = λ end. opened c.args.limits.turns (g.V.End.Stream.may end) (g.V.End.Stream.left end) (g.V.End.Stream.held end) (g.V.End.Stream.reads end) in
+    let begins : g.row.V-End.Denot → ConnectionView = λ end. opened c.args.limits.turns (g.V.End.Stream.may end) (g.V.End.Stream.left end) (g.V.End.Stream.held end) in
     let follows = subst (λ l. Follows c.args.limits.most_silent begins g.V.Arrivals.comes l c.args.worker.arrivals c.serve_arrivals.new.arrivals) (sym both.1) c.in_ok-ends.ensures.1 in
     (record { own = own; further = far; calls = done.calls; served = both.0 }, (c.serve_arrivals.new.arrivals, follows))

@@ -12,7 +12,7 @@ use Rattle.live_workers.proofs.serving.serve_arrivals.Goals as goal
 
 pub loop-arrival-init : goal.loop-arrival-init
 loop-arrival-init g c =
-    let start : g.row.V-End.Denot → ConnectionView = λ end. opened c.args.limits.turns (g.V.End.Stream.may end) (g.V.End.Stream.left end) (g.V.End.Stream.held end) (g.V.End.Stream.reads end) in
+    let start : g.row.V-End.Denot → ConnectionView = λ end. opened c.args.limits.turns (g.V.End.Stream.may end) (g.V.End.Stream.left end) (g.V.End.Stream.held end) in
     let none : Serves g.A.Ask.answers c.args.limits.most_silent [] nobody (get c.new-served.result.open) (kept_of []) c.new-served.result.ends c.args.ask.now.ask c.args.ask.now.ask =
     stays_serves g.A.Ask.answers c.args.limits.most_silent nobody (get c.new-served.result.open) (kept_of []) c.new-served.result.ends c.args.ask.now.ask c.args.ask.now.ask
     (λ place. beyond c.new-served.result.open place (omega (arith, ap length c.new-served.ensures.open))) c.new-served.ensures.ends refl in
@@ -20,7 +20,7 @@ loop-arrival-init g c =
 
 pub loop-arrival-preserved : goal.loop-arrival-preserved
 loop-arrival-preserved g c =
-    let start : g.row.V-End.Denot → ConnectionView = λ end. opened c.args.limits.turns (g.V.End.Stream.may end) (g.V.End.Stream.left end) (g.V.End.Stream.held end) (g.V.End.Stream.reads end) in
+    let start : g.row.V-End.Denot → ConnectionView = λ end. opened c.args.limits.turns (g.V.End.Stream.may end) (g.V.End.Stream.left end) (g.V.End.Stream.held end) in
     let inv = c.loop-arrival.invariant in
     let free : ℕ = c.loop-arrival.served.open.vacant_key in
     let news : List News = news_in start free c.next.result in
@@ -40,7 +40,7 @@ loop-arrival-smaller g c = goes_on c.next.result c.next.ensures.end c.in_default
 
 pub returns : goal.returns
 returns g c =
-    let start : g.row.V-End.Denot → ConnectionView = λ end. opened c.args.limits.turns (g.V.End.Stream.may end) (g.V.End.Stream.left end) (g.V.End.Stream.held end) (g.V.End.Stream.reads end) in
+    let start : g.row.V-End.Denot → ConnectionView = λ end. opened c.args.limits.turns (g.V.End.Stream.may end) (g.V.End.Stream.left end) (g.V.End.Stream.held end) in
     let inv = c.loop-arrival.invariant in
     let ended = c.in_ok-end_all.ensures in
     let steps = inv.1.steps ++ ended.steps in

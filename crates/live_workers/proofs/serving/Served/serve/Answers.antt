@@ -1,7 +1,6 @@
 use Rattle.std.proofs.Common.{[], rules}
 use Rattle.slab.specs.Slab.{get}
 use Rattle.connections.specs.Connection.{StopsFor}
-use Rattle.connections.specs.declared.after.After.TheVariants.{Over}
 use Rattle.live_workers.proofs.StepLemmas.{serves_then}
 use Rattle.live_workers.specs.Private.Serving.{turn_news}
 use Rattle.live_workers.proofs.ServingLemmas.{close_serves, missed_serves, on_ok_then, turn_serves, unchanged_news}
@@ -15,7 +14,7 @@ returns-in_ok-push_back-in-Some-Again g c =
 pub returns-in-Some-Over : goal.returns-in-Some-Over
 returns-in-Some-Over g c =
     let turn = c.in-Some-Over.ensures.turn in
-    let ends : StopsFor (Over c.in-Some-Over.end) turn.behind = search rules in
+    let ends : StopsFor c.in-Some-Over.end turn.behind = search rules in
     on_ok_then c.close.result (λ noted most ready closes.
     unchanged_news g.A.Ask.answers most (turn_news c.args.place ready) _ _ _ _ _ _
     (serves_then g.A.Ask.answers most (turn_news c.args.place ready) [] (get c.args.self.now.open) (get c.turn.new.self.open) (get c.close.new.self.open) c.args.self.now.ends c.turn.new.self.ends c.close.new.self.ends
