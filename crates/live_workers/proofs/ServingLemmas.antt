@@ -22,6 +22,10 @@ on_ok : {X E : Type 0} {P Q : Type 0} (r : Result X E) → OnOk r P → (P → Q
 on_ok (Ok x) p f = f p
 on_ok (Err e) p f = p
 
+pub always_ok : {X E : Type 0} {P : Type 0} (r : Result X E) → P → OnOk r P
+always_ok (Ok x) p = p
+always_ok (Err e) p = tt
+
 pub on_ok_then : {X E : Type 0} {P Q : Type 0} (r : Result X E) → (P → Q) → OnOk r P → OnOk r Q
 on_ok_then r f p = on_ok r p f
 

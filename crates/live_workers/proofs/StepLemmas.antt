@@ -1,6 +1,8 @@
 -- The steps of a worker, one after the other.
-use Rattle.std.proofs.Common.{◌≡◌, ℕ, List, [], ◌∷◌, ◌++◌, refl, sym, ap, ◌∙◌, subst, append_assoc, append-nil, Result}
+use Rattle.std.proofs.Common.{◌≡◌, ◌≤◌, ◌<◌, ℕ, List, [], ◌∷◌, ◌++◌, refl, sym, ap, ◌∙◌, subst, append_assoc, append-nil, arith, inl, inr, Result}
 use Rattle.std.specs.List.{AllByRecursion}
+use Rattle.std.specs.Prelude.{◌⊎◌}
+use Rattle.std.proofs.lemmas.Bool.{cases_lt}
 use Rattle.std.proofs.lemmas.Grind.{flat_map-append}
 use Rattle.map_core.specs.declared.op.Op.{Op}
 use Rattle.map_core.specs.declared.reply.Reply.{Reply}
@@ -16,6 +18,15 @@ all_stay p place = refl
 
 pub stay_then : (place : ℕ) (a b c : Places) → OthersStay place a b → OthersStay place b c → OthersStay place a c
 stay_then place a b c p q other else = q other else ∙ p other else
+
+-- what is the same at a place and at the others is the same
+pub all_stay_by : (place : ℕ) (old new : Places) → new place ≡ old place → OthersStay place old new → AllStay old new
+all_stay_by place old new here others other = by (cases_lt other place) (cases_lt place other)
+  where
+    by : (other < place) ⊎ (place ≤ other) → (place < other) ⊎ (other ≤ place) → new other ≡ old other
+    by (inl less) any = others other (λ e. absurd (omega (arith, e, less)))
+    by (inr far) (inl more) = others other (λ e. absurd (omega (arith, e, more)))
+    by (inr far) (inr near) = let same : other ≡ place = omega (arith, far, near) in subst (λ (n : ℕ). new n ≡ old n) (sym same) here
 
 pub notes_then : (xs ys : List Step) (m n o : EndsView) → Notes (told_all xs) m n → Notes (told_all ys) n o → Notes (told_all (xs ++ ys)) m o
 notes_then xs ys m n o p q before is =

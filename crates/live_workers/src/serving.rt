@@ -27,13 +27,15 @@ struct Placed<E: Stream + Drop> {
     reads_only: bool,
     /// How many ticks have passed since its last turn.
     silent: u64,
+    /// Whether it waits for another turn. Then its place stands once among those that do, and else not.
+    waits: bool,
 }
 
 /// The connections of a worker, and what they share.
 #[derive(Drop)]
 struct Served<E: Stream + Drop> {
     open: Slab<Placed<E>>,
-    /// The places of connections that have had their share, and may have more to do.
+    /// The places of connections that wait for another turn, since they have had their share and may have more to do.
     again: VecDeque<usize>,
     documents: DocumentReader,
     ends: SessionEnds,
@@ -73,6 +75,7 @@ impl<E: Stream + Drop> Served<E> {
             connection,
             reads_only,
             silent: 0,
+            waits: false,
         };
         Ok(self.open.insert(placed)?)
     }
@@ -112,6 +115,48 @@ impl<E: Stream + Drop> Served<E> {
         Some(connection.last_turn(&mut self.documents, room, ask))
     }
 
+    /// The connection at a place waits for another turn, after those that wait already. It waits once.
+    fn wait_again(&mut self, place: usize) -> Result<(), AllocError>
+        ensures same { get self.new.open place ≡ get self.old.open place }
+        ensures others { OthersStay place (get self.old.open) (get self.new.open) }
+        ensures ends { self.new.ends ≡ self.old.ends }
+    {
+        let Some(placed) = self.open.get_mut(place) else {
+            return Ok(());
+        };
+        if placed.waits {
+            return Ok(());
+        }
+        self.again.push_back(place)?;
+        placed.waits = true;
+        Ok(())
+    }
+
+    /// The connection at a place does not wait for another turn any more.
+    fn wait_no_more(&mut self, place: usize)
+        ensures same { get self.new.open place ≡ get self.old.open place }
+        ensures others { OthersStay place (get self.old.open) (get self.new.open) }
+        ensures ends { self.new.ends ≡ self.old.ends }
+    {
+        if let Some(placed) = self.open.get_mut(place) {
+            placed.waits = false;
+        }
+    }
+
+    /// Takes the connection at a place out. It does not wait for another turn any more.
+    fn remove(&mut self, place: usize)
+        ensures left { get self.new.open place ≡ None }
+        ensures others { OthersStay place (get self.old.open) (get self.new.open) }
+        ensures ends { self.new.ends ≡ self.old.ends }
+    {
+        let Some(placed) = self.open.try_remove(place) else {
+            return;
+        };
+        if placed.waits {
+            self.again.retain(|other| *other != place);
+        }
+    }
+
     /// Leaves the connection at a place, and notes how its session ended.
     fn close<L: Log>(
         &mut self,
@@ -129,7 +174,7 @@ impl<E: Stream + Drop> Served<E> {
             Err(error) => Err(SessionFault::Front(error)),
         };
         log.ended(worker, &ended);
-        let _ = self.open.try_remove(place);
+        self.remove(place);
         self.ends.note(&ended)?;
         Ok(())
     }
@@ -149,10 +194,7 @@ impl<E: Stream + Drop> Served<E> {
         match self.turn(room, place, is_closing, ask) {
             None => Ok(()),
             Some(After::Waits) => Ok(()),
-            Some(After::Again) => {
-                self.again.push_back(place)?;
-                Ok(())
-            }
+            Some(After::Again) => self.wait_again(place),
             Some(After::Over(end)) => self.close(place, end, log, worker),
         }
     }
@@ -332,7 +374,10 @@ impl<E: Stream + Drop> Served<E> {
         ensures { OnOk result ((most : ℕ) → Serves A.answers most [] (get self.old.open) (get self.new.open) self.old.ends self.new.ends ask.old.ask ask.new.ask) }
     {
         match self.again.pop_front() {
-            Some(place) => self.serve(room, place, false, ask, log, worker),
+            Some(place) => {
+                self.wait_no_more(place);
+                self.serve(room, place, false, ask, log, worker)
+            }
             None => Ok(()),
         }
     }

@@ -5,6 +5,7 @@ mod limits;
 mod logs;
 mod memory;
 mod ports;
+mod shares;
 mod stops;
 mod threads;
 mod turns;

@@ -20,9 +20,9 @@ struct Once<'i, 'o> {
 
 /// A client that gives a frame at each read, and then its end; and takes all.
 #[derive(Drop)]
-struct Steady<'i, 'o> {
-    input: &'i [u8],
-    output: &'o mut Vec<u8>,
+pub(super) struct Steady<'i, 'o> {
+    pub(super) input: &'i [u8],
+    pub(super) output: &'o mut Vec<u8>,
 }
 
 impl<'i, 'o> Stream for Once<'i, 'o> {

@@ -1,15 +1,22 @@
-use Rattle.std.proofs.Common.{[], rules}
+use Rattle.std.proofs.Common.{[], refl, rules}
 use Rattle.slab.specs.Slab.{get}
 use Rattle.connections.specs.Connection.{StopsFor}
-use Rattle.live_workers.proofs.StepLemmas.{serves_then}
+use Rattle.live_workers.proofs.StepLemmas.{all_stay_by, serves_then}
 use Rattle.live_workers.specs.Private.Serving.{turn_news}
-use Rattle.live_workers.proofs.ServingLemmas.{close_serves, missed_serves, on_ok_then, turn_serves, unchanged_news}
+use Rattle.live_workers.proofs.ServingLemmas.{always_ok, close_serves, missed_serves, on_ok_then, stays_serves, turn_serves, unchanged_news}
 use Rattle.live_workers.proofs.serving.Served.serve.Goals as goal
 
-pub returns-in_ok-push_back-in-Some-Again : goal.returns-in_ok-push_back-in-Some-Again
-returns-in_ok-push_back-in-Some-Again g c =
-    λ most. turn_serves g.A.Ask.answers most c.args.place c.args.is_closing _ (get c.args.self.now.open) (get c.turn.new.self.open) c.args.self.now.ends c.turn.new.self.ends
-    c.args.ask.now.ask c.turn.new.ask.ask c.in-Some-Again.ensures.turn c.turn.ensures.ends
+pub returns-in-Some-Again : goal.returns-in-Some-Again
+returns-in-Some-Again g c =
+    let waits = c.wait_again.ensures in
+    always_ok c.wait_again.result (λ most ready closes.
+    unchanged_news g.A.Ask.answers most (turn_news c.args.place ready) _ _ _ _ _ _
+    (serves_then g.A.Ask.answers most (turn_news c.args.place ready) [] (get c.args.self.now.open) (get c.turn.new.self.open) (get c.wait_again.new.self.open) c.args.self.now.ends c.turn.new.self.ends c.wait_again.new.self.ends
+    c.args.ask.now.ask c.turn.new.ask.ask c.turn.new.ask.ask
+    (turn_serves g.A.Ask.answers most c.args.place c.args.is_closing _ (get c.args.self.now.open) (get c.turn.new.self.open) c.args.self.now.ends c.turn.new.self.ends
+    c.args.ask.now.ask c.turn.new.ask.ask c.in-Some-Again.ensures.turn c.turn.ensures.ends ready closes)
+    (stays_serves g.A.Ask.answers most (get c.turn.new.self.open) (get c.wait_again.new.self.open) c.turn.new.self.ends c.wait_again.new.self.ends
+    c.turn.new.ask.ask c.turn.new.ask.ask (all_stay_by c.args.place (get c.turn.new.self.open) (get c.wait_again.new.self.open) waits.same waits.others) waits.ends refl)))
 
 pub returns-in-Some-Over : goal.returns-in-Some-Over
 returns-in-Some-Over g c =
