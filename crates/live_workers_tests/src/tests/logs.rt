@@ -21,7 +21,7 @@ struct Noted<'a, R: Wait> {
     notes: &'a Mutex<Notes>,
 }
 
-impl<'a, R: Wait> Log for Noted<'a, R> {
+impl<'a, R: Wait + Copy> Log for Noted<'a, R> {
     ghost use Rattle.std.specs.Prelude.{⊤, true};
 
     ghost wants = { λ _. true };
