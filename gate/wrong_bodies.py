@@ -22,7 +22,10 @@ import subprocess
 import sys
 import tempfile
 
-ROOT = os.path.dirname(os.path.dirname(os.path.abspath(__file__)))
+sys.dont_write_bytecode = True
+
+from copies import ROOT, copy_repository, linked  # noqa: E402
+
 SUMS = f"{ROOT}/gate/wrong_bodies.sums"
 PAIR = re.compile(r"^(file|old|new): ?(.*)$", re.M)
 # The parts of a crate that a check reads.
@@ -151,9 +154,7 @@ class Room:
     def __init__(self, folder, crate):
         self.folder, self.crate = folder, crate
         self.own = f"{folder}/crates/{crate}"
-        shutil.copytree(f"{ROOT}/crates", f"{folder}/crates", ignore=shutil.ignore_patterns("out", "must-fail", "wrong-bodies"))
-        for name in ("crates.txt", "HANDLES"):
-            shutil.copy(f"{ROOT}/{name}", folder)
+        copy_repository(folder)
 
     def check(self):
         """The status of a check of the crate, and what it says."""
@@ -208,14 +209,6 @@ def is_named(crate, path, function, bad, unclear):
     start = f"{crate}::" if modules in ("lib", "main") else f"{crate}::{modules}::"
     named = any(it.startswith(start) and it.rpartition("::")[2] == function for it in bad)
     return named and not any(f"/{function}/" in f"/{it}" for it in unclear)
-
-
-def linked(one, other):
-    """Copies a file by a link, if that can be: a check replaces such a file, and changes none."""
-    try:
-        return os.link(one, other)
-    except OSError:
-        return shutil.copy2(one, other)
 
 
 def try_crate(crate):
