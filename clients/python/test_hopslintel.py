@@ -1,3 +1,4 @@
+# SPDX-License-Identifier: Apache-2.0
 """Runs the tests of the clients: over the built program, and over servers
 that fail.
 

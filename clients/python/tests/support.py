@@ -1,3 +1,4 @@
+# SPDX-License-Identifier: Apache-2.0
 """What the tests share: documents, the program, and servers that fail."""
 import contextlib
 import os

@@ -1,3 +1,4 @@
+# SPDX-License-Identifier: Apache-2.0
 """What is made for other programs, and what changed."""
 import base64
 import io

@@ -1,3 +1,4 @@
+# SPDX-License-Identifier: Apache-2.0
 """What is raised: of refusals, of broken replies, and of connections."""
 import io
 import os

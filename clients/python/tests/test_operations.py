@@ -1,3 +1,4 @@
+# SPDX-License-Identifier: Apache-2.0
 """What each operation answers, over the built program."""
 import json
 import unittest

@@ -1,3 +1,4 @@
+# SPDX-License-Identifier: Apache-2.0
 """Pipelines, and several clients of one server."""
 import itertools
 import json

@@ -1,3 +1,4 @@
+# SPDX-License-Identifier: Apache-2.0
 """New connections, and what is asked again over them."""
 import socket
 import tempfile

@@ -1,3 +1,4 @@
+# SPDX-License-Identifier: Apache-2.0
 """Threads that share a client, deadlines, and the end of a client."""
 import math
 import os
