@@ -111,7 +111,8 @@ class Peers:
         is_trusted("it is served beside an authority that is not a certificate")
         self.set("a.example", broken, self.other.entry(), sequence=5)
         is_refused("with the authority of another it is refused")
-        assert self.status(port, self.foreign) == "200"
+        # (a process that still has the file of before may take the next connection)
+        wait_until(lambda: self.status(port, self.foreign) == "200", "the client of the other is served")
 
 
 def write_at_start(room):
