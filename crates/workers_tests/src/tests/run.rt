@@ -110,10 +110,10 @@ struct Ended {
 }
 
 /// An operation that meets the other worker at its shard is asked again, until it is answered otherwise.
-fn run_two<R: Threads + Clock + Sync, G: Gate + Sync>(
+fn run_two<'i, R: Threads + Clock + Sync, G: Gate + Sync>(
     rt: &R,
     alloc: Global,
-    inputs: (&[u8], &[u8]),
+    inputs: (&'i [u8], &'i [u8]),
     gate: &G,
 ) -> Result<Ended, AllocError> {
     let (store, passes) = store_for_two(alloc)?;
