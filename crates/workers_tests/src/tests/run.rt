@@ -24,22 +24,64 @@ const NO_DOMAIN: &[u8] = b"\x00\x00\x00\x01\x1e";
 /// The reply that the gate is shut.
 const SHUT: &[u8] = b"\x00\x00\x00\x01\x38";
 
-/// A session over memory.
-type Memory<'a> = Session<&'a [u8], &'a mut Vec<u8>>;
+/// A session over memory, of whose replies nothing is seen.
+type Unseen<'a> = Session<&'a [u8], Vec<u8>>;
+
+/// One session over memory, whose replies are seen.
+#[derive(Drop)]
+struct Once<'i, 'o> {
+    input: &'i [u8],
+    output: Option<&'o mut Vec<u8>>,
+    left: u64,
+}
+
+impl<'i, 'o> Sessions for Once<'i, 'o> {
+    type Reader = &'i [u8];
+
+    type Writer = &'o mut Vec<u8>;
+
+    ghost use Rattle.std.specs.Prelude.{⊤, ◌≤◌};
+
+    ghost left = { λ once. once.left };
+
+    ghost comes = { λ _ _ _. ⊤ };
+
+    ghost takes_back = { λ _ reader writer _. ⊤ };
+
+    fn next(&mut self) -> Result<Option<Session<&'i [u8], &'o mut Vec<u8>>>, ListenFault> {
+        if self.left == 0 {
+            return Ok(None);
+        }
+        self.left -= 1;
+        let Some(writer) = self.output.take() else {
+            return Ok(None);
+        };
+        Ok(Some(Session {
+            reader: self.input,
+            writer,
+            turns: 1_000,
+        }))
+    }
+
+    fn take_back(&mut self, _reader: Counted<&'i [u8]>, _writer: Counted<&'o mut Vec<u8>>)
+        ensures no_more { self.new.left ≤ self.old.left }
+        ensures taken { ⊤ }
+    {}
+}
 
 /// Sessions of a list, after which the listener fails so often, and then one more that nobody is to come to.
 #[derive(Drop)]
 struct Failing<'a> {
-    list: IntoIter<Memory<'a>>,
+    list: IntoIter<Unseen<'a>>,
     failures: u64,
-    last: Option<Memory<'a>>,
+    last: Option<Unseen<'a>>,
     left: u64,
 }
 
 impl<'a> Sessions for Failing<'a> {
     type Reader = &'a [u8];
 
-    type Writer = &'a mut Vec<u8>;
+    type Writer = Vec<u8>;
 
     ghost use Rattle.std.specs.Prelude.{⊤, ◌≤◌};
 
@@ -49,7 +91,7 @@ impl<'a> Sessions for Failing<'a> {
 
     ghost takes_back = { λ _ reader writer _. ⊤ };
 
-    fn next(&mut self) -> Result<Option<Memory<'a>>, ListenFault> {
+    fn next(&mut self) -> Result<Option<Unseen<'a>>, ListenFault> {
         if self.left == 0 {
             return Ok(None);
         }
@@ -64,7 +106,7 @@ impl<'a> Sessions for Failing<'a> {
         Err(ListenFault)
     }
 
-    fn take_back(&mut self, _reader: Counted<&'a [u8]>, _writer: Counted<&'a mut Vec<u8>>)
+    fn take_back(&mut self, _reader: Counted<&'a [u8]>, _writer: Counted<Vec<u8>>)
         ensures no_more { self.new.left ≤ self.old.left }
         ensures taken { ⊤ }
     {}
@@ -83,23 +125,13 @@ fn store_for_two(alloc: Global) -> Result<(Store, Vec<Pass>), AllocError>
     Ok((store, passes))
 }
 
-fn session<'a>(reader: &'a [u8], writer: &'a mut Vec<u8>) -> Memory<'a> {
+/// A session over this input.
+fn unseen<'a>(alloc: Global, reader: &'a [u8]) -> Unseen<'a> {
     Session {
         reader,
-        writer,
+        writer: Vec::new(alloc),
         turns: 1_000,
     }
-}
-
-/// One session, as a list.
-fn one<'a>(
-    alloc: Global,
-    reader: &'a [u8],
-    writer: &'a mut Vec<u8>,
-) -> Result<IntoIter<Memory<'a>>, AllocError> {
-    let mut list = Vec::new(alloc);
-    list.push(session(reader, writer))?;
-    Ok(list.into_iter())
 }
 
 /// What two workers with one session each wrote, and how their sessions ended.
@@ -110,18 +142,26 @@ struct Ended {
 }
 
 /// An operation that meets the other worker at its shard is asked again, until it is answered otherwise.
-fn run_two<'i, R: Threads + Clock + Sync, G: Gate + Sync>(
+fn run_two<R: Threads + Clock + Sync, G: Gate + Sync>(
     rt: &R,
     alloc: Global,
-    inputs: (&'i [u8], &'i [u8]),
+    inputs: (&[u8], &[u8]),
     gate: &G,
 ) -> Result<Ended, AllocError> {
     let (store, passes) = store_for_two(alloc)?;
     let mut first = Vec::new(alloc);
     let mut second = Vec::new(alloc);
     let mut sessions = Vec::new(alloc);
-    sessions.push(one(alloc, inputs.0, &mut first)?)?;
-    sessions.push(one(alloc, inputs.1, &mut second)?)?;
+    sessions.push(Once {
+        input: inputs.0,
+        output: Some(&mut first),
+        left: 1,
+    })?;
+    sessions.push(Once {
+        input: inputs.1,
+        output: Some(&mut second),
+        left: 1,
+    })?;
     let patient = Patient {
         store: &store,
         clock: rt,
@@ -235,7 +275,11 @@ fn run_alone<R: Threads + Sync, G: Gate + Sync>(
     let mut passes = Vec::new(alloc);
     passes.push(pass)?;
     let mut sessions = Vec::new(alloc);
-    sessions.push(one(alloc, GET_A, &mut written)?)?;
+    sessions.push(Once {
+        input: GET_A,
+        output: Some(&mut written),
+        left: 1,
+    })?;
     let finished = run_workers(rt, alloc, store, passes, sessions, gate)?;
     drop(finished);
     Ok(written)
@@ -370,33 +414,43 @@ static ROWS: [Row<'static>; 4] = [
     (&[], 2, &[Err(SessionFault::Listen)]),
 ];
 
-fn ends_so<R: Threads + Sync>(rt: &R, alloc: Global, row: Row<'_>) -> Result<(), Fail> {
-    let (inputs, failures, wanted) = row;
-    let (store, pass) = Store::new(alloc, 4, 3, 1_000_000)?;
-    let mut outputs = Vec::new(alloc);
-    for _ in inputs {
-        outputs.push(Vec::new(alloc))?;
-    }
+/// The sessions over these inputs, as a list.
+fn list_of<'a>(alloc: Global, inputs: &[&'a [u8]]) -> Result<IntoIter<Unseen<'a>>, AllocError> {
     let mut list = Vec::new(alloc);
-    for (input, output) in inputs.iter().zip(outputs.iter_mut()) {
-        list.push(session(*input, output))?;
+    for input in inputs {
+        list.push(unseen(alloc, *input))?;
     }
-    let mut unseen = Vec::new(alloc);
-    let failing = Failing {
-        list: list.into_iter(),
-        failures,
-        last: if failures > 0 {
-            Some(session(GET_A, &mut unseen))
-        } else {
-            None
-        },
-        left: 10,
-    };
+    Ok(list.into_iter())
+}
+
+/// How the sessions of one worker end.
+fn ends_of<R: Threads + Sync, S: Sessions + Send + Drop>(
+    rt: &R,
+    alloc: Global,
+    sessions: S,
+) -> Result<Vec<Finished>, AllocError> {
+    let (store, pass) = Store::new(alloc, 4, 3, 1_000_000)?;
     let mut passes = Vec::new(alloc);
     passes.push(pass)?;
-    let mut sessions = Vec::new(alloc);
-    sessions.push(failing)?;
-    let finished = run_workers(rt, alloc, &store, passes, sessions, &Open)?;
+    let mut all = Vec::new(alloc);
+    all.push(sessions)?;
+    run_workers(rt, alloc, &store, passes, all, &Open)
+}
+
+fn ends_so<R: Threads + Sync>(rt: &R, alloc: Global, row: Row<'_>) -> Result<(), Fail> {
+    let (inputs, failures, wanted) = row;
+    let list = list_of(alloc, inputs)?;
+    let finished = if failures == 0 {
+        ends_of(rt, alloc, list)?
+    } else {
+        let failing = Failing {
+            list,
+            failures,
+            last: Some(unseen(alloc, GET_A)),
+            left: 10,
+        };
+        ends_of(rt, alloc, failing)?
+    };
     let Some(worker) = finished.as_slice().first() else {
         return Err(Fail::from("no worker has finished"));
     };
