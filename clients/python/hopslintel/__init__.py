@@ -29,7 +29,7 @@ from .reply import (All, Appended, Found, GivenUp, Held, Moved, OutOfMemory,
 from .request import Document, Expect, Expected, Request
 from .wire import MAX_PAYLOAD
 
-__version__ = "1.1.0"  # that of the program it is released with
+__version__ = "1.2.0.dev0"  # that of the program it is released with
 
 __all__ = [
     "All", "Appended", "Changes", "Client", "DisconnectedError", "Document",

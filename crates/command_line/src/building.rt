@@ -9,7 +9,7 @@ use std::alloc::{AllocError, Global};
 /// The program, with all its commands.
 pub fn program<'a>(alloc: Global) -> Result<Command<'a>, AllocError> {
     let mut program = Command::new(alloc, "bundled")
-        .version("1.1.0")
+        .version("1.2.0-dev")
         .about("A store of the trust bundles of SPIFFE trust domains")
         .after_help(FRAMES)
         .subcommand_required(true);

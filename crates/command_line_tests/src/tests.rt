@@ -229,7 +229,7 @@ static NUMBERS: [Line; 14] = [
     ("race", "race|5"),
     ("race --seconds=60", "race|60"),
     ("migrate", "migrate"),
-    ("--version", "bundled 1.1.0\n"),
+    ("--version", "bundled 1.2.0-dev\n"),
     (
         "run --turns 0",
         "error: invalid value '0' for '--turns <READS>': 0 is not in 1..=1000000000\n\nFor more information, try '--help'.\n",
