@@ -32,14 +32,11 @@ def session(name, options, rows):
     return Run(name, words, b"".join(requests), allows)
 
 
-def command(words, given, is_plain, tells_each=False):
-    """A command that out of memory writes nothing but `fault 22`. If it tells each refusal, it ends plainly only if nothing
-    was refused."""
+def command(words, given, is_plain):
+    """A command that out of memory writes nothing but `fault 22`."""
 
     def allows(ended, refused):
-        if refused and (tells_each or ended == OUT_OF_MEMORY):
-            return ended == OUT_OF_MEMORY
-        return is_plain(ended)
+        return is_plain(ended) or refused and ended == OUT_OF_MEMORY
 
     return Run(f"bundled {' '.join(words)}".strip(), [program(), *words], given, allows)
 
@@ -99,7 +96,7 @@ def program_runs():
     stream = b"".join(map(frame, [b"V\x02", b"C\x01a\x00" + text, b"C\x01b\x00" + empty]))
     yield command(["migrate"], b"".join(map(frame, dump)), lambda it: it == Ended(0, stream, b""))
     race, lines = ["trace", "--shards", "2", "--rounds", "2"], bytes_of(f"{ROOT}/examples/race.trace")
-    yield command(race, bytes_of(f"{ROOT}/examples/race.events"), lambda it: it == Ended(0, lines, b""), tells_each=True)
+    yield command(race, bytes_of(f"{ROOT}/examples/race.events"), lambda it: it == Ended(0, lines, b""))
     words = [b"set a %s\n" % text, b"fetch\n", b"found %s\n" % text, b"stored\n"]
     frames = [frame(it) for it in (b"S\x01a" + text, b"F", b"f" + text, b"s")]
     yield pieces("encode", b"".join(words[:2]), frames[:2])

@@ -5,8 +5,7 @@ usage: gate/refused_growths.py   (over what rt ci, rt run and rt test have built
 
 The growths of a run are counted up from 1 until a run meets no refusal. Each is refused by itself, and to the program
 also together with all growths after it. A run that met a refusal says that memory ran out in its own words, `fault 22`,
-the reply 22 or a test's error, or it ends as if nothing had been refused. Any other end is a failure; and so is an end
-as if nothing had been refused of `trace`, and of the tests that have `a_refused_growth` in their names.
+the reply 22 or a test's error, or it ends as if nothing had been refused. Any other end is a failure.
 """
 import os
 import re
@@ -31,19 +30,15 @@ SOME = {"frame_front": ["a_refused_growth"], "frame_client": ["a_refused_growth"
         "doc_report": ["a_refused_growth"], "dump_commands": ["a_refused_growth"],
         "refresh": ["a_refused_growth", "parts_of"]}
 WANT_OF_MEMORY = re.compile(r'error: (Memory|AllocError|AllocFailed \{ \.\. \}|"out of memory")', re.I)
-ANSWERED_MEMORY = re.compile(r'error: ".*: memory\b.*, and not .*"')
+ANSWERED_MEMORY = re.compile(r'(error: ".*: |")memory\b.*, and not .*"')
 
 
 def test_allows(name):
-    # A test for refused growths has to go on after an answer of 22, and never meets a second one; it tells each refusal.
-    tells_each = "a_refused_growth" in name
-
     def allows(ended, refused):
-        if not refused or ended.status == 0:
-            return ended.status == 0 and not (refused and tells_each)
         error = ended.err.decode(errors="replace").split("\n")[0]
-        is_answer = not tells_each and ANSWERED_MEMORY.fullmatch(error)
-        return ended.status == 101 and bool(WANT_OF_MEMORY.fullmatch(error) or is_answer)
+        # A test for refused growths has to go on after an answer of 22, and never meets a second one.
+        is_answer = "a_refused_growth" not in name and ANSWERED_MEMORY.fullmatch(error)
+        return ended.status == 0 or refused and ended.status == 101 and (WANT_OF_MEMORY.fullmatch(error) or is_answer)
 
     return allows
 
