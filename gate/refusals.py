@@ -47,12 +47,18 @@ def has_too_many(run, shim):
     return run_once(run.words, run.given, MOST_GROWTHS + 1, MOST_GROWTHS + 1, shim)[1]
 
 
+def growths_of(run, shim):
+    """Which growths of the run are refused, and one that it has not: each, or of a run with too many each twentieth part further."""
+    growth, step = 1, 20 if has_too_many(run, shim) else MOST_GROWTHS + 1
+    while True:
+        yield growth
+        growth += 1 + growth // step
+
+
 def sweep(run, shim):
-    """Refuses each growth of the run. Answers how many it has, and what went wrong, if something did."""
+    """Refuses growths of the run. Answers how many, and what went wrong, if something did."""
     is_test = "_tests" in run.words[0]
-    if is_test and has_too_many(run, shim):
-        return None, None
-    for growth in range(1, MOST_GROWTHS + 2):
+    for count, growth in enumerate(growths_of(run, shim)):
         for last in [growth] if is_test else [growth, 2**63]:
             try:
                 ended, was_refused = run_once(run.words, run.given, growth, last, shim)
@@ -62,5 +68,4 @@ def sweep(run, shim):
                 what = f"growth {growth}{' and all after it' if last > growth else ''}" if was_refused else "nothing"
                 return growth, f"{what} refused: status {ended.status}, {ended.out[:300]!r}, {ended.err[:300]!r}"
         if not was_refused:
-            return growth - 1, None if growth > 1 or is_test else "it met no refusal"
-    return MOST_GROWTHS, f"it has more than {MOST_GROWTHS} growths"
+            return count, None if count or is_test else "it met no refusal"

@@ -1,9 +1,10 @@
 #!/usr/bin/env python3
-"""Refuses memory to the built programs and tests: each growth of each run below, one after the other.
+"""Refuses memory to the built programs and tests: the growths of each run below, one after the other.
 
 usage: gate/refused_growths.py   (over what rt ci, rt run and rt test have built in crates/*/out)
 
-The growths of a run are counted up from 1 until a run meets no refusal. Each is refused by itself, and to the program
+The growths of a run are counted up from 1 until a run meets no refusal; of a run that has more than 4,000 not each is
+refused, but one after each twentieth part more. Each is refused by itself, and to the program
 also together with all growths after it. A run that met a refusal says that memory ran out in its own words, `fault 22`,
 the reply 22 or a test's error, or it ends as if nothing had been refused. Any other end is a failure.
 """
@@ -17,7 +18,7 @@ sys.dont_write_bytecode = True
 
 from checks import Told, what_went_wrong  # noqa: E402
 from program_runs import program_runs  # noqa: E402
-from refusals import MOST_GROWTHS, Run, build_shim, run_once, sweep, tests_of  # noqa: E402
+from refusals import Run, build_shim, run_once, sweep, tests_of  # noqa: E402
 
 # The crates of which all tests are run, but for those that have too many growths to try each.
 ALL = ["spiffe_doc", "map_core", "step_core"]
@@ -71,10 +72,7 @@ def main():
         runs = [*program_runs(), *test_runs()]
         with ThreadPoolExecutor(os.cpu_count()) as pool:
             for run, (growths, why) in zip(runs, pool.map(lambda it: swept(it, shim), runs)):
-                if growths is None:
-                    # (no machine could try them all, so this one is not to blame)
-                    told.leaves_out(run.name, f"it has over {MOST_GROWTHS} growths", is_allowed=True)
-                elif why:
+                if why:
                     told.fails(run.name, why)
                 else:
                     told.passes(run.name, f"; {growths} growths refused")
