@@ -1,4 +1,5 @@
 pub mod Ignored
+pub mod KeyMember
 pub mod Report
 pub mod Quoted
 pub mod Fault

@@ -1,6 +1,6 @@
 -- What a person is told of a document: words for a terminal, a line for each thing.
 use Rattle.std.specs.Prelude.{ℕ, ◌+◌, ◌==◌, ◌&&◌, List, [], ◌++◌, length, flat_map, codes, decimal, if◌then◌else◌, Option, Some, None, Result, Ok, Err}
-use Rattle.spiffe_doc.specs.declared.error.DocError.{DocError}
+use Rattle.doc_report.specs.declared.fault.DocFault.{DocFault}
 use Rattle.doc_report.specs.declared.ignored.Held.{Held}
 use Rattle.doc_report.specs.declared.ignored.Held.TheVariants.{Missing, Other, Text}
 use Rattle.doc_report.specs.declared.ignored.Ignored.{Ignored}
@@ -96,10 +96,10 @@ count_lines name report = empty_lines name report ++ repeated_lines name report
 unfoldable pub told_lines : List ℕ → ReportValue → List ℕ
 told_lines name report = line name (bundle_words report) ++ (count_lines name report ++ ignored_lines name report.ignored)
 
-unfoldable pub fault_line : List ℕ → DocError → List ℕ
+unfoldable pub fault_line : List ℕ → DocFault → List ℕ
 fault_line name fault = line name (fault_words fault)
 
 -- what a person is told of a report, or of the fault that took its place
-abbrev pub outcome_lines : List ℕ → Result Report DocError → List ℕ
+abbrev pub outcome_lines : List ℕ → Result Report DocFault → List ℕ
 outcome_lines name (Ok report) = told_lines name (value_of report)
 outcome_lines name (Err fault) = fault_line name fault

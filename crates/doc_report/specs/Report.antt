@@ -1,18 +1,20 @@
 -- What a person is told of a document: the figures of the bundle that it is, and each entry that is ignored.
-use Rattle.std.specs.Prelude.{ℕ, zero, suc, ◌+◌, ◌-◌, List, [], ◌∷◌, ◌++◌, length, slice_index_or, count_by, codes, Bool, true, false, Option, Some, None, option_and_then, Result, Ok}
+use Rattle.std.specs.Prelude.{ℕ, zero, suc, ◌+◌, ◌-◌, List, [], ◌∷◌, ◌++◌, length, slice_index_or, count_by, codes, slice_get, Bool, true, false, Option, Some, None, option_map, option_and_then, Result, Ok, Err}
 use Rattle.std.specs.Option.{option_map_or}
 use Rattle.serde_json.specs.Data.{Data, null}
 use Rattle.serde_json.specs.Find.{get, as_array}
 use Rattle.spiffe_doc.specs.declared.authority.Authority.{Authority}
 use Rattle.spiffe_doc.specs.declared.authority.Authority.TheVariants.{X509, Jwt}
 use Rattle.spiffe_doc.specs.declared.error.DocError.{DocError}
-use Rattle.spiffe_doc.specs.Answer.{◌>>=◌}
+use Rattle.spiffe_doc.specs.declared.error.DocError.TheVariants.{BadKey}
 use Rattle.spiffe_doc.specs.Authority.{BundleValue}
 use Rattle.spiffe_doc.specs.Document.{elements, authorities_before, distinct, json_tree, document}
+use Rattle.doc_report.specs.declared.fault.DocFault.{DocFault}
 use Rattle.doc_report.specs.declared.ignored.Ignored.{Ignored}
 use Rattle.doc_report.specs.declared.ignored.Reason.{Reason}
 use Rattle.doc_report.specs.declared.report.Report.{Report}
 use Rattle.doc_report.specs.Ignored.{reason}
+use Rattle.doc_report.specs.KeyMember.{faulty_member}
 
 -- ---- the entries of a document
 
@@ -70,9 +72,18 @@ figures bundle entries = record {
   ignored = ignored_entries entries;
 }
 
+-- an error of a document of these entries: that of a key names the member
+abbrev pub fault_by : List Data → DocError → DocFault
+fault_by entries (BadKey place) = record { error = BadKey place; member = option_map faulty_member (slice_get entries place) }
+fault_by entries error = record { error = error; member = None }
+
+abbrev pub reported : List Data → Result BundleValue DocError → Result ReportValue DocFault
+reported entries (Ok bundle) = Ok (figures bundle entries)
+reported entries (Err error) = Err (fault_by entries error)
+
 -- the report of a document, or the first reason why it is not a bundle
-unfoldable pub report_of : List ℕ → Result ReportValue DocError
-report_of bytes = document bytes >>= (λ bundle. Ok (figures bundle (entries_in bytes)))
+unfoldable pub report_of : List ℕ → Result ReportValue DocFault
+report_of bytes = reported (entries_in bytes) (document bytes)
 
 -- a report of the program, as contracts see it
 abbrev pub value_of : Report → ReportValue

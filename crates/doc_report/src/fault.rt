@@ -1,56 +1,80 @@
 //! What is wrong with a document, in words.
 ghost use Rattle.std.specs.Prelude.{◌≡◌, ◌++◌, OnOk};
 ghost use Rattle.spiffe_doc.specs.Document.{place_of as place_in};
-ghost use Rattle.doc_report.specs.Fault.{member_words, said_of, verdict_of, place_words, said_words, refusal_words, fault_words};
+ghost use Rattle.doc_report.specs.Fault.{member_words, error_words, said_of, verdict_of, place_words, said_words, refusal_words, fault_words};
 
+use crate::key_member::KeyMember;
 use crate::words::{put, put_entry, put_number};
-use spiffe_doc::{Curve, DocError, KeyMember};
+use spiffe_doc::{Curve, DocError};
 use std::alloc::AllocError;
+
+/// Why a document has no report.
+#[derive(Clone, Copy, Debug, PartialEq, Eq, Drop)]
+pub struct DocFault {
+    /// What `read_document` answers of it.
+    pub error: DocError,
+    /// If the key of an entry is malformed, the first of its members that is.
+    pub member: Option<KeyMember>,
+}
+
+impl From<AllocError> for DocFault {
+    ghost use Rattle.std.specs.Prelude.{◌≡◌};
+    ghost use Rattle.doc_report.specs.Fault.{no_memory};
+
+    ghost from_gives = { λ _ fault. fault ≡ no_memory };
+
+    fn from(_refused: AllocError) -> DocFault {
+        DocFault {
+            error: DocError::Memory,
+            member: None,
+        }
+    }
+}
 
 /// Puts the words of a fault, and its number.
 #[tactic(auto, unfolding(crate::specs::Fault::fault_words))]
-pub(crate) fn put_fault(out: &mut Vec<u8>, fault: &DocError) -> Result<(), AllocError>
+pub(crate) fn put_fault(out: &mut Vec<u8>, fault: &DocFault) -> Result<(), AllocError>
     ensures { OnOk result (out.new.items ≡ out.old.items ++ fault_words fault.now) }
 {
-    put(out, verdict(fault))?;
+    put(out, verdict(&fault.error))?;
     put_said(out, fault)?;
-    put_refusal(out, fault)
+    put_refusal(out, &fault.error)
 }
 
 /// Puts what a fault says of the document, or of the entry that it is about.
-fn put_said(out: &mut Vec<u8>, fault: &DocError) -> Result<(), AllocError>
+fn put_said(out: &mut Vec<u8>, fault: &DocFault) -> Result<(), AllocError>
     ensures { OnOk result (out.new.items ≡ out.old.items ++ said_words fault.now) }
 {
-    put_place(out, place_of(fault))?;
+    put_place(out, place_of(&fault.error))?;
     put(out, said(fault))
 }
 
-/// Puts the number of a fault.
-fn put_refusal(out: &mut Vec<u8>, fault: &DocError) -> Result<(), AllocError>
-    ensures { OnOk result (out.new.items ≡ out.old.items ++ refusal_words fault.now) }
+/// Puts the number of an error.
+fn put_refusal(out: &mut Vec<u8>, error: &DocError) -> Result<(), AllocError>
+    ensures { OnOk result (out.new.items ≡ out.old.items ++ refusal_words error.now) }
 {
     put(out, " (")?;
-    put_number(out, fault.number())?;
+    put_number(out, error.number())?;
     put(out, ")")
 }
 
 /// What the words of a fault begin with. A document for which memory ran out has no verdict.
-fn verdict(fault: &DocError) -> &'static str
-    ensures { result.now ≡ verdict_of fault.now }
+fn verdict(error: &DocError) -> &'static str
+    ensures { result.now ≡ verdict_of error.now }
 {
-    match fault {
+    match error {
         DocError::Memory => "not judged: ",
         _ => "not a bundle: ",
     }
 }
 
-/// The place in `keys` that a fault names.
-fn place_of(fault: &DocError) -> Option<usize>
-    ensures { result ≡ place_in fault.now }
+/// The place in `keys` that an error names.
+fn place_of(error: &DocError) -> Option<usize>
+    ensures { result ≡ place_in error.now }
 {
-    match fault {
+    match error {
         DocError::BadEntry(place)
-        | DocError::BadKey { place, .. }
+        | DocError::BadKey(place)
         | DocError::BadX5c(place)
         | DocError::BadKid(place)
         | DocError::KidTwice(place) => Some(*place),
@@ -69,10 +93,20 @@ fn put_place(out: &mut Vec<u8>, place: Option<usize>) -> Result<(), AllocError>
 }
 
 /// What a fault says of the document, or of one of its entries.
-fn said(fault: &DocError) -> &'static str
+fn said(fault: &DocFault) -> &'static str
     ensures { result.now ≡ said_of fault.now }
 {
-    match fault {
+    match &fault.member {
+        Some(member) => said_of_member(member),
+        None => said_of_error(&fault.error),
+    }
+}
+
+/// What is said of an error by itself.
+fn said_of_error(error: &DocError) -> &'static str
+    ensures { result.now ≡ error_words error.now }
+{
+    match error {
         DocError::TooLong => "the document, or its canonical text, has over 1048576 bytes",
         DocError::NotJson => "it is not a JSON text of UTF-8, nested at most 127 deep",
         DocError::NotObject => "it is not a JSON object",
@@ -84,7 +118,7 @@ fn said(fault: &DocError) -> &'static str
             "spiffe_refresh_hint is not a whole number from 0 to 18446744073709551615"
         }
         DocError::BadEntry(_) => "is not a JSON object",
-        DocError::BadKey { member, .. } => said_of_member(member),
+        DocError::BadKey(_) => "has a malformed key",
         DocError::BadX5c(_) =>
             "has a malformed x5c: it has to be a list of one text of padded base64",
         DocError::BadKid(_) => "has a malformed kid: it has to be a text of 1 to 255 bytes",

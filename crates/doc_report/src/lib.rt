@@ -3,6 +3,7 @@
 
 mod fault;
 mod ignored;
+mod key_member;
 pub mod laws;
 mod lines;
 mod member_text;
@@ -11,7 +12,9 @@ mod reason;
 mod report;
 mod words;
 
+pub use fault::DocFault;
 pub use ignored::{Held, Ignored, Reason};
+pub use key_member::KeyMember;
 pub use lines::put_report;
 pub use member_text::MemberText;
 pub use report::{Report, report_on};

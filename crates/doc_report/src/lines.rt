@@ -3,13 +3,12 @@ ghost use Rattle.std.specs.Prelude.{◌≡◌, ◌++◌, codes, decimal, IfOk, O
 ghost use Rattle.doc_report.specs.Report.{value_of};
 ghost use Rattle.doc_report.specs.Lines.{line, name_words, kind_words, kinds_words, kept_words, named_words, numbers_words, bundle_words, nothing_words, empty_lines, repeated_lines, its_words, not_words, other_words, held_words, reason_words, ignored_words, ignored_lines, count_lines, told_lines, fault_line, outcome_lines};
 
-use crate::fault::put_fault;
+use crate::fault::{DocFault, put_fault};
 use crate::ignored::{Held, Ignored, Reason};
 use crate::member_text::MemberText;
 use crate::quoted::put_quoted;
 use crate::report::Report;
 use crate::words::{put, put_counted, put_entry, put_number};
-use spiffe_doc::DocError;
 use std::alloc::{AllocError, Global};
 
 /// Appends what a person is told of the document of this name, in lines: the figures of the bundle, and each entry that is
@@ -17,7 +16,7 @@ use std::alloc::{AllocError, Global};
 /// nothing is appended.
 pub fn put_report(
     name: &str,
-    outcome: &Result<Report, DocError>,
+    outcome: &Result<Report, DocFault>,
     out: &mut Vec<u8>,
 ) -> Result<(), AllocError>
     ensures ok { OnOk result (out.new.items ≡ out.old.items ++ outcome_lines name.now outcome.now) }
@@ -30,7 +29,7 @@ pub fn put_report(
 fn lines_of(
     alloc: Global,
     name: &str,
-    outcome: &Result<Report, DocError>,
+    outcome: &Result<Report, DocFault>,
 ) -> Result<Vec<u8>, AllocError>
     ensures { IfOk result (λ lines. lines.items ≡ outcome_lines name.now outcome.now) }
 {
@@ -43,7 +42,7 @@ fn lines_of(
 }
 
 #[tactic(auto, unfolding(crate::specs::Lines::fault_line))]
-fn put_fault_line(out: &mut Vec<u8>, name: &str, fault: &DocError) -> Result<(), AllocError>
+fn put_fault_line(out: &mut Vec<u8>, name: &str, fault: &DocFault) -> Result<(), AllocError>
     ensures { OnOk result (out.new.items ≡ out.old.items ++ fault_line name.now fault.now) }
 {
     put_name(out, name)?;

@@ -43,7 +43,7 @@ fn other_curve(alloc: Global, curve: Option<&str>) -> Result<Option<Reason>, All
     }
 }
 
-fn is_ec(text: Option<&str>) -> bool
+pub(crate) fn is_ec(text: Option<&str>) -> bool
     ensures { result ≡ ec_named (option_map (λ found. found.now) text.entry) }
 {
     match text {
@@ -77,7 +77,7 @@ fn is_known_curve(text: &str) -> bool
 }
 
 /// The text of a member, if it is one.
-fn text<'v>(entry: &'v Value, name: &str) -> Option<&'v str>
+pub(crate) fn text<'v>(entry: &'v Value, name: &str) -> Option<&'v str>
     ensures { option_map (λ text. text.now) result ≡ text_of_member name.now (view entry.now) }
 {
     entry.get(name).and_then(Value::as_str)

@@ -1,12 +1,16 @@
 //! What a person is told of a document.
-ghost use Rattle.std.specs.Prelude.{◌≡◌, ◌⊎◌, ◌≤◌, length, map, Ok, Err, Some, codes, option_map, option_and_then, IfOk, MatchResult, count_by};
+ghost use Rattle.std.specs.Prelude.{◌≡◌, ◌⊎◌, ◌≤◌, length, map, Ok, Err, Some, codes, option_map, option_and_then, slice_get, IfOk, MatchResult, count_by};
 ghost use Rattle.serde_json.specs.Find.{get, as_array};
 ghost use Rattle.serde_json.specs.View.{view, items_view};
 ghost use Rattle.spiffe_doc.specs.Document.{json_tree};
-ghost use Rattle.doc_report.specs.Report.{entries_of, ignored_entries, figures as figures_of, report_of, value_of, is_x509 as x509};
+ghost use Rattle.doc_report.specs.Fault.{no_memory};
+ghost use Rattle.doc_report.specs.KeyMember.{faulty_member as member_of};
+ghost use Rattle.doc_report.specs.Report.{entries_of, entries_in, ignored_entries, figures as figures_of, report_of, value_of, is_x509 as x509};
 ghost use Rattle.doc_report.specs.Private.Counts.{AreEntries};
 
+use crate::fault::DocFault;
 use crate::ignored::Ignored;
+use crate::key_member::{KeyMember, faulty_member};
 use crate::reason::reason;
 use serde_json::Value;
 use spiffe_doc::{Authority, Bundle, DocError, read_document};
@@ -31,20 +35,45 @@ pub struct Report {
 }
 
 /// Judges a bundle document as `read_document` does, and reports what of it is kept and what is ignored (SPIFFE Trust
-/// Domain and Bundle, section 4; RFC 7517, section 5). Its errors are those of `read_document`. Memory can run out only for
-/// a document of at most 1,048,576 bytes.
+/// Domain and Bundle, section 4; RFC 7517, section 5). Its errors are those of `read_document`, and of a malformed key it
+/// finds the member. Memory can run out only for a document of at most 1,048,576 bytes.
 #[tactic(auto, unfolding(crate::specs::Report::report_of))]
-pub fn report_on(alloc: Global, document: &[u8]) -> Result<Report, DocError>
+pub fn report_on(alloc: Global, document: &[u8]) -> Result<Report, DocFault>
     ensures value { MatchResult result
         (λ report. report_of document.now ≡ Ok (value_of report))
-        (λ e. (e ≡ DocError.Memory) ⊎ (report_of document.now ≡ Err e)) }
-    ensures memory { result ≡ Err DocError.Memory → length document.now ≤ 1048576 }
+        (λ fault. (fault ≡ no_memory) ⊎ (report_of document.now ≡ Err fault)) }
+    ensures memory { result ≡ Err no_memory → length document.now ≤ 1048576 }
 {
-    let bundle = read_document(alloc, document)?;
+    let bundle = match read_document(alloc, document) {
+        Ok(bundle) => bundle,
+        Err(DocError::BadKey(place)) => {
+            return Err(DocFault {
+                error: DocError::BadKey(place),
+                member: member_at(alloc, document, place)?,
+            });
+        }
+        Err(error) => {
+            return Err(DocFault {
+                error,
+                member: None,
+            });
+        }
+    };
     let tree = tree_of(alloc, document)?;
     let entries = entries(&tree);
     let ignored = ignored(alloc, entries)?;
     Ok(figures(&bundle, entries, ignored))
+}
+
+/// The member that is malformed of the key at this place.
+fn member_at(alloc: Global, document: &[u8], place: usize) -> Result<Option<KeyMember>, AllocError>
+    ensures { IfOk result (λ member. member ≡ option_map member_of (slice_get (entries_in document.now) place)) }
+{
+    let tree = tree_of(alloc, document)?;
+    match entries(&tree).get(place) {
+        Some(entry) => Ok(Some(faulty_member(alloc, entry)?)),
+        None => Ok(None),
+    }
 }
 
 /// The report of a bundle, which these entries give, of which these are ignored.
@@ -67,13 +96,13 @@ fn figures(bundle: &Bundle, entries: &[Value], ignored: Vec<Ignored>) -> Report
 }
 
 /// The tree of a JSON text.
-fn tree_of(alloc: Global, document: &[u8]) -> Result<Value, DocError>
-    ensures { MatchResult result (λ tree. json_tree document.now ≡ Some (view tree)) (λ e. e ≡ DocError.Memory) }
+fn tree_of(alloc: Global, document: &[u8]) -> Result<Value, AllocError>
+    ensures { IfOk result (λ tree. json_tree document.now ≡ Some (view tree)) }
 {
     match Value::from_slice(alloc, document) {
         Ok(tree) => Ok(tree),
-        // It is a JSON text, since it was judged to be a bundle.
-        Err(_) => Err(DocError::Memory),
+        // It is a JSON text, since its keys were judged.
+        Err(_) => Err(AllocError),
     }
 }
 

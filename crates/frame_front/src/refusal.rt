@@ -61,7 +61,7 @@ fn document_place(fault: DocError) -> Option<usize>
 {
     match fault {
         DocError::BadEntry(place)
-        | DocError::BadKey { place, .. }
+        | DocError::BadKey(place)
         | DocError::BadX5c(place)
         | DocError::BadKid(place)
         | DocError::KidTwice(place) => Some(place),

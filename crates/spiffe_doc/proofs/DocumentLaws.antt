@@ -75,7 +75,7 @@ authorities_valid entries authorities h = go (least_fault entries (length entrie
 
 fault_place : (place : ℕ) (tree : Data) (e : DocError) → IsMalformed place tree e → IfSome (place_of e) (λ at. at ≡ place)
 fault_place place tree (BadEntry at) h = h.0
-fault_place place tree (BadKey at member) h = h.0
+fault_place place tree (BadKey at) h = h.0
 fault_place place tree (BadX5c at) h = h.0
 fault_place place tree (BadKid at) h = h.0
 fault_place place tree TooLong h = absurd h

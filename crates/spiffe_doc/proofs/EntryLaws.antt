@@ -21,7 +21,7 @@ use Rattle.spiffe_doc.specs.Text.{entry_tree}
 use Rattle.spiffe_doc.specs.Entry.{member_text, HasText, HasKey, GivesAuthority, IsObject, HasKnownType, HasKnownUse, HasOtherCurve, IsIgnored, IsKnown, IsMalformed, IsVerdict, HasOneVerdict}
 use Rattle.spiffe_doc.specs.Judgement.{key_type, key_use, key_of, certificate, key_id, authority_for, with_key, known_entry, judge}
 use Rattle.spiffe_doc.proofs.Members.{certificate-some, certificate-encoded, certificate-none, key_id-some, key_id-text, key_id-none, use_text, use_of, of_use, of_type, known_type, type_known, known_use, use_known}
-use Rattle.spiffe_doc.proofs.Keys.{TellsKey, key_of-HasKey, key_of-other_curve, key_of-LacksMember, key_of-tells}
+use Rattle.spiffe_doc.proofs.Keys.{TellsKey, key_of-HasKey, key_of-other_curve, key_of-tells, key_of-no_key}
 
 -- ---- what is judged becomes of it
 
@@ -56,7 +56,11 @@ known_outcome place entry is_object (Some kind) (Some role) kty is_use = go (key
   where
     go : (r : Result (Option PublicKey) DocError) → key_of place kind entry ≡ r → TellsKey place entry r → IsVerdict place entry (r >>= with_key place role entry)
     go (Err e) is tells =
-        rw (tells.1) (refl, is_known place entry kind role is_object kty is_use (λ passed. cc (sym is ∙ passed)), tells.2)
+        rw tells (
+          refl,
+          is_known place entry kind role is_object kty is_use (λ passed. cc (sym is ∙ passed)),
+          λ some. cc (sym is ∙ key_of-HasKey place entry kind some.0 kty some.1 some.2),
+        )
     go (Ok None) is other = (is_object, inr (inr other))
     go (Ok (Some key)) is tells =
         keyed_outcome place entry role key (is_known place entry kind role is_object kty is_use (λ passed. cc (sym is ∙ passed))) tells.0 tells.1 (use_of entry role is_use)
@@ -139,12 +143,12 @@ IsAtFault-judge place entry (BadEntry at) h = elim (cases_Bool (is_some (as_obje
   | inl is_object ↦ absurd (h.1 is_object)
   | inr other ↦ rw other (ap (λ i. Err (BadEntry i)) (sym h.0))
 ]
-IsAtFault-judge place entry (BadKey at member) h =
+IsAtFault-judge place entry (BadKey at) h =
     let kind = type_known entry h.1.has_type in
     let role = use_known entry h.1.has_use in
     judge-known place entry kind.0 role.0 h.1.object kind.1 role.1
-    ∙ ap (λ r. r >>= with_key place role.0 entry) (key_of-LacksMember place entry kind.0 member kind.1 h.2)
-    ∙ ap (λ i. Err (BadKey i member)) (sym h.0)
+    ∙ ap (λ r. r >>= with_key place role.0 entry) (key_of-no_key place entry kind.0 kind.1 h.1.no_other_curve h.2)
+    ∙ ap (λ i. Err (BadKey i)) (sym h.0)
 IsAtFault-judge place entry (BadX5c at) h =
     let kind = type_known entry h.1.has_type in
     judge-keyed place entry kind.0 uses.X509 h.2.0 h.1.object kind.1 (of_use entry uses.X509 h.3) h.2.1 h.2.2

@@ -1,10 +1,8 @@
--- The key of an entry is read as what its members encode, and its first faulty member is named.
+-- The key of an entry is read as what its members encode, or it is malformed.
 use Rattle.std.proofs.Common.{◌≡◌, ℕ, List, codes, Option, Some, None, Result, Ok, Err, refl, sym, ap, ◌∙◌}
 use Rattle.std.specs.Option.{ok_or}
 use Rattle.serde_json.specs.Data.{Data}
 use Rattle.spiffe_doc.specs.declared.key.Curve.{Curve}
-use Rattle.spiffe_doc.specs.declared.key.KeyMember.{KeyMember}
-use Rattle.spiffe_doc.specs.declared.key.KeyMember.TheVariants.{Crv, X, Y, N, E}
 use Rattle.spiffe_doc.specs.declared.key.PublicKey.{PublicKey}
 use Rattle.spiffe_doc.specs.declared.key.PublicKey.TheVariants.{Ec, Rsa}
 use Rattle.spiffe_doc.specs.declared.entry.KeyType.{KeyType}
@@ -14,18 +12,21 @@ use Rattle.spiffe_doc.specs.declared.error.DocError.TheVariants.{BadKey}
 use Rattle.spiffe_doc.specs.Answer.{◌>>=◌}
 use Rattle.spiffe_doc.specs.Key.{EcKeyValue, RsaKeyValue, curve_text, IsEcKey, IsRsaKey}
 use Rattle.spiffe_doc.specs.Authority.{IsPublicKey}
-use Rattle.spiffe_doc.specs.Entry.{member_text, HasText, HasBytes, HasCurve, HasKey, HasOtherCurve, HasCoordinate, HasRsaMember, LacksMember}
+use Rattle.spiffe_doc.specs.Entry.{member_text, HasText, HasBytes, HasCurve, HasKey, HasOtherCurve, HasSomeKey}
 use Rattle.spiffe_doc.specs.Judgement.{curve_named, key_type, coordinate, rsa_member, point_key, rsa_key, key_on, key_of}
-use Rattle.spiffe_doc.proofs.Members.{coordinate-some, coordinate-encoded, coordinate-none, rsa_member-some, rsa_member-encoded, rsa_member-none, curve_named-some, curve_named-text, other_curve, no_curve, type_of, of_type}
+use Rattle.spiffe_doc.proofs.Members.{coordinate-some, coordinate-encoded, rsa_member-some, rsa_member-encoded, curve_named-some, curve_named-text, other_curve, no_curve, type_of, of_type}
 
--- the entry has a faulty member, and this error names it
-abbrev pub NamesMember : ℕ → Data → DocError → Type 0
-NamesMember place entry e = (member : KeyMember) × (e ≡ BadKey place member) × LacksMember entry member
+-- a key of two members is refused for this reason only
+two_members : (place : ℕ) (e : DocError) (key : List ℕ → List ℕ → PublicKey) (x y : Option (List ℕ))
+    → (ok_or x (BadKey place) >>= (λ x. ok_or y (BadKey place) >>= (λ y. Ok (key x y)))) ≡ Err e → e ≡ BadKey place
+two_members place e key None y h = cc h
+two_members place e key (Some x) None h = cc h
+two_members place e key (Some x) (Some y) h = cc h
 
 -- ---- over a curve
 
 ec_key_with : (place : ℕ) (curve : Curve) (entry : Data) (x y : Option (List ℕ)) → coordinate curve (codes "x") entry ≡ x → coordinate curve (codes "y") entry ≡ y
-    → point_key place curve entry ≡ (ok_or x (BadKey place (X curve)) >>= (λ x. ok_or y (BadKey place (Y curve)) >>= (λ y. Ok (Ec (record { curve = curve; x = x; y = y })))))
+    → point_key place curve entry ≡ (ok_or x (BadKey place) >>= (λ x. ok_or y (BadKey place) >>= (λ y. Ok (Ec (record { curve = curve; x = x; y = y })))))
 unfolding point_key
 ec_key_with place curve entry x y ex ey = rw (ex, ey) refl
 
@@ -43,21 +44,10 @@ point_key-ok place curve entry k over h = go (coordinate curve (codes "x") entry
         let py = coordinate-some curve (codes "y") entry y ey in
         rw (← same) (record { x = px.0; y = py.0 }, (over, px.1, py.1))
 
-point_key-err : (place : ℕ) (curve : Curve) (entry : Data) (e : DocError) → HasCurve entry curve → point_key place curve entry ≡ Err e → NamesMember place entry e
-point_key-err place curve entry e over h = go (coordinate curve (codes "x") entry) (coordinate curve (codes "y") entry) refl refl
-  where
-    lacks : (name : List ℕ) → coordinate curve name entry ≡ None → ¬ (HasCoordinate entry curve name)
-    lacks name none has = cc (sym none ∙ coordinate-encoded curve name entry has.0 has.1 has.2)
-
-    go : (x y : Option (List ℕ)) → coordinate curve (codes "x") entry ≡ x → coordinate curve (codes "y") entry ≡ y → NamesMember place entry e
-    go None y ex ey =
-        let same : BadKey place (X curve) ≡ e = cc (sym (ec_key_with place curve entry None y ex ey) ∙ h) in
-        (X curve, sym same, (over, lacks (codes "x") ex))
-    go (Some x) None ex ey =
-        let same : BadKey place (Y curve) ≡ e = cc (sym (ec_key_with place curve entry (Some x) None ex ey) ∙ h) in
-        let px = coordinate-some curve (codes "x") entry x ex in
-        (Y curve, sym same, (over, (x, px.0, px.1), lacks (codes "y") ey))
-    go (Some x) (Some y) ex ey = cc (sym (ec_key_with place curve entry (Some x) (Some y) ex ey) ∙ h)
+point_key-err : (place : ℕ) (curve : Curve) (entry : Data) (e : DocError) → point_key place curve entry ≡ Err e → e ≡ BadKey place
+unfolding point_key
+point_key-err place curve entry e h =
+    two_members place e (λ x y. Ec (record { curve = curve; x = x; y = y })) (coordinate curve (codes "x") entry) (coordinate curve (codes "y") entry) h
 
 pub key_of-ec : (place : ℕ) (key : EcKeyValue) (entry : Data) → IsEcKey key → HasText entry (codes "crv") (curve_text key.curve)
     → HasBytes entry (codes "x") key.x → HasBytes entry (codes "y") key.y → key_of place types.Ec entry ≡ Ok (Some (Ec key))
@@ -68,7 +58,7 @@ key_of-ec place key entry h crv x y =
 -- ---- RSA
 
 rsa_key_with : (place : ℕ) (entry : Data) (n e : Option (List ℕ)) → rsa_member (codes "n") entry ≡ n → rsa_member (codes "e") entry ≡ e
-    → rsa_key place entry ≡ (ok_or n (BadKey place N) >>= (λ n. ok_or e (BadKey place E) >>= (λ e. Ok (Rsa (record { n = n; e = e })))))
+    → rsa_key place entry ≡ (ok_or n (BadKey place) >>= (λ n. ok_or e (BadKey place) >>= (λ e. Ok (Rsa (record { n = n; e = e })))))
 unfolding rsa_key
 rsa_key_with place entry n e en ee = rw (en, ee) refl
 
@@ -85,21 +75,9 @@ rsa_key-ok place entry k kty h = go (rsa_member (codes "n") entry) (rsa_member (
         let pe = rsa_member-some (codes "e") entry e ee in
         rw (← same) (record { n = pn.0; e = pe.0 }, (kty, pn.1, pe.1))
 
-rsa_key-err : (place : ℕ) (entry : Data) (e : DocError) → HasText entry (codes "kty") (codes "RSA") → rsa_key place entry ≡ Err e → NamesMember place entry e
-rsa_key-err place entry e kty h = go (rsa_member (codes "n") entry) (rsa_member (codes "e") entry) refl refl
-  where
-    lacks : (name : List ℕ) → rsa_member name entry ≡ None → ¬ (HasRsaMember entry name)
-    lacks name none has = cc (sym none ∙ rsa_member-encoded name entry has.0 has.1 has.2)
-
-    go : (n x : Option (List ℕ)) → rsa_member (codes "n") entry ≡ n → rsa_member (codes "e") entry ≡ x → NamesMember place entry e
-    go None x en ee =
-        let same : BadKey place N ≡ e = cc (sym (rsa_key_with place entry None x en ee) ∙ h) in
-        (N, sym same, (kty, lacks (codes "n") en))
-    go (Some n) None en ee =
-        let same : BadKey place E ≡ e = cc (sym (rsa_key_with place entry (Some n) None en ee) ∙ h) in
-        let pn = rsa_member-some (codes "n") entry n en in
-        (E, sym same, (kty, (n, pn.0, pn.1), lacks (codes "e") ee))
-    go (Some n) (Some x) en ee = cc (sym (rsa_key_with place entry (Some n) (Some x) en ee) ∙ h)
+rsa_key-err : (place : ℕ) (entry : Data) (e : DocError) → rsa_key place entry ≡ Err e → e ≡ BadKey place
+unfolding rsa_key
+rsa_key-err place entry e h = two_members place e (λ n x. Rsa (record { n = n; e = x })) (rsa_member (codes "n") entry) (rsa_member (codes "e") entry) h
 
 pub key_of-rsa : (place : ℕ) (key : RsaKeyValue) (entry : Data) → IsRsaKey key
     → HasBytes entry (codes "n") key.n → HasBytes entry (codes "e") key.e → key_of place types.Rsa entry ≡ Ok (Some (Rsa key))
@@ -122,34 +100,13 @@ unfolding key_of
 key_of-other_curve place entry types.Ec kty other = rw (other.1.1, other_curve other.1.0 other.1.2) refl
 key_of-other_curve place entry types.Rsa kty other = cc (sym kty ∙ of_type entry types.Ec other.0)
 
--- an entry that lacks a member is malformed
-pub key_of-LacksMember : (place : ℕ) (entry : Data) (kind : KeyType) (member : KeyMember) → key_type entry ≡ Some kind → LacksMember entry member → key_of place kind entry ≡ Err (BadKey place member)
-unfolding key_of point_key rsa_key
-key_of-LacksMember place entry types.Ec Crv kty lacks = rw (no_text (member_text (codes "crv") entry) (λ text is. lacks.1 (text, is))) refl
-  where
-    no_text : (o : Option (List ℕ)) → ((text : List ℕ) → o ≡ Some text → ⊥) → o ≡ None
-    no_text None h = refl
-    no_text (Some text) h = absurd (h text refl)
-key_of-LacksMember place entry types.Ec (X curve) kty lacks =
-    rw (lacks.0.1, curve_named-text curve, coordinate-none curve (codes "x") entry lacks.1) refl
-key_of-LacksMember place entry types.Ec (Y curve) kty lacks =
-    rw (lacks.0.1, curve_named-text curve, coordinate-encoded curve (codes "x") entry lacks.1.0 lacks.1.1 lacks.1.2, coordinate-none curve (codes "y") entry lacks.2) refl
-key_of-LacksMember place entry types.Ec N kty lacks = cc (sym kty ∙ of_type entry types.Rsa lacks.0)
-key_of-LacksMember place entry types.Ec E kty lacks = cc (sym kty ∙ of_type entry types.Rsa lacks.0)
-key_of-LacksMember place entry types.Rsa Crv kty lacks = cc (sym kty ∙ of_type entry types.Ec lacks.0)
-key_of-LacksMember place entry types.Rsa (X curve) kty lacks = cc (sym kty ∙ of_type entry types.Ec lacks.0.0)
-key_of-LacksMember place entry types.Rsa (Y curve) kty lacks = cc (sym kty ∙ of_type entry types.Ec lacks.0.0)
-key_of-LacksMember place entry types.Rsa N kty lacks = rw (rsa_member-none (codes "n") entry lacks.1) refl
-key_of-LacksMember place entry types.Rsa E kty lacks =
-    rw (rsa_member-encoded (codes "n") entry lacks.1.0 lacks.1.1 lacks.1.2, rsa_member-none (codes "e") entry lacks.2) refl
-
 -- what holds of an entry whose key is read so
 abbrev pub TellsKey : ℕ → Data → Result (Option PublicKey) DocError → Type 0
 TellsKey place entry (Ok (Some key)) = IsPublicKey key × HasKey entry key
 TellsKey place entry (Ok None) = HasOtherCurve entry
-TellsKey place entry (Err e) = NamesMember place entry e
+TellsKey place entry (Err e) = e ≡ BadKey place
 
-with_some : (place : ℕ) (entry : Data) (r : Result PublicKey DocError) → ((key : PublicKey) → r ≡ Ok key → IsPublicKey key × HasKey entry key) → ((e : DocError) → r ≡ Err e → NamesMember place entry e)
+with_some : (place : ℕ) (entry : Data) (r : Result PublicKey DocError) → ((key : PublicKey) → r ≡ Ok key → IsPublicKey key × HasKey entry key) → ((e : DocError) → r ≡ Err e → e ≡ BadKey place)
     → TellsKey place entry (r >>= (λ key. Ok (Some key)))
 with_some place entry (Ok key) ok err = ok key refl
 with_some place entry (Err e) ok err = err e refl
@@ -158,15 +115,24 @@ pub key_of-tells : (place : ℕ) (entry : Data) (kind : KeyType) → key_type en
 unfolding key_of
 key_of-tells place entry types.Rsa kty =
     let text = type_of entry types.Rsa kty in
-    with_some place entry (rsa_key place entry) (λ key is. rsa_key-ok place entry key text is) (λ e is. rsa_key-err place entry e text is)
+    with_some place entry (rsa_key place entry) (λ key is. rsa_key-ok place entry key text is) (λ e is. rsa_key-err place entry e is)
 key_of-tells place entry types.Ec kty = named (member_text (codes "crv") entry) refl
   where
     curved : (text : List ℕ) (o : Option Curve) → member_text (codes "crv") entry ≡ Some text → curve_named text ≡ o → TellsKey place entry (key_on place entry o)
     curved text None crv is = (type_of entry types.Ec kty, (text, crv, no_curve text is))
     curved text (Some curve) crv is =
         let over : HasCurve entry curve = (type_of entry types.Ec kty, crv ∙ ap Some (curve_named-some text curve is)) in
-        with_some place entry (point_key place curve entry) (λ key read. point_key-ok place curve entry key over read) (λ e read. point_key-err place curve entry e over read)
+        with_some place entry (point_key place curve entry) (λ key read. point_key-ok place curve entry key over read) (λ e read. point_key-err place curve entry e read)
 
-    named : (o : Option (List ℕ)) → member_text (codes "crv") entry ≡ o → TellsKey place entry (ok_or o (BadKey place Crv) >>= (λ text. key_on place entry (curve_named text)))
-    named None crv = (Crv, refl, (type_of entry types.Ec kty, λ has. cc (sym crv ∙ has.1)))
+    named : (o : Option (List ℕ)) → member_text (codes "crv") entry ≡ o → TellsKey place entry (ok_or o (BadKey place) >>= (λ text. key_on place entry (curve_named text)))
+    named None crv = refl
     named (Some text) crv = curved text (curve_named text) crv refl
+
+-- an entry of a known curve that has no key is malformed
+pub key_of-no_key : (place : ℕ) (entry : Data) (kind : KeyType) → key_type entry ≡ Some kind → ¬ (HasOtherCurve entry) → ¬ (HasSomeKey entry) → key_of place kind entry ≡ Err (BadKey place)
+key_of-no_key place entry kind kty known none = go (key_of place kind entry) (key_of-tells place entry kind kty)
+  where
+    go : (r : Result (Option PublicKey) DocError) → TellsKey place entry r → r ≡ Err (BadKey place)
+    go (Ok (Some key)) tells = absurd (none (key, tells.0, tells.1))
+    go (Ok None) tells = absurd (known tells)
+    go (Err e) tells = ap Err tells

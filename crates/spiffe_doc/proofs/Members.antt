@@ -16,7 +16,7 @@ use Rattle.spiffe_doc.specs.declared.entry.KeyUse.{KeyUse}
 use Rattle.spiffe_doc.specs.declared.entry.KeyUse.TheVariants as uses
 use Rattle.spiffe_doc.specs.Key.{curve_text, IsCoordinate, IsRsaMember}
 use Rattle.spiffe_doc.specs.Authority.{IsCertificate, IsKeyId}
-use Rattle.spiffe_doc.specs.Entry.{member_text, HasText, HasBytes, HasCertificate, HasKnownType, HasKnownUse, HasCoordinate, HasRsaMember, HasSomeCertificate, HasSomeKeyId}
+use Rattle.spiffe_doc.specs.Entry.{member_text, HasText, HasBytes, HasCertificate, HasKnownType, HasKnownUse, HasSomeCertificate, HasSomeKeyId}
 use Rattle.spiffe_doc.specs.Judgement.{if_passes, encoded_bytes, key_type_named, key_use_named, curve_named, key_type, key_use, key_bytes, coordinate, rsa_member, only_text, der_bytes, certificate, key_id}
 use Rattle.spiffe_doc.proofs.EncodedLemmas.{encoded_bytes-some, encoded_bytes-encode_of}
 
@@ -54,9 +54,6 @@ pub coordinate-encoded : (curve : Curve) (name : List ℕ) (entry : Data) (b : L
 unfolding key_bytes
 coordinate-encoded curve name entry b h text = rw (text, encoded_bytes-encode_of url_safe_no_pad b refl h.octets, eq-eqb _ _ h.whole) refl
 
-pub coordinate-none : (curve : Curve) (name : List ℕ) (entry : Data) → ¬ (HasCoordinate entry curve name) → coordinate curve name entry ≡ None
-coordinate-none curve name entry lacks = none_where _ (λ b is. let p = coordinate-some curve name entry b is in lacks (b, p.0, p.1))
-
 pub rsa_member-some : (name : List ℕ) (entry : Data) (b : List ℕ) → rsa_member name entry ≡ Some b → IsRsaMember b × HasBytes entry name b
 rsa_member-some name entry b h =
     let p = filtered-some _ (key_bytes name entry) b h in
@@ -67,9 +64,6 @@ rsa_member-some name entry b h =
 pub rsa_member-encoded : (name : List ℕ) (entry : Data) (b : List ℕ) → IsRsaMember b → HasBytes entry name b → rsa_member name entry ≡ Some b
 unfolding key_bytes
 rsa_member-encoded name entry b h text = rw (text, encoded_bytes-encode_of url_safe_no_pad b refl h.octets, lt-ltb _ _ h.some, le-leb _ _ h.short) refl
-
-pub rsa_member-none : (name : List ℕ) (entry : Data) → ¬ (HasRsaMember entry name) → rsa_member name entry ≡ None
-rsa_member-none name entry lacks = none_where _ (λ b is. let p = rsa_member-some name entry b is in lacks (b, p.0, p.1))
 
 -- ---- certificates and key ids
 

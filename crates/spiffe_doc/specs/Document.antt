@@ -105,7 +105,7 @@ entry bytes = do
 
 abbrev pub place_of : DocError → Option ℕ
 place_of (BadEntry place) = Some place
-place_of (BadKey place member) = Some place
+place_of (BadKey place) = Some place
 place_of (BadX5c place) = Some place
 place_of (BadKid place) = Some place
 place_of (KidTwice place) = Some place

@@ -6,15 +6,13 @@ use Rattle.serde_json.specs.Find.{get, as_str, as_object}
 use Rattle.base64.specs.Engines.{url_safe_no_pad}
 use Rattle.base64.specs.GeneralPurpose.{encode_of}
 use Rattle.spiffe_doc.specs.declared.key.Curve.{Curve}
-use Rattle.spiffe_doc.specs.declared.key.KeyMember.{KeyMember}
-use Rattle.spiffe_doc.specs.declared.key.KeyMember.TheVariants.{Crv, X, Y, N, E}
 use Rattle.spiffe_doc.specs.declared.key.PublicKey.{PublicKey}
 use Rattle.spiffe_doc.specs.declared.key.PublicKey.TheVariants.{Ec, Rsa}
 use Rattle.spiffe_doc.specs.declared.authority.Authority.{Authority}
 use Rattle.spiffe_doc.specs.declared.authority.Authority.TheVariants.{X509, Jwt}
 use Rattle.spiffe_doc.specs.declared.error.DocError.{DocError}
 use Rattle.spiffe_doc.specs.declared.error.DocError.TheVariants.{BadEntry, BadKey, BadX5c, BadKid}
-use Rattle.spiffe_doc.specs.Key.{curve_text, IsCoordinate, IsRsaMember}
+use Rattle.spiffe_doc.specs.Key.{curve_text}
 use Rattle.spiffe_doc.specs.Authority.{IsPublicKey, IsCertificate, IsKeyId, IsAuthority}
 use Rattle.spiffe_doc.specs.Text.{x5c_list}
 
@@ -78,12 +76,6 @@ pub record IsKnown (entry : Data) : Type 0 where
   pub has_use : HasKnownUse entry
   pub no_other_curve : ¬ (HasOtherCurve entry)
 
-abbrev pub HasCoordinate : Data → Curve → List ℕ → Type 0
-HasCoordinate entry curve name = (bytes : List ℕ) × IsCoordinate curve bytes × HasBytes entry name bytes
-
-abbrev pub HasRsaMember : Data → List ℕ → Type 0
-HasRsaMember entry name = (bytes : List ℕ) × IsRsaMember bytes × HasBytes entry name bytes
-
 abbrev pub HasSomeKey : Data → Type 0
 HasSomeKey entry = (key : PublicKey) × IsPublicKey key × HasKey entry key
 
@@ -93,18 +85,10 @@ HasSomeCertificate entry = (der : List ℕ) × IsCertificate der × HasCertifica
 abbrev pub HasSomeKeyId : Data → Type 0
 HasSomeKeyId entry = (kid : List ℕ) × IsKeyId kid × HasText entry (codes "kid") kid
 
--- this is the first member of its key that is malformed
-abbrev pub LacksMember : Data → KeyMember → Type 0
-LacksMember entry Crv = HasText entry (codes "kty") (codes "EC") × ¬ ((text : List ℕ) × HasText entry (codes "crv") text)
-LacksMember entry (X curve) = HasCurve entry curve × ¬ (HasCoordinate entry curve (codes "x"))
-LacksMember entry (Y curve) = HasCurve entry curve × HasCoordinate entry curve (codes "x") × ¬ (HasCoordinate entry curve (codes "y"))
-LacksMember entry N = HasText entry (codes "kty") (codes "RSA") × ¬ (HasRsaMember entry (codes "n"))
-LacksMember entry E = HasText entry (codes "kty") (codes "RSA") × HasRsaMember entry (codes "n") × ¬ (HasRsaMember entry (codes "e"))
-
 -- the entry at this place is malformed, and this is its first fault
 abbrev pub IsMalformed : ℕ → Data → DocError → Type 0
 IsMalformed place entry (BadEntry at) = (at ≡ place) × ¬ (IsObject entry)
-IsMalformed place entry (BadKey at member) = (at ≡ place) × IsKnown entry × LacksMember entry member
+IsMalformed place entry (BadKey at) = (at ≡ place) × IsKnown entry × ¬ (HasSomeKey entry)
 IsMalformed place entry (BadX5c at) =
     (at ≡ place) × IsKnown entry × HasSomeKey entry × HasText entry (codes "use") (codes "x509-svid") × ¬ (HasSomeCertificate entry)
 IsMalformed place entry (BadKid at) =

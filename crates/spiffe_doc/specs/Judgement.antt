@@ -10,7 +10,6 @@ use Rattle.base64.specs.Engines.{standard, url_safe_no_pad}
 use Rattle.base64.specs.GeneralPurpose.{encode_of, decoded_of}
 use Rattle.spiffe_doc.specs.declared.key.Curve.{Curve}
 use Rattle.spiffe_doc.specs.declared.key.Curve.TheVariants.{P256, P384, P521}
-use Rattle.spiffe_doc.specs.declared.key.KeyMember.TheVariants.{Crv, X, Y, N, E}
 use Rattle.spiffe_doc.specs.declared.key.PublicKey.{PublicKey}
 use Rattle.spiffe_doc.specs.declared.key.PublicKey.TheVariants.{Ec, Rsa}
 use Rattle.spiffe_doc.specs.declared.authority.Authority.{Authority}
@@ -96,14 +95,14 @@ key_id entry = if_passes (λ kid. nat_lt 0 (length kid) && nat_le (length kid) 2
 
 unfoldable pub point_key : ℕ → Curve → Data → Result PublicKey DocError
 point_key place curve entry = do
-  x ← ok_or (coordinate curve (codes "x") entry) (BadKey place (X curve))
-  y ← ok_or (coordinate curve (codes "y") entry) (BadKey place (Y curve))
+  x ← ok_or (coordinate curve (codes "x") entry) (BadKey place)
+  y ← ok_or (coordinate curve (codes "y") entry) (BadKey place)
   Ok (Ec (record { curve = curve; x = x; y = y }))
 
 unfoldable pub rsa_key : ℕ → Data → Result PublicKey DocError
 rsa_key place entry = do
-  n ← ok_or (rsa_member (codes "n") entry) (BadKey place N)
-  e ← ok_or (rsa_member (codes "e") entry) (BadKey place E)
+  n ← ok_or (rsa_member (codes "n") entry) (BadKey place)
+  e ← ok_or (rsa_member (codes "e") entry) (BadKey place)
   Ok (Rsa (record { n = n; e = e }))
 
 -- the key, or none if the curve is unknown
@@ -112,7 +111,7 @@ key_on place entry None = Ok None
 key_on place entry (Some curve) = point_key place curve entry >>= (λ key. Ok (Some key))
 
 unfoldable pub key_of : ℕ → KeyType → Data → Result (Option PublicKey) DocError
-key_of place types.Ec entry = ok_or (member_text (codes "crv") entry) (BadKey place Crv) >>= (λ text. key_on place entry (curve_named text))
+key_of place types.Ec entry = ok_or (member_text (codes "crv") entry) (BadKey place) >>= (λ text. key_on place entry (curve_named text))
 key_of place types.Rsa entry = rsa_key place entry >>= (λ key. Ok (Some key))
 
 unfoldable pub authority_for : ℕ → KeyUse → PublicKey → Data → Result Authority DocError

@@ -10,7 +10,7 @@ ghost use Rattle.spiffe_doc.specs.Private.Borrowed.{tree_data, list_data};
 
 use crate::authority::{Authority, Certificate, KeyId};
 use crate::error::DocError;
-use crate::key::{Curve, EcKey, KeyMember, PublicKey, RsaKey};
+use crate::key::{Curve, EcKey, PublicKey, RsaKey};
 use crate::octets::Octets;
 use crate::tree::{array, is_object, member, string};
 use base64::DecodeAllocError;
@@ -171,10 +171,10 @@ fn point_key<A: Allocator>(
     ensures { Gives DocError.Memory result (judged.point_key place curve (tree_data entry.now)) }
 {
     let Some(x) = coordinate(alloc, entry, "x", curve)? else {
-        return Err(bad_key(place, KeyMember::X(curve)));
+        return Err(DocError::BadKey(place));
     };
     let Some(y) = coordinate(alloc, entry, "y", curve)? else {
-        return Err(bad_key(place, KeyMember::Y(curve)));
+        return Err(DocError::BadKey(place));
     };
     Ok(PublicKey::Ec(EcKey::new(curve, x, y)))
 }
@@ -188,18 +188,12 @@ fn rsa_key<A: Allocator>(
     ensures { Gives DocError.Memory result (judged.rsa_key place (tree_data entry.now)) }
 {
     let Some(n) = rsa_member(alloc, entry, "n")? else {
-        return Err(bad_key(place, KeyMember::N));
+        return Err(DocError::BadKey(place));
     };
     let Some(e) = rsa_member(alloc, entry, "e")? else {
-        return Err(bad_key(place, KeyMember::E));
+        return Err(DocError::BadKey(place));
     };
     Ok(PublicKey::Rsa(RsaKey::new(n, e)))
-}
-
-fn bad_key(place: usize, member: KeyMember) -> DocError
-    ensures { result ≡ DocError.BadKey place member }
-{
-    DocError::BadKey { place, member }
 }
 
 /// The key of an entry of this type, or `None` if its curve is unknown.
@@ -215,7 +209,7 @@ fn key_of<A: Allocator>(
     match key_type {
         KeyType::Ec => {
             let Some(name) = member_text(entry, "crv") else {
-                return Err(bad_key(place, KeyMember::Crv));
+                return Err(DocError::BadKey(place));
             };
             match curve_named(name) {
                 Some(curve) => Ok(Some(point_key(alloc, place, entry, curve)?)),

@@ -2,7 +2,6 @@
 ghost use Rattle.std.specs.Prelude.{◌≡◌};
 ghost use Rattle.spiffe_doc.specs.Number.{doc_number};
 
-use crate::key::KeyMember;
 use std::alloc::AllocError;
 use thiserror::Error;
 
@@ -23,8 +22,8 @@ pub enum DocError {
     BadHint,
     #[error("key {0} is not a JSON object")]
     BadEntry(usize),
-    #[error("the {member} member of key {place} is not {}", .member.form())]
-    BadKey { place: usize, member: KeyMember },
+    #[error("a member of the public key of key {0} is missing or malformed")]
+    BadKey(usize),
     #[error("the x5c member of key {0} is not a list of one text of padded base64")]
     BadX5c(usize),
     #[error("the kid member of key {0} is not a text of 1 to 255 bytes")]
@@ -50,7 +49,7 @@ impl DocError {
             DocError::BadSequence => 14,
             DocError::BadHint => 15,
             DocError::BadEntry(_) => 16,
-            DocError::BadKey { .. } => 17,
+            DocError::BadKey(_) => 17,
             DocError::BadX5c(_) => 18,
             DocError::BadKid(_) => 19,
             DocError::KidTwice(_) => 20,

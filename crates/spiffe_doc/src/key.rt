@@ -4,7 +4,6 @@ ghost use Rattle.spiffe_doc.specs.Key.{coordinate_len};
 
 use crate::octets::Octets;
 use std::alloc::AllocError;
-use std::fmt;
 use std::marker::Model;
 
 /// An elliptic curve (RFC 7518, section 6.2.1.1).
@@ -24,48 +23,6 @@ impl Curve {
             Curve::P256 => 32,
             Curve::P384 => 48,
             Curve::P521 => 66,
-        }
-    }
-}
-
-/// A member of a JWK of which its key is made (RFC 7518, sections 6.2.1 and 6.3.1).
-#[derive(Clone, Copy, Debug, PartialEq, Eq, Drop)]
-pub enum KeyMember {
-    /// `crv`, the name of the curve.
-    Crv,
-    /// `x`, a coordinate over the curve.
-    X(Curve),
-    /// `y`, the other coordinate.
-    Y(Curve),
-    /// `n`, the modulus.
-    N,
-    /// `e`, the exponent.
-    E,
-}
-
-impl KeyMember {
-    /// What the member has to be, as a message says it.
-    pub(crate) fn form(&self) -> &'static str {
-        match self {
-            KeyMember::Crv => "a text",
-            KeyMember::X(curve) | KeyMember::Y(curve) => match curve {
-                Curve::P256 => "32 bytes of base64url",
-                Curve::P384 => "48 bytes of base64url",
-                Curve::P521 => "66 bytes of base64url",
-            },
-            KeyMember::N | KeyMember::E => "1 to 1024 bytes of base64url",
-        }
-    }
-}
-
-impl fmt::Display for KeyMember {
-    fn fmt<W: fmt::Write>(&self, f: &mut fmt::Formatter<W>) -> fmt::Result {
-        match self {
-            KeyMember::Crv => write!(f, "crv"),
-            KeyMember::X(_) => write!(f, "x"),
-            KeyMember::Y(_) => write!(f, "y"),
-            KeyMember::N => write!(f, "n"),
-            KeyMember::E => write!(f, "e"),
         }
     }
 }

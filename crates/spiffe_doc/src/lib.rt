@@ -30,7 +30,7 @@ pub use bundle::Bundle;
 pub use document::{DocumentReader, read_document, read_entry};
 pub use error::{AppendError, DocError};
 pub use id::{IdError, SpiffeId};
-pub use key::{Curve, EcKey, KeyMember, PublicKey, RsaKey};
+pub use key::{Curve, EcKey, PublicKey, RsaKey};
 pub use name::{NameError, TrustDomain};
 pub use octets::Octets;
 pub use text::{write_document, write_entry};

@@ -3,7 +3,7 @@ use super::tells;
 use std::alloc::{AllocError, Global};
 
 /// Documents that are not bundles, and what is wrong.
-static DOCUMENTS: [(&str, &str); 21] = [
+static DOCUMENTS: [(&str, &str); 25] = [
     (
         "{\"keys\":[]",
         "it is not a JSON text of UTF-8, nested at most 127 deep (11)",
@@ -49,6 +49,22 @@ static DOCUMENTS: [(&str, &str); 21] = [
     (
         "{\"keys\":[{\"kty\":\"EC\",\"use\":\"x509-svid\",\"crv\":\"P-256\",\"x\":\"AAAAAAAAAAAAAAAAAAAAAAAAAAAAAAAAAAAAAAAAAAA\"}]}",
         "keys[0] has a malformed y: it has to be 32 bytes of unpadded base64url (17)",
+    ),
+    (
+        "{\"keys\":[{\"kty\":\"EC\",\"use\":\"x509-svid\",\"crv\":5}]}",
+        "keys[0] has a malformed crv: it has to be a text (17)",
+    ),
+    (
+        "{\"keys\":[{\"kty\":\"EC\",\"use\":\"jwt-svid\",\"crv\":\"P-384\",\"x\":\"AAAAAAAAAAAAAAAAAAAAAAAAAAAAAAAAAAAAAAAAAAAAAAAAAAAAAAAAAAAAAAAA\",\"y\":7}]}",
+        "keys[0] has a malformed y: it has to be 48 bytes of unpadded base64url (17)",
+    ),
+    (
+        "{\"keys\":[{\"kty\":\"EC\",\"use\":\"jwt-svid\",\"crv\":\"P-521\",\"x\":\"AAAAAAAAAAAAAAAAAAAAAAAAAAAAAAAAAAAAAAAAAAAAAAAAAAAAAAAAAAAAAAAAAAAAAAAAAAAAAAAAAAAAAAAA\",\"y\":\"AA\"}]}",
+        "keys[0] has a malformed y: it has to be 66 bytes of unpadded base64url (17)",
+    ),
+    (
+        "{\"keys\":[{\"kty\":\"OKP\"},{\"kty\":\"RSA\",\"use\":\"jwt-svid\",\"n\":\"AQ\",\"e\":\"Aw==\"}]}",
+        "keys[1] has a malformed e: it has to be 1 to 1024 bytes of unpadded base64url (17)",
     ),
     (
         "{\"keys\":[{\"kty\":\"RSA\",\"use\":\"jwt-svid\",\"n\":\"\"}]}",

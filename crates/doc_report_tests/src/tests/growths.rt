@@ -1,7 +1,6 @@
 //! What a refused growth leaves.
 use super::is_equal_at;
-use doc_report::{put_report, report_on};
-use spiffe_doc::DocError;
+use doc_report::{DocFault, put_report, report_on};
 use std::alloc::AllocError;
 
 const DOCUMENT: &[u8] =
@@ -15,7 +14,7 @@ const LINES: &[u8] =
 fn a_refused_growth_appends_nothing(rt: HostRuntime) -> Result<(), AllocError> {
     let mut was_refused = false;
     let mut report = report_on(rt.alloc(), DOCUMENT);
-    if matches!(report, Err(DocError::Memory)) {
+    if report.as_ref().err() == Some(&DocFault::from(AllocError)) {
         was_refused = true;
         report = report_on(rt.alloc(), DOCUMENT);
     }
@@ -35,7 +34,7 @@ fn a_refused_growth_appends_nothing(rt: HostRuntime) -> Result<(), AllocError> {
 #[test]
 fn memory_is_no_verdict(rt: HostRuntime) -> Result<(), AllocError> {
     let mut out = Vec::new(rt.alloc());
-    put_report("a", &Err(DocError::Memory), &mut out)?;
+    put_report("a", &Err(DocFault::from(AllocError)), &mut out)?;
     let wanted = b"a: not judged: out of memory (22)\n".as_slice();
     is_equal_at(&rt, &out.as_slice(), &wanted, &"memory");
     Ok(())

@@ -1,6 +1,6 @@
 //! What a document comes to: how many authorities, or why it is refused.
 use super::{Parts, is_equal_at, text_of};
-use spiffe_doc::{DocError, KeyMember, read_document};
+use spiffe_doc::{DocError, read_document};
 use std::alloc::{AllocError, Global};
 use std::process::Abort;
 
@@ -91,20 +91,14 @@ static DOCUMENTS: [(Parts, Outcome); 25] = [
             "{\"keys\":[{\"kty\":\"OKP\",\"use\":\"jwt-svid\"},{},{\"kty\":\"EC\",\"use\":\"jwt-svid\"},5]}",
             1,
         )],
-        Err(DocError::BadKey {
-            place: 2,
-            member: KeyMember::Crv,
-        }),
+        Err(DocError::BadKey(2)),
     ),
     (
         &[(
             "{\"keys\":[{},{\"kty\":\"RSA\",\"use\":\"jwt-svid\",\"n\":\"AQAB\"}]}",
             1,
         )],
-        Err(DocError::BadKey {
-            place: 1,
-            member: KeyMember::E,
-        }),
+        Err(DocError::BadKey(1)),
     ),
     (
         &[(

@@ -1,7 +1,7 @@
 //! What an entry comes to, by itself and in a document, and what is kept of it.
 use super::documents::{Outcome, comes_to};
 use super::{Parts, authority, bundle, holds_at, is_equal_at, text_of};
-use spiffe_doc::{Authority, Bundle, Curve, DocError, KeyMember, PublicKey, read_entry};
+use spiffe_doc::{Authority, Bundle, Curve, DocError, PublicKey, read_entry};
 use std::alloc::{AllocError, Global};
 use std::process::Abort;
 use std::test::Fail;
@@ -30,45 +30,7 @@ const KID: &str = "{\"use\":\"jwt-svid\",\"kty\":\"RSA\",\"n\":\"AQAB\",\"e\":\"
 
 const N: &str = "{\"use\":\"jwt-svid\",\"kty\":\"RSA\",\"kid\":\"k\",\"e\":\"AQAB\",\"n\":\"";
 
-const BAD_CRV: Outcome = Err(DocError::BadKey {
-    place: 0,
-    member: KeyMember::Crv,
-});
-
-const BAD_X256: Outcome = Err(DocError::BadKey {
-    place: 0,
-    member: KeyMember::X(Curve::P256),
-});
-
-const BAD_Y256: Outcome = Err(DocError::BadKey {
-    place: 0,
-    member: KeyMember::Y(Curve::P256),
-});
-
-const BAD_X384: Outcome = Err(DocError::BadKey {
-    place: 0,
-    member: KeyMember::X(Curve::P384),
-});
-
-const BAD_Y384: Outcome = Err(DocError::BadKey {
-    place: 0,
-    member: KeyMember::Y(Curve::P384),
-});
-
-const BAD_Y521: Outcome = Err(DocError::BadKey {
-    place: 0,
-    member: KeyMember::Y(Curve::P521),
-});
-
-const BAD_N: Outcome = Err(DocError::BadKey {
-    place: 0,
-    member: KeyMember::N,
-});
-
-const BAD_E: Outcome = Err(DocError::BadKey {
-    place: 0,
-    member: KeyMember::E,
-});
+const BAD_KEY: Outcome = Err(DocError::BadKey(0));
 
 const BAD_X5C: Outcome = Err(DocError::BadX5c(0));
 
@@ -83,35 +45,35 @@ static ENTRIES: [(Parts, Outcome); 47] = [
     (&[(P999, 1), ("A", 42), (Y, 1), ("A", 42), (MAA, 1)], Ok(0)),
     (
         &[(P256, 1), ("A", 42), (Y, 1), ("A", 43), (MAA, 1)],
-        BAD_X256,
+        BAD_KEY,
     ),
     (
         &[(P256, 1), ("A", 42), ("B", 1), (Y, 1), ("A", 43), (MAA, 1)],
-        BAD_X256,
+        BAD_KEY,
     ),
     (
         &[(P256, 1), ("A", 43), ("=", 1), (Y, 1), ("A", 43), (MAA, 1)],
-        BAD_X256,
+        BAD_KEY,
     ),
     (
         &[(P256, 1), ("A", 64), (Y, 1), ("A", 64), (MAA, 1)],
-        BAD_X256,
+        BAD_KEY,
     ),
     (
         &[(P256, 1), ("A", 43), (Y, 1), ("A", 42), ("B", 1), (MAA, 1)],
-        BAD_Y256,
+        BAD_KEY,
     ),
     (
         &[(P384, 1), ("A", 65), (Y, 1), ("A", 65), (MAA, 1)],
-        BAD_X384,
+        BAD_KEY,
     ),
     (
         &[(P384, 1), ("A", 64), (Y, 1), ("A", 43), (MAA, 1)],
-        BAD_Y384,
+        BAD_KEY,
     ),
     (
         &[(P521, 1), ("A", 88), (Y, 1), ("A", 87), (MAA, 1)],
-        BAD_Y521,
+        BAD_KEY,
     ),
     // Certificates.
     (&[(X5C, 1), ("[\"MAA=\"]}", 1)], Ok(1)),
@@ -128,37 +90,37 @@ static ENTRIES: [(Parts, Outcome); 47] = [
     (&[(KID, 1), ("k", 255), ("\"}", 1)], Ok(1)),
     (&[(KID, 1), ("k", 256), ("\"}", 1)], BAD_KID),
     (&[(N, 1), ("A", 1366), ("\"}", 1)], Ok(1)),
-    (&[(N, 1), ("A", 1367), ("\"}", 1)], BAD_N),
+    (&[(N, 1), ("A", 1367), ("\"}", 1)], BAD_KEY),
     // The first fault is told.
-    (&[("{\"kty\":\"EC\",\"use\":\"jwt-svid\"}", 1)], BAD_CRV),
+    (&[("{\"kty\":\"EC\",\"use\":\"jwt-svid\"}", 1)], BAD_KEY),
     (
         &[("{\"kty\":\"EC\",\"use\":\"jwt-svid\",\"crv\":5}", 1)],
-        BAD_CRV,
+        BAD_KEY,
     ),
     (
         &[(
             "{\"kty\":\"EC\",\"use\":\"jwt-svid\",\"crv\":\"P-256\",\"x\":\"!\"}",
             1,
         )],
-        BAD_X256,
+        BAD_KEY,
     ),
     (
         &[("{\"kty\":\"RSA\",\"use\":\"jwt-svid\",\"e\":\"AQAB\"}", 1)],
-        BAD_N,
+        BAD_KEY,
     ),
     (
         &[(
             "{\"kty\":\"RSA\",\"use\":\"jwt-svid\",\"n\":\"\",\"e\":\"AQAB\"}",
             1,
         )],
-        BAD_N,
+        BAD_KEY,
     ),
     (
         &[(
             "{\"kty\":\"RSA\",\"use\":\"jwt-svid\",\"n\":\"AQAB\",\"e\":5}",
             1,
         )],
-        BAD_E,
+        BAD_KEY,
     ),
     (&[("5", 1)], Err(DocError::BadEntry(0))),
     (

@@ -1,6 +1,6 @@
 //! The numbers by which replies and fault lines name the refusals.
 use super::is_equal_at;
-use spiffe_doc::{DocError, IdError, KeyMember, NameError};
+use spiffe_doc::{DocError, IdError, NameError};
 
 static NAMES: [(NameError, u8); 4] = [
     (NameError::Empty, 1),
@@ -26,13 +26,7 @@ static DOCUMENTS: [(DocError, u8); 13] = [
     (DocError::BadSequence, 14),
     (DocError::BadHint, 15),
     (DocError::BadEntry(2), 16),
-    (
-        DocError::BadKey {
-            place: 3,
-            member: KeyMember::N,
-        },
-        17,
-    ),
+    (DocError::BadKey(3), 17),
     (DocError::BadX5c(4), 18),
     (DocError::BadKid(5), 19),
     (DocError::KidTwice(6), 20),
