@@ -1,16 +1,10 @@
 -- Entries in order, inserted into a map in turn.
-use Rattle.std.proofs.Common.{◌≡◌, T, ◌&&◌, Bool, true, false, cond, List, [], ◌∷◌, ◌++◌, append-nil, Option, Some, None, refl, sym, ap, subst, ◌∙◌}
+use Rattle.std.proofs.Common.{◌≡◌, T, ◌&&◌, Bool, true, false, cond, List, [], ◌∷◌, ◌++◌, append-nil, Option, Some, None, refl, sym, ap, ◌∙◌}
 use Rattle.spiffe_doc.specs.Authority.{BundleValue}
-use Rattle.std.specs.Ordering.{eq_by_cmp, is_eq, is_lt}
+use Rattle.std.specs.Ordering.{is_eq, is_lt}
 use Rattle.std.specs.declared.cmp.Ordering.{Ordering}
 use Rattle.std.specs.declared.cmp.Ordering.TheVariants.{Less, Equal, Greater}
-use Rattle.std.specs.Cmp.{eq_by_cmp_equiv}
 use Rattle.std.specs.Cmp.Lexicographic.{nat_list_cmp_total}
-use Rattle.std.specs.Map.{keys_of, lookup, update, update_all}
-use Rattle.std.specs.BTreeMap.{BTreeMap, is_at}
-use Rattle.std.specs.BTreeMap as tree
-use Rattle.std.specs.List.{AllByRecursion}
-use Rattle.std.specs.List.Sorted.{IsStrictlySortedBy}
 use Rattle.std.specs.FinMap.Entries.{below_all}
 use Rattle.std.specs.FinMap.{find, get-from_entries, get-from_sorted, entries-from_sorted, get-entries, get-empty, get-insert, is_sorted}
 use Rattle.std.specs.FinMap as finite
@@ -79,49 +73,10 @@ or_none None y e = e
 pub in_turn : (es : List (Name × Holding)) → T (is_sorted name_cmp es) → put_in_turn es ≡ finite.from_entries es
 in_turn es h = same_held _ _ (λ q. get-in_turn finite.empty es q h ∙ or_none _ _ (get-empty name_cmp q) ∙ sym (get-from_entries nat_list_cmp_total es q))
 
--- ---- the entries of a `BTreeMap`
-find_lookup : (q : Name) (es : List (Name × Holding)) → find name_cmp q es ≡ lookup (is_at (name_cmp q)) es
-find_lookup q [] = refl
-find_lookup q (e ∷ es) = ap (cond (eq_by_cmp name_cmp q e.0) (Some e.1)) (find_lookup q es)
-
-get-shown : (m : BTreeMap Name Holding) (q : Name) → finite.get (finite.from_entries {R = name_cmp} m.entries) q ≡ tree.get name_cmp m q
-get-shown m q = get-from_entries nat_list_cmp_total m.entries q ∙ find_lookup q m.entries
-
-below_those : (x : Name) (es : List (Name × Holding)) → AllByRecursion (λ y. name_cmp x y ≡ Less) (keys_of es) → T (below_all name_cmp x es)
-below_those x [] h = tt
-below_those x (e ∷ es) h = both _ _ (subst (λ o. T (is_lt o)) (sym h.0) tt) (below_those x es h.1)
-
-sorted_list : (es : List (Name × Holding)) → IsStrictlySortedBy name_cmp (keys_of es) → T (is_sorted name_cmp es)
-unfolding IsStrictlySortedBy
-sorted_list [] h = tt
-sorted_list (e ∷ es) h = both _ _ (below_those e.0 es h.0) (sorted_list es h.1)
-
-pub sorted_entries : (m : BTreeMap Name Holding) → tree.IsOrdered name_cmp m → T (is_sorted name_cmp m.entries)
-sorted_entries m h = sorted_list m.entries h
-
 pub entries_sorted : (es : List (Name × Holding)) → T (is_sorted name_cmp es) → finite.entries (finite.from_entries {R = name_cmp} es) ≡ es
 entries_sorted es h =
     ap finite.entries (same_held (finite.from_entries es) (finite.from_sorted es) (λ q. get-from_entries nat_list_cmp_total es q ∙ sym (get-from_sorted name_cmp es q h)))
     ∙ entries-from_sorted name_cmp es h
-
-after_one : (m : PlainMap) (e : Name × Holding) (q : Name) → finite.get (finite.insert m e.0 e.1) q ≡ update is_name (finite.get m) e.0 (Some e.1) q
-after_one m e q = get-insert nat_list_cmp_total m e.0 e.1 q ∙ ap (λ b. cond b (Some e.1) (finite.get m q)) ((eq_by_cmp_equiv nat_list_cmp_total).symm q e.0)
-
-same_updates : (f g : Name → Option Holding) (es : List (Name × Holding)) (q : Name) → ((r : Name) → f r ≡ g r) → update_all is_name f es q ≡ update_all is_name g es q
-same_updates f g [] q same = same q
-same_updates f g (e ∷ es) q same = same_updates (update is_name f e.0 (Some e.1)) (update is_name g e.0 (Some e.1)) es q (λ r. ap (cond (is_name e.0 r) (Some e.1)) (same r))
-
-get-with_entries : (m : PlainMap) (es : List (Name × Holding)) (q : Name) → finite.get (with_entries m es) q ≡ update_all is_name (finite.get m) es q
-get-with_entries m [] q = refl
-get-with_entries m (e ∷ es) q = get-with_entries (finite.insert m e.0 e.1) es q ∙ same_updates _ _ es q (after_one m e)
-
-none_in : (q : Name) → finite.get {R = name_cmp} (finite.empty {X = Holding}) q ≡ None
-none_in q = get-empty name_cmp q
-
--- a tree made of entries shows them, inserted in turn
-pub shown-made : (es : List (Name × Holding)) (held : BTreeMap Name Holding) → tree.IsFromIterResult name_cmp es held → finite.from_entries held.entries ≡ put_in_turn es
-shown-made es held made =
-    same_held _ _ (λ q. get-shown held q ∙ made.0 q ∙ same_updates _ _ es q (λ r. sym (none_in r)) ∙ sym (get-with_entries finite.empty es q))
 
 -- with nothing left to push, the pairs are all
 pub all_pushed : (pairs rest all : List (Name × BundleValue)) → pairs ++ rest ≡ all → rest ≡ [] → pairs ≡ all

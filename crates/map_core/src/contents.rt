@@ -20,7 +20,6 @@ use crate::table::RowEffect;
 use shared_map::{Shared, SharedMap};
 use spiffe_doc::{Bundle, TrustDomain};
 use std::alloc::{AllocError, Global};
-use std::collections::BTreeMap;
 use std::marker::Model;
 
 /// Bundles, and marks of removed ones, under the names of trust domains. Clauses see it as a plain map. A copy shares
@@ -206,12 +205,12 @@ impl Contents {
         push_all(&self.bundles, out)
     }
 
-    /// The map of these entries.
+    /// The map of these entries: of those under one name, the last one counts.
     pub(crate) fn from_entries(
         alloc: Global,
-        entries: BTreeMap<TrustDomain, Holding>,
+        entries: Vec<(TrustDomain, Holding)>,
     ) -> Result<Contents, AllocError>
-        ensures { IfOk result (λ all. all ≡ finite.from_entries entries.entries) }
+        ensures { IfOk result (λ all. all ≡ put_in_turn entries.items) }
     {
         let mut all = Contents::new(alloc);
         for (domain, held) in entries {

@@ -4,7 +4,6 @@ use Rattle.std.proofs.lemmas.List.{take_all, take_more}
 use Rattle.map_core.specs.PlainMap.{PlainMap}
 use Rattle.map_core.specs.Union.{put_together}
 use Rattle.map_core.specs.Private.Held.{only_bundle}
-use Rattle.map_core.proofs.Apart.{if_ok}
 use Rattle.map_core.proofs.Covers.{same-union}
 use Rattle.map_core.proofs.Unions.{put_more}
 use Rattle.map_core.proofs.union.gather_bundles.Goals as goal
@@ -17,7 +16,6 @@ loop-map-preserved c d =
     ∙ ap (λ (m : PlainMap). only_bundle (finite.get m d)) (sym (ap put_together more ∙ put_more (take i maps) map))
 
 pub returns : goal.returns
-returns c =
-    if_ok c.in_order.result (λ all e d.
-    ap (λ (m : PlainMap). only_bundle (finite.get m d)) e ∙ c.loop-map.invariant d
-    ∙ ap (λ (m : PlainMap). only_bundle (finite.get m d)) (ap put_together (take_all c.loop-map.map-index c.args.maps.now c.loop-map-test.false))) c.in_order.ensures
+returns c = λ d.
+    c.loop-map.invariant d
+    ∙ ap (λ (m : PlainMap). only_bundle (finite.get m d)) (ap put_together (take_all c.loop-map.map-index c.args.maps.now c.loop-map-test.false))
