@@ -9,7 +9,7 @@ ghost use Rattle.map_core.specs.Private.Turns.{put_in_turn};
 use crate::contents::Contents;
 use crate::held::Holding;
 use crate::reply::Snapshot;
-use spiffe_doc::TrustDomain;
+use spiffe_doc::{Memory, TrustDomain};
 use std::alloc::{AllocError, Global};
 use std::collections::BTreeMap;
 use std::marker::Model;
@@ -47,7 +47,7 @@ impl Union {
 
     /// What the other holds, and under other names what these hold. The bundles are shared. If memory runs out,
     /// these are gone.
-    pub fn add(mut self, other: &Contents) -> Result<Union, AllocError>
+    pub fn add(mut self, other: &Contents) -> Result<Union, Memory>
         ensures { IfOk result (λ added. added ≡ union self other.now) }
     {
         self.maps.push(other.copy()?)?;
@@ -55,14 +55,14 @@ impl Union {
     }
 
     /// The map that these are together.
-    pub fn into_contents(self) -> Result<Contents, AllocError>
+    pub fn into_contents(self) -> Result<Contents, Memory>
         ensures { IfOk result (λ all. all ≡ self) }
     {
         Contents::from_entries(self.alloc, gather(self.alloc, &self.maps)?)
     }
 
     /// All bundles with their names, in order.
-    pub fn into_snapshot(self) -> Result<Snapshot, AllocError>
+    pub fn into_snapshot(self) -> Result<Snapshot, Memory>
         ensures { IfOk result (λ all. all ≡ bundles self) }
     {
         match self.maps.as_slice() {
