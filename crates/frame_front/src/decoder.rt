@@ -6,7 +6,8 @@ ghost use Rattle.frame_front.specs.Decoder.{FailsAt};
 use crate::FrontError;
 use crate::frame::{LENGTH_BYTES, first_frame};
 use bytes::BytesMut;
-use std::alloc::{AllocError, Global};
+use spiffe_doc::Memory;
+use std::alloc::Global;
 use std::marker::Model;
 
 /// Takes the payloads of frames out of a stream that comes in pieces. Contracts see it as the bytes
@@ -27,7 +28,7 @@ impl Model for Decoder {
 
 impl Decoder {
     /// Keeps nothing yet.
-    pub fn new(alloc: Global) -> Result<Decoder, AllocError>
+    pub fn new(alloc: Global) -> Result<Decoder, Memory>
         ensures { IfOk result (λ d. d ≡ []) }
     {
         Ok(Decoder {
@@ -37,7 +38,7 @@ impl Decoder {
     }
 
     /// Takes the next piece of the stream. Without memory nothing of it is kept.
-    pub fn feed(&mut self, piece: &[u8]) -> Result<(), AllocError>
+    pub fn feed(&mut self, piece: &[u8]) -> Result<(), Memory>
         ensures ok { OnOk result (self.new ≡ self.old ++ piece.now) }
         ensures err { OnErr result (self.new ≡ self.old) }
     {

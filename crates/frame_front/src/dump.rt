@@ -13,7 +13,7 @@ use crate::reply::canonical_text;
 use crate::request::read_named_bundle;
 use arrayvec::ArrayVec;
 use map_core::Snapshot;
-use spiffe_doc::{Bundle, DocumentReader, TrustDomain};
+use spiffe_doc::{Bundle, DocumentReader, Memory, TrustDomain};
 use std::alloc::{AllocError, Global};
 use thiserror::Error;
 
@@ -141,7 +141,7 @@ fn first_count(dump: &[u8]) -> Option<(u64, &[u8])>
 
 /// A domain and its bundle, if the payload is one.
 #[tactic(auto, unfolding(crate::specs::Dump::item_of))]
-pub fn read_item(alloc: Global, payload: &[u8]) -> Result<Option<(TrustDomain, Bundle)>, AllocError>
+pub fn read_item(alloc: Global, payload: &[u8]) -> Result<Option<(TrustDomain, Bundle)>, Memory>
     ensures { IfOk result (λ item. item_of payload.now ≡ item) }
 {
     let Some((code, bytes)) = payload.split_first() else {
@@ -226,7 +226,7 @@ pub fn put_request(
     domain: &TrustDomain,
     expectation: &[u8],
     bundle: &Bundle,
-) -> Result<(), AllocError>
+) -> Result<(), Memory>
     requires { length expectation.now ≤ 1 }
     ensures { OnOk result (stream.new.items
         ≡ stream.old.items ++ frame (letter ∷ length domain.now ∷ domain.now ++ (expectation.now ++ text_of bundle.now))) }

@@ -12,10 +12,10 @@ use std::io::{ErrorKind, Read, Write};
 /// A reader that gives its bytes up to `after` of them, and then fails at each read.
 #[derive(Drop)]
 pub struct FaultyReader {
+    /// The bytes that were not given yet.
     pub bytes: Vec<u8>,
+    /// How many more of them it gives.
     pub after: usize,
-    /// How many bytes were given.
-    pub given: usize,
 }
 
 /// A writer that takes `room` bytes in all, and then fails at each write.
@@ -31,38 +31,32 @@ impl FaultyReader {
     pub fn new(bytes: Vec<u8>, after: usize) -> FaultyReader
         ensures bytes { result.bytes ≡ bytes }
         ensures after { result.after ≡ after }
-        ensures given { result.given ≡ 0 }
     {
-        FaultyReader {
-            bytes,
-            after,
-            given: 0,
-        }
+        FaultyReader { bytes, after }
     }
 }
 
 impl Read for FaultyReader {
-    ghost remaining = { λ r. Some (drop r.given r.bytes.items) };
+    ghost remaining = { λ r. Some r.bytes.items };
 
     fn read(&mut self, buf: &mut [u8]) -> io::Result<usize>
         ensures bound { ReadsAtMost result buf.new }
-        ensures bytes { ReadConsumes (Some (drop self.old.given self.old.bytes.items)) (Some (drop self.new.given self.new.bytes.items)) result buf.new }
-        ensures same { (self.new.bytes ≡ self.old.bytes) × (self.new.after ≡ self.old.after) }
-        ensures ok { IfOk result (λ count. (self.new.given ≡ self.old.given + count) × (self.new.given ≤ min self.old.after (length self.old.bytes.items))) }
-        ensures count { IfOk result (λ count. count ≡ min (length buf.new) (min self.old.after (length self.old.bytes.items) - self.old.given)) }
-        ensures left { OnOk result (self.old.given < min self.old.after (length self.old.bytes.items)) }
-        ensures fails { OnErr result ((min self.old.after (length self.old.bytes.items) ≤ self.old.given) × (self.new.given ≡ self.old.given)) }
+        ensures bytes { ReadConsumes (Some self.old.bytes.items) (Some self.new.bytes.items) result buf.new }
+        ensures ok { IfOk result (λ count. self.new.after + count ≡ self.old.after) }
+        ensures count { IfOk result (λ count. count ≡ min (length buf.new) (min self.old.after (length self.old.bytes.items))) }
+        ensures left { OnOk result (0 < min self.old.after (length self.old.bytes.items)) }
+        ensures fails { OnErr result ((min self.old.after (length self.old.bytes.items) ≡ 0) × (self.new ≡ self.old)) }
     {
-        let end = self.after.min(self.bytes.len());
-        if end <= self.given {
+        let left = self.after.min(self.bytes.len());
+        if left == 0 {
             return Err(io::Error::from(ErrorKind::Other));
         }
-        let (_, left) = self.bytes.as_slice().split_at(self.given);
-        let count = buf.len().min(end - self.given);
-        let (given, _) = left.split_at(count);
+        let count = buf.len().min(left);
+        let (given, _) = self.bytes.as_slice().split_at(count);
         let (front, _) = buf.split_at_mut(count);
         front.copy_from_slice(given);
-        self.given += count;
+        self.bytes.drain(..count);
+        self.after -= count;
         Ok(count)
     }
 }

@@ -11,8 +11,8 @@ use crate::shown::{Ready, answer_late};
 use crate::{Decoder, FrontError};
 use bytes::BytesMut;
 use map_core::Ask;
-use spiffe_doc::DocumentReader;
-use std::alloc::{AllocError, Global};
+use spiffe_doc::{DocumentReader, Memory};
+use std::alloc::Global;
 use std::marker::Model;
 
 /// The most bytes of input that are kept: a frame, and a piece.
@@ -56,7 +56,7 @@ impl Model for LiveSession {
 
 impl LiveSession {
     /// Nothing has come yet.
-    pub fn new(alloc: Global) -> Result<LiveSession, AllocError>
+    pub fn new(alloc: Global) -> Result<LiveSession, Memory>
         ensures { IfOk result (λ live. live ≡ live_start) }
     {
         Ok(LiveSession {
@@ -81,7 +81,7 @@ impl LiveSession {
 
     /// Takes the next piece of the input, or as much of its front as there is room for, and says how many bytes.
     /// If memory is refused, nothing has changed.
-    pub fn feed(&mut self, piece: &[u8]) -> Result<usize, AllocError>
+    pub fn feed(&mut self, piece: &[u8]) -> Result<usize, Memory>
         ensures taken { IfOk result (λ count. count ≡ min (length piece.now) (room_of self.old)) }
         ensures fed { IfOk result (λ count. Feeds (take count piece.now) self.old self.new) }
         ensures err { OnErr result (self.new ≡ self.old) }

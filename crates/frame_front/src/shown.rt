@@ -10,8 +10,8 @@ use crate::request::{Version, read_only_name};
 use crate::session::answer_any;
 use bytes::BytesMut;
 use map_core::{Ask, Viewer};
-use spiffe_doc::{Bundle, DocumentReader};
-use std::alloc::{AllocError, Global};
+use spiffe_doc::{Bundle, DocumentReader, Memory};
+use std::alloc::Global;
 
 /// The replies that are ready to be sent. The bundle that a get finds is stored among them where it is shown.
 #[derive(Drop)]
@@ -26,7 +26,7 @@ impl Viewer for Ready {
 
     ghost notes = { stores_found };
 
-    fn see(&mut self, bundle: &Bundle) -> Result<(), AllocError> {
+    fn see(&mut self, bundle: &Bundle) -> Result<(), Memory> {
         let text = canonical_text(bundle);
         let head = found_head(text);
         store_both(&mut self.bytes, head.as_slice(), text)

@@ -4,8 +4,7 @@ ghost use Rattle.map_core.specs.declared.op.Op.TheVariants.{Get};
 use crate::contents::Contents;
 use crate::op::Op;
 use crate::reply::{AskError, Reply};
-use spiffe_doc::{Bundle, TrustDomain};
-use std::alloc::AllocError;
+use spiffe_doc::{Bundle, Memory, TrustDomain};
 
 /// Whoever is shown the bundle that a get has found, where it is kept, in place of being given it.
 pub trait Viewer {
@@ -19,7 +18,7 @@ pub trait Viewer {
     ghost notes: { List ℕ → BundleValue → List ℕ → Type 0 };
 
     /// Looks at the bundle, and notes what it wants of it. Errors only if memory runs out, and then nothing was noted.
-    fn see(&mut self, bundle: &Bundle) -> Result<(), AllocError>
+    fn see(&mut self, bundle: &Bundle) -> Result<(), Memory>
         ensures ok { OnOk result (notes (noted self.old) bundle.now (noted self.new)) }
         ensures err { OnErr result (noted self.new ≡ noted self.old) };
 }

@@ -18,7 +18,7 @@ use crate::reply::{AskError, Reply, Snapshot};
 use crate::table;
 use crate::table::RowEffect;
 use shared_map::{Shared, SharedMap};
-use spiffe_doc::{Bundle, TrustDomain};
+use spiffe_doc::{Bundle, Memory, TrustDomain};
 use std::alloc::{AllocError, Global};
 use std::marker::Model;
 
@@ -88,7 +88,7 @@ impl Contents {
     }
 
     /// The reply to the operation and, if it reports a change, the map after it. This map stays as it is.
-    pub fn asked(&self, op: &Op) -> Result<(Reply, Option<Contents>), AllocError>
+    pub fn asked(&self, op: &Op) -> Result<(Reply, Option<Contents>), Memory>
         ensures reply { IfOk result (λ asked. asked.0 ≡ (ask self.now op.now).reply) }
         ensures left { IfOk result (λ asked. MatchOption asked.1
             (is_change asked.0 ≡ false)
@@ -120,7 +120,7 @@ impl Contents {
 
     /// Whether the operation would change the map. A bundle is compared and an authority is appended to a copy, which
     /// may be out of memory; an operation that carries neither is told without any.
-    pub fn would_change(&self, op: &Op) -> Result<bool, AllocError>
+    pub fn would_change(&self, op: &Op) -> Result<bool, Memory>
         ensures told { IfOk result (λ changes. changes ≡ is_change (ask self.now op.now).reply) }
         ensures always { carries_nothing op.now ≡ true → result ≡ Ok (is_change (ask self.now op.now).reply) }
     {
@@ -133,7 +133,7 @@ impl Contents {
     }
 
     /// The reply to a `Get` of the name, which leaves the map as it is. The bundle is shared.
-    pub fn get(&self, domain: &TrustDomain) -> Result<Reply, AllocError>
+    pub fn get(&self, domain: &TrustDomain) -> Result<Reply, Memory>
         ensures { IfOk result (λ reply. reply ≡ (ask self.now (Get domain.now)).reply) }
     {
         table::get(self.at(domain))
@@ -145,7 +145,7 @@ impl Contents {
         &self,
         domain: &TrustDomain,
         viewer: &mut V,
-    ) -> Result<Option<Reply>, AllocError>
+    ) -> Result<Option<Reply>, Memory>
         ensures { ShowsGet V.notes (λ answer. IfOk answer (λ reply. reply ≡ (ask self.now (Get domain.now)).reply)) (V.noted viewer.old) result (V.noted viewer.new) }
     {
         if let Some(Holding::Published(bundle)) = self.at(domain) {
@@ -164,7 +164,7 @@ impl Contents {
     }
 
     /// The same map. Its nodes are shared.
-    pub fn copy(&self) -> Result<Contents, AllocError>
+    pub fn copy(&self) -> Result<Contents, Memory>
         ensures { IfOk result (λ copy. copy ≡ self.now) }
     {
         Ok(Contents {
@@ -175,7 +175,7 @@ impl Contents {
     }
 
     /// All bundles with their names, in order, taken out of the map.
-    pub fn into_snapshot(self) -> Result<Snapshot, AllocError>
+    pub fn into_snapshot(self) -> Result<Snapshot, Memory>
         ensures { IfOk result (λ all. all ≡ bundles self) }
     {
         self.snapshot()

@@ -2,8 +2,7 @@
 ghost use Rattle.std.specs.Prelude.{◌≡◌, IfOk, option_copied};
 ghost use Rattle.map_core.specs.Op.{domain_of};
 
-use spiffe_doc::{Authority, Bundle, TrustDomain};
-use std::alloc::AllocError;
+use spiffe_doc::{Authority, Bundle, Memory, TrustDomain};
 use std::fmt;
 use std::fmt::{Display, Formatter, Write};
 
@@ -48,7 +47,7 @@ pub enum Op {
 
 impl Op {
     /// The same operation. Its bundle is shared.
-    pub fn copy(&self) -> Result<Op, AllocError>
+    pub fn copy(&self) -> Result<Op, Memory>
         ensures { IfOk result (λ copy. copy ≡ self.now) }
     {
         match self {

@@ -3,7 +3,7 @@ ghost use Rattle.std.specs.Prelude.{◌≡◌, length, IfOk};
 ghost use Rattle.map_core.specs.Reply.{is_change, refusal_number, error_number};
 
 use crate::op::Expect;
-use spiffe_doc::{Bundle, TrustDomain};
+use spiffe_doc::{Bundle, Memory, TrustDomain};
 use std::alloc::{AllocError, Global};
 use std::marker::Model;
 use std::sync::Arc;
@@ -29,10 +29,7 @@ impl Model for Snapshot {
 
 impl Snapshot {
     /// Takes the pairs as they are. If memory runs out, they are gone.
-    pub fn from_pairs(
-        alloc: Global,
-        pairs: Vec<(TrustDomain, Bundle)>,
-    ) -> Result<Snapshot, AllocError>
+    pub fn from_pairs(alloc: Global, pairs: Vec<(TrustDomain, Bundle)>) -> Result<Snapshot, Memory>
         ensures { IfOk result (λ all. all ≡ pairs.items) }
     {
         match Arc::new(alloc, pairs) {
@@ -42,7 +39,7 @@ impl Snapshot {
     }
 
     /// The same pairs, shared. Errors only if as many copies share them as can be counted.
-    pub fn copy(&self) -> Result<Snapshot, AllocError>
+    pub fn copy(&self) -> Result<Snapshot, Memory>
         ensures { IfOk result (λ copy. copy ≡ self.now) }
     {
         Ok(Snapshot {

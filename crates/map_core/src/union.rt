@@ -11,7 +11,7 @@ ghost use Rattle.map_core.specs.Private.Turns.{put_in_turn, begins_with};
 use crate::contents::Contents;
 use crate::held::Holding;
 use crate::reply::Snapshot;
-use spiffe_doc::TrustDomain;
+use spiffe_doc::{Memory, TrustDomain};
 use std::alloc::{AllocError, Global};
 use std::cmp::Ordering;
 use std::collections::VecDeque;
@@ -50,7 +50,7 @@ impl Union {
 
     /// What the other holds, and under other names what these hold. The bundles are shared. If memory runs out,
     /// these are gone.
-    pub fn add(mut self, other: &Contents) -> Result<Union, AllocError>
+    pub fn add(mut self, other: &Contents) -> Result<Union, Memory>
         ensures { IfOk result (λ added. added ≡ union self other.now) }
     {
         self.maps.push(other.copy()?)?;
@@ -58,14 +58,14 @@ impl Union {
     }
 
     /// The map that these are together.
-    pub fn into_contents(self) -> Result<Contents, AllocError>
+    pub fn into_contents(self) -> Result<Contents, Memory>
         ensures { IfOk result (λ all. all ≡ self) }
     {
         Contents::from_entries(self.alloc, gather(self.alloc, &self.maps)?)
     }
 
     /// All bundles with their names, in order.
-    pub fn into_snapshot(self) -> Result<Snapshot, AllocError>
+    pub fn into_snapshot(self) -> Result<Snapshot, Memory>
         ensures { IfOk result (λ all. all ≡ bundles self) }
     {
         match self.maps.as_slice() {

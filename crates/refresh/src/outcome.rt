@@ -7,7 +7,7 @@ use crate::due::next_due;
 use crate::relationship::Relationship;
 use crate::source::Source;
 use map_core::{Ask, AskError, Op, Reply};
-use spiffe_doc::{Bundle, DocError, read_document};
+use spiffe_doc::{Bundle, DocError, Memory, read_document};
 use std::alloc::{AllocError, Global};
 
 /// What a refresh came to.
@@ -51,7 +51,7 @@ pub fn refresh_once<S: Source, A: Ask>(
     ask: &mut A,
     relationship: &Relationship,
     now: u64,
-) -> Result<Outcome, AllocError>
+) -> Result<Outcome, Memory>
     ensures refreshes { Refreshes S.fetches A.answers relationship.now now (source.old, ask.old) result (source.new, ask.new) }
     ensures kept { KeepsUnlessStored A.shows ask.old result ask.new }
 {

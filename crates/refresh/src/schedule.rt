@@ -8,7 +8,8 @@ use crate::outcome::{Outcome, refresh_once};
 use crate::relationship::Relationship;
 use crate::source::Source;
 use map_core::Ask;
-use std::alloc::{AllocError, Global};
+use spiffe_doc::Memory;
+use std::alloc::Global;
 use std::marker::Model;
 
 /// Relationships, in the order in which they were given, and when each of them is due, in seconds.
@@ -31,7 +32,7 @@ impl Model for Schedule {
 
 impl Schedule {
     /// A schedule of these relationships, each due at 0. Out of memory, the relationships are gone.
-    pub fn new(alloc: Global, relationships: Vec<Relationship>) -> Result<Schedule, AllocError>
+    pub fn new(alloc: Global, relationships: Vec<Relationship>) -> Result<Schedule, Memory>
         ensures { IfOk result (λ s. (s.relationships ≡ relationships.items) × (s.due_times ≡ replicate (length relationships.items) 0)) }
     {
         let mut due_times = Vec::with_capacity(alloc, relationships.len())?;
@@ -93,7 +94,7 @@ pub fn refresh_at<S: Source, A: Ask>(
     schedule: &mut Schedule,
     place: usize,
     now: u64,
-) -> Result<Outcome, AllocError>
+) -> Result<Outcome, Memory>
     requires { place < length schedule.old.relationships }
     ensures refreshes { (r : RelationshipValue) × (slice_get schedule.old.relationships place ≡ Some r)
         × Refreshes S.fetches A.answers r now (source.old, ask.old) result (source.new, ask.new) }

@@ -20,7 +20,7 @@ use crate::recall::{ask_name, show_name};
 use crate::rule::{ShardTable, Slot};
 use atomic_table::Table;
 use map_core::{AskError, Contents, Expect, Op, Reply, Viewer};
-use spiffe_doc::{Authority, Bundle, TrustDomain};
+use spiffe_doc::{Authority, Bundle, Memory, TrustDomain};
 use std::alloc::{AllocError, Global};
 use std::marker::{Brand, Model};
 use std::sync::Arc;
@@ -55,7 +55,7 @@ impl Store {
         shards: usize,
         rounds: u64,
         tries: u64,
-    ) -> Result<(Store, Pass), AllocError>
+    ) -> Result<(Store, Pass), Memory>
         requires shards { (0 < shards) × (shards ≤ 256) }
         requires rounds { 0 < rounds }
         requires tries { 0 < tries }

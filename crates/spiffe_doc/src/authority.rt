@@ -1,10 +1,10 @@
 //! Authorities of a trust domain (SPIFFE Trust Domain and Bundle, section 4.2).
 ghost use Rattle.std.specs.Prelude.{◌≡◌, ◌<◌, ◌≤◌, length, IfOk, string_bytes, string_len};
 
+use crate::Memory;
 use crate::kept::Kept;
 use crate::key::PublicKey;
 use crate::octets::Octets;
-use std::alloc::AllocError;
 use std::marker::Model;
 use std::sync::Arc;
 
@@ -52,7 +52,7 @@ impl Certificate {
     }
 
     /// The same certificate. The first copy has memory of its own, which its copies share.
-    pub fn copy(&self) -> Result<Certificate, AllocError>
+    pub fn copy(&self) -> Result<Certificate, Memory>
         ensures { IfOk result (λ copy. copy ≡ self.now) }
     {
         Ok(Certificate {
@@ -109,7 +109,7 @@ impl KeyId {
     }
 
     /// The same key id. The first copy has memory of its own, which its copies share.
-    pub fn copy(&self) -> Result<KeyId, AllocError>
+    pub fn copy(&self) -> Result<KeyId, Memory>
         ensures { IfOk result (λ copy. copy ≡ self.now) }
     {
         let text = match &self.text {
@@ -148,7 +148,7 @@ impl Authority {
     }
 
     /// The same authority. The first copy has memory of its own, which its copies share.
-    pub fn copy(&self) -> Result<Authority, AllocError>
+    pub fn copy(&self) -> Result<Authority, Memory>
         ensures { IfOk result (λ copy. copy ≡ self.now) }
     {
         match self {

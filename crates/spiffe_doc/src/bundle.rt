@@ -4,6 +4,7 @@ ghost use Rattle.spiffe_doc.specs.Text.{text_of};
 ghost use Rattle.spiffe_doc.specs.Private.Writing.{front_text};
 ghost use Rattle.std.specs.Prelude.{◌≡◌, ◌<◌, ◌≤◌, length, IfOk, MatchOption};
 
+use crate::Memory;
 use crate::authority::Authority;
 use crate::text::push_rest;
 use std::alloc::{AllocError, Global};
@@ -96,7 +97,7 @@ impl Bundle {
     }
 
     /// The same bundle, shared: it costs a count.
-    pub fn copy(&self) -> Result<Bundle, AllocError>
+    pub fn copy(&self) -> Result<Bundle, Memory>
         ensures { IfOk result (λ copy. copy ≡ self.now) }
     {
         Ok(Bundle {

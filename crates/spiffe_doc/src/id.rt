@@ -5,6 +5,7 @@ ghost use Rattle.spiffe_doc.specs.Answer.{Gives};
 ghost use Rattle.spiffe_doc.specs.Number.{id_number};
 ghost use Rattle.spiffe_doc.specs.Id.{IdValue, IsId, id_text, IsPath, is_slash, is_segment_byte as segment_byte, is_segment as segment_test, first_bad as first_bad_from, segments_of, rest_fault as fault_of_rest, id_fault as fault, spiffe_id};
 
+use crate::Memory;
 use crate::name::{NameError, TrustDomain, name_fault};
 use std::alloc::{AllocError, Global};
 use std::marker::Model;
@@ -133,7 +134,7 @@ impl SpiffeId {
     }
 
     /// The same SPIFFE ID, in memory of its own.
-    pub fn copy(&self) -> Result<SpiffeId, AllocError>
+    pub fn copy(&self) -> Result<SpiffeId, Memory>
         ensures { IfOk result (λ copy. copy ≡ self.now) }
     {
         Ok(SpiffeId {

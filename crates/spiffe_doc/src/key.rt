@@ -2,8 +2,8 @@
 ghost use Rattle.std.specs.Prelude.{◌≡◌, length, IfOk};
 ghost use Rattle.spiffe_doc.specs.Key.{coordinate_len};
 
+use crate::Memory;
 use crate::octets::Octets;
-use std::alloc::AllocError;
 use std::marker::Model;
 
 /// An elliptic curve (RFC 7518, section 6.2.1.1).
@@ -81,7 +81,7 @@ impl EcKey {
     }
 
     /// The same key. The first copy has memory of its own, which its copies share.
-    pub fn copy(&self) -> Result<EcKey, AllocError>
+    pub fn copy(&self) -> Result<EcKey, Memory>
         ensures { IfOk result (λ copy. copy ≡ self.now) }
     {
         Ok(EcKey {
@@ -154,7 +154,7 @@ impl RsaKey {
     }
 
     /// The same key. The first copy has memory of its own, which its copies share.
-    pub fn copy(&self) -> Result<RsaKey, AllocError>
+    pub fn copy(&self) -> Result<RsaKey, Memory>
         ensures { IfOk result (λ copy. copy ≡ self.now) }
     {
         Ok(RsaKey {
@@ -203,7 +203,7 @@ impl PublicKey {
     }
 
     /// The same key. The first copy has memory of its own, which its copies share.
-    pub fn copy(&self) -> Result<PublicKey, AllocError>
+    pub fn copy(&self) -> Result<PublicKey, Memory>
         ensures { IfOk result (λ copy. copy ≡ self.now) }
     {
         match self {

@@ -34,3 +34,7 @@ pub use key::{Curve, EcKey, PublicKey, RsaKey};
 pub use name::{NameError, TrustDomain};
 pub use octets::Octets;
 pub use text::{write_document, write_entry};
+
+/// The answer of a call that can only run out of memory: std's own answer to a growth that was refused, so `?` hands it on.
+/// It is told by the number 22, as the variant `Memory` of other errors is.
+pub type Memory = std::alloc::AllocError;

@@ -6,6 +6,7 @@ ghost use Rattle.spiffe_doc.specs.Name.{IsName, is_name_byte as name_byte, name_
 ghost use Rattle.spiffe_doc.specs.Number.{name_number};
 ghost use Rattle.spiffe_doc.specs.Private.Prefix.{prefix_number};
 
+use crate::Memory;
 use crate::short_text::ShortText;
 use std::alloc::{AllocError, Global};
 use std::cmp::Ordering;
@@ -121,7 +122,7 @@ impl TrustDomain {
     }
 
     /// The same name. Errors only if memory runs out, and only for a name of over 24 bytes.
-    pub fn copy(&self) -> Result<TrustDomain, AllocError>
+    pub fn copy(&self) -> Result<TrustDomain, Memory>
         ensures { MatchResult result (λ copy. copy ≡ self.now) (λ _. 24 < length self.now) }
     {
         Ok(TrustDomain {

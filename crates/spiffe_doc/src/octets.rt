@@ -2,8 +2,8 @@
 ghost use Rattle.std.specs.Prelude.{◌≡◌, ◌==◌, length, IfOk};
 ghost use Rattle.spiffe_doc.specs.Key.{AreBytes};
 
+use crate::Memory;
 use crate::kept::Kept;
-use std::alloc::AllocError;
 use std::cmp::Ordering;
 use std::marker::Model;
 use std::sync::Arc;
@@ -65,7 +65,7 @@ impl Octets {
     }
 
     /// The same bytes. The first copy has memory of its own, which its copies share.
-    pub fn copy(&self) -> Result<Octets, AllocError>
+    pub fn copy(&self) -> Result<Octets, Memory>
         ensures { IfOk result (λ copy. copy ≡ self.now) }
     {
         let bytes = match &self.bytes {

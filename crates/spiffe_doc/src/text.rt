@@ -8,6 +8,7 @@ ghost use Rattle.spiffe_doc.specs.Key.{curve_text};
 ghost use Rattle.spiffe_doc.specs.Text.{entry_text, text_of};
 ghost use Rattle.spiffe_doc.specs.Private.Writing.{number_text, rest_text, x509_point_tree, x509_rsa_tree, jwt_point_tree, jwt_rsa_tree};
 
+use crate::Memory;
 use crate::authority::{Authority, Certificate, KeyId};
 use crate::bundle::Bundle;
 use crate::key::{Curve, PublicKey};
@@ -22,7 +23,7 @@ const FIXED_LEN: usize = 70;
 
 /// The canonical text of a bundle: compact JSON of the members that are kept, in byte order of their names. Errors only
 /// if memory runs out; `Bundle::text` lends the same bytes without it.
-pub fn write_document(alloc: Global, bundle: &Bundle) -> Result<Vec<u8>, AllocError>
+pub fn write_document(alloc: Global, bundle: &Bundle) -> Result<Vec<u8>, Memory>
     ensures { IfOk result (λ text. text.items ≡ text_of bundle.now) }
 {
     bundle.text().to_vec(alloc)
@@ -31,7 +32,7 @@ pub fn write_document(alloc: Global, bundle: &Bundle) -> Result<Vec<u8>, AllocEr
 /// The canonical text of an authority by itself: compact JSON of a JWK (RFC 7517, section 4), its members in byte order
 /// of their names, as it stands in the document of a bundle. One of at most 1,048,576 bytes reads back as the authority.
 /// Errors only if memory runs out.
-pub fn write_entry(alloc: Global, authority: &Authority) -> Result<Vec<u8>, AllocError>
+pub fn write_entry(alloc: Global, authority: &Authority) -> Result<Vec<u8>, Memory>
     ensures { IfOk result (λ text. text.items ≡ entry_text authority.now) }
 {
     match authority {

@@ -8,6 +8,7 @@ ghost use Rattle.step_core.specs.Trace.{records_of};
 use crate::driver::Driver;
 use crate::event::Event;
 use crate::trace::{OpRecord, Trace};
+use spiffe_doc::Memory;
 use std::alloc::{AllocError, Global};
 
 /// Runs the events over this many empty shards; a fetch-all has this many rounds. The order that comes with the
@@ -18,7 +19,7 @@ pub fn run_events(
     shards: usize,
     rounds: usize,
     events: &[Event],
-) -> Result<Trace, AllocError>
+) -> Result<Trace, Memory>
     requires shards { 0 < shards }
     requires rounds { 0 < rounds }
     ensures ops { IfOk result (λ trace. trace.ops.items ≡ records_of (run_of shards rounds events.now)) }

@@ -7,7 +7,7 @@ ghost use Rattle.map_core.specs.declared.op.Op.TheVariants.{Get};
 ghost use Rattle.step_core.specs.Shard.{fresh_shard, last_revision, of_shard, reading, step_on};
 
 use map_core::{AskError, Contents, Op, Reply};
-use spiffe_doc::TrustDomain;
+use spiffe_doc::{Memory, TrustDomain};
 use std::alloc::{AllocError, Global};
 use std::marker::Model;
 use std::sync::Arc;
@@ -40,14 +40,14 @@ impl Model for Shard {
 
 impl Shard {
     /// An empty shard of revision 0.
-    pub fn new(alloc: Global) -> Result<Shard, AllocError>
+    pub fn new(alloc: Global) -> Result<Shard, Memory>
         ensures { IfOk result (λ shard. shard ≡ fresh_shard) }
     {
         Shard::with(alloc, 0, Contents::new(alloc))
     }
 
     /// A shard of this revision and these contents. If memory runs out the contents are gone.
-    pub fn with(alloc: Global, revision: u64, contents: Contents) -> Result<Shard, AllocError>
+    pub fn with(alloc: Global, revision: u64, contents: Contents) -> Result<Shard, Memory>
         requires { revision ≤ last_revision }
         ensures { IfOk result (λ shard. shard ≡ record { revision = revision; part = contents }) }
     {
@@ -69,7 +69,7 @@ impl Shard {
     }
 
     /// The revision and the version, to keep. Later steps leave it.
-    pub fn share(&self) -> Result<(u64, Arc<Contents>), AllocError>
+    pub fn share(&self) -> Result<(u64, Arc<Contents>), Memory>
         ensures revision { IfOk result (λ shared. shared.0 ≡ self.now.revision) }
         ensures part { IfOk result (λ shared. arc_value shared.1 ≡ self.now.part) }
     {

@@ -10,8 +10,8 @@ use crate::home::{home, shard_of};
 use crate::shard::{Shard, at_shard, fresh_shards};
 use crate::task::{Answer, Task};
 use map_core::{Ask, AskError, Op, Reply};
-use spiffe_doc::TrustDomain;
-use std::alloc::{AllocError, Global};
+use spiffe_doc::{Memory, TrustDomain};
+use std::alloc::Global;
 use std::marker::Model;
 
 /// Shards that one caller owns. They answer as the plain map that they are together, but for a worn shard.
@@ -39,7 +39,7 @@ impl Model for Shards {
 
 impl Shards {
     /// This many empty shards of revision 0.
-    pub fn new(alloc: Global, count: usize) -> Result<Shards, AllocError>
+    pub fn new(alloc: Global, count: usize) -> Result<Shards, Memory>
         requires { 0 < count }
         ensures count { IfOk result (λ shards. length shards ≡ count) }
         ensures fresh { IfOk result (λ shards. (i : ℕ) → i < count → reading shards i ≡ fresh_shard) }

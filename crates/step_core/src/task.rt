@@ -8,7 +8,8 @@ use crate::home::shard_of;
 use crate::round;
 use crate::round::Reading;
 use map_core::{AskError, Contents, Op, Reply};
-use std::alloc::{AllocError, Global};
+use spiffe_doc::Memory;
+use std::alloc::Global;
 use std::marker::Model;
 use std::sync::Arc;
 
@@ -76,7 +77,7 @@ impl Model for Task {
 
 impl Task {
     /// Begins the operation over this many shards, within this many rounds.
-    pub fn begin(alloc: Global, op: &Op, shards: usize, rounds: usize) -> Result<Task, AllocError>
+    pub fn begin(alloc: Global, op: &Op, shards: usize, rounds: usize) -> Result<Task, Memory>
         requires shards { 0 < shards }
         requires rounds { 0 < rounds }
         ensures { IfOk result (λ task. task ≡ record { shards = shards; rounds = rounds; phase = start_phase shards op.now }) }

@@ -25,8 +25,9 @@ fn ends_as_the_reader_fails(
     );
     let (reader, writer) = client.into_ends();
     told?;
-    let found = (reader.faults(), reader.end.given, writer.faults());
-    is_equal_at(&found, &(1, after, 0), &line)?;
+    // What it was to give before it failed was read.
+    let found = (reader.faults(), reader.end.after, writer.faults());
+    is_equal_at(&found, &(1, 0, 0), &line)?;
     is_equal_at(&writer.end.as_slice(), &request, &after)
 }
 
