@@ -10,7 +10,7 @@ use Rattle.live_workers.specs.declared.arrivals.Arrival.{Arrival}
 use Rattle.live_workers.specs.Workers.{HasServed, HasFollowed, AllServed, AllFollowed}
 use Rattle.live_workers.specs.Private.Numbers.{AreNumbered}
 use Rattle.shard_store.specs.Pass.{StoreView, PassView, IsOf}
-use Rattle.live_workers.specs.declared.run.Worker.{Worker}
+use Rattle.live_workers.specs.declared.run.Task.{Task}
 use Rattle.workers.specs.declared.ended.Worked.{Worked}
 
 pub nil_if : {X : Type 0} (xs : List X) → length xs ≡ 0 → xs ≡ []
@@ -23,10 +23,10 @@ numbered_more first [] n h e = (omega (arith, e), tt)
 numbered_more first (m ∷ ms) n h e = (h.0, numbered_more (suc first) ms n h.1 (omega (arith, e)))
 
 -- one worker more
-pub numbered_pushed : {S : Type 0} (workers : List (Worker S)) (w : Worker S) → AreNumbered 0 (map (λ (v : Worker S). v.number) workers)
-    → w.number ≡ length workers → AreNumbered 0 (map (λ (v : Worker S). v.number) (workers ++ w ∷ []))
+pub numbered_pushed : {S : Type 0} (workers : List (Task S)) (w : Task S) → AreNumbered 0 (map (λ (v : Task S). v.number) workers)
+    → w.number ≡ length workers → AreNumbered 0 (map (λ (v : Task S). v.number) (workers ++ w ∷ []))
 numbered_pushed {S} workers w h e =
-    let number_of : Worker S → ℕ = λ v. v.number in
+    let number_of : Task S → ℕ = λ v. v.number in
     subst (AreNumbered 0) (sym (map_push number_of workers w)) (numbered_more 0 (map number_of workers) w.number h (omega (arith, e, length-map workers number_of)))
 
 -- the number in each place
@@ -36,10 +36,10 @@ number_in_place first (m ∷ ms) zero d h l = omega (arith, h.0)
 number_in_place first (m ∷ ms) (suc i) d h l = let rest = number_in_place (suc first) ms i d h.1 (omega arith) in omega (arith, rest)
 
 -- the pass of each worker comes from the store
-pub pass_in_place : {S : Type 0} (store : StoreView) (workers : List (Worker S)) (passes : List PassView) → map (λ (w : Worker S). w.pass) workers ≡ passes
-    → All (λ pass. IsOf pass store) passes → (i : ℕ) (x : Worker S) → i < length workers → x ≡ get_or workers i x → IsOf x.pass store
+pub pass_in_place : {S : Type 0} (store : StoreView) (workers : List (Task S)) (passes : List PassView) → map (λ (w : Task S). w.pass) workers ≡ passes
+    → All (λ pass. IsOf pass store) passes → (i : ℕ) (x : Task S) → i < length workers → x ≡ get_or workers i x → IsOf x.pass store
 pass_in_place {S} store workers passes same own i x l is =
-    let pass_of : Worker S → PassView = λ w. w.pass in
+    let pass_of : Task S → PassView = λ w. w.pass in
     let long : length passes ≡ length workers = ap length (sym same) ∙ length-map workers pass_of in
     let at : get_or passes i x.pass ≡ x.pass = ap (λ (ps : List PassView). get_or ps i x.pass) (sym same) ∙ (get_or-map pass_of workers i x x.pass l ∙ ap pass_of (sym is)) in
     subst (λ (p : PassView). IsOf p store) at (own i x.pass (omega arith))
@@ -59,17 +59,17 @@ module _ (opens : ℕ → ℕ → Bool → Type 0) (store : StoreView) where
   )
 
   -- what was given in each place was worked for the pass in that place, under that number, and follows what came there
-  pub followed_in_place : {E V F : Type 0} (most_silent : ℕ) (start : E → ConnectionView) (comes : V → ℕ → Arrival E → V → Type 0) (workers : List (Worker V)) (passes : List PassView) (arrivals : List V)
+  pub followed_in_place : {E V F : Type 0} (most_silent : ℕ) (start : E → ConnectionView) (comes : V → ℕ → Arrival E → V → Type 0) (workers : List (Task V)) (passes : List PassView) (arrivals : List V)
       (given : List (Result Worked F)) (all : List Worked)
-      → map (λ (w : Worker V). w.pass) workers ≡ passes → map (λ (w : Worker V). w.arrivals) workers ≡ arrivals → AreNumbered 0 (map (λ (w : Worker V). w.number) workers)
+      → map (λ (w : Task V). w.pass) workers ≡ passes → map (λ (w : Task V). w.arrivals) workers ≡ arrivals → AreNumbered 0 (map (λ (w : Task V). w.number) workers)
       → map Ok all ≡ given → length given ≡ length workers
       → ((i : ℕ) (r : Result Worked F) → i < length workers
-      → (job : Worker V) × (job ≡ get_or workers i job) × IfOk (get_or given i r) (λ w. HasFollowed opens most_silent start comes store job.number job.pass job.arrivals w))
+      → (job : Task V) × (job ≡ get_or workers i job) × IfOk (get_or given i r) (λ w. HasFollowed opens most_silent start comes store job.number job.pass job.arrivals w))
       → AllFollowed opens most_silent start comes store passes arrivals all
   followed_in_place {E} {V} {F} most_silent start comes workers passes arrivals given all same same_arrivals numbered gave long each =
-      let pass_of : Worker V → PassView = λ w. w.pass in
-      let arrivals_of : Worker V → V = λ w. w.arrivals in
-      let number_of : Worker V → ℕ = λ w. w.number in
+      let pass_of : Task V → PassView = λ w. w.pass in
+      let arrivals_of : Task V → V = λ w. w.arrivals in
+      let number_of : Task V → ℕ = λ w. w.number in
       let passes_long : length passes ≡ length workers = ap length (sym same) ∙ length-map workers pass_of in
       let all_long : length all ≡ length given = sym (length-map all Ok) ∙ ap length gave in
       λ i p v w l.

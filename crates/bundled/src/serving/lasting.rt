@@ -18,7 +18,7 @@ use crate::serving::shared::{Seat, Shared, Watch};
 use command_line::{Lasting, Settings};
 use commands::Fault;
 use frame_front::{Counted, FrontError};
-use live_workers::{Limits, run_arrivals};
+use live_workers::{Crew, Limits, run_arrivals};
 use server::{Said, SetUp, report, say};
 use shard_store::{Pass, Store};
 use std::alloc::{AllocError, Global};
@@ -117,14 +117,17 @@ fn run<H: Threads + Clock + Sync, L: Log + Copy + Sync>(
     ensures { IfOk result (λ all. AllServed always_open work.now.store.now 0 passes.items all.items) }
 {
     let (host, settings) = (work.host, work.settings);
-    let limits = Limits {
-        retries: settings.retries,
-        most_silent: work.lasting.idle.saturating_mul(TICKS_A_SECOND),
-        turns: settings.turns,
+    let crew = Crew {
+        rt: host.rt,
+        alloc: host.alloc,
+        log: host.log,
+        limits: Limits {
+            retries: settings.retries,
+            most_silent: work.lasting.idle.saturating_mul(TICKS_A_SECOND),
+            turns: settings.turns,
+        },
     };
-    run_arrivals(
-        host.rt, host.alloc, work.store, passes, incoming, &Open, host.log, limits,
-    )
+    run_arrivals(&crew, work.store, passes, incoming, &Open)
 }
 
 /// Runs the workers, and beside them waits for the end of the input: then they are to stop.
