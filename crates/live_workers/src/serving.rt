@@ -182,7 +182,7 @@ impl<E: Stream + Drop> Served<E> {
         ask: &mut AtPort<A>,
         worker: &Worker<'_, L>,
     ) -> Result<(), AllocError>
-        ensures { OnOk result ((most : ℕ) (ready : Option Bool) → closing_of ready ≡ is_closing → Serves A.answers most (turn_news place ready) (get self.old.open) (get self.new.open) self.old.ends self.new.ends ask.old.ask ask.new.ask) }
+        ensures { OnOk result ((ready : Option Bool) → closing_of ready ≡ is_closing → Serves A.answers worker.now.limits (turn_news place ready) (get self.old.open) (get self.new.open) self.old.ends self.new.ends ask.old.ask ask.new.ask) }
     {
         match self.turn(place, is_closing, ask) {
             None => Ok(()),
@@ -236,7 +236,7 @@ impl<E: Stream + Drop> Served<E> {
         place: usize,
         worker: &Worker<'_, L>,
     ) -> Result<(), AllocError>
-        ensures { OnOk result (Leaves worker.now.limits.most_silent (get self.old.open) (get self.new.open) self.old.ends self.new.ends) }
+        ensures { OnOk result (Leaves worker.now.limits (get self.old.open) (get self.new.open) self.old.ends self.new.ends) }
     {
         match self.is_silent(place, worker.limits.most_silent) {
             Some(error) => self.close(place, Err(error), worker),
@@ -246,7 +246,7 @@ impl<E: Stream + Drop> Served<E> {
 
     /// Leaves each connection whose client has been silent for too long.
     fn leave_silent<L: Log>(&mut self, worker: &Worker<'_, L>) -> Result<(), AllocError>
-        ensures { OnOk result (Leaves worker.now.limits.most_silent (get self.old.open) (get self.new.open) self.old.ends self.new.ends) }
+        ensures { OnOk result (Leaves worker.now.limits (get self.old.open) (get self.new.open) self.old.ends self.new.ends) }
     {
         let places = self.open.capacity();
         let mut place = 0;
@@ -291,16 +291,17 @@ impl<E: Stream + Drop> Served<E> {
         Ok(())
     }
 
-    /// Takes a connection at the next free place, and gives it a turn.
+    /// Takes a client at the next free place, and gives it a turn.
     fn begin<A: Ask, L: Log>(
         &mut self,
-        connection: Connection<E>,
+        end: E,
         reads_only: bool,
         ask: &mut AtPort<A>,
         worker: &Worker<'_, L>,
     ) -> Result<(), AllocError>
-        ensures { OnOk result ((most : ℕ) → Serves A.answers most (NewClient self.old.open.vacant_key connection reads_only ∷ []) (get self.old.open) (get self.new.open) self.old.ends self.new.ends ask.old.ask ask.new.ask) }
+        ensures { OnOk result (Serves A.answers worker.now.limits (NewClient self.old.open.vacant_key (opened worker.now.limits.turns (E.may end) (E.left end) (E.held end)) reads_only ∷ []) (get self.old.open) (get self.new.open) self.old.ends self.new.ends ask.old.ask ask.new.ask) }
     {
+        let connection = Connection::new(worker.alloc, end, worker.limits.turns)?;
         let place = self.take(connection, reads_only)?;
         self.serve(place, false, ask, worker)
     }
@@ -324,13 +325,10 @@ impl<E: Stream + Drop> Served<E> {
         worker: &Worker<'_, L>,
     ) -> Result<(), AllocError>
         requires { ¬ (IsStop arrival) }
-        ensures { OnOk result (Serves A.answers worker.now.limits.most_silent (news_in (λ end. opened worker.now.limits.turns (E.may end) (E.left end) (E.held end)) self.old.open.vacant_key arrival) (get self.old.open) (get self.new.open) self.old.ends self.new.ends ask.old.ask ask.new.ask) }
+        ensures { OnOk result (Serves A.answers worker.now.limits (news_in (λ end. opened worker.now.limits.turns (E.may end) (E.left end) (E.held end)) self.old.open.vacant_key arrival) (get self.old.open) (get self.new.open) self.old.ends self.new.ends ask.old.ask ask.new.ask) }
     {
         match arrival {
-            Arrival::Opens { end, reads_only } => {
-                let connection = Connection::new(worker.alloc, end, worker.limits.turns)?;
-                self.begin(connection, reads_only, ask, worker)
-            }
+            Arrival::Opens { end, reads_only } => self.begin(end, reads_only, ask, worker),
             Arrival::Ready { place, is_closing } => { self.serve(place, is_closing, ask, worker) }
             Arrival::Tick => {
                 self.tick();
@@ -348,7 +346,7 @@ impl<E: Stream + Drop> Served<E> {
         ask: &mut AtPort<A>,
         worker: &Worker<'_, L>,
     ) -> Result<(), AllocError>
-        ensures { OnOk result ((most : ℕ) → Serves A.answers most [] (get self.old.open) (get self.new.open) self.old.ends self.new.ends ask.old.ask ask.new.ask) }
+        ensures { OnOk result (Serves A.answers worker.now.limits [] (get self.old.open) (get self.new.open) self.old.ends self.new.ends ask.old.ask ask.new.ask) }
     {
         match self.again.pop_front() {
             Some(place) => {
@@ -370,8 +368,8 @@ pub fn serve_arrivals<V: Arrivals, A: Ask, L: Log>(
     arrivals: &mut V,
     ask: &mut AtPort<A>,
 ) -> Result<SessionEnds, AllocError>
-    ensures { IfOk result (λ ends. (served : ServedAll A.answers ends ask.old.ask ask.new.ask)
-        × Follows worker.now.limits.most_silent (λ end. opened worker.now.limits.turns (V.End.may end) (V.End.left end) (V.End.held end)) V.comes served.steps arrivals.old arrivals.new) }
+    ensures { IfOk result (λ ends. (served : ServedAll A.answers worker.now.limits.most_silent worker.now.limits.turns ends ask.old.ask ask.new.ask)
+        × Follows (λ end. opened worker.now.limits.turns (V.End.may end) (V.End.left end) (V.End.held end)) V.comes served.steps arrivals.old arrivals.new) }
 {
     let mut served = Served::new(worker.alloc);
     loop {
