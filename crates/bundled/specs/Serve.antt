@@ -1,7 +1,8 @@
 -- The two forms of the command `serve`: what it is that workers have served their clients.
-use Rattle.std.specs.Prelude.{◌≡◌, ℕ, ◌+◌, ◌<◌, min, List, map, Option, Some, None, Result, Ok, Err}
+use Rattle.std.specs.Prelude.{◌≡◌, ℕ, ◌+◌, ◌*◌, ◌<◌, min, List, map, Option, Some, None, Result, Ok, Err}
 use Rattle.std.specs.List.{All}
 use Rattle.std.specs.declared.net.TcpStream.{TcpStream}
+use Rattle.connections.specs.Connection.{counted}
 use Rattle.frame_front.specs.declared.counted.Counted.{Counted}
 use Rattle.shard_store.specs.Pass.{StoreView, PassView}
 use Rattle.workers.specs.Run.{AllWorked, kept}
@@ -12,6 +13,7 @@ use Rattle.workers.specs.declared.session.Session.{Session}
 use Rattle.live_workers.specs.Workers.{AllServed}
 use Rattle.command_line.specs.declared.settings.Connections.{Connections}
 use Rattle.command_line.specs.declared.settings.Connections.TheVariants.{Each, Unlimited}
+use Rattle.command_line.specs.declared.settings.Lasting.{Lasting}
 use Rattle.server.specs.Serve.{always_open}
 use Rattle.bundled.specs.declared.serving.blocking.Client.{Client}
 use Rattle.bundled.specs.declared.serving.clients.Clients.{Clients}
@@ -48,7 +50,15 @@ most_taken (Unlimited lasting) = 18446744073709551615
 abbrev pub most_turns : ℕ → ℕ
 most_turns turns = min turns 1000000000
 
+-- after how many ticks without a turn a client is given up: a second has four
+abbrev pub most_silent : Lasting → ℕ
+most_silent lasting = counted (lasting.idle * 4)
+
+-- Each worker has served its clients beside each other, has made at most so many reads of each, and has given none up before.
+abbrev pub ServedBeside : Lasting → ℕ → StoreView → List PassView → List Worked → Type 0
+ServedBeside lasting turns store passes worked = AllServed always_open (most_silent lasting) turns store 0 passes worked
+
 -- By the form: each worker has served its clients one after the other, or beside each other.
 abbrev pub ServedAs : Connections → ℕ → StoreView → List PassView → List Worked → Type 0
 ServedAs (Each count) turns store passes worked = ServedInTurn count (most_turns turns) store passes worked
-ServedAs (Unlimited lasting) turns store passes worked = AllServed always_open store 0 passes worked
+ServedAs (Unlimited lasting) turns store passes worked = ServedBeside lasting turns store passes worked

@@ -65,5 +65,5 @@ module _ {S : Type 0} (answers : S → Op → Result Reply AskError → S → Ty
   steps_keep (step ∷ steps) old new a = further old.1 a.0.1 new.1 (step_keeps step old a.0 a.1) (steps_keep steps a.0 new a.2)
 
   -- what each answer keeps, sessions keep
-  pub sessions_keep : (kept : EndsView) (old new : S) → ServedAll answers kept old new → Keeps old new
-  sessions_keep kept old new a = steps_keep a.steps (nobody, old) (nobody, new) a.takes
+  pub sessions_keep : (most_silent turns : ℕ) (kept : EndsView) (old new : S) → ServedAll answers most_silent turns kept old new → Keeps old new
+  sessions_keep most_silent turns kept old new a = steps_keep a.steps (nobody, old) (nobody, new) a.takes

@@ -9,12 +9,14 @@ use Rattle.map_core.specs.declared.op.Op.{Op}
 use Rattle.map_core.specs.declared.reply.Reply.{Reply}
 use Rattle.map_core.specs.declared.reply.AskError.{AskError}
 use Rattle.frame_front.specs.declared.error.FrontError.{FrontError}
-use Rattle.connections.specs.Connection.{ConnectionView, Owes, StopsFor, Turn, told, turn_rounds}
+use Rattle.connections.specs.Connection.{Owes, StopsFor, Turn, opened, told, turn_rounds}
+use Rattle.connections.specs.Stream.{May}
 use Rattle.connections.specs.declared.after.After.{After}
 use Rattle.live_workers.specs.AtPort.{PortAnswer}
 use Rattle.live_workers.specs.Arrivals.{News, NewClient, HasTicked}
+use Rattle.live_workers.specs.declared.limits.Limits.{Limits}
 use Rattle.workers.specs.Ended.{EndsView, Notes}
-use Rattle.live_workers.specs.Sessions.{Place, Places, Step, Opens, Turns, Misses, Ticks, Closes, GivesUp, Ends, Fails, AllStay, AllTick, IsPatient, NoneIsLast, OthersStay, TakesAll, told_by, closing_of, front_end, news_of, all_news, ticked}
+use Rattle.live_workers.specs.Sessions.{Place, Places, Step, Opens, Turns, Misses, Ticks, Closes, GivesUp, Ends, Fails, AllStay, AllTick, GoesSoFar, NoneIsLast, OthersStay, TakesAll, told_by, closing_of, front_end, news_of, all_news, ticked}
 use Rattle.live_workers.specs.Private.Serving.{Asks, EndsSome, GiveUp, HadTurn, HadLastTurn, Leaves, NobodyThere, Serves, turn_news}
 use Rattle.live_workers.proofs.StepLemmas.{all_stay, all_then, ends_none, notes_none, notes_then, serves_ending, serves_none, serves_quietly, serves_then, stay_then, steps_then}
 
@@ -57,50 +59,50 @@ module _ {S : Type 0} (answers : S → Op → Result Reply AskError → S → Ty
       subst (λ (u : S). EndsSome answers old new noted noted_new s u) (sym still)
       (subst (λ (n : EndsView). EndsSome answers old new noted n s s) (sym kept) (ends_none answers old new noted s same))
 
-module _ {S : Type 0} (answers : S → Op → Result Reply AskError → S → Type 0) (most : ℕ) where
+module _ {S : Type 0} (answers : S → Op → Result Reply AskError → S → Type 0) (limits : Limits) where
   -- a turn, whatever it follows
   pub turn_serves : (place : ℕ) (is_closing : Bool) (after : After) (old new : Places) (noted noted_new : EndsView) (s t : S)
       → HadTurn answers place is_closing (Some after) old new s t → noted_new ≡ noted
-      → (ready : Option Bool) → closing_of ready ≡ is_closing → Serves answers most (turn_news place ready) old new noted noted_new s t
+      → (ready : Option Bool) → closing_of ready ≡ is_closing → Serves answers limits (turn_news place ready) old new noted noted_new s t
   turn_serves place is_closing after old new noted noted_new s t h same None closes =
-      serves_quietly answers most (Turns place None after) old new noted noted_new s t
+      serves_quietly answers limits (Turns place None after) old new noted noted_new s t
       (h.before, record { connection = h.behind; reads_only = h.before.reads_only; silent = 0 }, h.was, h.is, told_so, refl, refl, h.others) (λ e. e) tt refl same
     where
       told_so : Turn turn_rounds (PortAnswer answers h.before.reads_only) after (told (closing_of None) h.before.connection) h.behind s t
       told_so = subst (λ b. Turn turn_rounds (PortAnswer answers h.before.reads_only) after (told b h.before.connection) h.behind s t) (sym closes) h.does
   turn_serves place is_closing after old new noted noted_new s t h same (Some b) closes =
-      serves_quietly answers most (Turns place (Some b) after) old new noted noted_new s t
+      serves_quietly answers limits (Turns place (Some b) after) old new noted noted_new s t
       (h.before, record { connection = h.behind; reads_only = h.before.reads_only; silent = 0 }, h.was, h.is, told_so, refl, refl, h.others) (λ e. e) tt refl same
     where
       told_so : Turn turn_rounds (PortAnswer answers h.before.reads_only) after (told b h.before.connection) h.behind s t
       told_so = subst (λ d. Turn turn_rounds (PortAnswer answers h.before.reads_only) after (told d h.before.connection) h.behind s t) (sym closes) h.does
 
   pub stays_serves : (old new : Places) (noted noted_new : EndsView) (s t : S)
-      → AllStay old new → noted_new ≡ noted → t ≡ s → Serves answers most [] old new noted noted_new s t
+      → AllStay old new → noted_new ≡ noted → t ≡ s → Serves answers limits [] old new noted noted_new s t
   stays_serves old new noted noted_new s t same kept still =
-      subst (λ (u : S). Serves answers most [] old new noted noted_new s u) (sym still)
-      (subst (λ (n : EndsView). Serves answers most [] old new noted n s s) (sym kept) (serves_none answers most old new noted s same))
+      subst (λ (u : S). Serves answers limits [] old new noted noted_new s u) (sym still)
+      (subst (λ (n : EndsView). Serves answers limits [] old new noted n s s) (sym kept) (serves_none answers limits old new noted s same))
 
   pub by_news : (h k : List News) (old new : Places) (noted noted_new : EndsView) (s t : S)
-      → k ≡ h → Serves answers most h old new noted noted_new s t → Serves answers most k old new noted noted_new s t
-  by_news h k old new noted noted_new s t same a = subst (λ n. Serves answers most n old new noted noted_new s t) (sym same) a
+      → k ≡ h → Serves answers limits h old new noted noted_new s t → Serves answers limits k old new noted noted_new s t
+  by_news h k old new noted noted_new s t same a = subst (λ n. Serves answers limits n old new noted noted_new s t) (sym same) a
 
   pub unchanged_news : (h : List News) (old new : Places) (noted noted_new : EndsView) (s t : S)
-      → Serves answers most (h ++ []) old new noted noted_new s t → Serves answers most h old new noted noted_new s t
-  unchanged_news h old new noted noted_new s t a = subst (λ n. Serves answers most n old new noted noted_new s t) (append-nil h) a
+      → Serves answers limits (h ++ []) old new noted noted_new s t → Serves answers limits h old new noted noted_new s t
+  unchanged_news h old new noted noted_new s t a = subst (λ n. Serves answers limits n old new noted noted_new s t) (append-nil h) a
 
   -- nobody had a turn
   pub missed_serves : (place : ℕ) (old new : Places) (noted noted_new : EndsView) (s t : S)
-      → NobodyThere answers place old new s t → noted_new ≡ noted → (ready : Option Bool) → Serves answers most (turn_news place ready) old new noted noted_new s t
+      → NobodyThere answers place old new s t → noted_new ≡ noted → (ready : Option Bool) → Serves answers limits (turn_news place ready) old new noted noted_new s t
   missed_serves place old new noted noted_new s t n same None = stays_serves old new noted noted_new s t n.1 same n.2
   missed_serves place old new noted noted_new s t n same (Some b) =
-      serves_quietly answers most (Misses place b) old new noted noted_new s t (n.0, n.1, n.2) (λ e. e) tt refl same
+      serves_quietly answers limits (Misses place b) old new noted noted_new s t (n.0, n.1, n.2) (λ e. e) tt refl same
 
   pub close_serves : (place : ℕ) (end : Result ℕ FrontError) (old new : Places) (noted noted_new : EndsView) (s : S) (p : Place) → old place ≡ Some p
       → StopsFor end p.connection → new place ≡ None → OthersStay place old new → Notes (front_end end ∷ []) noted noted_new
-      → Serves answers most [] old new noted noted_new s s
+      → Serves answers limits [] old new noted noted_new s s
   close_serves place end old new noted noted_new s p was ends left others notes =
-      serves_ending answers most (Closes place end) old new noted noted_new s s (p, was, ends, left, others, refl) (λ e. e) tt notes
+      serves_ending answers limits (Closes place end) old new noted noted_new s s (p, was, ends, left, others, refl) (λ e. e) tt notes
 
   -- clients may be given up in any run
   given_up_anywhere : (steps : List Step) (p q : Places) (s : S) → GiveUp steps → TakesAll Asks steps (p, tt) (q, tt) → TakesAll answers steps (p, s) (q, s)
@@ -138,33 +140,33 @@ module _ {S : Type 0} (answers : S → Op → Result Reply AskError → S → Ty
   no_last (Ends place result ∷ steps) ends = absurd ends
   no_last (Fails ∷ steps) ends = absurd ends
 
-  leaves_serves : (old new : Places) (n o : EndsView) (s : S) → Leaves most old new n o → Serves answers most [] old new n o s s
+  leaves_serves : (old new : Places) (n o : EndsView) (s : S) → Leaves limits old new n o → Serves answers limits [] old new n o s s
   leaves_serves old new n o s l = record {
     steps = l.steps;
     takes = given_up_anywhere l.steps old new s l.ends l.takes;
     notes = l.notes;
     follows = no_news l.steps l.ends;
     going = no_last l.steps l.ends;
-    patient = l.patient;
+    limited = l.limited;
   }
 
   -- a tick is counted, and then clients are given up
-  pub tick_serves : (old mid new : Places) (noted kept noted_new : EndsView) (s : S) → AllTick old mid → kept ≡ noted → Leaves most mid new kept noted_new
-      → Serves answers most (HasTicked ∷ []) old new noted noted_new s s
+  pub tick_serves : (old mid new : Places) (noted kept noted_new : EndsView) (s : S) → AllTick old mid → kept ≡ noted → Leaves limits mid new kept noted_new
+      → Serves answers limits (HasTicked ∷ []) old new noted noted_new s s
   tick_serves old mid new noted kept noted_new s ticks same l =
-      serves_then answers most (HasTicked ∷ []) [] old mid new noted kept noted_new s s s
-      (serves_quietly answers most Ticks old mid noted kept s s (ticks, refl) (λ e. e) tt refl same) (leaves_serves mid new kept noted_new s l)
+      serves_then answers limits (HasTicked ∷ []) [] old mid new noted kept noted_new s s s
+      (serves_quietly answers limits Ticks old mid noted kept s s (ticks, refl) (λ e. e) tt refl same) (leaves_serves mid new kept noted_new s l)
 
   -- a free place is taken
-  pub take_serves : (place : ℕ) (start : ConnectionView) (reads_only : Bool) (old new : Places) (noted noted_new : EndsView) (s : S)
-      → old place ≡ None → new place ≡ Some (record { connection = start; reads_only = reads_only; silent = 0 }) → OthersStay place old new → noted_new ≡ noted
-      → Serves answers most (NewClient place start reads_only ∷ []) old new noted noted_new s s
-  take_serves place start reads_only old new noted noted_new s free taken others same =
-      serves_quietly answers most (Opens place start reads_only) old new noted noted_new s s (free, taken, others, refl) (λ e. e) tt refl same
+  pub take_serves : (place : ℕ) (may : May) (left held : Option (List ℕ)) (reads_only : Bool) (old new : Places) (noted noted_new : EndsView) (s : S)
+      → old place ≡ None → new place ≡ Some (record { connection = opened limits.turns may left held; reads_only = reads_only; silent = 0 }) → OthersStay place old new → noted_new ≡ noted
+      → Serves answers limits (NewClient place (opened limits.turns may left held) reads_only ∷ []) old new noted noted_new s s
+  take_serves place may left held reads_only old new noted noted_new s free taken others same =
+      serves_quietly answers limits (Opens place (opened limits.turns may left held) reads_only) old new noted noted_new s s (free, taken, others, refl) (λ e. e) (may, left, held, refl) refl same
 
   pub fails_serves : (old new : Places) (noted noted_new : EndsView) (s : S)
-      → AllStay old new → Notes (told_by Fails) noted noted_new → Serves answers most (news_of Fails) old new noted noted_new s s
-  fails_serves old new noted noted_new s same notes = serves_ending answers most Fails old new noted noted_new s s (same, refl) (λ e. e) tt notes
+      → AllStay old new → Notes (told_by Fails) noted noted_new → Serves answers limits (news_of Fails) old new noted noted_new s s
+  fails_serves old new noted noted_new s same notes = serves_ending answers limits Fails old new noted noted_new s s (same, refl) (λ e. e) tt notes
 
 gives_up_then : (xs ys : List Step) → GiveUp xs → GiveUp ys → GiveUp (xs ++ ys)
 gives_up_then [] ys p q = q
@@ -177,28 +179,28 @@ gives_up_then (Closes place result ∷ xs) ys p q = absurd p
 gives_up_then (Ends place result ∷ xs) ys p q = absurd p
 gives_up_then (Fails ∷ xs) ys p q = absurd p
 
-module _ (most : ℕ) where
-  pub leaves_none : (old : Places) (n : EndsView) → Leaves most old old n n
-  leaves_none old n = record { steps = []; ends = tt; takes = (all_stay old, refl); notes = notes_none n; patient = tt }
+module _ (limits : Limits) where
+  pub leaves_none : (old : Places) (n : EndsView) → Leaves limits old old n n
+  leaves_none old n = record { steps = []; ends = tt; takes = (all_stay old, refl); notes = notes_none n; limited = tt }
 
-  pub leaves_then : (a b c : Places) (m n o : EndsView) → Leaves most a b m n → Leaves most b c n o → Leaves most a c m o
+  pub leaves_then : (a b c : Places) (m n o : EndsView) → Leaves limits a b m n → Leaves limits b c n o → Leaves limits a c m o
   leaves_then a b c m n o p q = record {
     steps = p.steps ++ q.steps;
     ends = gives_up_then p.steps q.steps p.ends q.ends;
     takes = steps_then Asks p.steps q.steps (a, tt) (b, tt) (c, tt) p.takes q.takes;
     notes = notes_then p.steps q.steps m n o p.notes q.notes;
-    patient = all_then (IsPatient most) p.steps q.steps p.patient q.patient;
+    limited = all_then (GoesSoFar limits.most_silent limits.turns) p.steps q.steps p.limited q.limited;
   }
 
   -- a client is given up
-  pub leaves_one : (place : ℕ) (error : FrontError) (old new : Places) (m o : EndsView) (p : Place) → old place ≡ Some p → Owes (Some error) p.connection → most ≤ p.silent
-      → new place ≡ None → OthersStay place old new → Notes (front_end (Err error) ∷ []) m o → Leaves most old new m o
+  pub leaves_one : (place : ℕ) (error : FrontError) (old new : Places) (m o : EndsView) (p : Place) → old place ≡ Some p → Owes (Some error) p.connection → limits.most_silent ≤ p.silent
+      → new place ≡ None → OthersStay place old new → Notes (front_end (Err error) ∷ []) m o → Leaves limits old new m o
   leaves_one place error old new m o p was owes long left others notes = record {
     steps = GivesUp place p.silent error ∷ [];
     ends = tt;
     takes = ((new, tt), (p, was, owes, refl, left, others, refl), (all_stay new, refl));
     notes = notes;
-    patient = (long, tt);
+    limited = (long, tt);
   }
 
 -- ---- places one after the other

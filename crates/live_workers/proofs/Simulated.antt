@@ -144,8 +144,8 @@ module _ {S T : Type 0} (answers : S → Op → Result Reply AskError → S → 
       (rest.0, ((a.0.0, seen a.0.1), one.1, rest.1))
 
   -- sessions over one state are sessions over what is seen of it, by the same steps
-  pub sessions_seen : (kept : EndsView) (old new : S) → Stays old → (a : ServedAll answers kept old new)
-      → Stays new × ((b : ServedAll answers_seen kept (seen old) (seen new)) × (b.steps ≡ a.steps))
-  sessions_seen kept old new stays a =
+  pub sessions_seen : (most_silent turns : ℕ) (kept : EndsView) (old new : S) → Stays old → (a : ServedAll answers most_silent turns kept old new)
+      → Stays new × ((b : ServedAll answers_seen most_silent turns kept (seen old) (seen new)) × (b.steps ≡ a.steps))
+  sessions_seen most_silent turns kept old new stays a =
       let all = steps_seen a.steps (nobody, old) (nobody, new) stays a.takes in
-      (all.0, (record { steps = a.steps; takes = all.1; ends = a.ends }, refl))
+      (all.0, (record { steps = a.steps; takes = all.1; ends = a.ends; limited = a.limited }, refl))

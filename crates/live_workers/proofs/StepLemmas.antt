@@ -8,8 +8,9 @@ use Rattle.map_core.specs.declared.op.Op.{Op}
 use Rattle.map_core.specs.declared.reply.Reply.{Reply}
 use Rattle.map_core.specs.declared.reply.AskError.{AskError}
 use Rattle.live_workers.specs.Arrivals.{News}
-use Rattle.live_workers.specs.Sessions.{Places, Step, Opens, Turns, Misses, Ticks, Closes, GivesUp, Ends, Fails, IsLast, IsPatient, OthersStay, AllStay, Takes, TakesAll, told_all, told_by, all_news, news_of, ticked}
-use Rattle.live_workers.specs.Private.Serving.{EndsSome, Serves}
+use Rattle.live_workers.specs.Sessions.{Places, Step, Opens, Turns, Misses, Ticks, Closes, GivesUp, Ends, Fails, AllAreLast, GoesSoFar, IsLast, OthersStay, AllStay, Takes, TakesAll, told_all, told_by, all_news, news_of, ticked}
+use Rattle.live_workers.specs.Private.Serving.{AreLimited, EndsSome, Serves}
+use Rattle.live_workers.specs.declared.limits.Limits.{Limits}
 use Rattle.workers.specs.Ended.{EndsView, Notes, kept_of}
 use Rattle.workers.specs.declared.ended.SessionFault.{SessionFault}
 
@@ -47,6 +48,18 @@ pub all_then : (P : Step → Type 0) (xs ys : List Step) → AllByRecursion P xs
 all_then P [] ys p q = q
 all_then P (x ∷ xs) ys p q = (p.0, all_then P xs ys p.1 q)
 
+-- last turns have no limit
+pub last_limited : (limits : Limits) (steps : List Step) → AllAreLast steps → AreLimited limits steps
+last_limited limits [] last = tt
+last_limited limits (Ends place result ∷ steps) last = (tt, last_limited limits steps last.1)
+last_limited limits (Opens place start reads_only ∷ steps) last = absurd last.0
+last_limited limits (Turns place ready after ∷ steps) last = absurd last.0
+last_limited limits (Misses place is_closing ∷ steps) last = absurd last.0
+last_limited limits (Ticks ∷ steps) last = absurd last.0
+last_limited limits (Closes place result ∷ steps) last = absurd last.0
+last_limited limits (GivesUp place ticks error ∷ steps) last = absurd last.0
+last_limited limits (Fails ∷ steps) last = absurd last.0
+
 module _ {S : Type 0} (answers : S → Op → Result Reply AskError → S → Type 0) where
   -- places that are the same are left in the same way
   step_from : (step : Step) (old also : Places) (s : S) (new : Places × S) → AllStay old also → Takes answers step (old, s) new → Takes answers step (also, s) new
@@ -68,40 +81,40 @@ module _ {S : Type 0} (answers : S → Op → Result Reply AskError → S → Ty
       steps_from ys b.0 a.0 a.1 c (λ place. sym (p.0 place)) (subst (λ (s : S). TakesAll answers ys (b.0, s) c) p.1 q)
   steps_then (x ∷ xs) ys a b c p q = (p.0, p.1, steps_then xs ys p.0 b c p.2 q)
 
-module _ {S : Type 0} (answers : S → Op → Result Reply AskError → S → Type 0) (most : ℕ) where
+module _ {S : Type 0} (answers : S → Op → Result Reply AskError → S → Type 0) (limits : Limits) where
   -- nothing is done
-  pub serves_none : (old new : Places) (noted : EndsView) (s : S) → AllStay old new → Serves answers most [] old new noted noted s s
-  serves_none old new noted s same = record { steps = []; takes = (same, refl); notes = notes_none noted; follows = refl; going = tt; patient = tt }
+  pub serves_none : (old new : Places) (noted : EndsView) (s : S) → AllStay old new → Serves answers limits [] old new noted noted s s
+  serves_none old new noted s same = record { steps = []; takes = (same, refl); notes = notes_none noted; follows = refl; going = tt; limited = tt }
 
   -- one step that ends a session
-  pub serves_ending : (step : Step) (old new : Places) (noted noted_new : EndsView) (s t : S) → Takes answers step (old, s) (new, t) → ¬ (IsLast step) → IsPatient most step
-      → Notes (told_by step) noted noted_new → Serves answers most (news_of step) old new noted noted_new s t
-  serves_ending step old new noted noted_new s t a going patient notes = record {
+  pub serves_ending : (step : Step) (old new : Places) (noted noted_new : EndsView) (s t : S) → Takes answers step (old, s) (new, t) → ¬ (IsLast step) → GoesSoFar limits.most_silent limits.turns step
+      → Notes (told_by step) noted noted_new → Serves answers limits (news_of step) old new noted noted_new s t
+  serves_ending step old new noted noted_new s t a going limited notes = record {
     steps = step ∷ [];
     takes = ((new, t), a, (all_stay new, refl));
     notes = notes_by (told_by step) (told_all (step ∷ [])) noted noted_new (sym (append-nil (told_by step))) notes;
     follows = append-nil (news_of step);
     going = (going, tt);
-    patient = (patient, tt);
+    limited = (limited, tt);
   }
 
   -- one step that ends no session
-  pub serves_quietly : (step : Step) (old new : Places) (noted noted_new : EndsView) (s t : S) → Takes answers step (old, s) (new, t) → ¬ (IsLast step) → IsPatient most step
-      → told_by step ≡ [] → noted_new ≡ noted → Serves answers most (news_of step) old new noted noted_new s t
-  serves_quietly step old new noted noted_new s t a going patient none same =
-      serves_ending step old new noted noted_new s t a going patient
+  pub serves_quietly : (step : Step) (old new : Places) (noted noted_new : EndsView) (s t : S) → Takes answers step (old, s) (new, t) → ¬ (IsLast step) → GoesSoFar limits.most_silent limits.turns step
+      → told_by step ≡ [] → noted_new ≡ noted → Serves answers limits (news_of step) old new noted noted_new s t
+  serves_quietly step old new noted noted_new s t a going limited none same =
+      serves_ending step old new noted noted_new s t a going limited
       (subst (λ (n : EndsView). Notes (told_by step) noted n) (sym same) (notes_by [] (told_by step) noted noted (sym none) (notes_none noted)))
 
   -- some steps, and then others
-  pub serves_then : (h k : List News) (a b c : Places) (m n o : EndsView) (s t u : S) → Serves answers most h a b m n s t → Serves answers most k b c n o t u
-      → Serves answers most (h ++ k) a c m o s u
+  pub serves_then : (h k : List News) (a b c : Places) (m n o : EndsView) (s t u : S) → Serves answers limits h a b m n s t → Serves answers limits k b c n o t u
+      → Serves answers limits (h ++ k) a c m o s u
   serves_then h k a b c m n o s t u p q = record {
     steps = p.steps ++ q.steps;
     takes = steps_then answers p.steps q.steps (a, s) (b, t) (c, u) p.takes q.takes;
     notes = notes_then p.steps q.steps m n o p.notes q.notes;
     follows = news_then p.steps q.steps h k p.follows q.follows;
     going = all_then (λ step. ¬ (IsLast step)) p.steps q.steps p.going q.going;
-    patient = all_then (IsPatient most) p.steps q.steps p.patient q.patient;
+    limited = all_then (GoesSoFar limits.most_silent limits.turns) p.steps q.steps p.limited q.limited;
   }
 
 module _ {S : Type 0} (answers : S → Op → Result Reply AskError → S → Type 0) where

@@ -5,7 +5,8 @@ use Rattle.map_core.specs.declared.op.Op.{Op}
 use Rattle.map_core.specs.declared.reply.Reply.{Reply}
 use Rattle.map_core.specs.declared.reply.AskError.{AskError}
 use Rattle.frame_front.specs.declared.error.FrontError.{FrontError}
-use Rattle.connections.specs.Connection.{ConnectionView, LastTurn, Owes, StopsFor, Turn, counted, told, turn_rounds}
+use Rattle.connections.specs.Connection.{ConnectionView, LastTurn, Owes, StopsFor, Turn, counted, opened, told, turn_rounds}
+use Rattle.connections.specs.Stream.{May}
 use Rattle.connections.specs.declared.after.After.{After}
 use Rattle.live_workers.specs.Arrivals.{News, NewClient, IsReady, HasTicked, HasFailed, IsToStop, ComesAll, news_of_both}
 use Rattle.live_workers.specs.AtPort.{PortAnswer}
@@ -46,6 +47,13 @@ pub data Step : Type 0 where
   GivesUp : (place : ℕ) → (ticks : ℕ) → (error : FrontError) → Step
   Ends : (place : ℕ) → (result : Result ℕ FrontError) → Step
   Fails : Step
+
+-- how far a step may go with a client: a new connection has done nothing yet and may make so many reads; a client is given up only
+-- after so many ticks
+abbrev pub GoesSoFar : (most_silent turns : ℕ) → Step → Type 0
+GoesSoFar most_silent turns (Opens place start reads_only) = (may : May) × (left : Option (List ℕ)) × (held : Option (List ℕ)) × (start ≡ opened turns may left held)
+GoesSoFar most_silent turns (GivesUp place ticks error) = most_silent ≤ ticks
+GoesSoFar most_silent turns step = ⊤
 
 abbrev pub front_end : Result ℕ FrontError → Result ℕ SessionFault
 front_end (Ok count) = Ok count
@@ -113,19 +121,13 @@ module _ {S : Type 0} (answers : S → Op → Result Reply AskError → S → Ty
   TakesAll [] old new = AllStay old.0 new.0 × (new.1 ≡ old.1)
   TakesAll (step ∷ steps) old new = (mid : Places × S) × Takes step old mid × TakesAll steps mid new
 
-  -- Connections were served beside each other, from the first one to the end of the last one, and their sessions ended so.
-  pub record ServedAll (kept : EndsView) (old new : S) : Type 0 where
+  -- Connections were served beside each other, from the first one to the end of the last one, and their sessions ended so. No step
+  -- went farther with a client than it may.
+  pub record ServedAll (most_silent turns : ℕ) (kept : EndsView) (old new : S) : Type 0 where
     pub steps : List Step
     pub takes : TakesAll steps (nobody, old) (nobody, new)
     pub ends : kept ≡ kept_of (told_all steps)
-
--- a client is given up only after so many ticks
-abbrev pub IsPatient : ℕ → Step → Type 0
-IsPatient most (GivesUp place ticks error) = most ≤ ticks
-IsPatient most step = ⊤
-
-abbrev pub ArePatient : ℕ → List Step → Type 0
-ArePatient most steps = AllByRecursion (IsPatient most) steps
+    pub limited : AllByRecursion (GoesSoFar most_silent turns) steps
 
 -- a step gives a connection its last turn
 abbrev pub IsLast : Step → Type 0
@@ -141,9 +143,8 @@ abbrev pub AllAreLast : List Step → Type 0
 AllAreLast steps = AllByRecursion IsLast steps
 
 -- Steps before a stop follow all news that came, in order: so each client stands at the place that was told just before it came.
--- None of them is a last turn, and after the stop there are only last turns. No client is given up before it has owed something for
--- so many ticks.
-pub record Follows (most_silent : ℕ) {E V : Type 0} (start : E → ConnectionView) (comes : V → ℕ → Arrival E → V → Type 0) (steps : List Step)
+-- None of them is a last turn, and after the stop there are only last turns.
+pub record Follows {E V : Type 0} (start : E → ConnectionView) (comes : V → ℕ → Arrival E → V → Type 0) (steps : List Step)
     (old new : V) : Type 0 where
   pub arrivals : List (ℕ × Arrival E)
   pub came : ComesAll comes arrivals old new
@@ -153,4 +154,3 @@ pub record Follows (most_silent : ℕ) {E V : Type 0} (start : E → ConnectionV
   pub all : flat_map (news_of_both start) arrivals ≡ all_news before ++ IsToStop ∷ []
   pub going : NoneIsLast before
   pub ending : AllAreLast last
-  pub patient : ArePatient most_silent before

@@ -7,14 +7,14 @@ use Rattle.workers.specs.declared.ended.Worked.{Worked}
 use Rattle.live_workers.specs.Sessions.{Follows, ServedAll}
 use Rattle.live_workers.specs.declared.arrivals.Arrival.{Arrival}
 
-module _ (opens : ℕ → ℕ → Bool → Type 0) where
+module _ (opens : ℕ → ℕ → Bool → Type 0) (most_silent turns : ℕ) where
   -- The pass comes from the store still, has its numbers, and has seen what it had seen. Connections were served over it, beside
   -- each other, and their sessions ended so.
   pub record HasServed (store : StoreView) (worker : ℕ) (pass : PassView) (worked : Worked) : Type 0 where
     pub own : IsOf worked.pass store
     pub further : IsFurther worked.pass.seen pass.seen
     pub calls : ℕ
-    pub served : ServedAll (WorkerAnswer opens worker) worked.ends (at_work store pass.seen 0) (at_work store worked.pass.seen calls)
+    pub served : ServedAll (WorkerAnswer opens worker) most_silent turns worked.ends (at_work store pass.seen 0) (at_work store worked.pass.seen calls)
 
   -- each worker in its place; the first has this number
   abbrev pub AllServed : StoreView → ℕ → List PassView → List Worked → Type 0
@@ -23,10 +23,10 @@ module _ (opens : ℕ → ℕ → Bool → Type 0) where
   AllServed store first [] (worked ∷ all) = ⊥
   AllServed store first (pass ∷ passes) [] = ⊥
 
-  module _ (most_silent : ℕ) {E V : Type 0} (start : E → ConnectionView) (comes : V → ℕ → Arrival E → V → Type 0) where
+  module _ {E V : Type 0} (start : E → ConnectionView) (comes : V → ℕ → Arrival E → V → Type 0) where
     -- a worker has served, and followed all that came to it, up to a stop
     abbrev pub HasFollowed : StoreView → ℕ → PassView → V → Worked → Type 0
-    HasFollowed store worker pass arrivals worked = (served : HasServed store worker pass worked) × ((end : V) × Follows most_silent start comes served.served.steps arrivals end)
+    HasFollowed store worker pass arrivals worked = (served : HasServed store worker pass worked) × ((end : V) × Follows start comes served.served.steps arrivals end)
 
     -- each worker in its place
     abbrev pub AllFollowed : StoreView → List PassView → List V → List Worked → Type 0

@@ -10,9 +10,11 @@ mod at_port;
 mod limits;
 mod run;
 mod serving;
+mod worker;
 
 pub use arrivals::{Arrival, Arrivals};
 pub use at_port::AtPort;
 pub use limits::Limits;
 pub use run::run_arrivals;
 pub use serving::serve_arrivals;
+pub use worker::{Crew, Worker};

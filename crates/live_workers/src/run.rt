@@ -8,8 +8,8 @@ ghost use Rattle.live_workers.specs.Private.Numbers.{AreNumbered};
 
 use crate::arrivals::Arrivals;
 use crate::at_port::AtPort;
-use crate::limits::Limits;
 use crate::serving::serve_arrivals;
+use crate::worker::{Crew, Worker};
 use shard_store::{Pass, Store};
 use std::alloc::{AllocError, Global};
 use std::thread;
@@ -17,35 +17,39 @@ use std::thread::Threads;
 use std::time::Clock;
 use workers::{Gate, Gated, Log, Logged, Worked};
 
-/// A worker before it begins.
+/// What a worker is to do, before it begins.
 #[derive(Drop)]
-struct Worker<V> {
+struct Task<V> {
     number: u64,
     pass: Pass,
     arrivals: V,
 }
 
 /// Serves the connections of one worker.
-fn work<C: Clock, V: Arrivals + Drop, G: Gate, L: Log + Copy>(
-    clock: &C,
-    alloc: Global,
+fn work<H: Clock, V: Arrivals + Drop, G: Gate, L: Log + Copy>(
+    crew: &Crew<'_, H, L>,
     store: &Store,
     gate: &G,
-    log: &L,
-    limits: Limits,
-    worker: Worker<V>,
+    task: Task<V>,
 ) -> Result<Worked, AllocError>
-    requires own { IsOf worker.pass store.now }
-    ensures { IfOk result (λ worked. HasFollowed (G.opens gate.now) limits.most_silent (λ end. opened limits.turns (V.End.may end) (V.End.left end) (V.End.held end)) V.comes store.now worker.number worker.pass worker.arrivals worked) }
+    requires own { IsOf task.pass store.now }
+    ensures { IfOk result (λ worked. HasFollowed (G.opens gate.now) crew.now.limits.most_silent crew.now.limits.turns (λ end. opened crew.now.limits.turns (V.End.may end) (V.End.left end) (V.End.held end)) V.comes store.now task.number task.pass task.arrivals worked) }
 {
-    let Worker {
+    let Task {
         number,
         pass,
         mut arrivals,
-    } = worker;
-    let logged = Logged::new(store, pass, clock, limits.retries, *log, number);
+    } = task;
+    let limits = crew.limits;
+    let logged = Logged::new(store, pass, crew.rt, limits.retries, *crew.log, number);
     let mut port = AtPort::new(Gated::new(logged, gate, number), false);
-    let ends = serve_arrivals(alloc, &mut arrivals, &mut port, limits, log, number)?;
+    let worker = Worker {
+        number,
+        alloc: crew.alloc,
+        log: crew.log,
+        limits,
+    };
+    let ends = serve_arrivals(&worker, &mut arrivals, &mut port)?;
     let AtPort {
         ask: gated,
         reads_only: _,
@@ -62,20 +66,16 @@ fn work<C: Clock, V: Arrivals + Drop, G: Gate, L: Log + Copy>(
     })
 }
 
-/// Adds a worker, under the next number.
+/// Adds what one more worker is to do, under the next number.
 #[tactic(auto, using(crate::proofs::WorkedLists::numbered_pushed))]
-fn add_worker<V: Drop>(
-    workers: &mut Vec<Worker<V>>,
-    pass: Pass,
-    arrivals: V,
-) -> Result<(), AllocError>
-    requires numbers { AreNumbered 0 (map (λ w. w.number) workers.old.items) }
-    ensures passes { OnOk result (map (λ w. w.pass) workers.new.items ≡ map (λ w. w.pass) workers.old.items ++ pass ∷ []) }
-    ensures arrivals { OnOk result (map (λ w. w.arrivals) workers.new.items ≡ map (λ w. w.arrivals) workers.old.items ++ arrivals ∷ []) }
-    ensures numbers { OnOk result (AreNumbered 0 (map (λ w. w.number) workers.new.items)) }
+fn add_task<V: Drop>(tasks: &mut Vec<Task<V>>, pass: Pass, arrivals: V) -> Result<(), AllocError>
+    requires numbers { AreNumbered 0 (map (λ t. t.number) tasks.old.items) }
+    ensures passes { OnOk result (map (λ t. t.pass) tasks.new.items ≡ map (λ t. t.pass) tasks.old.items ++ pass ∷ []) }
+    ensures arrivals { OnOk result (map (λ t. t.arrivals) tasks.new.items ≡ map (λ t. t.arrivals) tasks.old.items ++ arrivals ∷ []) }
+    ensures numbers { OnOk result (AreNumbered 0 (map (λ t. t.number) tasks.new.items)) }
 {
-    let number = workers.len() as u64;
-    workers.push(Worker {
+    let number = tasks.len() as u64;
+    tasks.push(Task {
         number,
         pass,
         arrivals,
@@ -84,25 +84,25 @@ fn add_worker<V: Drop>(
 }
 
 /// Gives each pass its arrivals, in order, and each worker its number, from 0.
-fn workers_of<V: Drop>(
+fn tasks_of<V: Drop>(
     alloc: Global,
     passes: Vec<Pass>,
     arrivals: Vec<V>,
-) -> Result<Vec<Worker<V>>, AllocError>
+) -> Result<Vec<Task<V>>, AllocError>
     requires same { vec_len passes ≡ vec_len arrivals }
-    ensures passes { IfOk result (λ workers. map (λ w. w.pass) workers.items ≡ passes.items) }
-    ensures arrivals { IfOk result (λ workers. map (λ w. w.arrivals) workers.items ≡ arrivals.items) }
-    ensures numbers { IfOk result (λ workers. AreNumbered 0 (map (λ w. w.number) workers.items)) }
+    ensures passes { IfOk result (λ tasks. map (λ t. t.pass) tasks.items ≡ passes.items) }
+    ensures arrivals { IfOk result (λ tasks. map (λ t. t.arrivals) tasks.items ≡ arrivals.items) }
+    ensures numbers { IfOk result (λ tasks. AreNumbered 0 (map (λ t. t.number) tasks.items)) }
 {
-    let mut workers = Vec::with_capacity(alloc, passes.len())?;
+    let mut tasks = Vec::with_capacity(alloc, passes.len())?;
     let mut left = arrivals.into_iter();
     for pass in passes {
         let Some(arrivals) = left.next() else {
             unreachable!()
         };
-        add_worker(&mut workers, pass, arrivals)?;
+        add_task(&mut tasks, pass, arrivals)?;
     }
-    Ok(workers)
+    Ok(tasks)
 }
 
 /// What all workers gave back, unless one of them had no room for it.
@@ -124,30 +124,27 @@ fn all_worked(
 /// of the ends of sessions. What the workers give back stands in the order of the passes. If memory runs out, the passes
 /// are gone, and sessions may have been served.
 pub fn run_arrivals<
-    R: Threads + Clock + Sync,
+    H: Threads + Clock + Sync,
     V: Arrivals + Send + Drop,
     G: Gate + Sync,
     L: Log + Copy + Sync,
 >(
-    rt: &R,
-    alloc: Global,
+    crew: &Crew<'_, H, L>,
     store: &Store,
     passes: Vec<Pass>,
     arrivals: Vec<V>,
     gate: &G,
-    log: &L,
-    limits: Limits,
 ) -> Result<Vec<Worked>, AllocError>
     requires same { vec_len passes ≡ vec_len arrivals }
     requires own { All (λ pass. IsOf pass store.now) passes.items }
-    ensures served { IfOk result (λ all. AllServed (G.opens gate.now) store.now 0 passes.items all.items) }
-    ensures followed { IfOk result (λ all. AllFollowed (G.opens gate.now) limits.most_silent (λ end. opened limits.turns (V.End.may end) (V.End.left end) (V.End.held end)) V.comes store.now passes.items arrivals.items all.items) }
+    ensures served { IfOk result (λ all. AllServed (G.opens gate.now) crew.now.limits.most_silent crew.now.limits.turns store.now 0 passes.items all.items) }
+    ensures followed { IfOk result (λ all. AllFollowed (G.opens gate.now) crew.now.limits.most_silent crew.now.limits.turns (λ end. opened crew.now.limits.turns (V.End.may end) (V.End.left end) (V.End.held end)) V.comes store.now passes.items arrivals.items all.items) }
 {
-    let workers = workers_of(alloc, passes, arrivals)?;
-    let run = |worker: Worker<V>| -> Result<Worked, AllocError>
-        requires { IsOf worker.pass store.now }
-        ensures { IfOk result (λ worked. HasFollowed (G.opens gate.entry.now) limits.most_silent (λ end. opened limits.turns (V.End.may end) (V.End.left end) (V.End.held end)) V.comes store.entry.now worker.number worker.pass worker.arrivals worked) }
-    { work(rt, alloc, store, gate, log, limits, worker) };
-    let given = thread::map_vec(rt, workers, &run)?;
-    all_worked(alloc, given)
+    let tasks = tasks_of(crew.alloc, passes, arrivals)?;
+    let run = |task: Task<V>| -> Result<Worked, AllocError>
+        requires { IsOf task.pass store.now }
+        ensures { IfOk result (λ worked. HasFollowed (G.opens gate.entry.now) crew.entry.now.limits.most_silent crew.entry.now.limits.turns (λ end. opened crew.entry.now.limits.turns (V.End.may end) (V.End.left end) (V.End.held end)) V.comes store.entry.now task.number task.pass task.arrivals worked) }
+    { work(crew, store, gate, task) };
+    let given = thread::map_vec(crew.rt, tasks, &run)?;
+    all_worked(crew.alloc, given)
 }

@@ -9,7 +9,7 @@ ghost use Rattle.live_workers.specs.Private.Serving.{EndsSome, HadLastTurn, HadT
 
 use crate::arrivals::{Arrival, Arrivals};
 use crate::at_port::AtPort;
-use crate::limits::Limits;
+use crate::worker::Worker;
 use connections::{After, Connection, ROOM_BYTES, Stream};
 use frame_front::FrontError;
 use map_core::Ask;
@@ -38,6 +38,8 @@ struct Served<E: Stream + Drop> {
     /// The places of connections that wait for another turn, since they have had their share and may have more to do.
     again: VecDeque<usize>,
     documents: DocumentReader,
+    /// What is read goes there first.
+    room: [u8; ROOM_BYTES],
     ends: SessionEnds,
 }
 
@@ -59,6 +61,7 @@ impl<E: Stream + Drop> Served<E> {
             open: Slab::new(alloc),
             again: VecDeque::new(alloc),
             documents: DocumentReader::new(alloc),
+            room: [0; ROOM_BYTES],
             ends: SessionEnds::new(alloc),
         }
     }
@@ -81,13 +84,7 @@ impl<E: Stream + Drop> Served<E> {
     }
 
     /// Gives the connection at a place a turn, if one is there.
-    fn turn<A: Ask>(
-        &mut self,
-        room: &mut [u8; ROOM_BYTES],
-        place: usize,
-        is_closing: bool,
-        ask: &mut AtPort<A>,
-    ) -> Option<After>
+    fn turn<A: Ask>(&mut self, place: usize, is_closing: bool, ask: &mut AtPort<A>) -> Option<After>
         ensures turn { HadTurn A.answers place is_closing result (get self.old.open) (get self.new.open) ask.old.ask ask.new.ask }
         ensures ends { self.new.ends ≡ self.old.ends }
     {
@@ -95,14 +92,13 @@ impl<E: Stream + Drop> Served<E> {
         placed.silent = 0;
         ask.reads_only = placed.reads_only;
         let connection = &mut placed.connection;
-        Some(connection.turn(&mut self.documents, room, ask, is_closing))
+        Some(connection.turn(&mut self.documents, &mut self.room, ask, is_closing))
     }
 
     /// Gives the connection at a place its last turn, if one is there: nothing is read any more. The answer is how its
     /// session ends.
     fn last_turn<A: Ask>(
         &mut self,
-        room: &mut [u8; ROOM_BYTES],
         place: usize,
         ask: &mut AtPort<A>,
     ) -> Option<Result<u64, FrontError>>
@@ -112,7 +108,7 @@ impl<E: Stream + Drop> Served<E> {
         let placed = self.open.get_mut(place)?;
         ask.reads_only = placed.reads_only;
         let connection = &mut placed.connection;
-        Some(connection.last_turn(&mut self.documents, room, ask))
+        Some(connection.last_turn(&mut self.documents, &mut self.room, ask))
     }
 
     /// The connection at a place waits for another turn, after those that wait already. It waits once.
@@ -162,8 +158,7 @@ impl<E: Stream + Drop> Served<E> {
         &mut self,
         place: usize,
         end: Result<u64, FrontError>,
-        log: &L,
-        worker: u64,
+        worker: &Worker<'_, L>,
     ) -> Result<(), AllocError>
         ensures left { get self.new.open place ≡ None }
         ensures others { OthersStay place (get self.old.open) (get self.new.open) }
@@ -173,7 +168,7 @@ impl<E: Stream + Drop> Served<E> {
             Ok(count) => Ok(count),
             Err(error) => Err(SessionFault::Front(error)),
         };
-        log.ended(worker, &ended);
+        worker.log.ended(worker.number, &ended);
         self.remove(place);
         self.ends.note(&ended)?;
         Ok(())
@@ -182,20 +177,18 @@ impl<E: Stream + Drop> Served<E> {
     /// Gives the connection at a place a turn, and leaves it if its session is over then.
     fn serve<A: Ask, L: Log>(
         &mut self,
-        room: &mut [u8; ROOM_BYTES],
         place: usize,
         is_closing: bool,
         ask: &mut AtPort<A>,
-        log: &L,
-        worker: u64,
+        worker: &Worker<'_, L>,
     ) -> Result<(), AllocError>
-        ensures { OnOk result ((most : ℕ) (ready : Option Bool) → closing_of ready ≡ is_closing → Serves A.answers most (turn_news place ready) (get self.old.open) (get self.new.open) self.old.ends self.new.ends ask.old.ask ask.new.ask) }
+        ensures { OnOk result ((ready : Option Bool) → closing_of ready ≡ is_closing → Serves A.answers worker.now.limits (turn_news place ready) (get self.old.open) (get self.new.open) self.old.ends self.new.ends ask.old.ask ask.new.ask) }
     {
-        match self.turn(room, place, is_closing, ask) {
+        match self.turn(place, is_closing, ask) {
             None => Ok(()),
             Some(After::Waits) => Ok(()),
             Some(After::Again) => self.wait_again(place),
-            Some(After::Over(end)) => self.close(place, end, log, worker),
+            Some(After::Over(end)) => self.close(place, end, worker),
         }
     }
 
@@ -241,26 +234,24 @@ impl<E: Stream + Drop> Served<E> {
     fn leave_if_silent<L: Log>(
         &mut self,
         place: usize,
-        most: u64,
-        log: &L,
-        worker: u64,
+        worker: &Worker<'_, L>,
     ) -> Result<(), AllocError>
-        ensures { OnOk result (Leaves most (get self.old.open) (get self.new.open) self.old.ends self.new.ends) }
+        ensures { OnOk result (Leaves worker.now.limits (get self.old.open) (get self.new.open) self.old.ends self.new.ends) }
     {
-        match self.is_silent(place, most) {
-            Some(error) => self.close(place, Err(error), log, worker),
+        match self.is_silent(place, worker.limits.most_silent) {
+            Some(error) => self.close(place, Err(error), worker),
             None => Ok(()),
         }
     }
 
     /// Leaves each connection whose client has been silent for too long.
-    fn leave_silent<L: Log>(&mut self, most: u64, log: &L, worker: u64) -> Result<(), AllocError>
-        ensures { OnOk result (Leaves most (get self.old.open) (get self.new.open) self.old.ends self.new.ends) }
+    fn leave_silent<L: Log>(&mut self, worker: &Worker<'_, L>) -> Result<(), AllocError>
+        ensures { OnOk result (Leaves worker.now.limits (get self.old.open) (get self.new.open) self.old.ends self.new.ends) }
     {
         let places = self.open.capacity();
         let mut place = 0;
         while place < places {
-            self.leave_if_silent(place, most, log, worker)?;
+            self.leave_if_silent(place, worker)?;
             place += 1;
         }
         Ok(())
@@ -269,64 +260,59 @@ impl<E: Stream + Drop> Served<E> {
     /// Ends the session at a place, if one is there: what has come is answered, as far as the client takes it.
     fn end<A: Ask, L: Log>(
         &mut self,
-        room: &mut [u8; ROOM_BYTES],
         place: usize,
         ask: &mut AtPort<A>,
-        log: &L,
-        worker: u64,
+        worker: &Worker<'_, L>,
     ) -> Result<(), AllocError>
         ensures served { OnOk result (EndsSome A.answers (get self.old.open) (get self.new.open) self.old.ends self.new.ends ask.old.ask ask.new.ask) }
         ensures left { OnOk result (get self.new.open place ≡ None) }
         ensures others { OthersStay place (get self.old.open) (get self.new.open) }
     {
-        match self.last_turn(room, place, ask) {
+        match self.last_turn(place, ask) {
             None => Ok(()),
-            Some(end) => self.close(place, end, log, worker),
+            Some(end) => self.close(place, end, worker),
         }
     }
 
     /// Ends all sessions.
     fn end_all<A: Ask, L: Log>(
         &mut self,
-        room: &mut [u8; ROOM_BYTES],
         ask: &mut AtPort<A>,
-        log: &L,
-        worker: u64,
+        worker: &Worker<'_, L>,
     ) -> Result<(), AllocError>
         ensures { OnOk result (EndsSome A.answers (get self.old.open) nobody self.old.ends self.new.ends ask.old.ask ask.new.ask) }
     {
         let places = self.open.capacity();
         let mut place = 0;
         while place < places {
-            self.end(room, place, ask, log, worker)?;
+            self.end(place, ask, worker)?;
             place += 1;
         }
         Ok(())
     }
 
-    /// Takes a connection at the next free place, and gives it a turn.
+    /// Takes a client at the next free place, and gives it a turn.
     fn begin<A: Ask, L: Log>(
         &mut self,
-        room: &mut [u8; ROOM_BYTES],
-        connection: Connection<E>,
+        end: E,
         reads_only: bool,
         ask: &mut AtPort<A>,
-        log: &L,
-        worker: u64,
+        worker: &Worker<'_, L>,
     ) -> Result<(), AllocError>
-        ensures { OnOk result ((most : ℕ) → Serves A.answers most (NewClient self.old.open.vacant_key connection reads_only ∷ []) (get self.old.open) (get self.new.open) self.old.ends self.new.ends ask.old.ask ask.new.ask) }
+        ensures { OnOk result (Serves A.answers worker.now.limits (NewClient self.old.open.vacant_key (opened worker.now.limits.turns (E.may end) (E.left end) (E.held end)) reads_only ∷ []) (get self.old.open) (get self.new.open) self.old.ends self.new.ends ask.old.ask ask.new.ask) }
     {
+        let connection = Connection::new(worker.alloc, end, worker.limits.turns)?;
         let place = self.take(connection, reads_only)?;
-        self.serve(room, place, false, ask, log, worker)
+        self.serve(place, false, ask, worker)
     }
 
     /// Notes that the listener failed.
-    fn note_failure<L: Log>(&mut self, log: &L, worker: u64) -> Result<(), AllocError>
+    fn note_failure<L: Log>(&mut self, worker: &Worker<'_, L>) -> Result<(), AllocError>
         ensures open { self.new.open ≡ self.old.open }
         ensures noted { OnOk result (Notes (told_by Fails) self.old.ends self.new.ends) }
     {
         let none_came = Err(SessionFault::Listen);
-        log.ended(worker, &none_came);
+        worker.log.ended(worker.number, &none_came);
         self.ends.note(&none_came)?;
         Ok(())
     }
@@ -334,30 +320,21 @@ impl<E: Stream + Drop> Served<E> {
     /// Does what the arrival asks for.
     fn follow<A: Ask, L: Log>(
         &mut self,
-        alloc: Global,
-        room: &mut [u8; ROOM_BYTES],
         arrival: Arrival<E>,
-        limits: Limits,
         ask: &mut AtPort<A>,
-        log: &L,
-        worker: u64,
+        worker: &Worker<'_, L>,
     ) -> Result<(), AllocError>
         requires { ¬ (IsStop arrival) }
-        ensures { OnOk result (Serves A.answers limits.most_silent (news_in (λ end. opened limits.turns (E.may end) (E.left end) (E.held end)) self.old.open.vacant_key arrival) (get self.old.open) (get self.new.open) self.old.ends self.new.ends ask.old.ask ask.new.ask) }
+        ensures { OnOk result (Serves A.answers worker.now.limits (news_in (λ end. opened worker.now.limits.turns (E.may end) (E.left end) (E.held end)) self.old.open.vacant_key arrival) (get self.old.open) (get self.new.open) self.old.ends self.new.ends ask.old.ask ask.new.ask) }
     {
         match arrival {
-            Arrival::Opens { end, reads_only } => {
-                let connection = Connection::new(alloc, end, limits.turns)?;
-                self.begin(room, connection, reads_only, ask, log, worker)
-            }
-            Arrival::Ready { place, is_closing } => {
-                self.serve(room, place, is_closing, ask, log, worker)
-            }
+            Arrival::Opens { end, reads_only } => self.begin(end, reads_only, ask, worker),
+            Arrival::Ready { place, is_closing } => { self.serve(place, is_closing, ask, worker) }
             Arrival::Tick => {
                 self.tick();
-                self.leave_silent(limits.most_silent, log, worker)
+                self.leave_silent(worker)
             }
-            Arrival::Fails => self.note_failure(log, worker),
+            Arrival::Fails => self.note_failure(worker),
             Arrival::Nothing => Ok(()),
             Arrival::Stops => unreachable!(),
         }
@@ -366,17 +343,15 @@ impl<E: Stream + Drop> Served<E> {
     /// Gives a turn to the connection that has waited longest for another one.
     fn serve_again<A: Ask, L: Log>(
         &mut self,
-        room: &mut [u8; ROOM_BYTES],
         ask: &mut AtPort<A>,
-        log: &L,
-        worker: u64,
+        worker: &Worker<'_, L>,
     ) -> Result<(), AllocError>
-        ensures { OnOk result ((most : ℕ) → Serves A.answers most [] (get self.old.open) (get self.new.open) self.old.ends self.new.ends ask.old.ask ask.new.ask) }
+        ensures { OnOk result (Serves A.answers worker.now.limits [] (get self.old.open) (get self.new.open) self.old.ends self.new.ends ask.old.ask ask.new.ask) }
     {
         match self.again.pop_front() {
             Some(place) => {
                 self.wait_no_more(place);
-                self.serve(room, place, false, ask, log, worker)
+                self.serve(place, false, ask, worker)
             }
             None => Ok(()),
         }
@@ -389,27 +364,23 @@ impl<E: Stream + Drop> Served<E> {
 /// read is answered, as far as the clients take it at once. The answer is what is kept of how the sessions ended, in this
 /// order; the log is told of each end.
 pub fn serve_arrivals<V: Arrivals, A: Ask, L: Log>(
-    alloc: Global,
+    worker: &Worker<'_, L>,
     arrivals: &mut V,
     ask: &mut AtPort<A>,
-    limits: Limits,
-    log: &L,
-    worker: u64,
 ) -> Result<SessionEnds, AllocError>
-    ensures { IfOk result (λ ends. (served : ServedAll A.answers ends ask.old.ask ask.new.ask)
-        × Follows limits.most_silent (λ end. opened limits.turns (V.End.may end) (V.End.left end) (V.End.held end)) V.comes served.steps arrivals.old arrivals.new) }
+    ensures { IfOk result (λ ends. (served : ServedAll A.answers worker.now.limits.most_silent worker.now.limits.turns ends ask.old.ask ask.new.ask)
+        × Follows (λ end. opened worker.now.limits.turns (V.End.may end) (V.End.left end) (V.End.held end)) V.comes served.steps arrivals.old arrivals.new) }
 {
-    let mut served = Served::new(alloc);
-    let mut room = [0; ROOM_BYTES];
+    let mut served = Served::new(worker.alloc);
     loop {
         let free = served.open.vacant_key();
         let is_busy = !served.again.is_empty();
         match arrivals.next(free, served.open.len(), is_busy) {
             Arrival::Stops => break,
-            arrival => served.follow(alloc, &mut room, arrival, limits, ask, log, worker)?,
+            arrival => served.follow(arrival, ask, worker)?,
         }
-        served.serve_again(&mut room, ask, log, worker)?;
+        served.serve_again(ask, worker)?;
     }
-    served.end_all(&mut room, ask, log, worker)?;
+    served.end_all(ask, worker)?;
     Ok(served.ends)
 }

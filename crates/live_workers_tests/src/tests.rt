@@ -11,7 +11,7 @@ mod threads;
 mod turns;
 
 use connections::Stream;
-use live_workers::{Arrival, Arrivals, AtPort, Limits, serve_arrivals};
+use live_workers::{Arrival, Arrivals, AtPort, Limits, Worker, serve_arrivals};
 use map_core::Contents;
 use std::alloc::{AllocError, Global};
 use std::fmt::Debug;
@@ -204,8 +204,13 @@ fn ends_of(
 ) -> Result<SessionEnds, AllocError> {
     let mut clients = clients_of(alloc, plans, outputs, left, ticks)?;
     let mut port = AtPort::new(Contents::new(alloc), false);
-    let limits = Limits { turns, ..LIMITS };
-    serve_arrivals(alloc, &mut clients, &mut port, limits, &Quiet, 0)
+    let worker = Worker {
+        number: 0,
+        alloc,
+        log: &Quiet,
+        limits: Limits { turns, ..LIMITS },
+    };
+    serve_arrivals(&worker, &mut clients, &mut port)
 }
 
 /// Serves clients of these plans over an empty map.

@@ -2,13 +2,13 @@
 ghost use Rattle.std.specs.Prelude.{◌≡◌, false, ◌<◌, ◌-◌, ◌^◌, ◌⊎◌, ◌+◌, IfOk, OnOk, vec_len};
 ghost use Rattle.std.specs.List.{All};
 ghost use Rattle.shard_store.specs.Pass.{IsOf};
-ghost use Rattle.live_workers.specs.Workers.{AllServed};
 ghost use Rattle.workers.specs.Closing.{AreAll, ranges_of};
-ghost use Rattle.server.specs.Serve.{always_open, EndsEarly, ServeRun, SetUpRun};
+ghost use Rattle.server.specs.Serve.{EndsEarly, ServeRun, SetUpRun};
 ghost use Rattle.commands.specs.Fault.{fault_line};
 ghost use Rattle.commands.specs.Streams.{Tells, end_of};
 ghost use Rattle.commands.specs.declared.fault.Fault.TheVariants.{Front, Listen};
 ghost use Rattle.frame_front.specs.declared.error.FrontError.TheVariants.{Memory};
+ghost use Rattle.bundled.specs.Serve.{ServedBeside};
 
 use crate::serving::host::Host;
 use crate::serving::incoming::{Incoming, TICKS_A_SECOND};
@@ -18,7 +18,7 @@ use crate::serving::shared::{Seat, Shared, Watch};
 use command_line::{Lasting, Settings};
 use commands::Fault;
 use frame_front::{Counted, FrontError};
-use live_workers::{Limits, run_arrivals};
+use live_workers::{Crew, Limits, run_arrivals};
 use server::{Said, SetUp, report, say};
 use shard_store::{Pass, Store};
 use std::alloc::{AllocError, Global};
@@ -114,17 +114,20 @@ fn run<H: Threads + Clock + Sync, L: Log + Copy + Sync>(
 ) -> Result<Vec<Worked>, AllocError>
     requires same { vec_len passes ≡ vec_len incoming }
     requires own { All (λ pass. IsOf pass work.now.store.now) passes.items }
-    ensures { IfOk result (λ all. AllServed always_open work.now.store.now 0 passes.items all.items) }
+    ensures { IfOk result (λ all. ServedBeside work.now.lasting work.now.settings.turns work.now.store.now passes.items all.items) }
 {
     let (host, settings) = (work.host, work.settings);
-    let limits = Limits {
-        retries: settings.retries,
-        most_silent: work.lasting.idle.saturating_mul(TICKS_A_SECOND),
-        turns: settings.turns,
+    let crew = Crew {
+        rt: host.rt,
+        alloc: host.alloc,
+        log: host.log,
+        limits: Limits {
+            retries: settings.retries,
+            most_silent: work.lasting.idle.saturating_mul(TICKS_A_SECOND),
+            turns: settings.turns,
+        },
     };
-    run_arrivals(
-        host.rt, host.alloc, work.store, passes, incoming, &Open, host.log, limits,
-    )
+    run_arrivals(&crew, work.store, passes, incoming, &Open)
 }
 
 /// Runs the workers, and beside them waits for the end of the input: then they are to stop.
@@ -136,12 +139,12 @@ fn run_until_end<H: Threads + Clock + Sync, I: Read, L: Log + Copy + Sync>(
 ) -> Result<Vec<Worked>, AllocError>
     requires same { vec_len passes ≡ vec_len incoming }
     requires own { All (λ pass. IsOf pass work.now.store.now) passes.items }
-    ensures { IfOk result (λ all. AllServed always_open work.now.store.now 0 passes.items all.items) }
+    ensures { IfOk result (λ all. ServedBeside work.now.lasting work.now.settings.turns work.now.store.now passes.items all.items) }
 {
     let run = || -> Result<Vec<Worked>, AllocError>
         requires same { vec_len passes ≡ vec_len incoming }
         requires own { All (λ pass. IsOf pass work.now.store.now) passes.items }
-        ensures { IfOk result (λ all. AllServed always_open work.entry.now.store.now 0 passes.items all.items) }
+        ensures { IfOk result (λ all. ServedBeside work.entry.now.lasting work.entry.now.settings.turns work.entry.now.store.now passes.items all.items) }
     { run(work, passes, incoming) };
     let (worked, ()) = thread::join(work.host.rt, run, || end.stop_at_end());
     worked
@@ -156,7 +159,7 @@ fn run_all<H: Threads + Clock + Sync, I: Read, L: Log + Copy + Sync>(
 ) -> Result<Vec<Worked>, AllocError>
     requires same { vec_len passes ≡ vec_len incoming }
     requires own { All (λ pass. IsOf pass work.now.store.now) passes.items }
-    ensures served { IfOk result (λ all. AllServed always_open work.now.store.now 0 passes.items all.items) }
+    ensures served { IfOk result (λ all. ServedBeside work.now.lasting work.now.settings.turns work.now.store.now passes.items all.items) }
     ensures read { work.now.lasting.until_eof ≡ false → input.new ≡ input.old }
 {
     if !work.lasting.until_eof {
@@ -191,7 +194,7 @@ fn serve_at<
     requires own { All (λ pass. IsOf pass task.set_up.store) task.set_up.passes.items }
     requires all { AreAll (ranges_of task.set_up.passes.items) }
     ensures run { EndsEarly (Front Memory) result (end_of W.contents out.old) (end_of W.contents out.new) (end_of E.contents err.old) (end_of E.contents err.new)
-        ⊎ ServeRun (λ store passes worked. AllServed always_open store 0 passes worked) task.set_up.store task.set_up.passes.items result
+        ⊎ ServeRun (ServedBeside task.lasting task.settings.turns) task.set_up.store task.set_up.passes.items result
         (end_of W.contents out.old) (end_of W.contents out.new) (end_of E.contents err.old) (end_of E.contents err.new) }
     ensures read { task.lasting.until_eof ≡ false → input.new ≡ input.old }
 {
@@ -261,7 +264,7 @@ pub fn serve_many<
 ) -> u8
     requires { err.old.faults < 2 ^ 64 - 1 }
     ensures run { EndsEarly Listen result (end_of W.contents out.old) (end_of W.contents out.new) (end_of E.contents err.old) (end_of E.contents err.new)
-        ⊎ SetUpRun (λ store passes worked. AllServed always_open store 0 passes worked) at.settings host.now.requests.now result
+        ⊎ SetUpRun (ServedBeside at.lasting at.settings.turns) at.settings host.now.requests.now result
         (end_of W.contents out.old) (end_of W.contents out.new) (end_of E.contents err.old) (end_of E.contents err.new) }
     ensures read { at.lasting.until_eof ≡ false → input.new ≡ input.old }
 {

@@ -2,7 +2,7 @@
 use super::LIMITS;
 use super::threads::store_for_two;
 use connections::Stream;
-use live_workers::{Arrival, Arrivals, run_arrivals};
+use live_workers::{Arrival, Arrivals, Crew, run_arrivals};
 use std::alloc::{AllocError, Global};
 use std::io;
 use std::io::{Read, Write};
@@ -122,7 +122,13 @@ pub(super) fn run_two_noted<R: Threads + Clock + Sync, G: Gate + Sync, L: Log + 
     let mut arrivals = Vec::new(alloc);
     arrivals.push(one_client(inputs.0, &mut first, failures))?;
     arrivals.push(one_client(inputs.1, &mut second, failures))?;
-    let worked = run_arrivals(rt, alloc, &store, passes, arrivals, gate, log, LIMITS)?;
+    let crew = Crew {
+        rt,
+        alloc,
+        log,
+        limits: LIMITS,
+    };
+    let worked = run_arrivals(&crew, &store, passes, arrivals, gate)?;
     let mut begun: u64 = 0;
     let mut have_come = true;
     let mut faults = Vec::new(alloc);

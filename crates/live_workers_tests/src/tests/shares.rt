@@ -1,7 +1,7 @@
 //! Clients that send without pause, beside others.
 use super::turns::Steady;
 use super::{LIMITS, SET_A, STORED, has_ended, is_equal};
-use live_workers::{Arrival, Arrivals, AtPort, serve_arrivals};
+use live_workers::{Arrival, Arrivals, AtPort, Worker, serve_arrivals};
 use map_core::Contents;
 use std::alloc::{AllocError, Global};
 use std::process::Abort;
@@ -98,7 +98,13 @@ fn ends_of(
         left: ARRIVALS,
     };
     let mut port = AtPort::new(Contents::new(alloc), false);
-    serve_arrivals(alloc, &mut script, &mut port, LIMITS, &Quiet, 0)
+    let worker = Worker {
+        number: 0,
+        alloc,
+        log: &Quiet,
+        limits: LIMITS,
+    };
+    serve_arrivals(&worker, &mut script, &mut port)
 }
 
 /// The other one has had its turns, since the first stands before it once and not ten times.

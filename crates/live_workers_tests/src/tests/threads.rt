@@ -5,7 +5,7 @@ ghost use Rattle.shard_store.specs.Pass.{IsOf};
 
 use super::{LIMITS, MOST_ARRIVALS, is_equal};
 use connections::Stream;
-use live_workers::{Arrival, Arrivals, run_arrivals};
+use live_workers::{Arrival, Arrivals, Crew, run_arrivals};
 use shard_store::{Pass, Store};
 use std::alloc::{AllocError, Global};
 use std::io;
@@ -124,7 +124,13 @@ fn run_two<R: Threads + Clock + Sync>(
     let mut arrivals = Vec::new(alloc);
     arrivals.push(queue_of(clients, taken))?;
     arrivals.push(queue_of(clients, taken))?;
-    let worked = run_arrivals(rt, alloc, &store, passes, arrivals, &Open, &Quiet, LIMITS)?;
+    let crew = Crew {
+        rt,
+        alloc,
+        log: &Quiet,
+        limits: LIMITS,
+    };
+    let worked = run_arrivals(&crew, &store, passes, arrivals, &Open)?;
     Ok(count_ends(worked.as_slice()))
 }
 

@@ -9,8 +9,8 @@ use Rattle.live_workers.proofs.serving.serve_arrivals.Given as goal
 
 abbrev pub invariant-loop-arrival : goal.invariant-loop-arrival
 invariant-loop-arrival g l =
-    (news : List News) × Serves g.A.Ask.answers l.limits.most_silent news nobody (get l.served.open) (kept_of []) l.served.ends l.fn.ask.ask l.ask.ask
-    × Heard (λ end. opened l.limits.turns (g.V.End.Stream.may end) (g.V.End.Stream.left end) (g.V.End.Stream.held end)) g.V.Arrivals.comes news l.fn.arrivals l.arrivals
+    (news : List News) × Serves g.A.Ask.answers l.worker.limits news nobody (get l.served.open) (kept_of []) l.served.ends l.fn.ask.ask l.ask.ask
+    × Heard (λ end. opened l.worker.limits.turns (g.V.End.Stream.may end) (g.V.End.Stream.left end) (g.V.End.Stream.held end)) g.V.Arrivals.comes news l.fn.arrivals l.arrivals
 
 abbrev pub decreases-loop-arrival : goal.decreases-loop-arrival
 decreases-loop-arrival g l = g.V.Arrivals.left l.arrivals

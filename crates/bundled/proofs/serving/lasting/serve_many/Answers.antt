@@ -5,14 +5,10 @@ use Rattle.commands.specs.Streams.{End, end_of}
 use Rattle.commands.specs.declared.fault.Fault.TheVariants.{Front}
 use Rattle.frame_front.specs.declared.error.FrontError.TheVariants.{Memory}
 use Rattle.shard_store.specs.Pass.{StoreView, PassView}
-use Rattle.server.specs.Serve.{always_open, EndsEarly, IsSetUp, ServeRun, SetUpRun}
-use Rattle.live_workers.specs.Workers.{AllServed}
+use Rattle.server.specs.Serve.{EndsEarly, IsSetUp, ServeRun, SetUpRun}
 use Rattle.workers.specs.declared.ended.Worked.{Worked}
+use Rattle.bundled.specs.Serve.{ServedBeside}
 use Rattle.bundled.proofs.serving.lasting.serve_many.Goals as goal
-
--- that workers have served their clients
-abbrev served : StoreView → List PassView → List Worked → Type 0
-served store passes worked = AllServed always_open store 0 passes worked
 
 -- the store is set up, and it ends early for memory, or serves
 set_up_run : (Served : StoreView → List PassView → List Worked → Type 0) (settings : Settings) (requests : List ℕ) (store : StoreView) (passes : List PassView) (status : ℕ) (out_old out_new err_old err_new : End)
@@ -26,13 +22,13 @@ pub returns-in-Err-new-clause-run : goal.returns-in-Err-new-clause-run
 returns-in-Err-new-clause-run g c =
     let same = ap (end_of g.E.Write.contents) c.in-Ok.ensures.ok in
     let out = end_of g.W.Write.contents c.args.out.now in
-    let run : End → Type 0 = λ old. SetUpRun served c.args.at.settings c.args.host.now.requests.now c.tell.result out out old (end_of g.E.Write.contents c.tell.new.err) in
+    let run : End → Type 0 = λ old. SetUpRun (ServedBeside c.args.at.lasting c.args.at.settings.turns) c.args.at.settings c.args.host.now.requests.now c.tell.result out out old (end_of g.E.Write.contents c.tell.new.err) in
     inr (subst run same (inl (c.in-Err-new.error, c.in-Err-new.ensures.refused, (c.tell.ensures.status, refl, c.tell.ensures.tells))))
 
 pub returns-clause-run : goal.returns-clause-run
 returns-clause-run g c =
     let same = ap (end_of g.E.Write.contents) c.in-Ok.ensures.ok in
     let set_up = c.in-Ok-new.set_up in
-    let run : End → Type 0 = λ old. SetUpRun served c.args.at.settings c.args.host.now.requests.now c.serve_at.result (end_of g.W.Write.contents c.args.out.now) (end_of g.W.Write.contents c.serve_at.new.out)
+    let run : End → Type 0 = λ old. SetUpRun (ServedBeside c.args.at.lasting c.args.at.settings.turns) c.args.at.settings c.args.host.now.requests.now c.serve_at.result (end_of g.W.Write.contents c.args.out.now) (end_of g.W.Write.contents c.serve_at.new.out)
     old (end_of g.E.Write.contents c.serve_at.new.err) in
-    inr (subst run same (set_up_run served c.args.at.settings _ set_up.store set_up.passes.items _ _ _ _ _ c.in-Ok-new.ensures.set_up c.serve_at.ensures.run))
+    inr (subst run same (set_up_run (ServedBeside c.args.at.lasting c.args.at.settings.turns) c.args.at.settings _ set_up.store set_up.passes.items _ _ _ _ _ c.in-Ok-new.ensures.set_up c.serve_at.ensures.run))

@@ -4,11 +4,10 @@ use Rattle.command_line.specs.declared.settings.Connections.TheVariants.{Each, U
 use Rattle.command_line.specs.declared.settings.Lasting.{Lasting}
 use Rattle.commands.specs.Streams.{end_of}
 use Rattle.commands.specs.declared.fault.Fault.TheVariants.{Listen}
-use Rattle.live_workers.specs.Workers.{AllServed}
-use Rattle.server.specs.Serve.{EndsEarly, SetUpRun, always_open}
+use Rattle.server.specs.Serve.{EndsEarly, SetUpRun}
 use Rattle.shard_store.specs.Pass.{StoreView, PassView}
 use Rattle.workers.specs.declared.ended.Worked.{Worked}
-use Rattle.bundled.specs.Serve.{ServedAs, ServedInTurn, most_taken, most_turns}
+use Rattle.bundled.specs.Serve.{ServedAs, ServedBeside, ServedInTurn, most_taken, most_turns}
 use Rattle.bundled.proofs.serving.serve.serve_as.Goals as goal
 
 -- what is said of the form with a number of clients is said of these connections
@@ -19,9 +18,9 @@ in_turn P connections turns count is =
 
 -- the same of the form that lasts
 beside : (P : (StoreView → List PassView → List Worked → Type 0) → Type 0) (connections : Connections) (turns : ℕ) (lasting : Lasting) → connections ≡ Unlimited lasting
-    → P (λ store passes worked. AllServed always_open store 0 passes worked) → P (ServedAs connections turns)
+    → P (ServedBeside lasting turns) → P (ServedAs connections turns)
 beside P connections turns lasting is =
-    subst (λ (c : Connections). P (λ store passes worked. AllServed always_open store 0 passes worked) → P (ServedAs c turns)) (sym is) (λ said. said)
+    subst (λ (c : Connections). P (ServedBeside lasting turns) → P (ServedAs c turns)) (sym is) (λ said. said)
 
 pub returns-in-Each-clause-run : goal.returns-in-Each-clause-run
 returns-in-Each-clause-run g c =

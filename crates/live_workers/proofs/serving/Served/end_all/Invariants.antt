@@ -1,4 +1,4 @@
-use Rattle.std.proofs.Common.{◌≡◌, ◌-◌, ◌<◌, ◌≤◌, ℕ, []}
+use Rattle.std.proofs.Common.{◌≡◌, ◌-◌, ◌<◌, ◌≤◌, ℕ}
 use Rattle.std.specs.Prelude.{None}
 use Rattle.slab.specs.Slab.{get}
 use Rattle.live_workers.specs.Private.Serving.{EndsSome}

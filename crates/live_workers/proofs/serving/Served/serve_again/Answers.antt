@@ -8,9 +8,9 @@ use Rattle.live_workers.proofs.serving.Served.serve_again.Goals as goal
 pub returns-in-Some : goal.returns-in-Some
 returns-in-Some g c =
     let rests = c.wait_no_more.ensures in
-    on_ok_then c.serve.result (λ served most.
-    serves_then g.A.Ask.answers most [] [] (get c.args.self.now.open) (get c.wait_no_more.new.self.open) (get c.serve.new.self.open) c.args.self.now.ends c.wait_no_more.new.self.ends c.serve.new.self.ends
+    on_ok_then c.serve.result (λ served.
+    serves_then g.A.Ask.answers c.args.worker.now.limits [] [] (get c.args.self.now.open) (get c.wait_no_more.new.self.open) (get c.serve.new.self.open) c.args.self.now.ends c.wait_no_more.new.self.ends c.serve.new.self.ends
     c.args.ask.now.ask c.args.ask.now.ask c.serve.new.ask.ask
-    (stays_serves g.A.Ask.answers most (get c.args.self.now.open) (get c.wait_no_more.new.self.open) c.args.self.now.ends c.wait_no_more.new.self.ends
+    (stays_serves g.A.Ask.answers c.args.worker.now.limits (get c.args.self.now.open) (get c.wait_no_more.new.self.open) c.args.self.now.ends c.wait_no_more.new.self.ends
     c.args.ask.now.ask c.args.ask.now.ask (all_stay_by c.in-Some.place (get c.args.self.now.open) (get c.wait_no_more.new.self.open) rests.same rests.others) rests.ends refl)
-    (served most None refl)) c.serve.ensures
+    (served None refl)) c.serve.ensures
