@@ -3,6 +3,7 @@ ghost use Rattle.std.specs.Prelude.{◌≡◌, ◌<◌, ◌≤◌, ◌⊎◌, �
 ghost use Rattle.std.specs.FinMap as finite;
 ghost use Rattle.map_core.specs.PlainMap.{ask, shard_of};
 ghost use Rattle.map_core.specs.declared.op.Op.TheVariants.{FetchAll, Get};
+ghost use Rattle.step_core.specs.Phase.{Waiting};
 ghost use Rattle.step_core.specs.Shard.{fresh_shard, reading};
 ghost use Rattle.step_core.specs.Shards.{map_of, after_step, after_step_at, IsWorn, Refuses};
 
@@ -59,15 +60,12 @@ impl Shards {
         ensures refused { IfErr result (λ e. Refuses self.old op e) }
         ensures err { OnErr result (self.new ≡ self.old) }
     {
-        match op {
-            Op::Get(domain) => self.get(&domain),
-            op => match shard_of(&op, self.shards.len()) {
-                Some(place) => self.step(place, op),
-                None => {
-                    drop(op);
-                    self.fetch_all()
-                }
-            },
+        match shard_of(&op, self.shards.len()) {
+            Some(place) => self.ask_name(place, op),
+            None => {
+                drop(op);
+                self.fetch_all()
+            }
         }
     }
 
@@ -80,7 +78,26 @@ impl Shards {
         Ok(self.shards[place].get(domain)?)
     }
 
-    // Answers an operation on a name of the shard at this place.
+    // Answers an operation on a name of the shard at this place, by a task: it wants that shard's step, and no more.
+    fn ask_name(&mut self, place: usize, op: Op) -> Result<Reply, AskError>
+        requires home { shard_of (length self.old) op ≡ Some place }
+        requires place { place < length self.old }
+        ensures reply { IfOk result (λ reply. reply ≡ (ask (map_of self.old) op).reply) }
+        ensures left { OnOk result (map_of self.new ≡ (ask (map_of self.old) op).map) }
+        ensures shards { OnOk result (self.new ≡ after_step_at self.old op (Some place)) }
+        ensures fit { OnOk result ((i : ℕ) → IsWorn self.old op i → ⊥) }
+        ensures refused { IfErr result (λ e. Refuses self.old op e) }
+        ensures err { OnErr result (self.new ≡ self.old) }
+    {
+        let Ok(task) = Task::begin(self.alloc, &op, self.shards.len(), 1) else {
+            drop(op);
+            return Err(AskError::Memory);
+        };
+        let answer = self.step(place, op);
+        replied(task, answer)
+    }
+
+    // The step of the shard at this place.
     fn step(&mut self, place: usize, op: Op) -> Result<Reply, AskError>
         requires home { shard_of (length self.old) op ≡ Some place }
         requires place { place < length self.old }
@@ -110,6 +127,15 @@ impl Shards {
         }
         task.reply()
     }
+}
+
+/// The reply of a task that waits for the step of a shard, once it is told the answer of that step.
+fn replied(mut task: Task, answer: Result<Reply, AskError>) -> Result<Reply, AskError>
+    requires { (place : ℕ) × (task.phase ≡ Waiting place) }
+    ensures { result ≡ answer }
+{
+    task.give(Answer::Replied(answer));
+    task.reply()
 }
 
 impl Ask for Shards {

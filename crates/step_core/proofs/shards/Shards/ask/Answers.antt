@@ -4,7 +4,6 @@ use Rattle.map_core.specs.declared.reply.AskError.{AskError}
 use Rattle.map_core.specs.PlainMap.{PlainMap}
 use Rattle.map_core.proofs.MapLaws.{fetch_reply, fetch_keeps}
 use Rattle.step_core.specs.Shards.{map_of}
-use Rattle.step_core.proofs.Gets.{get_left, get_stays, get_fits}
 use Rattle.step_core.proofs.shards.Shards.ask.Goals as goal
 
 always : (r : Result Reply AskError) (m n : PlainMap) → m ≡ n → OnOk r (m ≡ n)
@@ -18,12 +17,3 @@ returns-in-None-clause-reply c =
 
 pub returns-in-None-clause-left : goal.returns-in-None-clause-left
 returns-in-None-clause-left c = always c.fetch_all.result _ _ (sym (fetch_keeps c.len.result (map_of c.args.self.now) c.args.op (sym c.in-None.ensures.shard)))
-
-pub returns-in-Get-clause-left : goal.returns-in-Get-clause-left
-returns-in-Get-clause-left c = get_left c.get.result (map_of c.args.self.now) c.args.op c.in-Get.domain c.in-Get.is
-
-pub returns-in-Get-clause-shards : goal.returns-in-Get-clause-shards
-returns-in-Get-clause-shards c = get_stays c.get.result c.args.self.now c.args.op c.in-Get.domain c.in-Get.is
-
-pub returns-in-Get-clause-fit : goal.returns-in-Get-clause-fit
-returns-in-Get-clause-fit c = get_fits c.get.result c.args.self.now c.args.op c.in-Get.domain c.in-Get.is
