@@ -1,10 +1,10 @@
 -- What the command `diff` writes.
-use Rattle.std.specs.Prelude.{◌≡◌, ◌⊎◌, ◌≤◌, ℕ, List, [], ◌∷◌, Bool, true, false, Option, Result, Ok, Err}
+use Rattle.std.specs.Prelude.{◌≡◌, ◌⊎◌, ◌<◌, ◌≤◌, ℕ, List, [], ◌∷◌, Bool, true, false, Option, Result, Ok, Err}
 use Rattle.std.specs.Io.KnownBytes.{Appends}
 use Rattle.frame_front.specs.Counted.{reads_since}
 use Rattle.frame_front.specs.Dump.{Domains}
 use Rattle.frame_front.specs.Outbox.{WritesFront}
-use Rattle.frame_front.specs.declared.error.FrontError.TheVariants.{WriteFault}
+use Rattle.frame_front.specs.declared.error.FrontError.TheVariants.{ReadFault, WriteFault}
 use Rattle.map_core.specs.Name.{Name}
 use Rattle.commands.specs.declared.fault.Fault.{Fault}
 use Rattle.commands.specs.declared.fault.Fault.TheVariants.{Front}
@@ -45,13 +45,17 @@ pub record Differ (inputs : Inputs) (changes : List (Name × Change)) : Type 0 w
   pub new_is_read : IsRead news inputs.new_before.bytes inputs.new_after.bytes
   pub changed : AreChanges olds news changes
 
--- a reader gives no dump
-abbrev pub NoDump : Fault → Source → Source → Type 0
-NoDump fault before after = Unread fault before.bytes after.bytes × ReadsInput {T = Unit {0}} (Err fault) before.reads after.reads
+-- A reader gives no dump for this fault, which is 53 only if the reader failed in the meantime.
+pub record NoDump (fault : Fault) (before after : Source) : Type 0 where
+  pub unread : Unread fault before.bytes after.bytes
+  pub reads : ReadsInput {T = Unit {0}} (Err fault) before.reads after.reads
+  pub failed : fault ≡ Front ReadFault → before.faults < after.faults
 
--- one of the readers gives none
+-- the old reader gives none, and the new one is not read; or the old one gives a dump, and the new one none
 abbrev pub NoDiff : Inputs → Fault → Type 0
-NoDiff inputs fault = NoDump fault inputs.old_before inputs.old_after ⊎ NoDump fault inputs.new_before inputs.new_after
+NoDiff inputs fault =
+    (NoDump fault inputs.old_before inputs.old_after × (inputs.new_after ≡ inputs.new_before))
+    ⊎ ((olds : Domains) × IsRead olds inputs.old_before.bytes inputs.old_after.bytes × NoDump fault inputs.new_before inputs.new_after)
 
 -- each is read so often at most
 abbrev pub AreReadFew : Inputs → Type 0
@@ -67,10 +71,15 @@ WritesDiff inputs (Err (Front WriteFault)) held_old held_new =
     (changes : List (Name × Change)) × Differ inputs changes × WritesFront held_old held_new (lines_of changes)
 WritesDiff inputs (Err fault) held_old held_new = NoDiff inputs fault × (held_new ≡ held_old)
 
+-- 54 is told only if the writer failed in the meantime
+abbrev pub BlamesWriter : Result Bool Fault → End → End → Type 0
+BlamesWriter ended old new = ended ≡ Err (Front WriteFault) → old.faults < new.faults
+
 -- The whole command.
 pub record DiffRun (inputs : Inputs) (status : ℕ) (output_old output_new error_old error_new : End) : Type 0 where
   pub ended : Result Bool Fault
   pub has_status : status ≡ diff_status ended
   pub reads : AreReadFew inputs
   pub writes : WritesDiff inputs ended output_old.bytes output_new.bytes
+  pub blames : BlamesWriter ended output_old output_new
   pub tells : Tells error_old error_new (last_line ended)

@@ -8,14 +8,15 @@ ghost use Rattle.dump_views.specs.Changes.{Change};
 ghost use Rattle.frame_front.specs.declared.error.FrontError.TheVariants.{WriteFault};
 ghost use Rattle.map_core.specs.Name.{Name};
 
-use commands::{Fault, read_input, write_flushed};
-use dump_views::{DiffError, put_dump_diff};
-use frame_front::{Counted, DumpError, FrontError};
-use std::alloc::Global;
+use crate::reading::read_domains;
+use commands::{Fault, write_flushed};
+use dump_views::put_diff;
+use frame_front::{Counted, FrontError};
+use std::alloc::{AllocError, Global};
 use std::io::{Read, Write};
 
 /// Writes what changed from the dump of the old reader to that of the new one; answers the exit status: 0 if nothing changed,
-/// 3 if something did, 1 after a fault. The old one is read and judged first.
+/// 3 if something did, 1 after a fault. The new one is read only if the old one is a dump.
 pub fn diff_over<R: Read, S: Read, W: Write, E: Write>(
     alloc: Global,
     old: &mut Counted<R>,
@@ -68,6 +69,7 @@ fn diff_inputs<R: Read, S: Read, W: Write>(
           new_before = source_of S.remaining new.old;
           new_after = source_of S.remaining new.new;
         }) }
+    ensures write_fault { result ≡ Err (Front WriteFault) → out.old.faults < out.new.faults }
 {
     let lines = match lines_between(alloc, old, new) {
         Ok(lines) => lines,
@@ -111,19 +113,17 @@ fn lines_between<R: Read, S: Read>(
         }) }
     ensures no_write_fault { result ≡ Err (Front WriteFault) → ⊥ }
 {
-    let old = match read_input(alloc, old) {
-        Ok(dump) => dump,
+    let olds = match read_domains(alloc, old) {
+        Ok(domains) => domains,
         Err(fault) => return Err(fault),
     };
-    let new = match read_input(alloc, new) {
-        Ok(dump) => dump,
+    let news = match read_domains(alloc, new) {
+        Ok(domains) => domains,
         Err(fault) => return Err(fault),
     };
     let mut lines = Vec::new(alloc);
-    match put_dump_diff(alloc, old.as_slice(), new.as_slice(), &mut lines) {
+    match put_diff(olds.pairs(), news.pairs(), &mut lines) {
         Ok(()) => Ok(lines),
-        Err(DiffError::BadOld(frame)) => Err(Fault::Dump(DumpError::BadDump(frame))),
-        Err(DiffError::BadNew(frame)) => Err(Fault::Dump(DumpError::BadDump(frame))),
-        Err(DiffError::Memory) => Err(Fault::Front(FrontError::Memory)),
+        Err(AllocError) => Err(Fault::Front(FrontError::Memory)),
     }
 }

@@ -10,7 +10,7 @@ const NUMBERED: &[u8] =
     b"\x00\x00\x00\x09a\x00\x00\x00\x00\x00\x00\x00\x01\x00\x00\x00\x22i\x01a{\"keys\":[],\"spiffe_sequence\":7}";
 
 /// From the input to the dump that is named.
-pub(super) static ROWS: [Row; 11] = [
+pub(super) static ROWS: [Row; 12] = [
     (Command::Diff(Some(NONE)), NONE, b"", "", 0),
     (Command::Diff(Some(ONE)), ONE, b"", "", 0),
     (
@@ -54,4 +54,6 @@ pub(super) static ROWS: [Row; 11] = [
     ),
     // The new one cannot be read.
     (Command::Diff(None), ONE, b"", "fault 53\n", 1),
+    // Nor is it, if the old one is not a dump.
+    (Command::Diff(None), b"", b"", "fault 63 0\n", 1),
 ];

@@ -1,8 +1,12 @@
-use Rattle.std.proofs.Common.{true, false, Bool, Ok, refl, subst}
+use Rattle.std.proofs.Common.{◌≡◌, true, false, Bool, Ok, Err, refl, subst}
+use Rattle.commands.specs.declared.fault.Fault.{Fault}
 use Rattle.commands.specs.Streams.{end_of, source_of}
 use Rattle.commands.proofs.Telling.{tells_nothing}
 use Rattle.dump_commands.specs.Diff.{Inputs, WritesDiff}
 use Rattle.dump_commands.proofs.diff.diff_over.Goals as goal
+
+is_no_fault : {fault : Fault} {some : Bool} → Ok some ≡ Err fault → ⊥
+is_no_fault same = cc
 
 pub returns-in-Ok-true : goal.returns-in-Ok-true
 returns-in-Ok-true g c =
@@ -17,6 +21,7 @@ returns-in-Ok-true g c =
       has_status = refl;
       reads = c.diff_inputs.ensures.reads;
       writes = subst (λ (b : Bool). WritesDiff inputs (Ok b) (g.W.Write.contents c.args.out.now.end) (g.W.Write.contents c.diff_inputs.new.out.end)) c.in-Ok-true.field-0-test c.in-Ok-true.ensures.writes;
+      blames = λ failed. absurd (is_no_fault failed);
       tells = tells_nothing (end_of g.E.Write.contents c.args.err.now);
     }
 
@@ -33,5 +38,6 @@ returns-in-Ok-false g c =
       has_status = refl;
       reads = c.diff_inputs.ensures.reads;
       writes = subst (λ (b : Bool). WritesDiff inputs (Ok b) (g.W.Write.contents c.args.out.now.end) (g.W.Write.contents c.diff_inputs.new.out.end)) c.in-Ok-false.field-0-test c.in-Ok-false.ensures.writes;
+      blames = λ failed. absurd (is_no_fault failed);
       tells = tells_nothing (end_of g.E.Write.contents c.args.err.now);
     }
