@@ -1,5 +1,6 @@
 //! The program, from its arguments to its exit status.
 ghost use Rattle.std.specs.Prelude.{◌≡◌, ◌<◌, ◌-◌, ◌^◌, ◌⊎◌};
+ghost use Rattle.frame_front.specs.Counted.{faults_in};
 ghost use Rattle.bundled.specs.Command.{Commands, DiffFiles, Does, Refuses, Shows, profile};
 ghost use Rattle.command_line.specs.Settings.{AreSettings};
 ghost use Rattle.commands.specs.Streams.{Source, Streams, Tells, end_of, streams};
@@ -48,9 +49,9 @@ pub fn command_over<
     err: &mut Counted<E>,
     notes: N,
 ) -> u8
-    requires reader_count { reader.old.faults < 2 ^ 64 - 1 }
-    requires out_count { out.old.faults < 2 ^ 64 - 1 }
-    requires err_count { err.old.faults < 2 ^ 64 - 1 }
+    requires reader_count { faults_in reader.old < 2 ^ 64 - 1 }
+    requires out_count { faults_in out.old < 2 ^ 64 - 1 }
+    requires err_count { faults_in err.old < 2 ^ 64 - 1 }
     ensures { Commands result
         (streams R.remaining W.contents E.contents reader.old out.old err.old)
         (streams R.remaining W.contents E.contents reader.new out.new err.new) }
@@ -95,9 +96,9 @@ fn run_wanted<
     notes: N,
 ) -> u8
     requires settings { AreSettings wanted.now }
-    requires reader_count { reader.old.faults < 2 ^ 64 - 1 }
-    requires out_count { out.old.faults < 2 ^ 64 - 1 }
-    requires err_count { err.old.faults < 2 ^ 64 - 1 }
+    requires reader_count { faults_in reader.old < 2 ^ 64 - 1 }
+    requires out_count { faults_in out.old < 2 ^ 64 - 1 }
+    requires err_count { faults_in err.old < 2 ^ 64 - 1 }
     ensures { Does wanted.now result
         (streams R.remaining W.contents E.contents reader.old out.old err.old)
         (streams R.remaining W.contents E.contents reader.new out.new err.new) }
@@ -174,8 +175,8 @@ fn diff_files<H: Files, W: Write, E: Write>(
     out: &mut Counted<W>,
     err: &mut Counted<E>,
 ) -> u8
-    requires out_count { out.old.faults < 2 ^ 64 - 1 }
-    requires err_count { err.old.faults < 2 ^ 64 - 1 }
+    requires out_count { faults_in out.old < 2 ^ 64 - 1 }
+    requires err_count { faults_in err.old < 2 ^ 64 - 1 }
     ensures { DiffFiles result (end_of W.contents out.old) (end_of W.contents out.new) (end_of E.contents err.old) (end_of E.contents err.new) }
 {
     let Ok(old) = File::open(host, old) else {
@@ -203,8 +204,8 @@ fn show<W: Write, E: Write>(
     out: &mut Counted<W>,
     err: &mut Counted<E>,
 ) -> u8
-    requires out_count { out.old.faults < 2 ^ 64 - 1 }
-    requires err_count { err.old.faults < 2 ^ 64 - 1 }
+    requires out_count { faults_in out.old < 2 ^ 64 - 1 }
+    requires err_count { faults_in err.old < 2 ^ 64 - 1 }
     ensures shows { (input : Source) → let old : Streams = record { input = input; output = end_of W.contents out.old; error = end_of E.contents err.old } in
         let new : Streams = record { input = input; output = end_of W.contents out.new; error = end_of E.contents err.new } in
         Shows result old new ⊎ Refuses result old new }
@@ -231,7 +232,7 @@ fn text_of(alloc: Global, error: &clap::Error) -> Result<String, AllocError> {
 
 /// Says on standard error why the arguments are refused.
 fn refuse<E: Write>(text: &[u8], err: &mut Counted<E>) -> u8
-    requires { err.old.faults < 2 ^ 64 - 1 }
+    requires { faults_in err.old < 2 ^ 64 - 1 }
     ensures status { result ≡ 2 }
     ensures tells { Tells (end_of E.contents err.old) (end_of E.contents err.new) text.now }
 {

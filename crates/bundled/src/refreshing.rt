@@ -1,5 +1,6 @@
 //! The command `refresh`: sets the bundles of a list of relationships, out of a folder of documents.
 ghost use Rattle.std.specs.Prelude.{◌<◌, ◌-◌, ◌^◌, List, ℕ};
+ghost use Rattle.frame_front.specs.Counted.{faults_in};
 ghost use Rattle.bundled.specs.Refresh.{RefreshRun};
 ghost use Rattle.commands.specs.Streams.{Source, Tells, end_of};
 
@@ -28,8 +29,8 @@ pub fn refresh_over<H: Files + Clock + Net, W: Write, E: Write>(
     err: &mut Counted<E>,
     wanted: &Refreshing<'_>,
 ) -> u8
-    requires out_count { out.old.faults < 2 ^ 64 - 1 }
-    requires err_count { err.old.faults < 2 ^ 64 - 1 }
+    requires out_count { faults_in out.old < 2 ^ 64 - 1 }
+    requires err_count { faults_in err.old < 2 ^ 64 - 1 }
     ensures { (input : Source) → RefreshRun result
         (record { input = input; output = end_of W.contents out.old; error = end_of E.contents err.old })
         (record { input = input; output = end_of W.contents out.new; error = end_of E.contents err.new }) }
@@ -53,8 +54,8 @@ fn refresh_list<H: Files + Clock + Net, W: Write, E: Write>(
     err: &mut Counted<E>,
     wanted: &Refreshing<'_>,
 ) -> Result<bool, Fault>
-    requires out_count { out.old.faults < 2 ^ 64 - 1 }
-    requires err_count { err.old.faults < 2 ^ 64 - 1 }
+    requires out_count { faults_in out.old < 2 ^ 64 - 1 }
+    requires err_count { faults_in err.old < 2 ^ 64 - 1 }
     ensures { (lines : List ℕ) × Tells (end_of E.contents err.old) (end_of E.contents err.new) lines }
 {
     let mut schedule = read_schedule(alloc, host, wanted.list)?;

@@ -1,5 +1,6 @@
 //! The command `snapshot`: the bundles of a server as files in a folder.
 ghost use Rattle.std.specs.Prelude.{◌≡◌, ◌<◌, ◌-◌, ◌^◌, ◌++◌, List, ℕ};
+ghost use Rattle.frame_front.specs.Counted.{faults_in};
 ghost use Rattle.bundled.specs.Snapshot.{SnapshotRun};
 ghost use Rattle.commands.specs.Streams.{Source, Tells, TellsUnlessFailed, end_of};
 ghost use Rattle.commands.specs.Fault.{fault_line};
@@ -27,8 +28,8 @@ pub fn snapshot_over<H: Files + Clock + Net, W: Write, E: Write>(
     err: &mut Counted<E>,
     wanted: &Snapshotting<'_>,
 ) -> u8
-    requires out_count { out.old.faults < 2 ^ 64 - 1 }
-    requires err_count { err.old.faults < 2 ^ 64 - 1 }
+    requires out_count { faults_in out.old < 2 ^ 64 - 1 }
+    requires err_count { faults_in err.old < 2 ^ 64 - 1 }
     ensures { (input : Source) → SnapshotRun result
         (record { input = input; output = end_of W.contents out.old; error = end_of E.contents err.old })
         (record { input = input; output = end_of W.contents out.new; error = end_of E.contents err.new }) }
@@ -51,8 +52,8 @@ fn repeat<H: Files + Clock + Net, W: Write, E: Write>(
     err: &mut Counted<E>,
     wanted: &Snapshotting<'_>,
 ) -> Result<(), Fault>
-    requires out_count { out.old.faults < 2 ^ 64 - 1 }
-    requires err_count { err.old.faults < 2 ^ 64 - 1 }
+    requires out_count { faults_in out.old < 2 ^ 64 - 1 }
+    requires err_count { faults_in err.old < 2 ^ 64 - 1 }
     ensures { (lines : List ℕ) × Tells (end_of E.contents err.old) (end_of E.contents err.new) lines }
 {
     let before = err.faults();

@@ -1,7 +1,7 @@
 -- Standard input, output and error, or what stands in their place, and what a command that ends tells them.
 use Rattle.std.specs.Prelude.{◌≡◌, ◌≢◌, ◌⊎◌, ℕ, ◌<◌, List, Option, Result, Ok, Err}
 use Rattle.std.specs.Io.KnownBytes.{Appends}
-use Rattle.frame_front.specs.Counted.{reads_of}
+use Rattle.frame_front.specs.Counted.{end_in, faults_in, reads_of}
 use Rattle.frame_front.specs.declared.counted.Counted.{Counted}
 use Rattle.frame_front.specs.declared.error.FrontError.TheVariants.{ReadFault, WriteFault}
 use Rattle.frame_front.specs.Outbox.{WritesFront}
@@ -15,7 +15,7 @@ pub record End : Type 0 where
   pub faults : ℕ
 
 abbrev pub end_of : {E : Type 0} → (E → Option (List ℕ)) → Counted E → End
-end_of bytes_of counted = record { bytes = bytes_of counted.end; faults = counted.faults }
+end_of bytes_of counted = record { bytes = bytes_of (end_in counted); faults = faults_in counted }
 
 -- the same of the input, and how often it was read
 pub record Source : Type 0 where
@@ -24,7 +24,7 @@ pub record Source : Type 0 where
   pub reads : ℕ
 
 abbrev pub source_of : {R : Type 0} → (R → Option (List ℕ)) → Counted R → Source
-source_of left_of counted = record { bytes = left_of counted.end; faults = counted.faults; reads = reads_of counted }
+source_of left_of counted = record { bytes = left_of (end_in counted); faults = faults_in counted; reads = reads_of counted }
 
 pub record Streams : Type 0 where
   pub input : Source

@@ -1,6 +1,6 @@
 //! The command `migrate`: a dump of version 1 becomes requests of version 2.
 ghost use Rattle.std.specs.Prelude.{◌≡◌, ◌<◌, ◌-◌, ◌^◌, Err};
-ghost use Rattle.frame_front.specs.Counted.{reads_of};
+ghost use Rattle.frame_front.specs.Counted.{end_in, faults_in, reads_of};
 ghost use Rattle.frame_front.specs.declared.error.FrontError.TheVariants.{ReadFault, WriteFault};
 ghost use Rattle.commands.specs.Input.{ReadsInput};
 ghost use Rattle.commands.specs.Migrate.{Migrates, Migration};
@@ -21,9 +21,9 @@ pub fn migrate_over<R: Read, W: Write, E: Write>(
     out: &mut Counted<W>,
     err: &mut Counted<E>,
 ) -> u8
-    requires reader_count { reader.old.faults < 2 ^ 64 - 1 }
-    requires out_count { out.old.faults < 2 ^ 64 - 1 }
-    requires err_count { err.old.faults < 2 ^ 64 - 1 }
+    requires reader_count { faults_in reader.old < 2 ^ 64 - 1 }
+    requires out_count { faults_in out.old < 2 ^ 64 - 1 }
+    requires err_count { faults_in err.old < 2 ^ 64 - 1 }
     ensures migrates { Migration result
         (streams R.remaining W.contents E.contents reader.old out.old err.old)
         (streams R.remaining W.contents E.contents reader.new out.new err.new) }
@@ -40,12 +40,12 @@ fn migrate_input<R: Read, W: Write>(
     reader: &mut Counted<R>,
     out: &mut Counted<W>,
 ) -> Result<(), Fault>
-    requires reader_count { reader.old.faults < 2 ^ 64 - 1 }
-    requires out_count { out.old.faults < 2 ^ 64 - 1 }
-    ensures migrates { Migrates result (R.remaining reader.old.end) (R.remaining reader.new.end) (W.contents out.old.end) (W.contents out.new.end) }
+    requires reader_count { faults_in reader.old < 2 ^ 64 - 1 }
+    requires out_count { faults_in out.old < 2 ^ 64 - 1 }
+    ensures migrates { Migrates result (R.remaining (end_in reader.old)) (R.remaining (end_in reader.new)) (W.contents (end_in out.old)) (W.contents (end_in out.new)) }
     ensures reads { ReadsInput result (reads_of reader.old) (reads_of reader.new) }
-    ensures read_fault { result ≡ Err (Front ReadFault) → reader.old.faults < reader.new.faults }
-    ensures write_fault { result ≡ Err (Front WriteFault) → out.old.faults < out.new.faults }
+    ensures read_fault { result ≡ Err (Front ReadFault) → faults_in reader.old < faults_in reader.new }
+    ensures write_fault { result ≡ Err (Front WriteFault) → faults_in out.old < faults_in out.new }
 {
     let input = match read_input(alloc, reader) {
         Ok(input) => input,

@@ -1,7 +1,7 @@
 //! Output that is written whole.
 ghost use Rattle.std.specs.Prelude.{◌≡◌, ◌<◌, ◌-◌, ◌^◌, OnOk, IfErr, OnErr};
 ghost use Rattle.std.specs.Io.KnownBytes.{Appends};
-ghost use Rattle.frame_front.specs.Counted.{next_count};
+ghost use Rattle.frame_front.specs.Counted.{end_in, faults_in, next_count};
 ghost use Rattle.frame_front.specs.Outbox.{WritesFront};
 ghost use Rattle.commands.specs.Streams.{Tells, end_of};
 ghost use Rattle.commands.specs.declared.fault.Fault.TheVariants.{Front};
@@ -15,11 +15,11 @@ use std::io::Write;
 /// A call that fails is the end of it, even if a signal interrupted it: the program handles no signals, so the system
 /// interrupts none of its writes. Sessions write in the same way.
 pub fn write_whole<W: Write>(writer: &mut Counted<W>, bytes: &[u8]) -> Result<(), Fault>
-    ensures ok { OnOk result (Appends (W.contents writer.old.end) (W.contents writer.new.end) bytes.now) }
-    ensures quiet { OnOk result (writer.new.faults ≡ writer.old.faults) }
+    ensures ok { OnOk result (Appends (W.contents (end_in writer.old)) (W.contents (end_in writer.new)) bytes.now) }
+    ensures quiet { OnOk result (faults_in writer.new ≡ faults_in writer.old) }
     ensures fault { IfErr result (λ fault. fault ≡ Front FrontError.WriteFault) }
-    ensures failed { OnErr result (writer.new.faults ≡ next_count writer.old.faults) }
-    ensures front { WritesFront (W.contents writer.old.end) (W.contents writer.new.end) bytes.now }
+    ensures failed { OnErr result (faults_in writer.new ≡ next_count (faults_in writer.old)) }
+    ensures front { WritesFront (W.contents (end_in writer.old)) (W.contents (end_in writer.new)) bytes.now }
 {
     let mut rest = bytes;
     while !rest.is_empty() {
@@ -37,11 +37,11 @@ pub fn write_whole<W: Write>(writer: &mut Counted<W>, bytes: &[u8]) -> Result<()
 
 /// Writes all of the bytes, and sees that the writer keeps nothing back.
 pub fn write_flushed<W: Write>(writer: &mut Counted<W>, bytes: &[u8]) -> Result<(), Fault>
-    ensures ok { OnOk result (Appends (W.contents writer.old.end) (W.contents writer.new.end) bytes.now) }
-    ensures quiet { OnOk result (writer.new.faults ≡ writer.old.faults) }
+    ensures ok { OnOk result (Appends (W.contents (end_in writer.old)) (W.contents (end_in writer.new)) bytes.now) }
+    ensures quiet { OnOk result (faults_in writer.new ≡ faults_in writer.old) }
     ensures fault { IfErr result (λ fault. fault ≡ Front FrontError.WriteFault) }
-    ensures failed { OnErr result (writer.new.faults ≡ next_count writer.old.faults) }
-    ensures front { WritesFront (W.contents writer.old.end) (W.contents writer.new.end) bytes.now }
+    ensures failed { OnErr result (faults_in writer.new ≡ next_count (faults_in writer.old)) }
+    ensures front { WritesFront (W.contents (end_in writer.old)) (W.contents (end_in writer.new)) bytes.now }
 {
     write_whole(writer, bytes)?;
     match writer.flush() {
@@ -52,7 +52,7 @@ pub fn write_flushed<W: Write>(writer: &mut Counted<W>, bytes: &[u8]) -> Result<
 
 /// Writes a text. What the writer does not take of it is dropped.
 pub fn tell<E: Write>(err: &mut Counted<E>, text: &[u8])
-    requires { err.old.faults < 2 ^ 64 - 1 }
+    requires { faults_in err.old < 2 ^ 64 - 1 }
     ensures { Tells (end_of E.contents err.old) (end_of E.contents err.new) text.now }
 {
     let _ = write_whole(err, text);
@@ -60,7 +60,7 @@ pub fn tell<E: Write>(err: &mut Counted<E>, text: &[u8])
 
 /// Writes a text, and sees that the writer keeps nothing back. What the writer does not take of it is dropped.
 pub fn tell_flushed<E: Write>(end: &mut Counted<E>, text: &[u8])
-    requires { end.old.faults < 2 ^ 64 - 1 }
+    requires { faults_in end.old < 2 ^ 64 - 1 }
     ensures { Tells (end_of E.contents end.old) (end_of E.contents end.new) text.now }
 {
     let _ = write_flushed(end, text);

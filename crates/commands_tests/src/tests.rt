@@ -100,8 +100,8 @@ fn left_by(alloc: Global, command: Command, reader: Source<'_>, out: Sink, err: 
         Command::Explain(text) => explain_over(text, &mut out, &mut err),
     };
     Left {
-        output: out.end.into_taken(),
-        faults: err.end.into_taken(),
+        output: out.into_end().into_taken(),
+        faults: err.into_end().into_taken(),
         status,
     }
 }

@@ -5,7 +5,7 @@ ghost use Rattle.commands.specs.Streams.{end_of, streams};
 ghost use Rattle.commands.specs.declared.fault.Fault.TheVariants.{Front};
 ghost use Rattle.dump_commands.specs.Check.{Checks, status_of};
 ghost use Rattle.dump_commands.specs.Private.Checking.{ChecksFiles, ChecksInput, ChecksOne, Told, given_by, joined};
-ghost use Rattle.frame_front.specs.Counted.{reads_of};
+ghost use Rattle.frame_front.specs.Counted.{end_in, faults_in, reads_of};
 ghost use Rattle.frame_front.specs.declared.error.FrontError.TheVariants.{ReadFault, WriteFault};
 
 use commands::{Fault, read_input, write_flushed};
@@ -63,9 +63,9 @@ pub fn check_over<T: TextSource, R: Read, W: Write, E: Write>(
     out: &mut Counted<W>,
     err: &mut Counted<E>,
 ) -> u8
-    requires reader_count { reader.old.faults < 2 ^ 64 - 1 }
-    requires out_count { out.old.faults < 2 ^ 64 - 1 }
-    requires err_count { err.old.faults < 2 ^ 64 - 1 }
+    requires reader_count { faults_in reader.old < 2 ^ 64 - 1 }
+    requires out_count { faults_in out.old < 2 ^ 64 - 1 }
+    requires err_count { faults_in err.old < 2 ^ 64 - 1 }
     ensures checks { Checks (T.gives texts.now) (map (λ file. file.now) files.now) result
         (streams R.remaining W.contents E.contents reader.old out.old err.old)
         (streams R.remaining W.contents E.contents reader.new out.new err.new) }
@@ -79,7 +79,7 @@ pub fn check_over<T: TextSource, R: Read, W: Write, E: Write>(
 
 /// Tells a fault, and answers the exit status.
 fn tell<E: Write>(checked: Result<Findings, Fault>, err: &mut Counted<E>) -> u8
-    requires { err.old.faults < 2 ^ 64 - 1 }
+    requires { faults_in err.old < 2 ^ 64 - 1 }
     ensures tells { Told checked result (end_of E.contents err.old) (end_of E.contents err.new) }
     ensures silent { result ≢ 1 → err.new ≡ err.old }
 {
@@ -95,13 +95,13 @@ fn check_input<R: Read, W: Write>(
     reader: &mut Counted<R>,
     out: &mut Counted<W>,
 ) -> Result<Findings, Fault>
-    requires reader_count { reader.old.faults < 2 ^ 64 - 1 }
-    requires out_count { out.old.faults < 2 ^ 64 - 1 }
+    requires reader_count { faults_in reader.old < 2 ^ 64 - 1 }
+    requires out_count { faults_in out.old < 2 ^ 64 - 1 }
     ensures checks { ChecksInput result
-        (R.remaining reader.old.end) (R.remaining reader.new.end) (W.contents out.old.end) (W.contents out.new.end) }
+        (R.remaining (end_in reader.old)) (R.remaining (end_in reader.new)) (W.contents (end_in out.old)) (W.contents (end_in out.new)) }
     ensures reads { ReadsInput result (reads_of reader.old) (reads_of reader.new) }
-    ensures read_fault { result ≡ Err (Front ReadFault) → reader.old.faults < reader.new.faults }
-    ensures write_fault { result ≡ Err (Front WriteFault) → out.old.faults < out.new.faults }
+    ensures read_fault { result ≡ Err (Front ReadFault) → faults_in reader.old < faults_in reader.new }
+    ensures write_fault { result ≡ Err (Front WriteFault) → faults_in out.old < faults_in out.new }
 {
     let input = match read_input(alloc, reader) {
         Ok(input) => input,
@@ -117,10 +117,10 @@ fn check_files<T: TextSource, W: Write>(
     files: &[&str],
     out: &mut Counted<W>,
 ) -> Result<Findings, Fault>
-    requires { out.old.faults < 2 ^ 64 - 1 }
+    requires { faults_in out.old < 2 ^ 64 - 1 }
     ensures checks { ChecksFiles (T.gives texts.now) (map (λ file. file.now) files.now) result
-        (W.contents out.old.end) (W.contents out.new.end) }
-    ensures write_fault { result ≡ Err (Front WriteFault) → out.old.faults < out.new.faults }
+        (W.contents (end_in out.old)) (W.contents (end_in out.new)) }
+    ensures write_fault { result ≡ Err (Front WriteFault) → faults_in out.old < faults_in out.new }
     ensures no_read_fault { result ≡ Err (Front ReadFault) → ⊥ }
 {
     let mut findings = Findings {
@@ -148,10 +148,10 @@ fn check_document<W: Write>(
     document: &[u8],
     out: &mut Counted<W>,
 ) -> Result<Findings, Fault>
-    requires { out.old.faults < 2 ^ 64 - 1 }
-    ensures checks { ChecksOne result (record { name = name.now; text = document.now }) (W.contents out.old.end) (W.contents out.new.end) }
-    ensures quiet { OnOk result (out.new.faults ≡ out.old.faults) }
-    ensures write_fault { result ≡ Err (Front WriteFault) → out.old.faults < out.new.faults }
+    requires { faults_in out.old < 2 ^ 64 - 1 }
+    ensures checks { ChecksOne result (record { name = name.now; text = document.now }) (W.contents (end_in out.old)) (W.contents (end_in out.new)) }
+    ensures quiet { OnOk result (faults_in out.new ≡ faults_in out.old) }
+    ensures write_fault { result ≡ Err (Front WriteFault) → faults_in out.old < faults_in out.new }
 {
     let outcome = report_on(alloc, document);
     if let Err(DocError::Memory) = outcome {

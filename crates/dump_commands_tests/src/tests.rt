@@ -112,8 +112,8 @@ fn left_by(
         }
     };
     Ok(Left {
-        output: out.end.into_taken(),
-        faults: err.end.into_taken(),
+        output: out.into_end().into_taken(),
+        faults: err.into_end().into_taken(),
         status,
     })
 }

@@ -3,6 +3,7 @@ ghost use Rattle.std.specs.Prelude.{◌≡◌, ◌⊎◌, ◌≤◌, ◌<◌, �
 ghost use Rattle.std.specs.Io.KnownBytes.{Appends};
 ghost use Rattle.std.specs.Cow.{cow_slice_items};
 ghost use Rattle.arrayvec.specs.ArrayVec.{array_vec_len};
+ghost use Rattle.frame_front.specs.Counted.{end_in, faults_in};
 ghost use Rattle.frame_front.specs.Frame.{frame};
 ghost use Rattle.frame_front.specs.Outbox.{WritesFront};
 ghost use Rattle.frame_client.specs.Asking.{request_bytes, is_append, is_written as can_be_written, IsUnwritable};
@@ -46,13 +47,13 @@ pub fn write_request<W: Write>(
     writer: &mut Counted<W>,
     op: &Op,
 ) -> Result<(), RequestError>
-    requires count { writer.old.faults < 2 ^ 64 - 1 }
-    ensures ok { OnOk result (Appends (W.contents writer.old.end) (W.contents writer.new.end) (request_bytes op.now)) }
+    requires count { faults_in writer.old < 2 ^ 64 - 1 }
+    ensures ok { OnOk result (Appends (W.contents (end_in writer.old)) (W.contents (end_in writer.new)) (request_bytes op.now)) }
     ensures written { OnOk result (can_be_written op.now ≡ true) }
-    ensures quiet { OnOk result (writer.new.faults ≡ writer.old.faults) }
+    ensures quiet { OnOk result (faults_in writer.new ≡ faults_in writer.old) }
     ensures why { IfErr result (λ why. (IsUnwritable op.now why × (writer.new ≡ writer.old))
-        ⊎ ((why ≡ RequestError.WriteFault) × (writer.old.faults < writer.new.faults))) }
-    ensures front { WritesFront (W.contents writer.old.end) (W.contents writer.new.end) (request_bytes op.now) }
+        ⊎ ((why ≡ RequestError.WriteFault) × (faults_in writer.old < faults_in writer.new))) }
+    ensures front { WritesFront (W.contents (end_in writer.old)) (W.contents (end_in writer.new)) (request_bytes op.now) }
 {
     let document = match request_document(alloc, op) {
         Ok(Some(document)) => document,
@@ -99,11 +100,11 @@ pub(crate) fn send_request<W: Write>(
 ) -> Result<(), FrontError>
     requires document { document.now ≡ document_part op.now }
     requires short { length document.now ≤ 1048576 }
-    requires count { writer.old.faults < 2 ^ 64 - 1 }
-    ensures ok { OnOk result (Appends (W.contents writer.old.end) (W.contents writer.new.end) (request_bytes op.now)) }
-    ensures quiet { OnOk result (writer.new.faults ≡ writer.old.faults) }
-    ensures fault { IfErr result (λ fault. (fault ≡ FrontError.WriteFault) × (writer.old.faults < writer.new.faults)) }
-    ensures front { WritesFront (W.contents writer.old.end) (W.contents writer.new.end) (request_bytes op.now) }
+    requires count { faults_in writer.old < 2 ^ 64 - 1 }
+    ensures ok { OnOk result (Appends (W.contents (end_in writer.old)) (W.contents (end_in writer.new)) (request_bytes op.now)) }
+    ensures quiet { OnOk result (faults_in writer.new ≡ faults_in writer.old) }
+    ensures fault { IfErr result (λ fault. (fault ≡ FrontError.WriteFault) × (faults_in writer.old < faults_in writer.new)) }
+    ensures front { WritesFront (W.contents (end_in writer.old)) (W.contents (end_in writer.new)) (request_bytes op.now) }
 {
     let head = request_head(op, document);
     write_both(writer, head.as_slice(), document)?;

@@ -1,6 +1,7 @@
 //! A client: asks whoever serves the other end of a stream.
 ghost use Rattle.std.specs.Prelude.{◌≡◌, ◌⊎◌, ◌<◌, ◌≤◌, ◌-◌, ◌^◌, ◌++◌, ◌∷◌, [], ◌≢◌, ℕ, List, true, false, None, length, Err, OnOk, IfOk, IfErr};
 ghost use Rattle.std.specs.Io.KnownBytes.{Consumes};
+ghost use Rattle.frame_front.specs.Counted.{end_in, faults_in};
 ghost use Rattle.frame_front.specs.Frame.{IsPayload, frame};
 ghost use Rattle.frame_client.specs.Reading.{CountsFault};
 ghost use Rattle.frame_front.specs.Reply.{answer_frames};
@@ -43,21 +44,22 @@ pub struct Client<R: Read, W: Write> {
 
 impl<R: Read, W: Write> Model for Client<R, W> {
     ghost use Rattle.std.specs.Prelude.{◌≡◌, ◌<◌, ◌-◌, ◌^◌, None};
+    ghost use Rattle.frame_front.specs.Counted.{end_in, faults_in};
     ghost use Rattle.frame_client.specs.Client.{ClientState, ends};
 
     ghost Value = { ClientState };
 
-    ghost view = { λ c. record { ends = ends (R.remaining c.reader.end) (W.contents c.writer.end) c.reader.faults c.writer.faults; ended = c.ended } };
+    ghost view = { λ c. record { ends = ends (R.remaining (end_in c.reader)) (W.contents (end_in c.writer)) (faults_in c.reader) (faults_in c.writer); ended = c.ended } };
 
-    ghost invariant = { λ c. c.ended ≡ None → (c.reader.faults < 2 ^ 64 - 1) × (c.writer.faults < 2 ^ 64 - 1) };
+    ghost invariant = { λ c. c.ended ≡ None → (faults_in c.reader < 2 ^ 64 - 1) × (faults_in c.writer < 2 ^ 64 - 1) };
 }
 
 impl<R: Read, W: Write> Client<R, W> {
     /// Has asked nothing yet.
     pub fn new(alloc: Global, reader: Counted<R>, writer: Counted<W>) -> Client<R, W>
-        requires reader_count { reader.faults < 2 ^ 64 - 1 }
-        requires writer_count { writer.faults < 2 ^ 64 - 1 }
-        ensures ends { result.ends ≡ ends (R.remaining reader.end) (W.contents writer.end) reader.faults writer.faults }
+        requires reader_count { faults_in reader < 2 ^ 64 - 1 }
+        requires writer_count { faults_in writer < 2 ^ 64 - 1 }
+        ensures ends { result.ends ≡ ends (R.remaining (end_in reader)) (W.contents (end_in writer)) (faults_in reader) (faults_in writer) }
         ensures open { result.ended ≡ None }
     {
         Client {
@@ -102,7 +104,7 @@ impl<R: Read, W: Write> Client<R, W> {
 
     /// Gives the ends back.
     pub fn into_ends(self) -> (Counted<R>, Counted<W>)
-        ensures { self.ends ≡ ends (R.remaining result.0.end) (W.contents result.1.end) result.0.faults result.1.faults }
+        ensures { self.ends ≡ ends (R.remaining (end_in result.0)) (W.contents (end_in result.1)) (faults_in result.0) (faults_in result.1) }
     {
         let Client { reader, writer, .. } = self;
         (reader, writer)
@@ -178,14 +180,14 @@ fn read_preface<R: Read>(
     op: &Op,
 ) -> Result<(), ClientError>
     requires room { length buffer.old ≡ 1049000 }
-    requires count { reader.old.faults < 2 ^ 64 - 1 }
+    requires count { faults_in reader.old < 2 ^ 64 - 1 }
     ensures len { length buffer.new ≡ length buffer.old }
-    ensures ok { OnOk result (Consumes (R.remaining reader.old.end) (R.remaining reader.new.end) (reply_preface op.now)) }
-    ensures quiet { OnOk result (reader.new.faults ≡ reader.old.faults) }
+    ensures ok { OnOk result (Consumes (R.remaining (end_in reader.old)) (R.remaining (end_in reader.new)) (reply_preface op.now)) }
+    ensures quiet { OnOk result (faults_in reader.new ≡ faults_in reader.old) }
     ensures err { IfErr result (λ why. (read : List ℕ)
-        × Consumes (R.remaining reader.old.end) (R.remaining reader.new.end) read
-        × Breaks op.now (reply_bytes op.now) why read (R.remaining reader.new.end)) }
-    ensures counted { IfErr result (λ why. CountsFault why reader.old.faults reader.new.faults) }
+        × Consumes (R.remaining (end_in reader.old)) (R.remaining (end_in reader.new)) read
+        × Breaks op.now (reply_bytes op.now) why read (R.remaining (end_in reader.new))) }
+    ensures counted { IfErr result (λ why. CountsFault why (faults_in reader.old) (faults_in reader.new)) }
 {
     let Op::SetIf(_, _, _) = op else {
         return Ok(());
@@ -207,15 +209,15 @@ fn read_one<R: Read>(
 ) -> Result<Result<Reply, AskError>, ClientError>
     requires of_one { has_one_frame op.now ≡ true }
     requires room { length buffer.old ≡ 1049000 }
-    requires count { reader.old.faults < 2 ^ 64 - 1 }
+    requires count { faults_in reader.old < 2 ^ 64 - 1 }
     ensures len { length buffer.new ≡ length buffer.old }
     ensures ok { IfOk result (λ answer. MayAnswer op.now answer × IsValidAnswer answer
-        × Consumes (R.remaining reader.old.end) (R.remaining reader.new.end) (answer_frames answer)) }
-    ensures quiet { OnOk result (reader.new.faults ≡ reader.old.faults) }
+        × Consumes (R.remaining (end_in reader.old)) (R.remaining (end_in reader.new)) (answer_frames answer)) }
+    ensures quiet { OnOk result (faults_in reader.new ≡ faults_in reader.old) }
     ensures err { IfErr result (λ why. (read : List ℕ)
-        × Consumes (R.remaining reader.old.end) (R.remaining reader.new.end) read
-        × Breaks op.now answer_frames why read (R.remaining reader.new.end)) }
-    ensures counted { IfErr result (λ why. CountsFault why reader.old.faults reader.new.faults) }
+        × Consumes (R.remaining (end_in reader.old)) (R.remaining (end_in reader.new)) read
+        × Breaks op.now answer_frames why read (R.remaining (end_in reader.new))) }
+    ensures counted { IfErr result (λ why. CountsFault why (faults_in reader.old) (faults_in reader.new)) }
 {
     let size = read_frame(reader, buffer)?;
     judge_payload(alloc, op, &buffer[..size])
@@ -229,15 +231,15 @@ fn read_and_count<R: Read>(
     op: &Op,
 ) -> Result<Result<Reply, AskError>, ClientError>
     requires room { length buffer.old ≡ 1049000 }
-    requires count { reader.old.faults < 2 ^ 64 - 1 }
+    requires count { faults_in reader.old < 2 ^ 64 - 1 }
     ensures len { length buffer.new ≡ length buffer.old }
     ensures ok { IfOk result (λ answer. MayAnswer op.now answer × IsValidAnswer answer
-        × Consumes (R.remaining reader.old.end) (R.remaining reader.new.end) (answer_frames answer)) }
-    ensures quiet { OnOk result (reader.new.faults ≡ reader.old.faults) }
+        × Consumes (R.remaining (end_in reader.old)) (R.remaining (end_in reader.new)) (answer_frames answer)) }
+    ensures quiet { OnOk result (faults_in reader.new ≡ faults_in reader.old) }
     ensures err { IfErr result (λ why. (read : List ℕ)
-        × Consumes (R.remaining reader.old.end) (R.remaining reader.new.end) read
-        × Breaks op.now answer_frames why read (R.remaining reader.new.end)) }
-    ensures counted { IfErr result (λ why. CountsFault why reader.old.faults reader.new.faults) }
+        × Consumes (R.remaining (end_in reader.old)) (R.remaining (end_in reader.new)) read
+        × Breaks op.now answer_frames why read (R.remaining (end_in reader.new))) }
+    ensures counted { IfErr result (λ why. CountsFault why (faults_in reader.old) (faults_in reader.new)) }
 {
     if is_of_one(op) {
         read_one(alloc, reader, buffer, op)
@@ -254,15 +256,15 @@ fn read_reply<R: Read>(
     op: &Op,
 ) -> Result<Result<Reply, AskError>, ClientError>
     requires room { length buffer.old ≡ 1049000 }
-    requires count { reader.old.faults < 2 ^ 64 - 1 }
+    requires count { faults_in reader.old < 2 ^ 64 - 1 }
     ensures len { length buffer.new ≡ length buffer.old }
     ensures ok { IfOk result (λ answer. MayAnswer op.now answer × IsValidAnswer answer
-        × Consumes (R.remaining reader.old.end) (R.remaining reader.new.end) (reply_bytes op.now answer)) }
-    ensures quiet { OnOk result (reader.new.faults ≡ reader.old.faults) }
+        × Consumes (R.remaining (end_in reader.old)) (R.remaining (end_in reader.new)) (reply_bytes op.now answer)) }
+    ensures quiet { OnOk result (faults_in reader.new ≡ faults_in reader.old) }
     ensures err { IfErr result (λ why. (read : List ℕ)
-        × Consumes (R.remaining reader.old.end) (R.remaining reader.new.end) read
-        × Breaks op.now (reply_bytes op.now) why read (R.remaining reader.new.end)) }
-    ensures counted { IfErr result (λ why. CountsFault why reader.old.faults reader.new.faults) }
+        × Consumes (R.remaining (end_in reader.old)) (R.remaining (end_in reader.new)) read
+        × Breaks op.now (reply_bytes op.now) why read (R.remaining (end_in reader.new))) }
+    ensures counted { IfErr result (λ why. CountsFault why (faults_in reader.old) (faults_in reader.new)) }
 {
     read_preface(reader, buffer, op)?;
     read_and_count(alloc, reader, buffer, op)
@@ -280,14 +282,14 @@ fn exchange<R: Read, W: Write>(
     requires document { document.now ≡ document_part op.now }
     requires short { length document.now ≤ 1048576 }
     requires room { length buffer.old ≡ 1049000 }
-    requires reader_count { reader.old.faults < 2 ^ 64 - 1 }
-    requires writer_count { writer.old.faults < 2 ^ 64 - 1 }
+    requires reader_count { faults_in reader.old < 2 ^ 64 - 1 }
+    requires writer_count { faults_in writer.old < 2 ^ 64 - 1 }
     ensures len { length buffer.new ≡ length buffer.old }
     ensures exchanged { Exchange op.now result
-        (ends (R.remaining reader.old.end) (W.contents writer.old.end) reader.old.faults writer.old.faults)
-        (ends (R.remaining reader.new.end) (W.contents writer.new.end) reader.new.faults writer.new.faults) }
-    ensures reader_count { OnOk result (reader.new.faults ≡ reader.old.faults) }
-    ensures writer_count { OnOk result (writer.new.faults ≡ writer.old.faults) }
+        (ends (R.remaining (end_in reader.old)) (W.contents (end_in writer.old)) (faults_in reader.old) (faults_in writer.old))
+        (ends (R.remaining (end_in reader.new)) (W.contents (end_in writer.new)) (faults_in reader.new) (faults_in writer.new)) }
+    ensures reader_count { OnOk result (faults_in reader.new ≡ faults_in reader.old) }
+    ensures writer_count { OnOk result (faults_in writer.new ≡ faults_in writer.old) }
 {
     match send_request(writer, op, document) {
         Ok(()) => read_reply(alloc, reader, buffer, op),

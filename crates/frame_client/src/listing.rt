@@ -10,6 +10,7 @@ ghost use Rattle.spiffe_doc.specs.Text.{text_of};
 ghost use Rattle.map_core.specs.Name.{Name};
 ghost use Rattle.map_core.specs.Reply.{error_number};
 ghost use Rattle.map_core.specs.declared.op.Op.TheVariants.{FetchAll};
+ghost use Rattle.frame_front.specs.Counted.{end_in, faults_in};
 ghost use Rattle.frame_front.specs.Frame.{frame};
 ghost use Rattle.frame_client.specs.Reading.{CountsFault};
 ghost use Rattle.frame_front.specs.Reply.{answer_frames, error_detail, item_frame};
@@ -102,16 +103,16 @@ fn read_listing<R: Read>(
     count: u64,
 ) -> Result<Vec<(TrustDomain, Bundle)>, ClientError>
     requires room { length buffer.old ≡ 1049000 }
-    requires count { reader.old.faults < 2 ^ 64 - 1 }
+    requires count { faults_in reader.old < 2 ^ 64 - 1 }
     ensures len { length buffer.new ≡ length buffer.old }
     ensures valid { IfOk result (λ items. AreValid items.items × Ascends None items.items × (length items.items ≡ count)) }
     ensures ok { IfOk result (λ items.
-        Consumes (R.remaining reader.old.end) (R.remaining reader.new.end) (flat_map item_frame items.items)) }
-    ensures quiet { OnOk result (reader.new.faults ≡ reader.old.faults) }
+        Consumes (R.remaining (end_in reader.old)) (R.remaining (end_in reader.new)) (flat_map item_frame items.items)) }
+    ensures quiet { OnOk result (faults_in reader.new ≡ faults_in reader.old) }
     ensures err { IfErr result (λ why. (read : List ℕ)
-        × Consumes (R.remaining reader.old.end) (R.remaining reader.new.end) read
-        × BreaksListing why count read (R.remaining reader.new.end)) }
-    ensures counted { IfErr result (λ why. CountsFault why reader.old.faults reader.new.faults) }
+        × Consumes (R.remaining (end_in reader.old)) (R.remaining (end_in reader.new)) read
+        × BreaksListing why count read (R.remaining (end_in reader.new))) }
+    ensures counted { IfErr result (λ why. CountsFault why (faults_in reader.old) (faults_in reader.new)) }
 {
     let mut items = Vec::new(alloc);
     let mut last = None;
@@ -142,15 +143,15 @@ pub(crate) fn read_all<R: Read>(
     buffer: &mut [u8],
 ) -> Result<Result<Reply, AskError>, ClientError>
     requires room { length buffer.old ≡ 1049000 }
-    requires count { reader.old.faults < 2 ^ 64 - 1 }
+    requires count { faults_in reader.old < 2 ^ 64 - 1 }
     ensures len { length buffer.new ≡ length buffer.old }
     ensures ok { IfOk result (λ answer. MayAnswer FetchAll answer × IsValidAnswer answer
-        × Consumes (R.remaining reader.old.end) (R.remaining reader.new.end) (answer_frames answer)) }
-    ensures quiet { OnOk result (reader.new.faults ≡ reader.old.faults) }
+        × Consumes (R.remaining (end_in reader.old)) (R.remaining (end_in reader.new)) (answer_frames answer)) }
+    ensures quiet { OnOk result (faults_in reader.new ≡ faults_in reader.old) }
     ensures err { IfErr result (λ why. (read : List ℕ)
-        × Consumes (R.remaining reader.old.end) (R.remaining reader.new.end) read
-        × Breaks FetchAll answer_frames why read (R.remaining reader.new.end)) }
-    ensures counted { IfErr result (λ why. CountsFault why reader.old.faults reader.new.faults) }
+        × Consumes (R.remaining (end_in reader.old)) (R.remaining (end_in reader.new)) read
+        × Breaks FetchAll answer_frames why read (R.remaining (end_in reader.new))) }
+    ensures counted { IfErr result (λ why. CountsFault why (faults_in reader.old) (faults_in reader.new)) }
 {
     let size = read_frame(reader, buffer)?;
     match read_head(&buffer[..size]) {

@@ -1,6 +1,7 @@
 //! Replies gathered for one write.
 ghost use Rattle.std.specs.Prelude.{◌≡◌, ◌++◌, ◌<◌, ◌-◌, ◌^◌, [], flat_map, true, false, OnOk, IfOk, IfErr};
 ghost use Rattle.std.specs.Io.KnownBytes.{Appends};
+ghost use Rattle.frame_front.specs.Counted.{end_in, faults_in};
 ghost use Rattle.frame_front.specs.Reply.{item_frame};
 ghost use Rattle.frame_front.specs.Outbox.{WritesFront};
 ghost use Rattle.frame_front.specs.Private.Gathered.{Puts, Takes};
@@ -67,11 +68,11 @@ impl Outbox {
         writer: &mut Counted<W>,
         reply: &ReplyBytes,
     ) -> Result<(), FrontError>
-        requires { writer.old.faults < 2 ^ 64 - 1 }
-        ensures ok { OnOk result (Puts (W.contents writer.old.end) (W.contents writer.new.end) self.old reply.now self.new) }
-        ensures quiet { OnOk result (writer.new.faults ≡ writer.old.faults) }
-        ensures fault { IfErr result (λ fault. (fault ≡ FrontError.WriteFault) × (writer.old.faults < writer.new.faults)) }
-        ensures front { WritesFront (W.contents writer.old.end) (W.contents writer.new.end) (self.old ++ reply.now) }
+        requires { faults_in writer.old < 2 ^ 64 - 1 }
+        ensures ok { OnOk result (Puts (W.contents (end_in writer.old)) (W.contents (end_in writer.new)) self.old reply.now self.new) }
+        ensures quiet { OnOk result (faults_in writer.new ≡ faults_in writer.old) }
+        ensures fault { IfErr result (λ fault. (fault ≡ FrontError.WriteFault) × (faults_in writer.old < faults_in writer.new)) }
+        ensures front { WritesFront (W.contents (end_in writer.old)) (W.contents (end_in writer.new)) (self.old ++ reply.now) }
     {
         let (head, text, items) = reply.parts();
         self.take(writer, head, text)?;
@@ -91,11 +92,11 @@ impl Outbox {
         first: &[u8],
         others: &[u8],
     ) -> Result<(), FrontError>
-        requires { writer.old.faults < 2 ^ 64 - 1 }
-        ensures ok { OnOk result (Takes (W.contents writer.old.end) (W.contents writer.new.end) self.old (first.now ++ others.now) self.new) }
-        ensures quiet { OnOk result (writer.new.faults ≡ writer.old.faults) }
-        ensures fault { IfErr result (λ fault. (fault ≡ FrontError.WriteFault) × (writer.old.faults < writer.new.faults)) }
-        ensures front { WritesFront (W.contents writer.old.end) (W.contents writer.new.end) (self.old ++ (first.now ++ others.now)) }
+        requires { faults_in writer.old < 2 ^ 64 - 1 }
+        ensures ok { OnOk result (Takes (W.contents (end_in writer.old)) (W.contents (end_in writer.new)) self.old (first.now ++ others.now) self.new) }
+        ensures quiet { OnOk result (faults_in writer.new ≡ faults_in writer.old) }
+        ensures fault { IfErr result (λ fault. (fault ≡ FrontError.WriteFault) × (faults_in writer.old < faults_in writer.new)) }
+        ensures front { WritesFront (W.contents (end_in writer.old)) (W.contents (end_in writer.new)) (self.old ++ (first.now ++ others.now)) }
     {
         if self.gather(first, others) {
             return Ok(());
@@ -111,11 +112,11 @@ impl Outbox {
         first: &[u8],
         others: &[u8],
     ) -> Result<(), FrontError>
-        requires { writer.old.faults < 2 ^ 64 - 1 }
-        ensures ok { OnOk result (Takes (W.contents writer.old.end) (W.contents writer.new.end) self.old (first.now ++ others.now) self.new) }
-        ensures quiet { OnOk result (writer.new.faults ≡ writer.old.faults) }
-        ensures fault { IfErr result (λ fault. (fault ≡ FrontError.WriteFault) × (writer.old.faults < writer.new.faults)) }
-        ensures front { WritesFront (W.contents writer.old.end) (W.contents writer.new.end) (self.old ++ (first.now ++ others.now)) }
+        requires { faults_in writer.old < 2 ^ 64 - 1 }
+        ensures ok { OnOk result (Takes (W.contents (end_in writer.old)) (W.contents (end_in writer.new)) self.old (first.now ++ others.now) self.new) }
+        ensures quiet { OnOk result (faults_in writer.new ≡ faults_in writer.old) }
+        ensures fault { IfErr result (λ fault. (fault ≡ FrontError.WriteFault) × (faults_in writer.old < faults_in writer.new)) }
+        ensures front { WritesFront (W.contents (end_in writer.old)) (W.contents (end_in writer.new)) (self.old ++ (first.now ++ others.now)) }
     {
         self.send(writer)?;
         if self.gather(first, others) {
@@ -131,11 +132,11 @@ impl Outbox {
         writer: &mut Counted<W>,
         items: &[(TrustDomain, Bundle)],
     ) -> Result<(), FrontError>
-        requires { writer.old.faults < 2 ^ 64 - 1 }
-        ensures ok { OnOk result (Takes (W.contents writer.old.end) (W.contents writer.new.end) self.old (flat_map item_frame items.now) self.new) }
-        ensures quiet { OnOk result (writer.new.faults ≡ writer.old.faults) }
-        ensures fault { IfErr result (λ fault. (fault ≡ FrontError.WriteFault) × (writer.old.faults < writer.new.faults)) }
-        ensures front { WritesFront (W.contents writer.old.end) (W.contents writer.new.end) (self.old ++ flat_map item_frame items.now) }
+        requires { faults_in writer.old < 2 ^ 64 - 1 }
+        ensures ok { OnOk result (Takes (W.contents (end_in writer.old)) (W.contents (end_in writer.new)) self.old (flat_map item_frame items.now) self.new) }
+        ensures quiet { OnOk result (faults_in writer.new ≡ faults_in writer.old) }
+        ensures fault { IfErr result (λ fault. (fault ≡ FrontError.WriteFault) × (faults_in writer.old < faults_in writer.new)) }
+        ensures front { WritesFront (W.contents (end_in writer.old)) (W.contents (end_in writer.new)) (self.old ++ flat_map item_frame items.now) }
     {
         for item in items {
             self.take_item(writer, item)?;
@@ -150,11 +151,11 @@ impl Outbox {
         writer: &mut Counted<W>,
         item: &(TrustDomain, Bundle),
     ) -> Result<(), FrontError>
-        requires { writer.old.faults < 2 ^ 64 - 1 }
-        ensures ok { OnOk result (Takes (W.contents writer.old.end) (W.contents writer.new.end) self.old (item_frame item.now) self.new) }
-        ensures quiet { OnOk result (writer.new.faults ≡ writer.old.faults) }
-        ensures fault { IfErr result (λ fault. (fault ≡ FrontError.WriteFault) × (writer.old.faults < writer.new.faults)) }
-        ensures front { WritesFront (W.contents writer.old.end) (W.contents writer.new.end) (self.old ++ item_frame item.now) }
+        requires { faults_in writer.old < 2 ^ 64 - 1 }
+        ensures ok { OnOk result (Takes (W.contents (end_in writer.old)) (W.contents (end_in writer.new)) self.old (item_frame item.now) self.new) }
+        ensures quiet { OnOk result (faults_in writer.new ≡ faults_in writer.old) }
+        ensures fault { IfErr result (λ fault. (fault ≡ FrontError.WriteFault) × (faults_in writer.old < faults_in writer.new)) }
+        ensures front { WritesFront (W.contents (end_in writer.old)) (W.contents (end_in writer.new)) (self.old ++ item_frame item.now) }
     {
         let (domain, bundle) = item;
         let front = item_front(domain, bundle);
@@ -163,12 +164,12 @@ impl Outbox {
 
     /// Writes what is gathered.
     fn send<W: Write>(&mut self, writer: &mut Counted<W>) -> Result<(), FrontError>
-        requires { writer.old.faults < 2 ^ 64 - 1 }
-        ensures ok { OnOk result (Appends (W.contents writer.old.end) (W.contents writer.new.end) self.old) }
+        requires { faults_in writer.old < 2 ^ 64 - 1 }
+        ensures ok { OnOk result (Appends (W.contents (end_in writer.old)) (W.contents (end_in writer.new)) self.old) }
         ensures empty { OnOk result (self.new ≡ []) }
-        ensures quiet { OnOk result (writer.new.faults ≡ writer.old.faults) }
-        ensures fault { IfErr result (λ fault. (fault ≡ FrontError.WriteFault) × (writer.old.faults < writer.new.faults)) }
-        ensures front { WritesFront (W.contents writer.old.end) (W.contents writer.new.end) self.old }
+        ensures quiet { OnOk result (faults_in writer.new ≡ faults_in writer.old) }
+        ensures fault { IfErr result (λ fault. (fault ≡ FrontError.WriteFault) × (faults_in writer.old < faults_in writer.new)) }
+        ensures front { WritesFront (W.contents (end_in writer.old)) (W.contents (end_in writer.new)) self.old }
     {
         write_whole(writer, self.gathered.as_slice())?;
         self.gathered.clear();
@@ -177,12 +178,12 @@ impl Outbox {
 
     /// Ends a round: writes what is gathered, and sees that the writer keeps nothing back.
     pub(crate) fn flush<W: Write>(&mut self, writer: &mut Counted<W>) -> Result<(), FrontError>
-        requires { writer.old.faults < 2 ^ 64 - 1 }
-        ensures ok { OnOk result (Appends (W.contents writer.old.end) (W.contents writer.new.end) self.old) }
+        requires { faults_in writer.old < 2 ^ 64 - 1 }
+        ensures ok { OnOk result (Appends (W.contents (end_in writer.old)) (W.contents (end_in writer.new)) self.old) }
         ensures empty { OnOk result (self.new ≡ []) }
-        ensures quiet { OnOk result (writer.new.faults ≡ writer.old.faults) }
-        ensures fault { IfErr result (λ fault. (fault ≡ FrontError.WriteFault) × (writer.old.faults < writer.new.faults)) }
-        ensures front { WritesFront (W.contents writer.old.end) (W.contents writer.new.end) self.old }
+        ensures quiet { OnOk result (faults_in writer.new ≡ faults_in writer.old) }
+        ensures fault { IfErr result (λ fault. (fault ≡ FrontError.WriteFault) × (faults_in writer.old < faults_in writer.new)) }
+        ensures front { WritesFront (W.contents (end_in writer.old)) (W.contents (end_in writer.new)) self.old }
     {
         self.send(writer)?;
         match writer.flush() {
@@ -198,11 +199,11 @@ pub fn write_both<W: Write>(
     first: &[u8],
     others: &[u8],
 ) -> Result<(), FrontError>
-    requires { writer.old.faults < 2 ^ 64 - 1 }
-    ensures ok { OnOk result (Appends (W.contents writer.old.end) (W.contents writer.new.end) (first.now ++ others.now)) }
-    ensures quiet { OnOk result (writer.new.faults ≡ writer.old.faults) }
-    ensures fault { IfErr result (λ fault. (fault ≡ FrontError.WriteFault) × (writer.old.faults < writer.new.faults)) }
-    ensures front { WritesFront (W.contents writer.old.end) (W.contents writer.new.end) (first.now ++ others.now) }
+    requires { faults_in writer.old < 2 ^ 64 - 1 }
+    ensures ok { OnOk result (Appends (W.contents (end_in writer.old)) (W.contents (end_in writer.new)) (first.now ++ others.now)) }
+    ensures quiet { OnOk result (faults_in writer.new ≡ faults_in writer.old) }
+    ensures fault { IfErr result (λ fault. (fault ≡ FrontError.WriteFault) × (faults_in writer.old < faults_in writer.new)) }
+    ensures front { WritesFront (W.contents (end_in writer.old)) (W.contents (end_in writer.new)) (first.now ++ others.now) }
 {
     write_whole(writer, first)?;
     write_whole(writer, others)
@@ -210,11 +211,11 @@ pub fn write_both<W: Write>(
 
 /// Writes all of the bytes.
 fn write_whole<W: Write>(writer: &mut Counted<W>, bytes: &[u8]) -> Result<(), FrontError>
-    requires { writer.old.faults < 2 ^ 64 - 1 }
-    ensures ok { OnOk result (Appends (W.contents writer.old.end) (W.contents writer.new.end) bytes.now) }
-    ensures quiet { OnOk result (writer.new.faults ≡ writer.old.faults) }
-    ensures fault { IfErr result (λ fault. (fault ≡ FrontError.WriteFault) × (writer.old.faults < writer.new.faults)) }
-    ensures front { WritesFront (W.contents writer.old.end) (W.contents writer.new.end) bytes.now }
+    requires { faults_in writer.old < 2 ^ 64 - 1 }
+    ensures ok { OnOk result (Appends (W.contents (end_in writer.old)) (W.contents (end_in writer.new)) bytes.now) }
+    ensures quiet { OnOk result (faults_in writer.new ≡ faults_in writer.old) }
+    ensures fault { IfErr result (λ fault. (fault ≡ FrontError.WriteFault) × (faults_in writer.old < faults_in writer.new)) }
+    ensures front { WritesFront (W.contents (end_in writer.old)) (W.contents (end_in writer.new)) bytes.now }
 {
     let mut rest = bytes;
     while !rest.is_empty() {

@@ -1,7 +1,7 @@
 //! Sessions: requests come in, replies go out.
 ghost use Rattle.std.specs.Prelude.{◌≡◌, ◌≤◌, ◌-◌, ◌^◌, ◌<◌, ◌∷◌, ℕ, List, [], length, Err, Some, true, OnOk, IfErr};
 ghost use Rattle.std.specs.Io.KnownBytes.{Appends, Consumes, IsAtEnd};
-ghost use Rattle.frame_front.specs.Counted.{MakesReads, reads_of};
+ghost use Rattle.frame_front.specs.Counted.{end_in, faults_in, MakesReads, reads_of};
 ghost use Rattle.frame_front.specs.Session.{Answers, Session};
 ghost use Rattle.frame_front.specs.Private.Round.{Round};
 ghost use Rattle.frame_front.specs.Transcript.{Transcript};
@@ -86,12 +86,12 @@ fn answer_frames<W: Write, A: Ask>(
 ) -> Result<u64, FrontError>
     requires nothing_gathered { outbox.old ≡ [] }
     requires room { length decoder.old < 2 ^ 63 }
-    requires count { writer.old.faults < 2 ^ 64 - 1 }
-    ensures round { (written : List ℕ) × Appends (W.contents writer.old.end) (W.contents writer.new.end) written
+    requires count { faults_in writer.old < 2 ^ 64 - 1 }
+    ensures round { (written : List ℕ) × Appends (W.contents (end_in writer.old)) (W.contents (end_in writer.new)) written
         × Round A.answers result decoder.old decoder.new (version.old, ask.old) (version.new, ask.new) written }
     ensures all_sent { OnOk result (outbox.new ≡ []) }
-    ensures quiet { OnOk result (writer.new.faults ≡ writer.old.faults) }
-    ensures fault { result ≡ Err FrontError.WriteFault → writer.old.faults < writer.new.faults }
+    ensures quiet { OnOk result (faults_in writer.new ≡ faults_in writer.old) }
+    ensures fault { result ≡ Err FrontError.WriteFault → faults_in writer.old < faults_in writer.new }
 {
     let mut count = 0;
     loop {
@@ -124,14 +124,14 @@ fn take_turns<R: Read, W: Write, A: Ask>(
     turns: u64,
 ) -> Result<u64, FrontError>
     requires few { turns ≤ 1000000000 }
-    requires reader_count { reader.old.faults < 2 ^ 64 - 1 }
-    requires writer_count { writer.old.faults < 2 ^ 64 - 1 }
+    requires reader_count { faults_in reader.old < 2 ^ 64 - 1 }
+    requires writer_count { faults_in writer.old < 2 ^ 64 - 1 }
     ensures transcript { Transcript A.answers result turns
-        (R.remaining reader.old.end) (R.remaining reader.new.end)
-        (W.contents writer.old.end) (W.contents writer.new.end) ask.old ask.new }
+        (R.remaining (end_in reader.old)) (R.remaining (end_in reader.new))
+        (W.contents (end_in writer.old)) (W.contents (end_in writer.new)) ask.old ask.new }
     ensures reads { MakesReads turns (result ≡ Err FrontError.TurnsUsed) (reads_of reader.old) (reads_of reader.new) }
-    ensures read_fault { result ≡ Err FrontError.ReadFault → reader.old.faults < reader.new.faults }
-    ensures write_fault { result ≡ Err FrontError.WriteFault → writer.old.faults < writer.new.faults }
+    ensures read_fault { result ≡ Err FrontError.ReadFault → faults_in reader.old < faults_in reader.new }
+    ensures write_fault { result ≡ Err FrontError.WriteFault → faults_in writer.old < faults_in writer.new }
 {
     let _begun = reader.reads();
     let Ok(mut decoder) = Decoder::new(alloc) else {
@@ -181,24 +181,24 @@ pub fn serve<R: Read, W: Write, A: Ask>(
     turns: u64,
 ) -> Result<u64, FrontError>
     requires few { turns ≤ 1000000000 }
-    requires reader_count { reader.old.faults < 2 ^ 64 - 1 }
-    requires writer_count { writer.old.faults < 2 ^ 64 - 1 }
+    requires reader_count { faults_in reader.old < 2 ^ 64 - 1 }
+    requires writer_count { faults_in writer.old < 2 ^ 64 - 1 }
 
     // Over any map that can be asked.
     ensures transcript { Transcript A.answers result turns
-        (R.remaining reader.old.end) (R.remaining reader.new.end)
-        (W.contents writer.old.end) (W.contents writer.new.end) ask.old ask.new }
+        (R.remaining (end_in reader.old)) (R.remaining (end_in reader.new))
+        (W.contents (end_in writer.old)) (W.contents (end_in writer.new)) ask.old ask.new }
 
     // Over a map that shows a plain map.
     ensures plain { (m : PlainMap) → A.shows ask.old ≡ Some m
         → (n : PlainMap) × (A.shows ask.new ≡ Some n) × PlainTranscript A.answers result turns
-        (R.remaining reader.old.end) (R.remaining reader.new.end)
-        (W.contents writer.old.end) (W.contents writer.new.end) m n }
+        (R.remaining (end_in reader.old)) (R.remaining (end_in reader.new))
+        (W.contents (end_in writer.old)) (W.contents (end_in writer.new)) m n }
 
     // A turn is one call of `read`.
     ensures reads { MakesReads turns (result ≡ Err FrontError.TurnsUsed) (reads_of reader.old) (reads_of reader.new) }
-    ensures read_fault { result ≡ Err FrontError.ReadFault → reader.old.faults < reader.new.faults }
-    ensures write_fault { result ≡ Err FrontError.WriteFault → writer.old.faults < writer.new.faults }
+    ensures read_fault { result ≡ Err FrontError.ReadFault → faults_in reader.old < faults_in reader.new }
+    ensures write_fault { result ≡ Err FrontError.WriteFault → faults_in writer.old < faults_in writer.new }
 {
     take_turns(alloc, reader, writer, ask, turns)
 }

@@ -3,6 +3,7 @@
 //! A map is dropped by a call of `drop`, before anything may fail: where a scope drops it, the prover follows all its parts on
 //! each way out.
 ghost use Rattle.std.specs.Prelude.{◌<◌, ◌≤◌, ◌-◌, ◌^◌};
+ghost use Rattle.frame_front.specs.Counted.{faults_in};
 
 mod conversations;
 mod decoders;
@@ -49,8 +50,8 @@ fn ended_of<R: Read, W: Write>(
     turns: u64,
 ) -> Result<u64, FrontError>
     requires few { turns ≤ 1000000000 }
-    requires reader_count { reader.old.faults < 2 ^ 64 - 1 }
-    requires writer_count { writer.old.faults < 2 ^ 64 - 1 }
+    requires reader_count { faults_in reader.old < 2 ^ 64 - 1 }
+    requires writer_count { faults_in writer.old < 2 ^ 64 - 1 }
 {
     let mut contents = Contents::new(alloc);
     let ended = serve(alloc, reader, writer, &mut contents, turns);
@@ -73,6 +74,6 @@ fn serves_so(
     let mut writer = Counted::new(Vec::new(alloc));
     let most = u64::from(turns.min(1_000_000_000));
     let found = ended_of(alloc, &mut reader, &mut writer, most);
-    let is_so = writer.end.as_slice() == output;
+    let is_so = writer.end().as_slice() == output;
     is_equal_at(&(found, is_so), &(ended, true), &(name, first, size))
 }

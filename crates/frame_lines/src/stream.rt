@@ -1,6 +1,7 @@
 //! A stream of lines becomes a stream of frames.
 ghost use Rattle.std.specs.Prelude.{◌≡◌, ◌-◌, ◌^◌, ◌<◌, ◌++◌, ℕ, List, [], Err, OnOk, OnErr, IfErr};
 ghost use Rattle.std.specs.Io.KnownBytes.{Appends};
+ghost use Rattle.frame_front.specs.Counted.{end_in, faults_in};
 ghost use Rattle.frame_front.specs.Outbox.{WritesFront};
 ghost use Rattle.frame_front.specs.declared.error.FrontError.TheVariants.{ReadFault, WriteFault};
 ghost use Rattle.frame_lines.specs.EncodedStream.{EncodesStream};
@@ -54,11 +55,11 @@ pub fn encode_stream<T: TextSource, R: Read, W: Write>(
     reader: &mut Counted<R>,
     writer: &mut Counted<W>,
 ) -> Result<(), StreamError>
-    requires reader_count { reader.old.faults < 2 ^ 64 - 1 }
-    requires writer_count { writer.old.faults < 2 ^ 64 - 1 }
-    ensures encodes { EncodesStream (T.gives texts.now) result (R.remaining reader.old.end) (R.remaining reader.new.end) (W.contents writer.old.end) (W.contents writer.new.end) }
-    ensures read_fault { result ≡ Err (Front ReadFault) → reader.old.faults < reader.new.faults }
-    ensures write_fault { result ≡ Err (Front WriteFault) → writer.old.faults < writer.new.faults }
+    requires reader_count { faults_in reader.old < 2 ^ 64 - 1 }
+    requires writer_count { faults_in writer.old < 2 ^ 64 - 1 }
+    ensures encodes { EncodesStream (T.gives texts.now) result (R.remaining (end_in reader.old)) (R.remaining (end_in reader.new)) (W.contents (end_in writer.old)) (W.contents (end_in writer.new)) }
+    ensures read_fault { result ≡ Err (Front ReadFault) → faults_in reader.old < faults_in reader.new }
+    ensures write_fault { result ≡ Err (Front WriteFault) → faults_in writer.old < faults_in writer.new }
 {
     let Ok(mut encoder) = Encoder::new(alloc) else {
         return Err(StreamError::Front(FrontError::Memory));
@@ -90,13 +91,13 @@ fn encode_kept<T: TextSource, W: Write>(
     out: &mut Vec<u8>,
     writer: &mut Counted<W>,
 ) -> Result<(), StreamError>
-    requires count { writer.old.faults < 2 ^ 64 - 1 }
+    requires count { faults_in writer.old < 2 ^ 64 - 1 }
     requires empty { out.old.items ≡ [] }
-    ensures encodes { EncodesKept (T.gives texts.now) result encoder.old encoder.new (W.contents writer.old.end) (W.contents writer.new.end) }
+    ensures encodes { EncodesKept (T.gives texts.now) result encoder.old encoder.new (W.contents (end_in writer.old)) (W.contents (end_in writer.new)) }
     ensures cleared { OnOk result (out.new.items ≡ []) }
-    ensures quiet { OnOk result (writer.new.faults ≡ writer.old.faults) }
+    ensures quiet { OnOk result (faults_in writer.new ≡ faults_in writer.old) }
     ensures read_fault { result ≡ Err (Front ReadFault) → ⊥ }
-    ensures write_fault { result ≡ Err (Front WriteFault) → writer.old.faults < writer.new.faults }
+    ensures write_fault { result ≡ Err (Front WriteFault) → faults_in writer.old < faults_in writer.new }
 {
     loop {
         match encoder.encode_next(alloc, texts, out) {
@@ -120,10 +121,10 @@ fn encode_last<T: TextSource, W: Write>(
     texts: &T,
     writer: &mut Counted<W>,
 ) -> Result<(), StreamError>
-    requires count { writer.old.faults < 2 ^ 64 - 1 }
-    ensures encodes { EncodesLast (T.gives texts.now) result encoder (W.contents writer.old.end) (W.contents writer.new.end) }
+    requires count { faults_in writer.old < 2 ^ 64 - 1 }
+    ensures encodes { EncodesLast (T.gives texts.now) result encoder (W.contents (end_in writer.old)) (W.contents (end_in writer.new)) }
     ensures read_fault { result ≡ Err (Front ReadFault) → ⊥ }
-    ensures write_fault { result ≡ Err (Front WriteFault) → writer.old.faults < writer.new.faults }
+    ensures write_fault { result ≡ Err (Front WriteFault) → faults_in writer.old < faults_in writer.new }
 {
     let mut out = Vec::new(alloc);
     if let Err(error) = encoder.finish(alloc, texts, &mut out) {
@@ -135,11 +136,11 @@ fn encode_last<T: TextSource, W: Write>(
 
 /// Sends what waits, if it is much.
 fn send_much<W: Write>(writer: &mut Counted<W>, out: &mut Vec<u8>) -> Result<(), FrontError>
-    requires { writer.old.faults < 2 ^ 64 - 1 }
-    ensures ok { OnOk result ((sent : List ℕ) × (out.old.items ≡ sent ++ out.new.items) × Appends (W.contents writer.old.end) (W.contents writer.new.end) sent) }
-    ensures quiet { OnOk result (writer.new.faults ≡ writer.old.faults) }
-    ensures fault { IfErr result (λ error. (error ≡ WriteFault) × (writer.old.faults < writer.new.faults)) }
-    ensures front { OnErr result (WritesFront (W.contents writer.old.end) (W.contents writer.new.end) out.old.items) }
+    requires { faults_in writer.old < 2 ^ 64 - 1 }
+    ensures ok { OnOk result ((sent : List ℕ) × (out.old.items ≡ sent ++ out.new.items) × Appends (W.contents (end_in writer.old)) (W.contents (end_in writer.new)) sent) }
+    ensures quiet { OnOk result (faults_in writer.new ≡ faults_in writer.old) }
+    ensures fault { IfErr result (λ error. (error ≡ WriteFault) × (faults_in writer.old < faults_in writer.new)) }
+    ensures front { OnErr result (WritesFront (W.contents (end_in writer.old)) (W.contents (end_in writer.new)) out.old.items) }
 {
     if out.len() < SEND_BYTES {
         return Ok(());
@@ -149,12 +150,12 @@ fn send_much<W: Write>(writer: &mut Counted<W>, out: &mut Vec<u8>) -> Result<(),
 
 /// Sends all that waits.
 fn send_out<W: Write>(writer: &mut Counted<W>, out: &mut Vec<u8>) -> Result<(), FrontError>
-    requires { writer.old.faults < 2 ^ 64 - 1 }
+    requires { faults_in writer.old < 2 ^ 64 - 1 }
     ensures cleared { OnOk result (out.new.items ≡ []) }
-    ensures ok { OnOk result (Appends (W.contents writer.old.end) (W.contents writer.new.end) out.old.items) }
-    ensures quiet { OnOk result (writer.new.faults ≡ writer.old.faults) }
-    ensures fault { IfErr result (λ error. (error ≡ WriteFault) × (writer.old.faults < writer.new.faults)) }
-    ensures front { OnErr result (WritesFront (W.contents writer.old.end) (W.contents writer.new.end) out.old.items) }
+    ensures ok { OnOk result (Appends (W.contents (end_in writer.old)) (W.contents (end_in writer.new)) out.old.items) }
+    ensures quiet { OnOk result (faults_in writer.new ≡ faults_in writer.old) }
+    ensures fault { IfErr result (λ error. (error ≡ WriteFault) × (faults_in writer.old < faults_in writer.new)) }
+    ensures front { OnErr result (WritesFront (W.contents (end_in writer.old)) (W.contents (end_in writer.new)) out.old.items) }
 {
     send(writer, out.as_slice())?;
     out.clear();
@@ -163,11 +164,11 @@ fn send_out<W: Write>(writer: &mut Counted<W>, out: &mut Vec<u8>) -> Result<(), 
 
 /// Writes all of the bytes, and sees that the writer keeps nothing back.
 pub(crate) fn send<W: Write>(writer: &mut Counted<W>, bytes: &[u8]) -> Result<(), FrontError>
-    requires { writer.old.faults < 2 ^ 64 - 1 }
-    ensures ok { OnOk result (Appends (W.contents writer.old.end) (W.contents writer.new.end) bytes.now) }
-    ensures quiet { OnOk result (writer.new.faults ≡ writer.old.faults) }
-    ensures fault { IfErr result (λ error. (error ≡ WriteFault) × (writer.old.faults < writer.new.faults)) }
-    ensures front { WritesFront (W.contents writer.old.end) (W.contents writer.new.end) bytes.now }
+    requires { faults_in writer.old < 2 ^ 64 - 1 }
+    ensures ok { OnOk result (Appends (W.contents (end_in writer.old)) (W.contents (end_in writer.new)) bytes.now) }
+    ensures quiet { OnOk result (faults_in writer.new ≡ faults_in writer.old) }
+    ensures fault { IfErr result (λ error. (error ≡ WriteFault) × (faults_in writer.old < faults_in writer.new)) }
+    ensures front { WritesFront (W.contents (end_in writer.old)) (W.contents (end_in writer.new)) bytes.now }
 {
     if let Err(_) = write_both(writer, bytes, &[]) {
         return Err(FrontError::WriteFault);

@@ -1,5 +1,6 @@
 //! Asking one line.
 ghost use Rattle.std.specs.Prelude.{◌≡◌, ◌<◌, ◌-◌, ◌^◌, length, OnOk, IfOk, IfErr, Err};
+ghost use Rattle.frame_front.specs.Counted.{end_in, faults_in};
 ghost use Rattle.frame_front.specs.declared.error.FrontError.TheVariants.{WriteFault, ReadFault};
 ghost use Rattle.frame_client.specs.declared.client_error.ClientError.TheVariants as server;
 ghost use Rattle.line_client.specs.Private.Steps.{AsksOne, BreaksOne};
@@ -22,21 +23,21 @@ pub(crate) fn ask_line<R: Read, W: Write, O: Write>(
     out: &mut Counted<O>,
 ) -> Result<bool, AskFault>
     requires room { length room.old ≡ 1049000 }
-    requires from_count { link.old.from.faults < 2 ^ 64 - 1 }
-    requires to_count { link.old.to.faults < 2 ^ 64 - 1 }
-    requires out_count { out.old.faults < 2 ^ 64 - 1 }
+    requires from_count { faults_in link.old.from < 2 ^ 64 - 1 }
+    requires to_count { faults_in link.old.to < 2 ^ 64 - 1 }
+    requires out_count { faults_in out.old < 2 ^ 64 - 1 }
     ensures len { length room.new ≡ length room.old }
-    ensures ok { IfOk result (λ refused. AsksOne how request.now refused (R.remaining link.old.from.end) (R.remaining link.new.from.end)
-        (W.contents link.old.to.end) (W.contents link.new.to.end) (O.contents out.old.end) (O.contents out.new.end)) }
-    ensures quiet_from { OnOk result (link.new.from.faults ≡ link.old.from.faults) }
-    ensures quiet_to { OnOk result (link.new.to.faults ≡ link.old.to.faults) }
-    ensures quiet_out { OnOk result (out.new.faults ≡ out.old.faults) }
-    ensures err { IfErr result (λ fault. BreaksOne how fault request.now (R.remaining link.old.from.end) (R.remaining link.new.from.end)
-        (W.contents link.old.to.end) (W.contents link.new.to.end) (O.contents out.old.end) (O.contents out.new.end)) }
-    ensures write_fault { result ≡ Err (Front WriteFault) → out.old.faults < out.new.faults }
+    ensures ok { IfOk result (λ refused. AsksOne how request.now refused (R.remaining (end_in link.old.from)) (R.remaining (end_in link.new.from))
+        (W.contents (end_in link.old.to)) (W.contents (end_in link.new.to)) (O.contents (end_in out.old)) (O.contents (end_in out.new))) }
+    ensures quiet_from { OnOk result (faults_in link.new.from ≡ faults_in link.old.from) }
+    ensures quiet_to { OnOk result (faults_in link.new.to ≡ faults_in link.old.to) }
+    ensures quiet_out { OnOk result (faults_in out.new ≡ faults_in out.old) }
+    ensures err { IfErr result (λ fault. BreaksOne how fault request.now (R.remaining (end_in link.old.from)) (R.remaining (end_in link.new.from))
+        (W.contents (end_in link.old.to)) (W.contents (end_in link.new.to)) (O.contents (end_in out.old)) (O.contents (end_in out.new))) }
+    ensures write_fault { result ≡ Err (Front WriteFault) → faults_in out.old < faults_in out.new }
     ensures read_fault { result ≡ Err (Front ReadFault) → ⊥ }
-    ensures server_read_fault { result ≡ Err (Server server.ReadFault) → link.old.from.faults < link.new.from.faults }
-    ensures server_write_fault { result ≡ Err (Server server.WriteFault) → link.old.to.faults < link.new.to.faults }
+    ensures server_read_fault { result ≡ Err (Server server.ReadFault) → faults_in link.old.from < faults_in link.new.from }
+    ensures server_write_fault { result ≡ Err (Server server.WriteFault) → faults_in link.old.to < faults_in link.new.to }
 {
     if request.is_empty() {
         return Ok(false);

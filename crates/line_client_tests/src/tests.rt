@@ -84,11 +84,11 @@ fn ask(
     let mut out = Counted::new(Vec::with_capacity(alloc, ROOM)?);
     let how = Asking { form, retries };
     let ended = ask_stream(alloc, how, &OneText, &mut lines, &mut link, &mut out);
-    let unread = link.from.end.len();
+    let unread = link.from.end().len();
     Ok(Left {
         ended,
-        asked: link.to.end,
-        shown: out.end,
+        asked: link.to.into_end(),
+        shown: out.into_end(),
         unread,
     })
 }

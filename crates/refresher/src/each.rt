@@ -1,5 +1,6 @@
 //! Each relationship refreshed once, and what is said of it.
 ghost use Rattle.std.specs.Prelude.{◌≡◌, ◌<◌, ◌-◌, ◌^◌, List, ℕ};
+ghost use Rattle.frame_front.specs.Counted.{faults_in};
 ghost use Rattle.refresher.specs.Due.{due_not_before};
 ghost use Rattle.refresher.specs.Each.{RefreshesEach, is_good as good};
 ghost use Rattle.refresher.specs.Folder.{FetchesFile};
@@ -45,9 +46,9 @@ pub fn refresh_each<H: Files, T: Target, L: Write>(
     lines: &mut Counted<L>,
     is_output: bool,
 ) -> Result<bool, Fault>
-    requires { lines.old.faults < 2 ^ 64 - 1 }
+    requires { faults_in lines.old < 2 ^ 64 - 1 }
     ensures tells { (text : List ℕ) × Tells (end_of L.contents lines.old) (end_of L.contents lines.new) text }
-    ensures each { RefreshesEach FetchesFile (λ f. f.remark) T.answers T.fault_in T.empties_in T.only_sends times.now lines.old.faults is_output result
+    ensures each { RefreshesEach FetchesFile (λ f. f.remark) T.answers T.fault_in T.empties_in T.only_sends times.now (faults_in lines.old) is_output result
         (record { source = folder.old; target = target.old; schedule = schedule.old; lines = end_of L.contents lines.old })
         (record { source = folder.new; target = target.new; schedule = schedule.new; lines = end_of L.contents lines.new }) }
 {

@@ -1,5 +1,6 @@
 //! Lines of refreshes, as they are written.
 ghost use Rattle.std.specs.Prelude.{◌≡◌, ◌==◌, ◌<◌, ◌-◌, ◌^◌};
+ghost use Rattle.frame_front.specs.Counted.{faults_in};
 ghost use Rattle.commands.specs.Streams.{TellsUnlessFailed, end_of};
 ghost use Rattle.refresher.specs.OutcomeLine.{outcome_line as line_of_outcome, telling};
 
@@ -14,7 +15,7 @@ use std::io::Write;
 pub fn write_line<W: Write>(end: &mut Counted<W>, before: u64, what: &What, told: &Told<'_>) -> bool
     requires { before < 2 ^ 64 - 1 }
     ensures tells { TellsUnlessFailed before (end_of W.contents end.old) (end_of W.contents end.new) (line_of_outcome (telling told.now) what.now) }
-    ensures taken { result ≡ (end.new.faults == before) }
+    ensures taken { result ≡ (faults_in end.new == before) }
 {
     if end.faults() != before {
         return false;

@@ -291,7 +291,7 @@ fn senders(rt: HostRuntime) -> Result<(), Fail> {
         is_equal_at(&rt, &told, &(true, has_emptied, None), &document);
     }
     let end = b"\x00\x00\x00\x0eS\x01a{\"keys\":[]}".as_slice();
-    holds_at(&rt, out.end.as_slice().ends_with(end), &end);
+    holds_at(&rt, out.end().as_slice().ends_with(end), &end);
     Ok(())
 }
 

@@ -2,6 +2,7 @@
 ghost use Rattle.std.specs.Prelude.{◌≡◌, ◌<◌, ◌-◌, ◌^◌, ◌++◌, OnOk, IfErr};
 ghost use Rattle.std.specs.Io.KnownBytes.{Appends};
 ghost use Rattle.std.specs.List.{flat_map};
+ghost use Rattle.frame_front.specs.Counted.{end_in, faults_in};
 ghost use Rattle.frame_front.specs.Outbox.{WritesFront};
 ghost use Rattle.frame_lines.specs.Answers.{bundles_of};
 ghost use Rattle.frame_lines.specs.ReplyForm.{reply as said, line_of, IsLined};
@@ -21,11 +22,11 @@ use step_core::{OpRecord, Trace};
 /// Writes a line for each operation of a run, and one for the order that explains their replies. It takes no memory. If the
 /// writer fails, a front of these lines is written.
 pub fn put_trace<W: Write>(out: &mut Counted<W>, trace: &Trace) -> Result<(), FrontError>
-    requires { out.old.faults < 2 ^ 64 - 1 }
-    ensures ok { OnOk result (Appends (W.contents out.old.end) (W.contents out.new.end) (trace_text trace.now.ops.items trace.now.order.items)) }
-    ensures quiet { OnOk result (out.new.faults ≡ out.old.faults) }
-    ensures fault { IfErr result (λ fault. (fault ≡ FrontError.WriteFault) × (out.old.faults < out.new.faults)) }
-    ensures front { WritesFront (W.contents out.old.end) (W.contents out.new.end) (trace_text trace.now.ops.items trace.now.order.items) }
+    requires { faults_in out.old < 2 ^ 64 - 1 }
+    ensures ok { OnOk result (Appends (W.contents (end_in out.old)) (W.contents (end_in out.new)) (trace_text trace.now.ops.items trace.now.order.items)) }
+    ensures quiet { OnOk result (faults_in out.new ≡ faults_in out.old) }
+    ensures fault { IfErr result (λ fault. (fault ≡ FrontError.WriteFault) × (faults_in out.old < faults_in out.new)) }
+    ensures front { WritesFront (W.contents (end_in out.old)) (W.contents (end_in out.new)) (trace_text trace.now.ops.items trace.now.order.items) }
 {
     let mut gathered = Gathered::new();
     put_text(&mut gathered, out, trace)?;
@@ -37,7 +38,7 @@ pub(crate) fn put_text<W: Write>(
     out: &mut Counted<W>,
     trace: &Trace,
 ) -> Result<(), FrontError>
-    requires { out.old.faults < 2 ^ 64 - 1 }
+    requires { faults_in out.old < 2 ^ 64 - 1 }
     ensures { Puts result (out_of W.contents out.old gathered.old) (out_of W.contents out.new gathered.new) (trace_text trace.now.ops.items trace.now.order.items) }
 {
     put_records(gathered, out, trace.ops.as_slice())?;
@@ -49,7 +50,7 @@ fn put_records<W: Write>(
     out: &mut Counted<W>,
     records: &[OpRecord],
 ) -> Result<(), FrontError>
-    requires { out.old.faults < 2 ^ 64 - 1 }
+    requires { faults_in out.old < 2 ^ 64 - 1 }
     ensures { Puts result (out_of W.contents out.old gathered.old) (out_of W.contents out.new gathered.new) (records_text 0 records.now) }
 {
     for (number, entry) in records.iter().enumerate() {
@@ -64,7 +65,7 @@ fn put_record<W: Write>(
     number: usize,
     entry: &OpRecord,
 ) -> Result<(), FrontError>
-    requires { out.old.faults < 2 ^ 64 - 1 }
+    requires { faults_in out.old < 2 ^ 64 - 1 }
     ensures { Puts result (out_of W.contents out.old gathered.old) (out_of W.contents out.new gathered.new) (ended (record_line number entry.now)) }
 {
     let head = record_head(number, entry);
@@ -79,7 +80,7 @@ fn put_reply<W: Write>(
     out: &mut Counted<W>,
     reply: &Option<Result<Reply, AskError>>,
 ) -> Result<(), FrontError>
-    requires { out.old.faults < 2 ^ 64 - 1 }
+    requires { faults_in out.old < 2 ^ 64 - 1 }
     ensures { Puts result (out_of W.contents out.old gathered.old) (out_of W.contents out.new gathered.new) (reply_words reply.now) }
 {
     match reply {
@@ -94,7 +95,7 @@ fn put_answer<W: Write>(
     out: &mut Counted<W>,
     answer: &Result<Reply, AskError>,
 ) -> Result<(), FrontError>
-    requires { out.old.faults < 2 ^ 64 - 1 }
+    requires { faults_in out.old < 2 ^ 64 - 1 }
     ensures { Puts result (out_of W.contents out.old gathered.old) (out_of W.contents out.new gathered.new) (answer_words answer.now) }
 {
     let form = ReplyForm::of_answer(answer);
@@ -117,7 +118,7 @@ fn put_form<W: Write>(
     out: &mut Counted<W>,
     form: &ReplyForm<'_>,
 ) -> Result<(), FrontError>
-    requires few { out.old.faults < 2 ^ 64 - 1 }
+    requires few { faults_in out.old < 2 ^ 64 - 1 }
     requires lined { IsLined (said form.now) }
     ensures { Puts result (out_of W.contents out.old gathered.old) (out_of W.contents out.new gathered.new) (line_of (said form.now)) }
 {
@@ -132,7 +133,7 @@ fn put_bundles<W: Write>(
     out: &mut Counted<W>,
     items: &[(TrustDomain, Bundle)],
 ) -> Result<(), FrontError>
-    requires { out.old.faults < 2 ^ 64 - 1 }
+    requires { faults_in out.old < 2 ^ 64 - 1 }
     ensures { Puts result (out_of W.contents out.old gathered.old) (out_of W.contents out.new gathered.new) (flat_map bundle_words items.now) }
 {
     for item in items {
@@ -146,7 +147,7 @@ fn put_bundle<W: Write>(
     out: &mut Counted<W>,
     item: &(TrustDomain, Bundle),
 ) -> Result<(), FrontError>
-    requires { out.old.faults < 2 ^ 64 - 1 }
+    requires { faults_in out.old < 2 ^ 64 - 1 }
     ensures { Puts result (out_of W.contents out.old gathered.old) (out_of W.contents out.new gathered.new) (bundle_words item.now) }
 {
     let (domain, bundle) = item;
@@ -161,7 +162,7 @@ fn put_order<W: Write>(
     out: &mut Counted<W>,
     order: &[usize],
 ) -> Result<(), FrontError>
-    requires { out.old.faults < 2 ^ 64 - 1 }
+    requires { faults_in out.old < 2 ^ 64 - 1 }
     ensures { Puts result (out_of W.contents out.old gathered.old) (out_of W.contents out.new gathered.new) (ended (order_line order.now)) }
 {
     gathered.put(out, b"order", &[])?;
@@ -174,7 +175,7 @@ fn put_numbers<W: Write>(
     out: &mut Counted<W>,
     numbers: &[usize],
 ) -> Result<(), FrontError>
-    requires { out.old.faults < 2 ^ 64 - 1 }
+    requires { faults_in out.old < 2 ^ 64 - 1 }
     ensures { Puts result (out_of W.contents out.old gathered.old) (out_of W.contents out.new gathered.new) (flat_map number_word numbers.now) }
 {
     for number in numbers {
@@ -189,7 +190,7 @@ fn put_next<W: Write>(
     out: &mut Counted<W>,
     number: usize,
 ) -> Result<(), FrontError>
-    requires { out.old.faults < 2 ^ 64 - 1 }
+    requires { faults_in out.old < 2 ^ 64 - 1 }
     ensures { Puts result (out_of W.contents out.old gathered.old) (out_of W.contents out.new gathered.new) (number_word number) }
 {
     let mut word = head_of(b" ");

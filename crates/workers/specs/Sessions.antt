@@ -8,7 +8,7 @@ use Rattle.map_core.specs.declared.reply.AskError.{AskError}
 use Rattle.frame_front.specs.declared.counted.Counted.{Counted}
 use Rattle.frame_front.specs.declared.error.FrontError.{FrontError}
 use Rattle.frame_front.specs.declared.error.FrontError.TheVariants.{ReadFault, WriteFault, TurnsUsed}
-use Rattle.frame_front.specs.Counted.{MakesReads, reads_of}
+use Rattle.frame_front.specs.Counted.{end_in, faults_in, MakesReads, reads_of}
 use Rattle.frame_front.specs.Transcript.{Transcript}
 use Rattle.workers.specs.declared.ended.SessionFault.{SessionFault}
 use Rattle.workers.specs.declared.ended.SessionFault.TheVariants.{Front, Listen}
@@ -32,10 +32,10 @@ module _ {S : Type 0} (answers : S → Op → Result Reply AskError → S → Ty
   pub record Runs (session : Session R W) (result : Result ℕ FrontError) (old new : V × S) : Type 0 where
     pub reader : Counted R
     pub writer : Counted W
-    pub transcript : Transcript answers result session.turns (remaining session.reader) (remaining reader.end) (contents session.writer) (contents writer.end) old.1 new.1
+    pub transcript : Transcript answers result session.turns (remaining session.reader) (remaining (end_in reader)) (contents session.writer) (contents (end_in writer)) old.1 new.1
     pub reads : MakesReads session.turns (result ≡ Err TurnsUsed) 0 (reads_of reader)
-    pub read_fault : result ≡ Err ReadFault → 0 < reader.faults
-    pub write_fault : result ≡ Err WriteFault → 0 < writer.faults
+    pub read_fault : result ≡ Err ReadFault → 0 < faults_in reader
+    pub write_fault : result ≡ Err WriteFault → 0 < faults_in writer
     pub taken : takes_back old.0 reader writer new.0
 
   module _ (comes : V → Result (Option (Session R W)) ListenFault → V → Type 0) where

@@ -96,7 +96,7 @@ pub fn fill_store(
     let Some(count) = answered.checked_sub(1) else {
         return Err(FillError::NotStored);
     };
-    if !are_stored(writer.end.as_slice(), count) {
+    if !are_stored(writer.end().as_slice(), count) {
         return Err(FillError::NotStored);
     }
     Ok(seated.into_pass())

@@ -2,6 +2,7 @@
 ghost use Rattle.std.specs.Prelude.{◌≡◌, ◌<◌, ◌≤◌, ◌-◌, ◌^◌, List, map, IfOk, vec_len};
 ghost use Rattle.std.specs.List.{All};
 ghost use Rattle.shard_store.specs.Pass.{IsOf};
+ghost use Rattle.frame_front.specs.Counted.{faults_in};
 ghost use Rattle.workers.specs.Run.{AllWorked, kept};
 ghost use Rattle.workers.specs.declared.run.Finished.{Finished};
 ghost use Rattle.commands.specs.Streams.{end_of};
@@ -157,7 +158,7 @@ pub fn serve_on<R: Threads + Clock + Sync, L: Log + Copy + Send + Sync, W: Write
     out: &mut Counted<W>,
     err: &mut Counted<E>,
 ) -> u8
-    requires { err.old.faults < 2 ^ 64 - 1 }
+    requires { faults_in err.old < 2 ^ 64 - 1 }
     ensures { SetUpRun (ServedInTurn (taken_by settings.connections) (turns_of settings.turns)) settings host.now.requests.now result
         (end_of W.contents out.old) (end_of W.contents out.new) (end_of E.contents err.old) (end_of E.contents err.new) }
 {

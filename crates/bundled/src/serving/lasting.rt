@@ -7,6 +7,7 @@ ghost use Rattle.server.specs.Serve.{EndsEarly, ServeRun, SetUpRun};
 ghost use Rattle.commands.specs.Fault.{fault_line};
 ghost use Rattle.commands.specs.Streams.{Tells, end_of};
 ghost use Rattle.commands.specs.declared.fault.Fault.TheVariants.{Front, Listen};
+ghost use Rattle.frame_front.specs.Counted.{faults_in};
 ghost use Rattle.frame_front.specs.declared.error.FrontError.TheVariants.{Memory};
 ghost use Rattle.bundled.specs.Serve.{ServedBeside};
 
@@ -189,7 +190,7 @@ fn serve_at<
     out: &mut Counted<W>,
     err: &mut Counted<E>,
 ) -> u8
-    requires count { err.old.faults < 2 ^ 64 - 1 }
+    requires count { faults_in err.old < 2 ^ 64 - 1 }
     requires workers { vec_len task.set_up.passes ≡ task.settings.workers }
     requires own { All (λ pass. IsOf pass task.set_up.store) task.set_up.passes.items }
     requires all { AreAll (ranges_of task.set_up.passes.items) }
@@ -236,7 +237,7 @@ fn serve_at<
 
 /// Tells why there is no listener: memory ran out, or the system has none.
 fn tell_early<E: Write>(fault: Fault, err: &mut Counted<E>) -> u8
-    requires { err.old.faults < 2 ^ 64 - 1 }
+    requires { faults_in err.old < 2 ^ 64 - 1 }
     ensures status { result ≡ 1 }
     ensures tells { Tells (end_of E.contents err.old) (end_of E.contents err.new) (fault_line Listen)
         ⊎ Tells (end_of E.contents err.old) (end_of E.contents err.new) (fault_line (Front Memory)) }
@@ -262,7 +263,7 @@ pub fn serve_many<
     out: &mut Counted<W>,
     err: &mut Counted<E>,
 ) -> u8
-    requires { err.old.faults < 2 ^ 64 - 1 }
+    requires { faults_in err.old < 2 ^ 64 - 1 }
     ensures run { EndsEarly Listen result (end_of W.contents out.old) (end_of W.contents out.new) (end_of E.contents err.old) (end_of E.contents err.new)
         ⊎ SetUpRun (ServedBeside at.lasting at.settings.turns) at.settings host.now.requests.now result
         (end_of W.contents out.old) (end_of W.contents out.new) (end_of E.contents err.old) (end_of E.contents err.new) }

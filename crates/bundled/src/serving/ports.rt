@@ -1,5 +1,6 @@
 //! Where a server that lasts listens.
 ghost use Rattle.std.specs.Prelude.{◌≡◌, ◌<◌, ◌-◌, ◌^◌, IfErr, OnOk, OnErr};
+ghost use Rattle.frame_front.specs.Counted.{faults_in};
 ghost use Rattle.commands.specs.Fault.{fault_line};
 ghost use Rattle.commands.specs.Streams.{Tells, end_of};
 ghost use Rattle.commands.specs.declared.fault.Fault.TheVariants.{Listen};
@@ -69,7 +70,7 @@ impl Ports {
         read_port: Option<u16>,
         err: &mut Counted<E>,
     ) -> Result<Ports, u8>
-        requires { err.old.faults < 2 ^ 64 - 1 }
+        requires { faults_in err.old < 2 ^ 64 - 1 }
         ensures ok { OnOk result (err.new ≡ err.old) }
         ensures status { IfErr result (λ status. status ≡ 1) }
         ensures tells { OnErr result (Tells (end_of E.contents err.old) (end_of E.contents err.new) (fault_line Listen)) }

@@ -1,5 +1,6 @@
 //! The command `serve`, in the form that its settings have.
 ghost use Rattle.std.specs.Prelude.{◌≡◌, ◌<◌, ◌-◌, ◌^◌, ◌⊎◌, false, IfErr, OnErr, OnOk};
+ghost use Rattle.frame_front.specs.Counted.{faults_in};
 ghost use Rattle.command_line.specs.Serving.{stops_at_end};
 ghost use Rattle.commands.specs.Fault.{fault_line};
 ghost use Rattle.commands.specs.Streams.{Tells, end_of};
@@ -36,7 +37,7 @@ fn listener_or_told<H: Net<Listener = TcpListener, Stream = TcpStream>, E: Write
     port: u16,
     err: &mut Counted<E>,
 ) -> Result<TcpListener, u8>
-    requires { err.old.faults < 2 ^ 64 - 1 }
+    requires { faults_in err.old < 2 ^ 64 - 1 }
     ensures ok { OnOk result (err.new ≡ err.old) }
     ensures status { IfErr result (λ status. status ≡ 1) }
     ensures tells { OnErr result (Tells (end_of E.contents err.old) (end_of E.contents err.new) (fault_line Listen)) }
@@ -60,7 +61,7 @@ fn serve_in_turn<
     out: &mut Counted<W>,
     err: &mut Counted<E>,
 ) -> u8
-    requires { err.old.faults < 2 ^ 64 - 1 }
+    requires { faults_in err.old < 2 ^ 64 - 1 }
     ensures { EndsEarly Listen result (end_of W.contents out.old) (end_of W.contents out.new) (end_of E.contents err.old) (end_of E.contents err.new)
         ⊎ SetUpRun (ServedInTurn (most_taken settings.connections) (most_turns settings.turns)) settings host.now.requests.now result
         (end_of W.contents out.old) (end_of W.contents out.new) (end_of E.contents err.old) (end_of E.contents err.new) }
@@ -85,7 +86,7 @@ fn serve_as<
     out: &mut Counted<W>,
     err: &mut Counted<E>,
 ) -> u8
-    requires { err.old.faults < 2 ^ 64 - 1 }
+    requires { faults_in err.old < 2 ^ 64 - 1 }
     ensures run { EndsEarly Listen result (end_of W.contents out.old) (end_of W.contents out.new) (end_of E.contents err.old) (end_of E.contents err.new)
         ⊎ SetUpRun (ServedAs serving.entry.settings.connections serving.entry.settings.turns) serving.entry.settings host.now.requests.now result
         (end_of W.contents out.old) (end_of W.contents out.new) (end_of E.contents err.old) (end_of E.contents err.new) }
@@ -120,7 +121,7 @@ pub fn serve_over<
     out: &mut Counted<W>,
     err: &mut Counted<E>,
 ) -> u8
-    requires { err.old.faults < 2 ^ 64 - 1 }
+    requires { faults_in err.old < 2 ^ 64 - 1 }
     ensures run { ServeCommand (ServedAs serving.entry.settings.connections serving.entry.settings.turns) serving.entry.load serving.entry.settings result
         (end_of W.contents out.old) (end_of W.contents out.new) (end_of E.contents err.old) (end_of E.contents err.new) }
     ensures read { stops_at_end serving.entry.settings.connections ≡ false → input.new ≡ input.old }

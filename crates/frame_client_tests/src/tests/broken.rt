@@ -31,7 +31,7 @@ fn ends_so(
     let told = has_ended(alloc, &mut client, line, why);
     let (_, writer) = client.into_ends();
     told?;
-    is_equal_at(&writer.end.as_slice(), &request, &input)
+    is_equal_at(&writer.end().as_slice(), &request, &input)
 }
 
 /// A line, its request, and what is no reply to it.

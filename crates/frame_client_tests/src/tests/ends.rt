@@ -26,9 +26,9 @@ fn ends_as_the_reader_fails(
     let (reader, writer) = client.into_ends();
     told?;
     // What it was to give before it failed was read.
-    let found = (reader.faults(), reader.end.after, writer.faults());
+    let found = (reader.faults(), reader.end().after, writer.faults());
     is_equal_at(&found, &(1, 0, 0), &line)?;
-    is_equal_at(&writer.end.as_slice(), &request, &after)
+    is_equal_at(&writer.end().as_slice(), &request, &after)
 }
 
 #[test]
@@ -57,8 +57,8 @@ fn ends_as_the_writer_fails(
     );
     let (reader, writer) = client.into_ends();
     told?;
-    is_equal_at(&(reader.end, writer.faults()), &(reply, 1), &room)?;
-    let taken = Some(writer.end.taken.as_slice());
+    is_equal_at(&(*reader.end(), writer.faults()), &(reply, 1), &room)?;
+    let taken = Some(writer.end().taken.as_slice());
     is_equal_at(&taken, &request.get(..room), &room)
 }
 
@@ -83,10 +83,12 @@ fn without_memory(alloc: Global, line: &str, reply: &[u8]) -> Result<(), Fail> {
     let was_refused = answer.is_err();
     let ended = client.ended();
     let (reader, writer) = client.into_ends();
-    let is_read = reader.end.is_empty();
+    let is_read = reader.end().is_empty();
     let allowed = match answer {
         Ok(_) => ended.is_none() && is_read,
-        Err(AskError::Memory) => ended.is_none() && writer.end.is_empty() && reader.end == reply,
+        Err(AskError::Memory) => ended.is_none()
+            && writer.end().is_empty()
+            && *reader.end() == reply,
         Err(AskError::GateShut) => ended == Some(ClientError::Memory) && is_read,
         _ => false,
     };

@@ -137,7 +137,7 @@ fn is_so(alloc: Global, exchange: Exchange<'_>, size: usize) -> Result<(), Fail>
     let told = is_answered(alloc, &mut client, (line, answer), None);
     let (reader, writer) = client.into_ends();
     told?;
-    let found = (reader.end.bytes, writer.end.as_slice());
+    let found = (reader.end().bytes, writer.end().as_slice());
     is_equal_at(&found, &(b"x".as_slice(), request), &line)
 }
 
@@ -162,7 +162,7 @@ fn is_flushed_once(alloc: Global, line: &str, input: &[u8]) -> Result<(), Fail> 
     let answer = client.ask(asked);
     drop(answer);
     let (_, writer) = client.into_ends();
-    is_equal_at(&writer.end.flushes, &1, &line)
+    is_equal_at(&writer.end().flushes, &1, &line)
 }
 
 // The request is flushed once, even if no reply comes.
@@ -182,14 +182,14 @@ fn adds(
     line: &str,
     request: &[u8],
 ) -> Result<(), Fail> {
-    let length = writer.end.len();
+    let length = writer.end().len();
     if writer.faults() != 0 {
         return Err(Fail::from("the writer has failed"));
     }
     let asked = operation(alloc, line)?;
     let written = write_request(alloc, writer, &asked);
     drop(asked);
-    let added = writer.end.as_slice().get(length..).unwrap_or(&[]);
+    let added = writer.end().as_slice().get(length..).unwrap_or(&[]);
     is_equal_at(&(written, added), &(Ok(()), request), &line)
 }
 
@@ -214,7 +214,7 @@ pub(super) fn answers_so(
     let mut contents = Contents::new(alloc);
     let ended = serve(alloc, &mut requests, &mut written, &mut contents, 1000);
     drop(contents);
-    let found = (ended, written.end.as_slice());
+    let found = (ended, written.end().as_slice());
     is_equal_at(&found, &(Ok(count), replies), &"a session")
 }
 
@@ -266,8 +266,8 @@ fn ask_each(alloc: Global, steps: &[Step<'_>], replies: &[u8]) -> Result<Vec<u8>
         is_answered(alloc, &mut client, (line, answer), None)?;
     }
     let (reader, writer) = client.into_ends();
-    holds(reader.end.is_empty())?;
-    Ok(writer.end)
+    holds(reader.end().is_empty())?;
+    Ok(writer.into_end())
 }
 
 // What the client wrote is what a session reads, and what the session answers is what the client read.

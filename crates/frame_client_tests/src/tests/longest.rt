@@ -48,8 +48,8 @@ fn the_longest_append(rt: HostRuntime) -> Result<(), Fail> {
     let is_so = is_answer(alloc, Shown::Whole, ("the longest", "refused 30"), &answer);
     drop(answer);
     is_so?;
-    is_equal(&writer.end.len(), &1_048_583)?;
-    answers_so(alloc, writer.end.as_slice(), 1, ABSENT)
+    is_equal(&writer.end().len(), &1_048_583)?;
+    answers_so(alloc, writer.end().as_slice(), 1, ABSENT)
 }
 
 // One byte more, and nothing is written; the client goes on.
@@ -65,7 +65,7 @@ fn what_is_not_asked(rt: HostRuntime) -> Result<(), Fail> {
     let is_stored = is_answered(alloc, &mut client, ("set a -", "stored"), None);
     let (_, writer) = client.into_ends();
     is_stored?;
-    let found = (was_shut, ended, writer.end.as_slice());
+    let found = (was_shut, ended, writer.end().as_slice());
     is_equal(&found, &(true, None, SET))
 }
 
@@ -75,5 +75,8 @@ fn what_is_not_written(rt: HostRuntime) -> Result<(), Fail> {
     let mut writer = Counted::new(Vec::new(rt.alloc()));
     let told = write_request(rt.alloc(), &mut writer, &longer);
     drop(longer);
-    is_equal(&(told, writer.end.len()), &(Err(RequestError::TooLong), 0))
+    is_equal(
+        &(told, writer.end().len()),
+        &(Err(RequestError::TooLong), 0),
+    )
 }

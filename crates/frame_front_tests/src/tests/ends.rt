@@ -19,7 +19,7 @@ fn a_reader_that_fails(rt: HostRuntime) -> Result<(), Fail> {
             18..=24 => 5,
             _ => 21,
         };
-        let is_front = Some(writer.end.as_slice()) == STORED_AND_FOUND.get(..written);
+        let is_front = Some(writer.end().as_slice()) == STORED_AND_FOUND.get(..written);
         let found = (ended, is_front, reader.faults(), writer.faults());
         let wanted = (Err(FrontError::ReadFault), true, 1, 0);
         is_equal_at(&found, &wanted, &after)?;
@@ -34,7 +34,7 @@ fn a_writer_that_fails(rt: HostRuntime) -> Result<(), Fail> {
         let mut reader = Counted::new(SET_AND_GET);
         let mut writer = Counted::new(FaultyWriter::new(rt.alloc(), room));
         let ended = ended_of(rt.alloc(), &mut reader, &mut writer, 100);
-        let is_front = Some(writer.end.taken.as_slice()) == STORED_AND_FOUND.get(..room);
+        let is_front = Some(writer.end().taken.as_slice()) == STORED_AND_FOUND.get(..room);
         let found = (ended, is_front, reader.faults(), writer.faults());
         let wanted = if room < 21 {
             (Err(FrontError::WriteFault), true, 0, 1)
@@ -61,7 +61,7 @@ fn a_refused_growth_is_answered(rt: HostRuntime) -> Result<(), Fail> {
     // Room for all replies, so that the writer has no growth of its own.
     let mut writer = Counted::new(Vec::with_capacity(rt.alloc(), 64)?);
     let ended = ended_of(rt.alloc(), &mut reader, &mut writer, 100);
-    let written = writer.end.as_slice();
+    let written = writer.end().as_slice();
     let both = is_joined(written, STORED, ALL_OF_ONE);
     let one_refused = is_joined(written, NO_MEMORY, ALL_OF_NONE)
         || is_joined(written, STORED, NO_MEMORY);
@@ -87,6 +87,6 @@ fn each_round_is_one_write(rt: HostRuntime) -> Result<(), Fail> {
         flushes: 0,
     });
     let ended = ended_of(rt.alloc(), &mut reader, &mut writer, 100);
-    let found = (ended, writer.end.writes, writer.end.flushes);
+    let found = (ended, writer.end().writes, writer.end().flushes);
     is_equal(&found, &(Ok(3), 2, 2))
 }

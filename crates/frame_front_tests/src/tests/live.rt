@@ -103,7 +103,7 @@ fn is_as_served(alloc: Global, input: &[u8]) -> Result<(), Fail> {
         (1_000_003, 13),
         (4096, 65_537),
     ] {
-        gives_so(alloc, input, cut, (ended, writer.end.as_slice()))?;
+        gives_so(alloc, input, cut, (ended, writer.end().as_slice()))?;
     }
     Ok(())
 }

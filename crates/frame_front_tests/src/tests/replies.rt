@@ -55,7 +55,7 @@ fn is_coded(alloc: Global, error: AskError, text: &[u8]) -> Result<(), Fail> {
     let mut reader = Counted::new(GET);
     let mut writer = Counted::new(Vec::new(alloc));
     let ended = serve(alloc, &mut reader, &mut writer, &mut Refuses(error), 10);
-    is_equal_at(&(ended, writer.end.as_slice()), &(Ok(1), text), &error)
+    is_equal_at(&(ended, writer.end().as_slice()), &(Ok(1), text), &error)
 }
 
 #[test]

@@ -327,7 +327,7 @@ fn serves_over(
     let mut writer = Counted::new(Vec::new(alloc));
     let ended = serve(alloc, &mut reader, &mut writer, contents, 1000);
     is_equal_at(
-        &(ended, writer.end.as_slice()),
+        &(ended, writer.end().as_slice()),
         &(Ok(count), output),
         &input,
     )

@@ -12,7 +12,7 @@ fn encoded(alloc: Global, lines: Source, room: usize) -> (Result<(), StreamError
     let mut reader = Counted::new(lines);
     let mut writer = Counted::new(Sink::with_room(alloc, room));
     let ended = encode_stream(alloc, &OneText, &mut reader, &mut writer);
-    (ended, writer.end.into_taken())
+    (ended, writer.into_end().into_taken())
 }
 
 /// The same of frames that are decoded.
@@ -20,7 +20,7 @@ fn decoded(alloc: Global, frames: Source, room: usize) -> (Result<(), DecodeErro
     let mut reader = Counted::new(frames);
     let mut writer = Counted::new(Sink::with_room(alloc, room));
     let ended = decode_stream(alloc, &mut reader, &mut writer);
-    (ended, writer.end.into_taken())
+    (ended, writer.into_end().into_taken())
 }
 
 /// A comment, two requests, and a line that is not one.

@@ -1,5 +1,6 @@
 -- What becomes of bytes that are put, one after another.
 use Rattle.std.specs.Prelude.{◌≡◌, ℕ, ◌<◌, List, ◌++◌, codes, decimal, Option, Result, Ok, Err}
+use Rattle.frame_front.specs.Counted.{end_in, faults_in}
 use Rattle.frame_front.specs.declared.counted.Counted.{Counted}
 use Rattle.frame_front.specs.declared.error.FrontError.{FrontError}
 use Rattle.frame_front.specs.declared.error.FrontError.TheVariants.{WriteFault}
@@ -16,7 +17,7 @@ pub record Out : Type 0 where
   pub waits : List ℕ
 
 abbrev pub out_of : {W : Type 0} → (W → Option (List ℕ)) → Counted W → List ℕ → Out
-out_of held_of writer waits = record { held = held_of writer.end; faults = writer.faults; waits = waits }
+out_of held_of writer waits = record { held = held_of (end_in writer); faults = faults_in writer; waits = waits }
 
 -- of what waited and the bytes after it a front is written, and the rest waits
 pub record PutsAll (old new : Out) (bytes : List ℕ) : Type 0 where

@@ -28,7 +28,7 @@ order             ..1..20........
 fn drawn(alloc: Global, events: usize, trace: &Trace) -> Result<Vec<u8>, Fail> {
     let mut out = Counted::new(Vec::new(alloc));
     put_picture(&mut out, events, trace)?;
-    Ok(out.end)
+    Ok(out.into_end())
 }
 
 /// The legend, the picture and the text below it.
@@ -115,7 +115,7 @@ fn draws_fronts(alloc: Global, trace: &Trace, page: &[u8]) -> Result<(), Fail> {
         let ended = put_picture(&mut out, 15, trace);
         let (front, _) = page.split_at(room);
         is_equal_at(&ended, &Err(FrontError::WriteFault), &room)?;
-        is_equal_at(&out.end.taken.as_slice(), &front, &room)?;
+        is_equal_at(&out.end().taken.as_slice(), &front, &room)?;
     }
     Ok(())
 }

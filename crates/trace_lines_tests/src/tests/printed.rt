@@ -72,7 +72,7 @@ pub(super) fn trace_of(
 fn printed(alloc: Global, trace: &Trace) -> Result<Vec<u8>, Fail> {
     let mut out = Counted::new(Vec::new(alloc));
     put_trace(&mut out, trace)?;
-    Ok(out.end)
+    Ok(out.into_end())
 }
 
 const DOCUMENT: &[u8] = b"{\"spiffe_sequence\": 3, \"keys\": []}";
@@ -209,7 +209,7 @@ fn prints_fronts(alloc: Global, trace: &Trace) -> Result<(), Fail> {
         let ended = put_trace(&mut out, trace);
         let (front, _) = RACE_TRACE.split_at(room);
         is_equal_at(&ended, &Err(FrontError::WriteFault), &room)?;
-        is_equal_at(&out.end.taken.as_slice(), &front, &room)?;
+        is_equal_at(&out.end().taken.as_slice(), &front, &room)?;
     }
     Ok(())
 }

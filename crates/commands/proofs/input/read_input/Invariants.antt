@@ -1,5 +1,6 @@
 use Rattle.std.proofs.Common.{◌≡◌, ◌≤◌, length}
 use Rattle.std.specs.Io.KnownBytes.{Consumes}
+use Rattle.frame_front.specs.Counted.{end_in, faults_in, reads_of}
 use Rattle.frame_front.proofs.ReadLemmas.{HasRead}
 use Rattle.commands.specs.Input.{most_input}
 use Rattle.commands.proofs.input.read_input.Given as goal
@@ -7,6 +8,6 @@ use Rattle.commands.proofs.input.read_input.Given as goal
 -- what was read so far, at least a byte at each turn
 abbrev pub invariant-loop-turn : goal.invariant-loop-turn
 invariant-loop-turn g l =
-    Consumes (g.R.Read.remaining l.fn.reader.end) (g.R.Read.remaining l.reader.end) l.input.items
-    × (l.turn ≤ length l.input.items) × (length l.input.items ≤ most_input) × (l.reader.faults ≡ l.fn.reader.faults)
-    × HasRead l.fn.reader.reads l.reader.reads l.turn
+    Consumes (g.R.Read.remaining (end_in l.fn.reader)) (g.R.Read.remaining (end_in l.reader)) l.input.items
+    × (l.turn ≤ length l.input.items) × (length l.input.items ≤ most_input) × (faults_in l.reader ≡ faults_in l.fn.reader)
+    × HasRead (reads_of l.fn.reader) (reads_of l.reader) l.turn

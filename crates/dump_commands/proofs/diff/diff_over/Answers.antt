@@ -1,4 +1,5 @@
 use Rattle.std.proofs.Common.{◌≡◌, true, false, Bool, Ok, Err, refl, subst}
+use Rattle.frame_front.specs.Counted.{end_in}
 use Rattle.commands.specs.declared.fault.Fault.{Fault}
 use Rattle.commands.specs.Streams.{end_of, source_of}
 use Rattle.commands.proofs.Telling.{tells_nothing}
@@ -20,7 +21,7 @@ returns-in-Ok-true g c =
       ended = Ok true;
       has_status = refl;
       reads = c.diff_inputs.ensures.reads;
-      writes = subst (λ (b : Bool). WritesDiff inputs (Ok b) (g.W.Write.contents c.args.out.now.end) (g.W.Write.contents c.diff_inputs.new.out.end)) c.in-Ok-true.field-0-test c.in-Ok-true.ensures.writes;
+      writes = subst (λ (b : Bool). WritesDiff inputs (Ok b) (g.W.Write.contents (end_in c.args.out.now)) (g.W.Write.contents (end_in c.diff_inputs.new.out))) c.in-Ok-true.field-0-test c.in-Ok-true.ensures.writes;
       blames = λ failed. absurd (is_no_fault failed);
       tells = tells_nothing (end_of g.E.Write.contents c.args.err.now);
     }
@@ -37,7 +38,7 @@ returns-in-Ok-false g c =
       ended = Ok false;
       has_status = refl;
       reads = c.diff_inputs.ensures.reads;
-      writes = subst (λ (b : Bool). WritesDiff inputs (Ok b) (g.W.Write.contents c.args.out.now.end) (g.W.Write.contents c.diff_inputs.new.out.end)) c.in-Ok-false.field-0-test c.in-Ok-false.ensures.writes;
+      writes = subst (λ (b : Bool). WritesDiff inputs (Ok b) (g.W.Write.contents (end_in c.args.out.now)) (g.W.Write.contents (end_in c.diff_inputs.new.out))) c.in-Ok-false.field-0-test c.in-Ok-false.ensures.writes;
       blames = λ failed. absurd (is_no_fault failed);
       tells = tells_nothing (end_of g.E.Write.contents c.args.err.now);
     }

@@ -4,6 +4,7 @@ use Rattle.std.specs.List.{flat_map}
 use Rattle.std.proofs.lemmas.Result.{err_from_is_err_and}
 use Rattle.std.proofs.KnownBytes.{Consumes-trans}
 use Rattle.map_core.specs.Name.{Name}
+use Rattle.frame_front.specs.Counted.{end_in}
 use Rattle.frame_front.specs.Frame.{frame}
 use Rattle.frame_front.specs.Reply.{item_frame}
 use Rattle.frame_front.specs.Dump.{Domains}
@@ -59,8 +60,8 @@ pub loop-place-preserved : goal.loop-place-preserved
 loop-place-preserved g c =
     let items = c.loop-place.items.items in
     let item = c.in-Ok-Some.item in
-    let left_old = g.R.Read.remaining c.args.reader.now.end in
-    let left_new = g.R.Read.remaining c.read_frame.new.reader.end in
+    let left_old = g.R.Read.remaining (end_in c.args.reader.now) in
+    let left_new = g.R.Read.remaining (end_in c.read_frame.new.reader) in
     let found = rw c.in-Ok-Some.field-0-is at c.in-Ok-Some.ensures.found in
     let one = Listed-one left_old _ left_new items c.loop-place.last c.loop-place.place item (take c.in_ok-size.size c.read_frame.new.buffer)
     c.loop-place.invariant.0 c.in_ok-size.ensures.ok.2 found.0 found.1 found.2 found.3 in

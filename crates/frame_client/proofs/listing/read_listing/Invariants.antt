@@ -1,11 +1,12 @@
 use Rattle.std.proofs.Common.{◌≡◌, ◌≤◌, ◌-◌, length}
+use Rattle.frame_front.specs.Counted.{end_in, faults_in}
 use Rattle.frame_client.proofs.ListingLemmas.{Listed}
 use Rattle.frame_client.proofs.listing.read_listing.Given as goal
 
 abbrev pub invariant-loop-place : goal.invariant-loop-place
 invariant-loop-place g l =
-    Listed (g.R.Read.remaining l.fn.reader.end) (g.R.Read.remaining l.reader.end) l.items.items l.last l.place
-    × (l.place ≤ l.count) × (length l.buffer ≡ length l.fn.buffer) × (l.reader.faults ≡ l.fn.reader.faults)
+    Listed (g.R.Read.remaining (end_in l.fn.reader)) (g.R.Read.remaining (end_in l.reader)) l.items.items l.last l.place
+    × (l.place ≤ l.count) × (length l.buffer ≡ length l.fn.buffer) × (faults_in l.reader ≡ faults_in l.fn.reader)
 
 abbrev pub decreases-loop-place : goal.decreases-loop-place
 decreases-loop-place g l = l.count - l.place

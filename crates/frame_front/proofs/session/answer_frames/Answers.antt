@@ -1,5 +1,6 @@
 use Rattle.std.proofs.Common.{◌≡◌, ◌+◌, length, drop, Ok, Err, refl, ap, sym, ◌∙◌, arith, length-append, ◌++◌}
 use Rattle.std.proofs.lemmas.Result.{err_from_is_err_and}
+use Rattle.frame_front.specs.Counted.{end_in}
 use Rattle.frame_front.specs.Frame.{frame}
 use Rattle.frame_front.specs.declared.error.FrontError.TheVariants.{WriteFault, BadLength}
 use Rattle.frame_front.proofs.FrameLemmas.{length-frame}
@@ -8,7 +9,7 @@ use Rattle.frame_front.proofs.session.answer_frames.Goals as goal
 
 pub loop-payload-init : goal.loop-payload-init
 loop-payload-init g c =
-    (Gathering-none g.A.Ask.answers (g.W.Write.contents c.args.writer.now.end) c.args.decoder.now (c.args.version.now, c.args.ask.now) c.args.outbox.now c.requires.nothing_gathered, refl)
+    (Gathering-none g.A.Ask.answers (g.W.Write.contents (end_in c.args.writer.now)) c.args.decoder.now (c.args.version.now, c.args.ask.now) c.args.outbox.now c.requires.nothing_gathered, refl)
 
 pub pass-requires-clause-stands : goal.pass-requires-clause-stands
 pass-requires-clause-stands g c =

@@ -1,31 +1,32 @@
 use Rattle.std.proofs.Common.{◌<◌, length, rules, ◌≡◌, ℕ, List, ◌++◌, Err, sym, ap, subst, ◌∙◌}
 use Rattle.std.specs.Io.KnownBytes.{Appends, Consumes}
+use Rattle.frame_front.specs.Counted.{end_in}
 use Rattle.frame_front.specs.Outbox.{WritesFront}
 use Rattle.frame_lines.specs.Private.Decoders.{DecodesKept}
 use Rattle.frame_lines.proofs.Decodes.{nothing, not_fed, not_sent, goes_on_stream, stopped}
 use Rattle.frame_lines.proofs.decode.decode_stream.Goals as goal
 
 pub returns-in_default-clause-decodes : goal.returns-in_default-clause-decodes
-returns-in_default-clause-decodes g c = nothing (g.R.Read.remaining c.args.reader.now.end) (g.W.Write.contents c.args.writer.now.end)
+returns-in_default-clause-decodes g c = nothing (g.R.Read.remaining (end_in c.args.reader.now)) (g.W.Write.contents (end_in c.args.writer.now))
 
 pub returns-in-Err-feed-clause-decodes : goal.returns-in-Err-feed-clause-decodes
 returns-in-Err-feed-clause-decodes g c =
-    let left = g.R.Read.remaining c.args.reader.now.end in
-    let mid = g.R.Read.remaining c.loop-turn.reader.end in
-    let new = g.R.Read.remaining c.read.new.self.end in
-    let held = g.W.Write.contents c.args.writer.now.end in
-    let sent = g.W.Write.contents c.loop-turn.writer.end in
+    let left = g.R.Read.remaining (end_in c.args.reader.now) in
+    let mid = g.R.Read.remaining (end_in c.loop-turn.reader) in
+    let new = g.R.Read.remaining (end_in c.read.new.self) in
+    let held = g.W.Write.contents (end_in c.args.writer.now) in
+    let sent = g.W.Write.contents (end_in c.loop-turn.writer) in
     let came = subst (Consumes mid new) (sym c.split_at.ensures.front) c.in-Ok-read.ensures.bytes.0 in
     not_fed left mid new held sent c.loop-turn.decoder c.loop-turn.frames c.loop-turn._turn c.loop-turn.invariant.0 c.split_at.result.0.now came
 
 pub returns-in-Err-send-clause-decodes : goal.returns-in-Err-send-clause-decodes
 returns-in-Err-send-clause-decodes g c =
-    let left = g.R.Read.remaining c.args.reader.now.end in
-    let mid = g.R.Read.remaining c.loop-turn.reader.end in
-    let new = g.R.Read.remaining c.read.new.self.end in
-    let held = g.W.Write.contents c.args.writer.now.end in
-    let sent = g.W.Write.contents c.loop-turn.writer.end in
-    let cut = g.W.Write.contents c.send.new.writer.end in
+    let left = g.R.Read.remaining (end_in c.args.reader.now) in
+    let mid = g.R.Read.remaining (end_in c.loop-turn.reader) in
+    let new = g.R.Read.remaining (end_in c.read.new.self) in
+    let held = g.W.Write.contents (end_in c.args.writer.now) in
+    let sent = g.W.Write.contents (end_in c.loop-turn.writer) in
+    let cut = g.W.Write.contents (end_in c.send.new.writer) in
     let came = subst (Consumes mid new) (sym c.split_at.ensures.front) c.in-Ok-read.ensures.bytes.0 in
     let took = c.decode_kept-ended.ensures in
     let fed : c.feed.new.self ≡ c.loop-turn.decoder ++ c.split_at.result.0.now = search rules in
@@ -35,12 +36,12 @@ returns-in-Err-send-clause-decodes g c =
 
 pub returns-in_err-ended-clause-decodes : goal.returns-in_err-ended-clause-decodes
 returns-in_err-ended-clause-decodes g c =
-    let left = g.R.Read.remaining c.args.reader.now.end in
-    let mid = g.R.Read.remaining c.loop-turn.reader.end in
-    let new = g.R.Read.remaining c.read.new.self.end in
-    let held = g.W.Write.contents c.args.writer.now.end in
-    let sent = g.W.Write.contents c.loop-turn.writer.end in
-    let whole = g.W.Write.contents c.send.new.writer.end in
+    let left = g.R.Read.remaining (end_in c.args.reader.now) in
+    let mid = g.R.Read.remaining (end_in c.loop-turn.reader) in
+    let new = g.R.Read.remaining (end_in c.read.new.self) in
+    let held = g.W.Write.contents (end_in c.args.writer.now) in
+    let sent = g.W.Write.contents (end_in c.loop-turn.writer) in
+    let whole = g.W.Write.contents (end_in c.send.new.writer) in
     let came = subst (Consumes mid new) (sym c.split_at.ensures.front) c.in-Ok-read.ensures.bytes.0 in
     let took = c.decode_kept-ended.ensures in
     let fed : c.feed.new.self ≡ c.loop-turn.decoder ++ c.split_at.result.0.now = search rules in
@@ -53,12 +54,12 @@ returns-in_err-ended-clause-decodes g c =
 
 pub loop-turn-preserved : goal.loop-turn-preserved
 loop-turn-preserved g c =
-    let left = g.R.Read.remaining c.args.reader.now.end in
-    let mid = g.R.Read.remaining c.loop-turn.reader.end in
-    let new = g.R.Read.remaining c.read.new.self.end in
-    let held = g.W.Write.contents c.args.writer.now.end in
-    let sent = g.W.Write.contents c.loop-turn.writer.end in
-    let whole = g.W.Write.contents c.send.new.writer.end in
+    let left = g.R.Read.remaining (end_in c.args.reader.now) in
+    let mid = g.R.Read.remaining (end_in c.loop-turn.reader) in
+    let new = g.R.Read.remaining (end_in c.read.new.self) in
+    let held = g.W.Write.contents (end_in c.args.writer.now) in
+    let sent = g.W.Write.contents (end_in c.loop-turn.writer) in
+    let whole = g.W.Write.contents (end_in c.send.new.writer) in
     let came = subst (Consumes mid new) (sym c.split_at.ensures.front) c.in-Ok-read.ensures.bytes.0 in
     let took = c.decode_kept-ended.ensures in
     let fed : c.feed.new.self ≡ c.loop-turn.decoder ++ c.split_at.result.0.now = search rules in

@@ -1,12 +1,13 @@
 use Rattle.std.proofs.Common.{◌≡◌, length}
+use Rattle.frame_front.specs.Counted.{end_in, faults_in}
 use Rattle.frame_lines.specs.Private.Encoders.{KeptSoFar}
 use Rattle.frame_lines.proofs.stream.encode_kept.Given as goal
 
 -- what was taken out and sent so far
 abbrev pub invariant-loop-writer : goal.invariant-loop-writer
 invariant-loop-writer g l =
-    KeptSoFar (g.T.TextSource.gives l.fn.texts) l.initial.encoder l.encoder (g.W.Write.contents l.initial.writer.end) (g.W.Write.contents l.writer.end) l.out.items
-    × (l.writer.faults ≡ l.initial.writer.faults)
+    KeptSoFar (g.T.TextSource.gives l.fn.texts) l.initial.encoder l.encoder (g.W.Write.contents (end_in l.initial.writer)) (g.W.Write.contents (end_in l.writer)) l.out.items
+    × (faults_in l.writer ≡ faults_in l.initial.writer)
 
 abbrev pub decreases-loop-writer : goal.decreases-loop-writer
 decreases-loop-writer g l = length l.encoder.kept

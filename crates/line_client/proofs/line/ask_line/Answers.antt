@@ -1,4 +1,5 @@
 use Rattle.std.proofs.Common.{rules, ◌≡◌, ◌≢◌, [], length, Err, take}
+use Rattle.frame_front.specs.Counted.{end_in}
 use Rattle.line_client.specs.declared.fault.AskFault.TheVariants.{Server}
 use Rattle.line_client.proofs.Replies.{then_kept}
 use Rattle.line_client.proofs.OneLine.{empty, asks_nothing, not_told, first_not_shown, others_broken, asks_all, not_flushed}
@@ -7,7 +8,7 @@ use Rattle.line_client.proofs.line.ask_line.Goals as goal
 pub returns-then-is_empty-clause-ok : goal.returns-then-is_empty-clause-ok
 returns-then-is_empty-clause-ok g c =
     let none : length c.args.request.now ≡ 0 = search rules in
-    asks_nothing c.args.how c.args.request.now (g.R.Read.remaining c.args.link.now.from.end) (g.W.Write.contents c.args.link.now.to.end) (g.O.Write.contents c.args.out.now.end) (empty c.args.request.now none)
+    asks_nothing c.args.how c.args.request.now (g.R.Read.remaining (end_in c.args.link.now.from)) (g.W.Write.contents (end_in c.args.link.now.to)) (g.O.Write.contents (end_in c.args.out.now)) (empty c.args.request.now none)
 
 pub returns-in_err-size-clause-err : goal.returns-in_err-size-clause-err
 returns-in_err-size-clause-err g c =
@@ -34,8 +35,8 @@ pub returns-in-Ok-clause-ok : goal.returns-in-Ok-clause-ok
 returns-in-Ok-clause-ok g c =
     let some : c.args.request.now ≢ [] = search rules in
     let others = c.in_ok-show_others.ensures.ok in
-    let mid = g.O.Write.contents c.show_others.new.out.end in
-    let last = g.O.Write.contents c.flush.new.self.end in
+    let mid = g.O.Write.contents (end_in c.show_others.new.out) in
+    let last = g.O.Write.contents (end_in c.flush.new.self) in
     asks_all c.args.how c.args.request.now (take c.in_ok-size.size c.ask_until_told.new.room) _ _ _ _ c.in_ok-size.ensures.ok some c.in_ok-first.first.refused c.in_ok-first.first.bundles _ _ c.in_ok-first.ensures.ok
     _ last others.0 others.1 others.2 others.3 (then_kept _ mid last _ others.4 c.in-Ok.ensures.bytes)
 
@@ -43,7 +44,7 @@ pub returns-in-Err-clause-err : goal.returns-in-Err-clause-err
 returns-in-Err-clause-err g c =
     let some : c.args.request.now ≢ [] = search rules in
     let others = c.in_ok-show_others.ensures.ok in
-    let mid = g.O.Write.contents c.show_others.new.out.end in
-    let last = g.O.Write.contents c.flush.new.self.end in
+    let mid = g.O.Write.contents (end_in c.show_others.new.out) in
+    let last = g.O.Write.contents (end_in c.flush.new.self) in
     not_flushed c.args.how c.args.request.now (take c.in_ok-size.size c.ask_until_told.new.room) _ _ _ _ c.in_ok-size.ensures.ok some c.in_ok-first.first.refused c.in_ok-first.first.bundles _ _ c.in_ok-first.ensures.ok
     _ mid others.0 others.1 others.2 others.3 others.4 last c.in-Err.ensures.bytes

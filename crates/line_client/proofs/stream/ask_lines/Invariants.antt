@@ -1,4 +1,5 @@
 use Rattle.std.proofs.Common.{◌≡◌, [], length}
+use Rattle.frame_front.specs.Counted.{end_in, faults_in}
 use Rattle.line_client.specs.Asking.{ends}
 use Rattle.line_client.specs.Private.Steps.{StreamSoFar}
 use Rattle.line_client.proofs.stream.ask_lines.Given as goal
@@ -7,7 +8,7 @@ use Rattle.line_client.proofs.stream.ask_lines.Given as goal
 abbrev pub invariant-loop-turn : goal.invariant-loop-turn
 invariant-loop-turn g l =
     StreamSoFar (g.T.TextSource.gives l.fn.texts) l.fn.how
-    (ends (g.L.Read.remaining l.fn.lines.end) (g.R.Read.remaining l.fn.link.from.end) (g.W.Write.contents l.fn.link.to.end) (g.O.Write.contents l.fn.out.end))
-    (ends (g.L.Read.remaining l.lines.end) (g.R.Read.remaining l.link.from.end) (g.W.Write.contents l.link.to.end) (g.O.Write.contents l.out.end)) l.encoder l.refused l._turn
-    × (l.request.items ≡ []) × (length l.room ≡ length l.fn.room) × (l.lines.faults ≡ l.fn.lines.faults)
-    × (l.link.from.faults ≡ l.fn.link.from.faults) × (l.link.to.faults ≡ l.fn.link.to.faults) × (l.out.faults ≡ l.fn.out.faults)
+    (ends (g.L.Read.remaining (end_in l.fn.lines)) (g.R.Read.remaining (end_in l.fn.link.from)) (g.W.Write.contents (end_in l.fn.link.to)) (g.O.Write.contents (end_in l.fn.out)))
+    (ends (g.L.Read.remaining (end_in l.lines)) (g.R.Read.remaining (end_in l.link.from)) (g.W.Write.contents (end_in l.link.to)) (g.O.Write.contents (end_in l.out))) l.encoder l.refused l._turn
+    × (l.request.items ≡ []) × (length l.room ≡ length l.fn.room) × (faults_in l.lines ≡ faults_in l.fn.lines)
+    × (faults_in l.link.from ≡ faults_in l.fn.link.from) × (faults_in l.link.to ≡ faults_in l.fn.link.to) × (faults_in l.out ≡ faults_in l.fn.out)

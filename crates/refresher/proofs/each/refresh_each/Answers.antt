@@ -1,4 +1,5 @@
 use Rattle.std.proofs.Common.{◌≡◌, ℕ, ◌+◌, [], ◌∷◌, ◌++◌, length, true, false, ◌&&◌, None, Ok, Err, alloc_error, refl, sym, ap, subst, ◌∙◌, inl, inr, arith}
+use Rattle.frame_front.specs.Counted.{faults_in}
 use Rattle.commands.specs.Streams.{TellsUnlessFailed, end_of}
 use Rattle.commands.proofs.Telling.{tells_nothing, tells_more}
 use Rattle.refresh.specs.Schedule.{ScheduleValue}
@@ -26,7 +27,7 @@ returns-in_default-clause-each g c =
       inl (
         came.0,
         subst (λ (n : ℕ). RefreshesPlace FetchesFile (λ f. f.remark) g.T.Ask.answers g.T.Target.fault_in g.T.Target.empties_in g.T.Target.only_sends
-            c.args.times.now c.args.lines.now.faults n came.0 (Err alloc_error) mid new) (sym so_far.2)
+            c.args.times.now (faults_in c.args.lines.now) n came.0 (Err alloc_error) mid new) (sym so_far.2)
             record { at_place = came.1; refreshes = came.2; due = c.in_default.ensures.due },
         refl,
         refl,
@@ -48,7 +49,7 @@ returns-in-Some-clause-each g c =
         came.0,
         c.in-Ok.outcome,
         subst (λ (n : ℕ). RefreshesPlace FetchesFile (λ f. f.remark) g.T.Ask.answers g.T.Target.fault_in g.T.Target.empties_in g.T.Target.only_sends
-            c.args.times.now c.args.lines.now.faults n came.0 (Ok c.in-Ok.outcome) mid new) (sym so_far.2)
+            c.args.times.now (faults_in c.args.lines.now) n came.0 (Ok c.in-Ok.outcome) mid new) (sym so_far.2)
             record { at_place = came.1; refreshes = came.2; due = c.in-Ok.ensures.due },
         refl,
         sym c.in-Some.ensures,
@@ -68,7 +69,7 @@ returns-then-not-is_taken-clause-tells g c =
       remark = c.remark.result;
     } in
     let line = outcome_line telling c.in-Ok.outcome.what in
-    let follows : TellsUnlessFailed c.args.lines.now.faults old new line =
+    let follows : TellsUnlessFailed (faults_in c.args.lines.now) old new line =
     subst (λ (before : ℕ). TellsUnlessFailed before old new line) c.faults-before.ensures c.write_line-is_taken.ensures.tells in
     (c.loop-place.invariant.6.0 ++ line, tells_more _ old new c.loop-place.invariant.6.0 line c.loop-place.invariant.6.1 follows)
 
@@ -91,7 +92,7 @@ returns-then-not-is_taken-clause-each g c =
       remark = c.remark.result;
     } in
     let line = outcome_line telling c.in-Ok.outcome.what in
-    let follows : TellsUnlessFailed c.args.lines.now.faults old left line =
+    let follows : TellsUnlessFailed (faults_in c.args.lines.now) old left line =
     subst (λ (before : ℕ). TellsUnlessFailed before old left line) c.faults-before.ensures c.write_line-is_taken.ensures.tells in
     let goes_on : g.T.Target.fault_in c.refresh_at.new.ask ≡ None = (cc) in
     let refused : c.write_line-is_taken.result ≡ false = grind arith in (
@@ -101,14 +102,14 @@ returns-then-not-is_taken-clause-each g c =
       inr (inr (
         c.in-Ok.outcome,
         subst (λ (n : ℕ). TellsPlace FetchesFile (λ f. f.remark) g.T.Ask.answers g.T.Target.fault_in g.T.Target.empties_in g.T.Target.only_sends
-            c.args.times.now c.args.lines.now.faults n c.in-Ok.outcome mid new) (sym so_far.2)
+            c.args.times.now (faults_in c.args.lines.now) n c.in-Ok.outcome mid new) (sym so_far.2)
             (tells_place FetchesFile (λ f. f.remark) g.T.Ask.answers g.T.Target.fault_in g.T.Target.empties_in g.T.Target.only_sends
-            c.args.times.now c.args.lines.now.faults c.loop-place.place c.in-Ok.outcome mid new came.0 c.relationship.result.now
+            c.args.times.now (faults_in c.args.lines.now) c.loop-place.place c.in-Ok.outcome mid new came.0 c.relationship.result.now
             c.due.result c.domain.result.now c.is_sender.result c.has_emptied.result c.remark.result
             came.1 came.2 c.in-Ok.ensures.due goes_on c.due.ensures c.relationship.ensures c.domain.ensures
             c.is_sender.ensures c.has_emptied.ensures c.remark.ensures follows),
         c.if-is_output.true,
-        not_taken c.write_line-is_taken.result c.write_line-is_taken.new.end.faults c.faults-before.result c.args.lines.now.faults
+        not_taken c.write_line-is_taken.result (faults_in c.write_line-is_taken.new.end) c.faults-before.result (faults_in c.args.lines.now)
             c.write_line-is_taken.ensures.taken refused c.faults-before.ensures,
         refl,
       )),
@@ -135,7 +136,7 @@ loop-place-preserved g c =
       remark = c.remark.result;
     } in
     let line = outcome_line telling c.in-Ok.outcome.what in
-    let follows : TellsUnlessFailed c.args.lines.now.faults old left line =
+    let follows : TellsUnlessFailed (faults_in c.args.lines.now) old left line =
     subst (λ (before : ℕ). TellsUnlessFailed before old left line) c.faults-before.ensures c.write_line-is_taken.ensures.tells in
     let goes_on : g.T.Target.fault_in c.refresh_at.new.ask ≡ None = (cc) in
     let here : c.loop-place.place ≡ 0 + length so_far.0 = omega arith in
@@ -148,11 +149,11 @@ loop-place-preserved g c =
     ] in (
       so_far.0 ++ c.in-Ok.outcome ∷ [],
       tells_next FetchesFile (λ f. f.remark) g.T.Ask.answers g.T.Target.fault_in g.T.Target.empties_in g.T.Target.only_sends
-          c.args.times.now c.args.lines.now.faults 0 so_far.0 c.in-Ok.outcome start mid new so_far.1
+          c.args.times.now (faults_in c.args.lines.now) 0 so_far.0 c.in-Ok.outcome start mid new so_far.1
           (subst (λ (n : ℕ). TellsPlace FetchesFile (λ f. f.remark) g.T.Ask.answers g.T.Target.fault_in g.T.Target.empties_in g.T.Target.only_sends
-          c.args.times.now c.args.lines.now.faults n c.in-Ok.outcome mid new) here
+          c.args.times.now (faults_in c.args.lines.now) n c.in-Ok.outcome mid new) here
           (tells_place FetchesFile (λ f. f.remark) g.T.Ask.answers g.T.Target.fault_in g.T.Target.empties_in g.T.Target.only_sends
-          c.args.times.now c.args.lines.now.faults c.loop-place.place c.in-Ok.outcome mid new came.0 c.relationship.result.now
+          c.args.times.now (faults_in c.args.lines.now) c.loop-place.place c.in-Ok.outcome mid new came.0 c.relationship.result.now
           c.due.result c.domain.result.now c.is_sender.result c.has_emptied.result c.remark.result
           came.1 came.2 c.in-Ok.ensures.due goes_on c.due.ensures c.relationship.ensures c.domain.ensures
           c.is_sender.ensures c.has_emptied.ensures c.remark.ensures follows)),
@@ -162,7 +163,7 @@ loop-place-preserved g c =
       λ on. elim c.else-is_output.branch [
         | else-is_output-via-then-is_output+else-not-is_taken w ↦
             let accepted : c.write_line-is_taken.result ≡ true = grind arith in
-            taken_is c.write_line-is_taken.result c.write_line-is_taken.new.end.faults c.faults-before.result c.args.lines.now.faults
+            taken_is c.write_line-is_taken.result (faults_in c.write_line-is_taken.new.end) c.faults-before.result (faults_in c.args.lines.now)
             c.write_line-is_taken.ensures.taken accepted c.faults-before.ensures
         | else-is_output-via-else-is_output w ↦ (cc)
       ],
