@@ -11,9 +11,9 @@ use Rattle.commands.specs.declared.fault.Fault.{Fault}
 use Rattle.commands.specs.declared.fault.Fault.TheVariants.{Front, BadLine, BadFrame, UnreadText}
 use Rattle.commands.specs.Streams.{Streams, EndsWith}
 
--- the text of a file is what the host says that it holds
+-- the text of a file is what the host says that it holds, or that it cannot be read
 abbrev pub of_files : Gives
-of_files name text = Unit {0}
+of_files name found = Unit {0}
 
 -- the fault of a command whose stream ended so
 abbrev pub encoding_fault : Result (Unit {0}) StreamError → Result (Unit {0}) Fault

@@ -51,7 +51,10 @@ const MIGRATED: &[u8] = b"\x00\x00\x00\x02V\x02\x00\x00\x00\x0fC\x01a\x00{\"keys
 struct Empty;
 
 impl TextSource for Empty {
-    ghost gives = { λ texts name text. Unit {0} };
+    ghost use Rattle.std.specs.Prelude.{◌≡◌, ◌≢◌, codes, MatchOption};
+
+    // Only `empty` can be read.
+    ghost gives = { λ texts name found. MatchOption found (name ≢ codes "empty") (λ text. name ≡ codes "empty") };
 
     fn text(&self, alloc: Global, name: &[u8]) -> Result<Vec<u8>, TextError> {
         if name != b"empty".as_slice() {

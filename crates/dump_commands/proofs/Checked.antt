@@ -1,5 +1,5 @@
 -- Documents that are judged one after the other.
-use Rattle.std.proofs.Common.{◌≡◌, inl, inr, ℕ, ◌+◌, ◌<◌, ◌≤◌, List, [], ◌∷◌, ◌++◌, length, map, take, drop, get_or, Bool, ◌||◌, Option, Result, Ok, Err, length-take, refl, sym, ap, subst, ◌∙◌, arith, append-nil}
+use Rattle.std.proofs.Common.{◌≡◌, inl, inr, ℕ, ◌+◌, ◌<◌, ◌≤◌, List, [], ◌∷◌, ◌++◌, length, map, take, drop, get_or, Bool, ◌||◌, Option, Some, None, Result, Ok, Err, length-take, refl, sym, ap, subst, ◌∙◌, arith, append_assoc, append-nil}
 use Rattle.std.specs.List.{list_any}
 use Rattle.std.specs.Io.KnownBytes.{Appends}
 use Rattle.std.proofs.KnownBytes.{Appends-nil, Appends-trans}
@@ -58,8 +58,8 @@ next_name name files place blank inside =
 pub inside_map : {X : Type 0} (name : X → List ℕ) (files : List X) (place : ℕ) → place < length files → place < length (map name files)
 inside_map name files place inside = omega (arith, inside, length-map files name)
 
-pub given_as : (gives : Gives) (name name' text text' : List ℕ) → name' ≡ name → text' ≡ text → gives name' text → gives name text'
-given_as gives name name' text text' n t is = subst (λ (x : List ℕ). gives x text') n (subst (λ (x : List ℕ). gives name' x) (sym t) is)
+pub given_as : (gives : Gives) (name name' text text' : List ℕ) → name' ≡ name → text' ≡ text → gives name' (Some text) → gives name (Some text')
+given_as gives name name' text text' n t is = subst (λ (x : List ℕ). gives x (Some text')) n (subst (λ (x : List ℕ). gives name' (Some x)) (sym t) is)
 
 count_is : (files : List (List ℕ)) (place : ℕ) (judged : List Document) → names_of judged ≡ take place files → place ≤ length files → length judged ≡ place
 count_is files place judged names inside =
@@ -70,12 +70,17 @@ module _ (gives : Gives) (files : List (List ℕ)) (place : ℕ) (findings : Fin
   rest_is : files ≡ names_of so.judged ++ drop place files
   rest_is = sym (ap (λ (front : List (List ℕ)). front ++ drop place files) so.names ∙ take-append-drop place files)
 
-  pub unread : (number : ℕ) → place < length files → number ≡ place + 1 → ChecksFiles gives files (Err (UnreadText number)) held sent
-  unread number inside is =
+  pub unread : (number : ℕ) (name : List ℕ) → place < length files → number ≡ place + 1 → take (place + 1) files ≡ take place files ++ name ∷ [] → gives name None
+      → ChecksFiles gives files (Err (UnreadText number)) held sent
+  unread number name inside is next none =
       let long = count_is files place so.judged so.names (omega (arith, inside)) in
+      let rest = drop (place + 1) files in
+      let split : names_of so.judged ++ name ∷ rest ≡ files =
+      ap (λ (front : List (List ℕ)). front ++ name ∷ rest) so.names ∙ sym (append_assoc (take place files) (name ∷ []) rest) ∙ ap (λ (front : List (List ℕ)). front ++ rest) (sym next)
+      ∙ take-append-drop (place + 1) files in
       record {
         judged = so.judged;
-        judges = (drop place files, rest_is, so.given, (omega (arith, is, long), omega (arith, is, inside)));
+        judges = (name ∷ rest, sym split, so.given, (omega (arith, is, long), none));
         writes = so.appends;
         found = tt;
       }
@@ -88,7 +93,7 @@ module _ (gives : Gives) (files : List (List ℕ)) (place : ℕ) (findings : Fin
     found = tt;
   }
 
-  module _ (document : Document) (given : gives document.name document.text) (next : take (place + 1) files ≡ take place files ++ document.name ∷ []) where
+  module _ (document : Document) (given : gives document.name (Some document.text)) (next : take (place + 1) files ≡ take place files ++ document.name ∷ []) where
     names_now : names_of (so.judged ++ document ∷ []) ≡ take (place + 1) files
     names_now = names_append so.judged (document ∷ []) ∙ ap (λ (front : List (List ℕ)). front ++ document.name ∷ []) so.names ∙ sym next
 

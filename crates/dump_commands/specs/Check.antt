@@ -1,5 +1,5 @@
 -- What the command `check` tells of documents.
-use Rattle.std.specs.Prelude.{◌≡◌, ◌+◌, ◌≤◌, ◌==◌, ℕ, List, [], ◌∷◌, ◌++◌, length, map, flat_map, codes, Bool, true, false, not, Option, Result, Ok, Err}
+use Rattle.std.specs.Prelude.{◌≡◌, ◌+◌, ◌==◌, ℕ, List, [], ◌∷◌, ◌++◌, length, map, flat_map, codes, Bool, true, false, not, Option, Some, None, Result, Ok, Err}
 use Rattle.std.specs.List.{AllByRecursion, list_any}
 use Rattle.std.specs.Io.KnownBytes.{Appends}
 use Rattle.frame_front.specs.Outbox.{WritesFront}
@@ -65,21 +65,21 @@ names_of documents = map (λ document. document.name) documents
 
 -- each text was given for its name
 abbrev pub AreGiven : Gives → List Document → Type 0
-AreGiven gives documents = AllByRecursion (λ document. gives document.name document.text) documents
+AreGiven gives documents = AllByRecursion (λ document. gives document.name (Some document.text)) documents
 
 -- why no more files than these are judged: the text of the next, whose number is from 1, cannot be read; or memory ran out, or
 -- the writer failed
-abbrev pub Stops : Fault → List (List ℕ) → List Document → Type 0
-Stops (UnreadText number) files judged = (number ≡ length judged + 1) × (number ≤ length files)
-Stops (Front Memory) files judged = Unit {0}
-Stops (Front WriteFault) files judged = Unit {0}
-Stops fault files judged = ⊥
+abbrev pub Stops : Gives → Fault → List Document → List (List ℕ) → Type 0
+Stops gives (UnreadText number) judged (next ∷ rest) = (number ≡ length judged + 1) × gives next None
+Stops gives (Front Memory) judged rest = Unit {0}
+Stops gives (Front WriteFault) judged rest = Unit {0}
+Stops gives fault judged rest = ⊥
 
 -- the texts of all files are judged, in order; those of the first ones, if a fault ended it
 abbrev pub JudgesFiles : Gives → List (List ℕ) → Result (Unit {0}) Fault → List Document → Type 0
 JudgesFiles gives files (Ok done) judged = (names_of judged ≡ files) × AreGiven gives judged
 JudgesFiles gives files (Err fault) judged =
-    (rest : List (List ℕ)) × (files ≡ names_of judged ++ rest) × AreGiven gives judged × Stops fault files judged
+    (rest : List (List ℕ)) × (files ≡ names_of judged ++ rest) × AreGiven gives judged × Stops gives fault judged rest
 
 -- the whole input as a document
 abbrev pub input_document : List ℕ → Document

@@ -44,7 +44,7 @@ static FILES: [(&[u8], &[u8]); 4] = [
 struct Texts;
 
 impl TextSource for Texts {
-    ghost gives = { λ texts name text. Unit {0} };
+    ghost gives = { λ texts name found. Unit {0} };
 
     fn text(&self, alloc: Global, name: &[u8]) -> Result<Vec<u8>, TextError> {
         for &(file, text) in &FILES {

@@ -5,7 +5,7 @@ use Rattle.std.specs.Io.KnownBytes.{Appends, Consumes, IsAtEnd}
 use Rattle.frame_front.specs.Outbox.{WritesFront}
 use Rattle.frame_front.specs.Counted.{next_count}
 use Rattle.frame_front.specs.declared.error.FrontError.TheVariants.{Memory, ReadFault, WriteFault, TurnsUsed}
-use Rattle.frame_lines.specs.Encoding.{Gives, EncodesLine, IsBadLine, NamesText, BeginsWith, BeginsLong, lines_of, frames_of, count_after}
+use Rattle.frame_lines.specs.Encoding.{Gives, EncodesLine, IsBadLine, NamesUnreadable, BeginsWith, BeginsLong, lines_of, frames_of, count_after}
 use Rattle.frame_lines.specs.RequestForm.{IsOneLine}
 use Rattle.frame_lines.specs.declared.stream.StreamError.{StreamError}
 use Rattle.frame_lines.specs.declared.stream.StreamError.TheVariants.{BadLine, Unreadable, Front}
@@ -18,9 +18,9 @@ EndsStream gives (Ok done) items rest last left = IsAtEnd left × EncodesLine gi
 EndsStream gives (Err (BadLine number)) items rest last left =
     (number ≡ next_count (count_after 0 items)) × (last ≡ [])
     × ((BeginsWith (IsBadLine gives) rest ⊎ BeginsLong rest) ⊎ (IsAtEnd left × IsBadLine gives rest))
--- the text that the next line names, or the last, was not given
+-- the text that the next line names, or the last, cannot be read
 EndsStream gives (Err (Unreadable number)) items rest last left =
-    (number ≡ next_count (count_after 0 items)) × (last ≡ []) × (BeginsWith NamesText rest ⊎ (IsAtEnd left × NamesText rest))
+    (number ≡ next_count (count_after 0 items)) × (last ≡ []) × (BeginsWith (NamesUnreadable gives) rest ⊎ (IsAtEnd left × NamesUnreadable gives rest))
 EndsStream gives (Err (Front WriteFault)) items rest last left = (last ≡ []) ⊎ EncodesLine gives (rest, last)
 -- each whole line that was read became its frame
 EndsStream gives (Err (Front ReadFault)) items rest last left = (last ≡ []) × IsOneLine rest

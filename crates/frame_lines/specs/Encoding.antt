@@ -1,5 +1,5 @@
 -- Lines of requests on a stream, and the frames that they become.
-use Rattle.std.specs.Prelude.{◌≡◌, ◌⊎◌, ℕ, ◌<◌, ◌≤◌, Bool, true, false, List, [], ◌∷◌, ◌++◌, drop, length, ◌==◌, Result, Ok, Err}
+use Rattle.std.specs.Prelude.{◌≡◌, ◌⊎◌, ℕ, ◌<◌, ◌≤◌, Bool, true, false, List, [], ◌∷◌, ◌++◌, drop, length, ◌==◌, Option, Some, None, Result, Ok, Err}
 use Rattle.std.specs.List.{flat_map}
 use Rattle.frame_front.specs.Counted.{next_count}
 use Rattle.frame_front.specs.Frame.{frame}
@@ -12,14 +12,14 @@ abbrev pub is_comment : List ℕ → Bool
 is_comment [] = true
 is_comment (byte ∷ bytes) = byte == 35
 
--- what is given for the name of a text
+-- what is given for the name of a text, or None if it cannot be read
 abbrev pub Gives : Type 1
-Gives = List ℕ → List ℕ → Type 0
+Gives = List ℕ → Option (List ℕ) → Type 0
 
 -- what the text of a line stands for: behind @ is the name of another, and else it stands for itself
 abbrev pub StandsFor : Gives → List ℕ → List ℕ → Type 0
 StandsFor gives text whole =
-    ((is_text_name text ≡ true) × gives (drop 1 text) whole) ⊎ ((is_text_name text ≡ false) × (whole ≡ text))
+    ((is_text_name text ≡ true) × gives (drop 1 text) (Some whole)) ⊎ ((is_text_name text ≡ false) × (whole ≡ text))
 
 -- the frame of the line's request, with the text that its own stands for
 abbrev pub IsFrameOf : Gives → List ℕ → List ℕ → Type 0
@@ -40,9 +40,10 @@ abbrev pub IsBadLine : Gives → List ℕ → Type 0
 IsBadLine gives line = (is_comment line ≡ false) × ((request : Request) → HasLine request → line ≡ line_of request
     → (text : List ℕ) × StandsFor gives (text_of request) text × (IsFramed (with_text request text) → ⊥))
 
--- it is the line of a request, and names its text
-abbrev pub NamesText : List ℕ → Type 0
-NamesText line = (request : Request) × HasLine request × (line ≡ line_of request) × (is_text_name (text_of request) ≡ true)
+-- it is the line of a request, and the text that it names cannot be read
+abbrev pub NamesUnreadable : Gives → List ℕ → Type 0
+NamesUnreadable gives line =
+    (request : Request) × HasLine request × (line ≡ line_of request) × (is_text_name (text_of request) ≡ true) × gives (drop 1 (text_of request)) None
 
 -- lines one after another, each with a line feed behind it
 abbrev pub lines_of : List (List ℕ × List ℕ) → List ℕ
@@ -74,10 +75,10 @@ most_line = 1049300
 abbrev pub BeginsLong : List ℕ → Type 0
 BeginsLong bytes = IsOneLine bytes × (most_line < length bytes)
 
--- why the bytes after so many lines become nothing: the next is bad or too long, or the text that it names was not given
+-- why the bytes after so many lines become nothing: the next is bad or too long, or the text that it names cannot be read
 abbrev pub StopsAt : Gives → EncodeError → ℕ → List ℕ → Type 0
 StopsAt gives (BadLine number) lines bytes = (number ≡ next_count lines) × (BeginsWith (IsBadLine gives) bytes ⊎ BeginsLong bytes)
-StopsAt gives (Unreadable number) lines bytes = (number ≡ next_count lines) × BeginsWith NamesText bytes
+StopsAt gives (Unreadable number) lines bytes = (number ≡ next_count lines) × BeginsWith (NamesUnreadable gives) bytes
 StopsAt gives Memory lines bytes = Unit {0}
 
 -- What encoding the next line of the bytes that are kept does to them, and what is written.
@@ -93,5 +94,5 @@ EncodesNext gives (Err error) old new written = StopsAt gives error old.lines ol
 abbrev pub Finishes : Gives → Result (Unit {0}) EncodeError → EncoderState → List ℕ → Type 0
 Finishes gives (Ok done) old written = Becomes gives (old.kept, written)
 Finishes gives (Err (BadLine number)) old written = (number ≡ next_count old.lines) × IsBadLine gives old.kept × (written ≡ [])
-Finishes gives (Err (Unreadable number)) old written = (number ≡ next_count old.lines) × NamesText old.kept × (written ≡ [])
+Finishes gives (Err (Unreadable number)) old written = (number ≡ next_count old.lines) × NamesUnreadable gives old.kept × (written ≡ [])
 Finishes gives (Err Memory) old written = written ≡ []

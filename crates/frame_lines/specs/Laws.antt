@@ -73,7 +73,7 @@ FrameHasOneLine = (payload one other : List ℕ) → IsLineOf payload one → Is
 
 -- no text is given for any name
 abbrev pub nothing_given : Gives
-nothing_given name text = ⊥
+nothing_given name found = ⊥
 
 -- The line of a request becomes its frame, and the frame that line again and no other, whatever text it has that names no other.
 abbrev pub DecodesWhatWasEncoded : Type 0

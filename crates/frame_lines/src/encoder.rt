@@ -1,7 +1,7 @@
 //! Lines of requests become frames.
 ghost use Rattle.std.specs.Prelude.{◌≡◌, ◌++◌, List, ℕ, [], Err, IfOk, OnOk, OnErr};
 ghost use Rattle.frame_front.specs.Counted.{next_count};
-ghost use Rattle.frame_lines.specs.Encoding.{Becomes, EncodesNext, Finishes, IsBadLine, NamesText, is_comment as comment};
+ghost use Rattle.frame_lines.specs.Encoding.{EncodesNext, Finishes};
 ghost use Rattle.frame_lines.specs.Private.Encoders.{stopped};
 
 use crate::line_decoder::LineDecoder;

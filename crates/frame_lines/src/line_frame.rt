@@ -1,7 +1,7 @@
 //! A line becomes a frame.
 ghost use Rattle.std.specs.Prelude.{◌≡◌, ◌++◌, List, ℕ, drop, Err, OnOk, OnErr, MatchOption, false, true};
 ghost use Rattle.frame_front.specs.Frame.{frame};
-ghost use Rattle.frame_lines.specs.Encoding.{Becomes, IsBadLine, NamesText, is_comment as comment};
+ghost use Rattle.frame_lines.specs.Encoding.{Becomes, IsBadLine, NamesUnreadable, is_comment as comment};
 ghost use Rattle.frame_lines.specs.RequestForm.{IsFramed, is_text_name, payload_of, request, with_text as other_text};
 
 use crate::request::RequestForm;
@@ -56,7 +56,7 @@ pub(crate) fn put_line<T: TextSource>(
 ) -> Result<(), LineError>
     ensures ok { OnOk result ((bytes : List ℕ) × Becomes (T.gives texts.now) (line.now, bytes) × (out.new.items ≡ out.old.items ++ bytes)) }
     ensures bad { result ≡ Err LineError.Bad → IsBadLine (T.gives texts.now) line.now }
-    ensures unreadable { result ≡ Err LineError.Unreadable → NamesText line.now }
+    ensures unreadable { result ≡ Err LineError.Unreadable → NamesUnreadable (T.gives texts.now) line.now }
     ensures err { OnErr result (out.new.items ≡ out.old.items) }
 {
     if is_comment(line) {

@@ -14,12 +14,13 @@ pub enum TextError {
 /// Gives the documents and JWKs that lines name instead of holding them: in `set a @a.json` the document is the text of the
 /// name `a.json`.
 pub trait TextSource {
-    ghost use Rattle.std.specs.Prelude.{ℕ, List, IfOk};
+    ghost use Rattle.std.specs.Prelude.{◌≡◌, ℕ, List, Option, Some, None, IfOk, Err};
 
-    // A text of this name may be these bytes.
-    ghost gives: { Self → List ℕ → List ℕ → Type 0 };
+    // A text of this name may be these bytes; or None, it may be one that cannot be read.
+    ghost gives: { Self → List ℕ → Option (List ℕ) → Type 0 };
 
     /// The text of this name. The bytes are not judged.
     fn text(&self, alloc: Global, name: &[u8]) -> Result<Vec<u8>, TextError>
-        ensures { IfOk result (λ text. gives self.now name.now text.items) };
+        ensures ok { IfOk result (λ text. gives self.now name.now (Some text.items)) }
+        ensures unreadable { result ≡ Err TextError.Unreadable → gives self.now name.now None };
 }

@@ -15,7 +15,7 @@ struct OneText;
 const TEXT: &[u8] = b"{\n}";
 
 impl TextSource for OneText {
-    ghost gives = { λ texts name text. Unit {0} };
+    ghost gives = { λ texts name found. Unit {0} };
 
     fn text(&self, alloc: Global, name: &[u8]) -> Result<Vec<u8>, TextError> {
         let given = match name {

@@ -9,7 +9,7 @@ use Rattle.std.proofs.lemmas.List.Folds.{list_any-append}
 use Rattle.frame_front.specs.Counted.{next_count}
 use Rattle.frame_front.specs.Frame.{frame}
 use Rattle.frame_front.specs.declared.error.FrontError.TheVariants as front
-use Rattle.frame_lines.specs.Encoding.{EncoderState, Gives, Becomes, EncodesNext, IsFrameOf, NamesText, IsBadLine, BeginsWith, BeginsLong, StopsAt, is_comment}
+use Rattle.frame_lines.specs.Encoding.{EncoderState, Gives, Becomes, EncodesNext, IsFrameOf, NamesUnreadable, IsBadLine, BeginsWith, BeginsLong, StopsAt, is_comment}
 use Rattle.frame_lines.specs.RequestForm.{IsOneLine}
 use Rattle.frame_lines.specs.declared.encoder.EncodeError.{EncodeError}
 use Rattle.frame_lines.specs.declared.encoder.EncodeError.TheVariants as encoding
@@ -137,7 +137,7 @@ module _ (gives : Gives) (how : Asking) (old : Ends) (lines from to out : Option
   stopped (encoding.BadLine n) stops =
       silent (BadLine n) lines [] (Consumes-nil lines) (stops.0 ∙ ap next_count so.lines_are, refl, refl, refl, inl (same_rest (λ rest. BeginsWith (IsBadLine gives) rest ⊎ BeginsLong rest) stops.1)) tt
   stopped (encoding.Unreadable n) stops =
-      silent (Unreadable n) lines [] (Consumes-nil lines) (stops.0 ∙ ap next_count so.lines_are, refl, refl, refl, inl (same_rest (BeginsWith NamesText) stops.1)) tt
+      silent (Unreadable n) lines [] (Consumes-nil lines) (stops.0 ∙ ap next_count so.lines_are, refl, refl, refl, inl (same_rest (BeginsWith (NamesUnreadable gives)) stops.1)) tt
   stopped encoding.Memory stops = silent (Front front.Memory) lines [] (Consumes-nil lines) (refl, refl, refl) tt
 
   -- no more is read

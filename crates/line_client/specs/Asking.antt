@@ -7,7 +7,7 @@ use Rattle.frame_front.specs.Frame.{IsPayload, frame}
 use Rattle.frame_front.specs.declared.error.FrontError.TheVariants as front
 use Rattle.frame_client.specs.Reading.{NoFrame}
 use Rattle.frame_client.specs.declared.client_error.ClientError.TheVariants as client
-use Rattle.frame_lines.specs.Encoding.{Gives, IsFrameOf, IsBadLine, NamesText, BeginsWith, BeginsLong, is_comment}
+use Rattle.frame_lines.specs.Encoding.{Gives, IsFrameOf, IsBadLine, NamesUnreadable, BeginsWith, BeginsLong, is_comment}
 use Rattle.frame_lines.specs.ReplyForm.{Reply, payload_of}
 use Rattle.frame_lines.specs.RequestForm.{IsOneLine}
 use Rattle.line_client.specs.Replies.{is_transient, is_refusal, bundles_after, reply_frames, shown, IsTold}
@@ -164,7 +164,7 @@ EndsAsking gives how (Err (BadLine number)) items rest more_asked more_told more
     × ((BeginsWith (IsBadLine gives) rest ⊎ BeginsLong rest) ⊎ (IsAtEnd new.lines × IsBadLine gives rest))
 EndsAsking gives how (Err (Unreadable number)) items rest more_asked more_told more_shown new =
     (number ≡ next_count (count_after 0 items)) × (more_asked ≡ []) × (more_told ≡ []) × (more_shown ≡ [])
-    × (BeginsWith NamesText rest ⊎ (IsAtEnd new.lines × NamesText rest))
+    × (BeginsWith (NamesUnreadable gives) rest ⊎ (IsAtEnd new.lines × NamesUnreadable gives rest))
 EndsAsking gives how (Err (Server why)) items rest more_asked more_told more_shown new =
     (request : List ℕ) × BecomesNext gives rest request × IsBroken how (Server why) request more_asked more_told more_shown new.from
 EndsAsking gives how (Err (Front front.WriteFault)) items rest more_asked more_told more_shown new =

@@ -14,9 +14,10 @@ use test_kit::{holds_at, is_equal, is_equal_at};
 struct OneText;
 
 impl TextSource for OneText {
-    ghost use Rattle.std.specs.Prelude.{List, ℕ};
+    ghost use Rattle.std.specs.Prelude.{◌≡◌, ◌≢◌, codes, MatchOption};
 
-    ghost gives = { λ texts name text. Unit {0} };
+    // Only `doc` can be read.
+    ghost gives = { λ texts name found. MatchOption found (name ≢ codes "doc") (λ text. name ≡ codes "doc") };
 
     fn text(&self, alloc: Global, name: &[u8]) -> Result<Vec<u8>, TextError> {
         if name != b"doc".as_slice() {

@@ -10,7 +10,7 @@ use Rattle.frame_lines.specs.declared.line_frame.LineError.{LineError}
 use Rattle.frame_lines.specs.declared.line_frame.LineError.TheVariants as one
 use Rattle.frame_lines.specs.declared.stream.StreamError.{StreamError}
 use Rattle.frame_lines.specs.declared.stream.StreamError.TheVariants as streams
-use Rattle.frame_lines.specs.Encoding.{EncoderState, Gives, Becomes, EncodesLine, IsBadLine, NamesText, BeginsWith, BeginsLong, lines_of, frames_of, count_after}
+use Rattle.frame_lines.specs.Encoding.{EncoderState, Gives, Becomes, EncodesLine, IsBadLine, NamesUnreadable, BeginsWith, BeginsLong, lines_of, frames_of, count_after}
 use Rattle.frame_lines.specs.EncodedStream.{WritesStream}
 use Rattle.frame_lines.specs.RequestForm.{IsOneLine}
 
@@ -40,7 +40,7 @@ pub record KeptSoFar (gives : Gives) (old new : EncoderState) (held_old held_new
 abbrev pub EndsKept : Gives → Result (Unit {0}) StreamError → ℕ → List ℕ → EncoderState → Type 0
 EndsKept gives (Ok done) lines rest new = IsOneLine rest × (new.kept ≡ rest) × (new.lines ≡ lines)
 EndsKept gives (Err (streams.BadLine number)) lines rest new = (number ≡ next_count lines) × (BeginsWith (IsBadLine gives) rest ⊎ BeginsLong rest)
-EndsKept gives (Err (streams.Unreadable number)) lines rest new = (number ≡ next_count lines) × BeginsWith NamesText rest
+EndsKept gives (Err (streams.Unreadable number)) lines rest new = (number ≡ next_count lines) × BeginsWith (NamesUnreadable gives) rest
 EndsKept gives (Err (streams.Front WriteFault)) lines rest new = Unit {0}
 EndsKept gives (Err (streams.Front Memory)) lines rest new = Unit {0}
 EndsKept gives ended lines rest new = ⊥
@@ -58,7 +58,7 @@ pub record EncodesKept (gives : Gives) (result : Result (Unit {0}) StreamError) 
 abbrev pub EndsLast : Gives → Result (Unit {0}) StreamError → EncoderState → List ℕ → Type 0
 EndsLast gives (Ok done) state last = Becomes gives (state.kept, last)
 EndsLast gives (Err (streams.BadLine number)) state last = (number ≡ next_count state.lines) × IsBadLine gives state.kept × (last ≡ [])
-EndsLast gives (Err (streams.Unreadable number)) state last = (number ≡ next_count state.lines) × NamesText state.kept × (last ≡ [])
+EndsLast gives (Err (streams.Unreadable number)) state last = (number ≡ next_count state.lines) × NamesUnreadable gives state.kept × (last ≡ [])
 EndsLast gives (Err (streams.Front WriteFault)) state last = Becomes gives (state.kept, last)
 EndsLast gives (Err (streams.Front Memory)) state last = last ≡ []
 EndsLast gives ended state last = ⊥

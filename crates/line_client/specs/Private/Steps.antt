@@ -9,7 +9,7 @@ use Rattle.frame_front.specs.declared.error.FrontError.TheVariants as front
 use Rattle.frame_client.specs.Reading.{NoFrame}
 use Rattle.frame_client.specs.declared.client_error.ClientError.{ClientError}
 use Rattle.frame_client.specs.declared.client_error.ClientError.TheVariants as client
-use Rattle.frame_lines.specs.Encoding.{Gives, EncoderState, Becomes, IsBadLine, NamesText}
+use Rattle.frame_lines.specs.Encoding.{Gives, EncoderState, Becomes, IsBadLine, NamesUnreadable}
 use Rattle.frame_lines.specs.ReplyForm.{Reply, HasPayload, payload_of}
 use Rattle.frame_lines.specs.declared.encoder.EncodeError.{EncodeError}
 use Rattle.frame_lines.specs.declared.encoder.EncodeError.TheVariants as lines
@@ -179,7 +179,7 @@ AsksLast gives how state (Ok refused) from_old from_new to_old to_new out_old ou
 AsksLast gives how state (Err (BadLine number)) from_old from_new to_old to_new out_old out_new =
     (number ≡ next_count state.lines) × IsBadLine gives state.kept × IsSilent from_old from_new to_old to_new out_old out_new
 AsksLast gives how state (Err (Unreadable number)) from_old from_new to_old to_new out_old out_new =
-    (number ≡ next_count state.lines) × NamesText state.kept × IsSilent from_old from_new to_old to_new out_old out_new
+    (number ≡ next_count state.lines) × NamesUnreadable gives state.kept × IsSilent from_old from_new to_old to_new out_old out_new
 AsksLast gives how state (Err (Front front.Memory)) from_old from_new to_old to_new out_old out_new = IsSilent from_old from_new to_old to_new out_old out_new
 AsksLast gives how state (Err fault) from_old from_new to_old to_new out_old out_new =
     (request : List ℕ) × Becomes gives (state.kept, request) × BreaksOne how fault request from_old from_new to_old to_new out_old out_new
