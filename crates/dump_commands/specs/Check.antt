@@ -5,7 +5,7 @@ use Rattle.std.specs.Io.KnownBytes.{Appends}
 use Rattle.frame_front.specs.Outbox.{WritesFront}
 use Rattle.frame_front.specs.declared.error.FrontError.TheVariants.{Memory, WriteFault}
 use Rattle.frame_lines.specs.Encoding.{Gives}
-use Rattle.spiffe_doc.specs.declared.error.DocError.{DocError}
+use Rattle.doc_report.specs.declared.fault.DocFault.{DocFault}
 use Rattle.doc_report.specs.Report.{ReportValue, report_of}
 use Rattle.doc_report.specs.Lines.{told_lines, fault_line}
 use Rattle.commands.specs.declared.fault.Fault.{Fault}
@@ -21,7 +21,7 @@ pub record Document : Type 0 where
 -- ---- the lines of each document
 
 -- what is told of a report, or of the fault that took its place
-abbrev pub lines_by : List ℕ → Result ReportValue DocError → List ℕ
+abbrev pub lines_by : List ℕ → Result ReportValue DocFault → List ℕ
 lines_by name (Ok report) = told_lines name report
 lines_by name (Err fault) = fault_line name fault
 
@@ -33,11 +33,11 @@ lines_of_all documents = flat_map lines_of documents
 
 -- ---- the status
 
-abbrev pub is_fault : Result ReportValue DocError → Bool
+abbrev pub is_fault : Result ReportValue DocFault → Bool
 is_fault (Ok report) = false
 is_fault (Err fault) = true
 
-abbrev pub ignores : Result ReportValue DocError → Bool
+abbrev pub ignores : Result ReportValue DocFault → Bool
 ignores (Ok report) = not (length report.ignored == 0)
 ignores (Err fault) = false
 

@@ -9,7 +9,7 @@ ghost use Rattle.frame_front.specs.Counted.{end_in, faults_in, reads_of};
 ghost use Rattle.frame_front.specs.declared.error.FrontError.TheVariants.{ReadFault, WriteFault};
 
 use commands::{Fault, read_input, write_flushed};
-use doc_report::{Report, put_report, report_on};
+use doc_report::{DocFault, Report, put_report, report_on};
 use frame_front::{Counted, FrontError};
 use frame_lines::{TextError, TextSource};
 use spiffe_doc::DocError;
@@ -154,7 +154,13 @@ fn check_document<W: Write>(
     ensures write_fault { result ≡ Err (Front WriteFault) → faults_in out.old < faults_in out.new }
 {
     let outcome = report_on(alloc, document);
-    if let Err(DocError::Memory) = outcome {
+    if let Err(
+        DocFault {
+            error: DocError::Memory,
+            ..
+        },
+    ) = outcome
+    {
         return Err(Fault::Front(FrontError::Memory));
     }
     let mut lines = Vec::new(alloc);
@@ -168,7 +174,7 @@ fn check_document<W: Write>(
 }
 
 /// What was found of a document by its report.
-fn findings_of(outcome: &Result<Report, DocError>) -> Findings
+fn findings_of(outcome: &Result<Report, DocFault>) -> Findings
     ensures { result ≡ given_by outcome.now }
 {
     match outcome {

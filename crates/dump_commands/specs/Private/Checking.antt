@@ -5,7 +5,7 @@ use Rattle.std.specs.Io.KnownBytes.{Appends}
 use Rattle.frame_front.specs.Outbox.{WritesFront}
 use Rattle.frame_front.specs.declared.error.FrontError.TheVariants.{Memory, WriteFault}
 use Rattle.frame_lines.specs.Encoding.{Gives}
-use Rattle.spiffe_doc.specs.declared.error.DocError.{DocError}
+use Rattle.doc_report.specs.declared.fault.DocFault.{DocFault}
 use Rattle.doc_report.specs.declared.report.Report.{Report}
 use Rattle.commands.specs.declared.fault.Fault.{Fault}
 use Rattle.commands.specs.declared.fault.Fault.TheVariants.{Front}
@@ -18,7 +18,7 @@ abbrev pub joined : Findings → Findings → Findings
 joined a b = record { no_bundle = a.no_bundle || b.no_bundle; ignored = a.ignored || b.ignored }
 
 -- what is found of a document by its report
-abbrev pub given_by : Result Report DocError → Findings
+abbrev pub given_by : Result Report DocFault → Findings
 given_by (Ok report) = record { no_bundle = false; ignored = not (length report.ignored.items == 0) }
 given_by (Err fault) = record { no_bundle = true; ignored = false }
 
