@@ -1,12 +1,11 @@
 -- What came to a worker.
-use Rattle.std.proofs.Common.{◌≡◌, ℕ, List, [], ◌∷◌, ◌++◌, refl, ap, ◌∙◌, subst, append-nil, inl, inr}
+use Rattle.std.proofs.Common.{◌≡◌, ℕ, List, [], ◌∷◌, ◌++◌, refl, ap, ◌∙◌, subst, inl, inr}
 use Rattle.std.specs.Prelude.{◌⊎◌}
-use Rattle.std.proofs.lemmas.Grind.{flat_map-append}
+use Rattle.std.proofs.lemmas.List.{map-append}
 use Rattle.connections.specs.Connection.{ConnectionView}
 use Rattle.live_workers.specs.declared.arrivals.Arrival.{Arrival}
 use Rattle.live_workers.specs.declared.arrivals.Arrival.TheVariants.{Opens, Ready, Tick, Nothing, Fails, Stops}
-use Rattle.live_workers.specs.Arrivals.{News, IsStop, ComesAll, news_in, news_of_both}
-use Rattle.live_workers.specs.Private.Serving.{Heard}
+use Rattle.live_workers.specs.Arrivals.{Brings, News, IsStop, ComesAll, news_in}
 
 stop_is : {E : Type 0} (arrival : Arrival E) → IsStop arrival → arrival ≡ Stops
 stop_is (Opens end reads_only) stop = absurd stop
@@ -30,15 +29,14 @@ module _ {E V : Type 0} (start : E → ConnectionView) (comes : V → ℕ → Ar
   comes_then (x ∷ xs) ys a b c p q = (p.0, p.1, comes_then xs ys p.0 b c p.2 q)
 
   -- nothing came yet
-  pub heard_none : (v : V) → Heard start comes [] v v
-  heard_none v = record { arrivals = []; came = refl; all = refl }
+  pub brings_none : (v : V) → Brings start comes [] v v
+  brings_none v = record { arrivals = []; came = refl; all = refl }
 
   -- one thing more came, after a place was told to be free
-  pub heard_more : (news : List News) (free : ℕ) (arrival : Arrival E) (a b c : V) → Heard start comes news a b → comes b free arrival c
-      → Heard start comes (news ++ news_in start free arrival) a c
-  heard_more news free arrival a b c h came = record {
+  pub brings_more : (news : List News) (free : ℕ) (arrival : Arrival E) (a b c : V) → Brings start comes news a b → comes b free arrival c
+      → Brings start comes (news ++ news_in start free arrival ∷ []) a c
+  brings_more news free arrival a b c h came = record {
     arrivals = h.arrivals ++ (free, arrival) ∷ [];
     came = comes_then h.arrivals ((free, arrival) ∷ []) a b c h.came (c, came, refl);
-    all = flat_map-append (news_of_both start) h.arrivals ((free, arrival) ∷ []) ∙ (ap (λ (l : List News). l ++ (news_in start free arrival ++ [])) h.all
-        ∙ ap (λ (l : List News). news ++ l) (append-nil (news_in start free arrival)));
+    all = map-append (λ (both : ℕ × Arrival E). news_in start both.0 both.1) h.arrivals ((free, arrival) ∷ []) ∙ ap (λ (l : List News). l ++ news_in start free arrival ∷ []) h.all;
   }

@@ -1,5 +1,5 @@
 -- What every answer keeps is kept along sessions.
-use Rattle.std.proofs.Common.{◌≡◌, List, [], ◌∷◌, sym, ap, subst}
+use Rattle.std.proofs.Common.{◌≡◌, List, [], ◌∷◌, ◌++◌, sym, ap, subst}
 use Rattle.std.specs.Prelude.{ℕ, Bool, true, false, Result}
 use Rattle.map_core.specs.declared.op.Op.{Op}
 use Rattle.map_core.specs.declared.reply.Reply.{Reply}
@@ -66,4 +66,4 @@ module _ {S : Type 0} (answers : S → Op → Result Reply AskError → S → Ty
 
   -- what each answer keeps, sessions keep
   pub sessions_keep : (most_silent turns : ℕ) (kept : EndsView) (old new : S) → ServedAll answers most_silent turns kept old new → Keeps old new
-  sessions_keep most_silent turns kept old new a = steps_keep a.steps (nobody, old) (nobody, new) a.takes
+  sessions_keep most_silent turns kept old new a = steps_keep (a.before ++ a.last) (nobody, old) (nobody, new) a.takes

@@ -4,3 +4,4 @@ mod KeptAlong
 mod ServingLemmas
 mod Simulated
 mod StepLemmas
+mod WaitingLemmas

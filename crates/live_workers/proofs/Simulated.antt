@@ -1,5 +1,5 @@
 -- Sessions over one state are sessions over what is seen of it.
-use Rattle.std.proofs.Common.{◌≡◌, List, [], ◌∷◌, refl, sym, ap, subst, inl, inr}
+use Rattle.std.proofs.Common.{◌≡◌, List, [], ◌∷◌, ◌++◌, refl, sym, ap, subst, inl, inr}
 use Rattle.std.specs.Prelude.{ℕ, Bool, true, false, Result, Ok, Err}
 use Rattle.map_core.specs.declared.op.Op.{Op}
 use Rattle.map_core.specs.declared.reply.Reply.{Reply}
@@ -145,7 +145,7 @@ module _ {S T : Type 0} (answers : S → Op → Result Reply AskError → S → 
 
   -- sessions over one state are sessions over what is seen of it, by the same steps
   pub sessions_seen : (most_silent turns : ℕ) (kept : EndsView) (old new : S) → Stays old → (a : ServedAll answers most_silent turns kept old new)
-      → Stays new × ((b : ServedAll answers_seen most_silent turns kept (seen old) (seen new)) × (b.steps ≡ a.steps))
+      → Stays new × ((b : ServedAll answers_seen most_silent turns kept (seen old) (seen new)) × (b.news ≡ a.news))
   sessions_seen most_silent turns kept old new stays a =
-      let all = steps_seen a.steps (nobody, old) (nobody, new) stays a.takes in
-      (all.0, (record { steps = a.steps; takes = all.1; ends = a.ends; limited = a.limited }, refl))
+      let all = steps_seen (a.before ++ a.last) (nobody, old) (nobody, new) stays a.takes in
+      (all.0, (record { news = a.news; before = a.before; last = a.last; follows = a.follows; ending = a.ending; takes = all.1; ends = a.ends; limited = a.limited }, refl))

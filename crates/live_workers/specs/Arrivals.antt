@@ -1,5 +1,5 @@
 -- What comes to a worker.
-use Rattle.std.specs.Prelude.{◌≡◌, ℕ, List, [], ◌∷◌, Bool, ⊤}
+use Rattle.std.specs.Prelude.{◌≡◌, ℕ, List, [], ◌∷◌, map, Bool, ⊤}
 use Rattle.connections.specs.Connection.{ConnectionView}
 use Rattle.live_workers.specs.declared.arrivals.Arrival.{Arrival}
 use Rattle.live_workers.specs.declared.arrivals.Arrival.TheVariants.{Opens, Ready, Tick, Nothing, Fails, Stops}
@@ -10,29 +10,32 @@ IsStop Stops = ⊤
 IsStop arrival = ⊥
 
 -- What a worker has to follow: a client has connected, for whom this place was told; a stream is ready; some time has passed; the
--- listener has failed; or it is to stop.
+-- listener has failed; nothing has come; or it is to stop.
 pub data News : Type 0 where
   NewClient : (place : ℕ) → (start : ConnectionView) → (reads_only : Bool) → News
   IsReady : (place : ℕ) → (is_closing : Bool) → News
   HasTicked : News
   HasFailed : News
+  IsQuiet : News
   IsToStop : News
 
 module _ {E : Type 0} (start : E → ConnectionView) where
-  -- the news in what came after a place was told to be free
-  abbrev pub news_in : ℕ → Arrival E → List News
-  news_in free (Opens end reads_only) = NewClient free (start end) reads_only ∷ []
-  news_in free (Ready place is_closing) = IsReady place is_closing ∷ []
-  news_in free Tick = HasTicked ∷ []
-  news_in free Nothing = []
-  news_in free Fails = HasFailed ∷ []
-  news_in free Stops = IsToStop ∷ []
-
-  -- of a place that was told and what came then
-  abbrev pub news_of_both : ℕ × Arrival E → List News
-  news_of_both both = news_in both.0 both.1
+  -- what came after a place was told to be free, as news
+  abbrev pub news_in : ℕ → Arrival E → News
+  news_in free (Opens end reads_only) = NewClient free (start end) reads_only
+  news_in free (Ready place is_closing) = IsReady place is_closing
+  news_in free Tick = HasTicked
+  news_in free Nothing = IsQuiet
+  news_in free Fails = HasFailed
+  news_in free Stops = IsToStop
 
 -- all this came from a source, one after the other, each after this place was told to be free
 abbrev pub ComesAll : {E V : Type 0} → (V → ℕ → Arrival E → V → Type 0) → List (ℕ × Arrival E) → V → V → Type 0
 ComesAll comes [] old new = new ≡ old
 ComesAll {E} {V} comes (both ∷ more) old new = (mid : V) × comes old both.0 both.1 mid × ComesAll comes more mid new
+
+-- A source has brought this news, in this order.
+pub record Brings {E V : Type 0} (start : E → ConnectionView) (comes : V → ℕ → Arrival E → V → Type 0) (news : List News) (old new : V) : Type 0 where
+  pub arrivals : List (ℕ × Arrival E)
+  pub came : ComesAll comes arrivals old new
+  pub all : map (λ both. news_in start both.0 both.1) arrivals ≡ news

@@ -1,5 +1,5 @@
 -- What becomes of the connections of a worker.
-use Rattle.std.specs.Prelude.{◌≡◌, ◌≢◌, ◌≤◌, ℕ, ◌+◌, ⊤, List, [], ◌∷◌, ◌++◌, Option, Some, None, Bool, false, Result, Ok, Err}
+use Rattle.std.specs.Prelude.{◌≡◌, ◌≢◌, ◌≤◌, ◌==◌, ◌⊎◌, ℕ, ◌+◌, ⊤, List, [], ◌∷◌, ◌++◌, filter, fold, not, Option, Some, None, Bool, false, Result, Ok, Err}
 use Rattle.std.specs.List.{AllByRecursion, flat_map}
 use Rattle.map_core.specs.declared.op.Op.{Op}
 use Rattle.map_core.specs.declared.reply.Reply.{Reply}
@@ -8,9 +8,9 @@ use Rattle.frame_front.specs.declared.error.FrontError.{FrontError}
 use Rattle.connections.specs.Connection.{ConnectionView, LastTurn, Owes, StopsFor, Turn, counted, opened, told, turn_rounds}
 use Rattle.connections.specs.Stream.{May}
 use Rattle.connections.specs.declared.after.After.{After}
-use Rattle.live_workers.specs.Arrivals.{News, NewClient, IsReady, HasTicked, HasFailed, IsToStop, ComesAll, news_of_both}
+use Rattle.connections.specs.declared.after.After.TheVariants.{Again, Over}
+use Rattle.live_workers.specs.Arrivals.{News, NewClient, IsReady, HasTicked, HasFailed, IsQuiet, IsToStop}
 use Rattle.live_workers.specs.AtPort.{PortAnswer}
-use Rattle.live_workers.specs.declared.arrivals.Arrival.{Arrival}
 use Rattle.workers.specs.Ended.{EndsView, kept_of}
 use Rattle.workers.specs.declared.ended.SessionFault.{SessionFault}
 use Rattle.workers.specs.declared.ended.SessionFault.TheVariants.{Front, Listen}
@@ -35,8 +35,8 @@ ticked None = None
 ticked (Some place) = Some (record place { silent = counted (place.silent + 1) })
 
 -- One thing that a worker does: it takes a connection at a free place; it gives the one at a place a turn, since its stream is
--- ready, and maybe closing, or of its own accord; it finds nobody there whose stream would be ready; it counts a tick; it leaves a
--- connection whose session is over; it gives a client up that owes something, so many ticks after its last turn; it gives a
+-- ready, and maybe closing, or since it waits for one; it finds nobody there whose stream would be ready; it counts a tick; it leaves
+-- a connection whose session is over; it gives a client up that owes something, so many ticks after its last turn; it gives a
 -- connection its last turn and leaves it; or it learns that its listener failed.
 pub data Step : Type 0 where
   Opens : (place : ℕ) → (start : ConnectionView) → (reads_only : Bool) → Step
@@ -70,19 +70,6 @@ told_by step = []
 abbrev pub told_all : List Step → List (Result ℕ SessionFault)
 told_all steps = flat_map told_by steps
 
--- the news that a step follows
-abbrev pub news_of : Step → List News
-news_of (Opens place start reads_only) = NewClient place start reads_only ∷ []
-news_of (Turns place (Some is_closing) after) = IsReady place is_closing ∷ []
-news_of (Turns place None after) = []
-news_of (Misses place is_closing) = IsReady place is_closing ∷ []
-news_of Ticks = HasTicked ∷ []
-news_of Fails = HasFailed ∷ []
-news_of step = []
-
-abbrev pub all_news : List Step → List News
-all_news steps = flat_map news_of steps
-
 -- whether a stream that is ready is closing
 abbrev pub closing_of : Option Bool → Bool
 closing_of (Some is_closing) = is_closing
@@ -98,6 +85,56 @@ AllStay old new = (place : ℕ) → new place ≡ old place
 -- at each place a tick has passed
 abbrev pub AllTick : Places → Places → Type 0
 AllTick old new = (place : ℕ) → new place ≡ ticked (old place)
+
+-- a turn of the connection at a place, which is left at once if its session is over then
+abbrev pub turn_steps : ℕ → Option Bool → After → List Step
+turn_steps place ready (Over result) = Turns place ready (Over result) ∷ Closes place result ∷ []
+turn_steps place ready after = Turns place ready after ∷ []
+
+-- a client is given up
+abbrev pub IsGivenUp : Step → Type 0
+IsGivenUp (GivesUp place ticks error) = ⊤
+IsGivenUp step = ⊥
+
+-- the steps that follow news, after which a worker goes on
+abbrev pub Follows : News → List Step → Type 0
+Follows (NewClient place start reads_only) steps = steps ≡ Opens place start reads_only ∷ []
+Follows (IsReady place is_closing) steps = (steps ≡ Misses place is_closing ∷ []) ⊎ ((after : After) × (steps ≡ turn_steps place (Some is_closing) after))
+Follows HasTicked steps = (silent : List Step) × (steps ≡ Ticks ∷ silent) × AllByRecursion IsGivenUp silent
+Follows HasFailed steps = steps ≡ Fails ∷ []
+Follows IsQuiet steps = steps ≡ []
+Follows IsToStop steps = ⊥
+
+-- the places that wait, without this one
+abbrev pub without : ℕ → List ℕ → List ℕ
+without place waiting = filter (λ other. not (other == place)) waiting
+
+-- The places that wait for a turn after a step, in the order of their turns: a connection that is new, or has more to do after a
+-- turn, waits behind the others.
+abbrev pub waiting_after : List ℕ → Step → List ℕ
+waiting_after waiting (Opens place start reads_only) = waiting ++ place ∷ []
+waiting_after waiting (Turns place ready Again) = without place waiting ++ place ∷ []
+waiting_after waiting (Turns place ready after) = without place waiting
+waiting_after waiting (Closes place result) = without place waiting
+waiting_after waiting (GivesUp place ticks error) = without place waiting
+waiting_after waiting (Ends place result) = without place waiting
+waiting_after waiting step = waiting
+
+-- the first of those that wait has a turn, if any waits
+abbrev pub ServesFirst : List ℕ → List Step → Type 0
+ServesFirst [] steps = steps ≡ []
+ServesFirst (place ∷ others) steps = (after : After) × (steps ≡ turn_steps place None after)
+
+-- News is followed, one piece after the other, and after each piece the first of those that wait has a turn.
+abbrev pub FollowsAll : (waiting : List ℕ) → List News → List Step → Type 0
+FollowsAll waiting [] steps = steps ≡ []
+FollowsAll waiting (one ∷ news) steps = (now : List Step) × (turn : List Step) × (later : List Step) × (steps ≡ now ++ (turn ++ later))
+    × Follows one now × ServesFirst (fold waiting_after waiting now) turn × FollowsAll (fold waiting_after waiting (now ++ turn)) news later
+
+-- a connection has its last turn
+abbrev pub IsLast : Step → Type 0
+IsLast (Ends place result) = ⊤
+IsLast step = ⊥
 
 module _ {S : Type 0} (answers : S → Op → Result Reply AskError → S → Type 0) where
   abbrev pub Takes : Step → Places × S → Places × S → Type 0
@@ -121,36 +158,14 @@ module _ {S : Type 0} (answers : S → Op → Result Reply AskError → S → Ty
   TakesAll [] old new = AllStay old.0 new.0 × (new.1 ≡ old.1)
   TakesAll (step ∷ steps) old new = (mid : Places × S) × Takes step old mid × TakesAll steps mid new
 
-  -- Connections were served beside each other, from the first one to the end of the last one, and their sessions ended so. No step
-  -- went farther with a client than it may.
+  -- Connections were served beside each other, from the first one to the end of the last one, and their sessions ended so. News was
+  -- followed, and then there were only last turns. No step went farther with a client than it may.
   pub record ServedAll (most_silent turns : ℕ) (kept : EndsView) (old new : S) : Type 0 where
-    pub steps : List Step
-    pub takes : TakesAll steps (nobody, old) (nobody, new)
-    pub ends : kept ≡ kept_of (told_all steps)
-    pub limited : AllByRecursion (GoesSoFar most_silent turns) steps
-
--- a step gives a connection its last turn
-abbrev pub IsLast : Step → Type 0
-IsLast (Ends place result) = ⊤
-IsLast step = ⊥
-
--- none of these steps does so
-abbrev pub NoneIsLast : List Step → Type 0
-NoneIsLast steps = AllByRecursion (λ step. ¬ (IsLast step)) steps
-
--- each of them does
-abbrev pub AllAreLast : List Step → Type 0
-AllAreLast steps = AllByRecursion IsLast steps
-
--- Steps before a stop follow all news that came, in order: so each client stands at the place that was told just before it came.
--- None of them is a last turn, and after the stop there are only last turns.
-pub record Follows {E V : Type 0} (start : E → ConnectionView) (comes : V → ℕ → Arrival E → V → Type 0) (steps : List Step)
-    (old new : V) : Type 0 where
-  pub arrivals : List (ℕ × Arrival E)
-  pub came : ComesAll comes arrivals old new
-  pub before : List Step
-  pub last : List Step
-  pub parts : steps ≡ before ++ last
-  pub all : flat_map (news_of_both start) arrivals ≡ all_news before ++ IsToStop ∷ []
-  pub going : NoneIsLast before
-  pub ending : AllAreLast last
+    pub news : List News
+    pub before : List Step
+    pub last : List Step
+    pub follows : FollowsAll [] news before
+    pub ending : AllByRecursion IsLast last
+    pub takes : TakesAll (before ++ last) (nobody, old) (nobody, new)
+    pub ends : kept ≡ kept_of (told_all (before ++ last))
+    pub limited : AllByRecursion (GoesSoFar most_silent turns) before

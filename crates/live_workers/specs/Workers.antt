@@ -1,10 +1,11 @@
 -- What workers give back that serve many connections each.
-use Rattle.std.specs.Prelude.{ℕ, suc, ◌<◌, List, [], ◌∷◌, Bool, length, get_or}
+use Rattle.std.specs.Prelude.{ℕ, suc, ◌<◌, List, [], ◌∷◌, ◌++◌, Bool, length, get_or}
 use Rattle.connections.specs.Connection.{ConnectionView}
 use Rattle.shard_store.specs.Pass.{StoreView, PassView, IsOf}
 use Rattle.workers.specs.Workers.{IsFurther, WorkerAnswer, at_work}
 use Rattle.workers.specs.declared.ended.Worked.{Worked}
-use Rattle.live_workers.specs.Sessions.{Follows, ServedAll}
+use Rattle.live_workers.specs.Arrivals.{Brings, IsToStop}
+use Rattle.live_workers.specs.Sessions.{ServedAll}
 use Rattle.live_workers.specs.declared.arrivals.Arrival.{Arrival}
 
 module _ (opens : ℕ → ℕ → Bool → Type 0) (most_silent turns : ℕ) where
@@ -26,7 +27,7 @@ module _ (opens : ℕ → ℕ → Bool → Type 0) (most_silent turns : ℕ) whe
   module _ {E V : Type 0} (start : E → ConnectionView) (comes : V → ℕ → Arrival E → V → Type 0) where
     -- a worker has served, and followed all that came to it, up to a stop
     abbrev pub HasFollowed : StoreView → ℕ → PassView → V → Worked → Type 0
-    HasFollowed store worker pass arrivals worked = (served : HasServed store worker pass worked) × ((end : V) × Follows start comes served.served.steps arrivals end)
+    HasFollowed store worker pass arrivals worked = (served : HasServed store worker pass worked) × ((end : V) × Brings start comes (served.served.news ++ IsToStop ∷ []) arrivals end)
 
     -- each worker in its place
     abbrev pub AllFollowed : StoreView → List PassView → List V → List Worked → Type 0

@@ -1,11 +1,12 @@
 //! Serving many connections beside each other.
 ghost use Rattle.std.specs.Prelude.{◌≡◌, ◌≤◌, ◌++◌, ℕ, [], ◌∷◌, Bool, Option, None, Some, Err, IfOk, OnOk, IfSome};
+ghost use Rattle.std.specs.List.{AllByRecursion};
 ghost use Rattle.slab.specs.Slab.{get};
 ghost use Rattle.workers.specs.Ended.{kept_of, Notes};
 ghost use Rattle.connections.specs.Connection.{Owes, opened};
-ghost use Rattle.live_workers.specs.Arrivals.{IsStop, NewClient, news_in};
-ghost use Rattle.live_workers.specs.Sessions.{Place, AllTick, Fails, Follows, OthersStay, ServedAll, closing_of, front_end, nobody, ticked, told_by};
-ghost use Rattle.live_workers.specs.Private.Serving.{EndsSome, HadLastTurn, HadTurn, Leaves, Serves, turn_news};
+ghost use Rattle.live_workers.specs.Arrivals.{Brings, IsStop, IsToStop, news_in};
+ghost use Rattle.live_workers.specs.Sessions.{Place, AllTick, Fails, Follows, IsGivenUp, IsLast, OthersStay, ServedAll, ServesFirst, closing_of, front_end, ticked, told_by, without};
+ghost use Rattle.live_workers.specs.Private.Serving.{AreOpen, Asks, HadLastTurn, HadTurn, IsTurn, Serves, work_of};
 
 use crate::arrivals::{Arrival, Arrivals};
 use crate::at_port::AtPort;
@@ -27,16 +28,15 @@ struct Placed<E: Stream + Drop> {
     reads_only: bool,
     /// How many ticks have passed since its last turn.
     silent: u64,
-    /// Whether it waits for another turn. Then its place stands once among those that do, and else not.
-    waits: bool,
 }
 
 /// The connections of a worker, and what they share.
 #[derive(Drop)]
 struct Served<E: Stream + Drop> {
     open: Slab<Placed<E>>,
-    /// The places of connections that wait for another turn, since they have had their share and may have more to do.
-    again: VecDeque<usize>,
+    /// The places of connections that wait for a turn, in this order: those that are new, and those that have had their share
+    /// of one and may have more to do. Each stands there once.
+    waiting: VecDeque<usize>,
     documents: DocumentReader,
     /// What is read goes there first.
     room: [u8; ROOM_BYTES],
@@ -51,41 +51,56 @@ impl<E: Stream + Drop> Model for Placed<E> {
     ghost view = { λ p. record { connection = p.connection; reads_only = p.reads_only; silent = p.silent } };
 }
 
+/// The connection at a place waits for no turn any more.
+fn wait_no_more(waiting: &mut VecDeque<usize>, place: usize)
+    ensures { waiting.new.items ≡ without place waiting.old.items }
+{
+    waiting.retain(|other| *other != place);
+}
+
 impl<E: Stream + Drop> Served<E> {
     /// No client is connected yet.
     fn new(alloc: Global) -> Served<E>
         ensures open { result.open.slots ≡ [] }
+        ensures waiting { result.waiting.items ≡ [] }
         ensures ends { result.ends ≡ kept_of [] }
     {
         Served {
             open: Slab::new(alloc),
-            again: VecDeque::new(alloc),
+            waiting: VecDeque::new(alloc),
             documents: DocumentReader::new(alloc),
             room: [0; ROOM_BYTES],
             ends: SessionEnds::new(alloc),
         }
     }
 
-    /// Takes a connection at the next free place.
-    fn take(&mut self, connection: Connection<E>, reads_only: bool) -> Result<usize, AllocError>
-        ensures next { IfOk result (λ place. place ≡ self.old.open.vacant_key) }
-        ensures free { IfOk result (λ place. get self.old.open place ≡ None) }
-        ensures taken { IfOk result (λ place. get self.new.open place ≡ Some (record { connection = connection; reads_only = reads_only; silent = 0 })) }
-        ensures others { IfOk result (λ place. OthersStay place (get self.old.open) (get self.new.open)) }
+    /// Takes a client at the next free place. It waits for its first turn.
+    fn take<L: Log>(
+        &mut self,
+        end: E,
+        reads_only: bool,
+        worker: &Worker<'_, L>,
+    ) -> Result<(), AllocError>
+        ensures free { OnOk result (get self.old.open self.old.open.vacant_key ≡ None) }
+        ensures taken { OnOk result (get self.new.open self.old.open.vacant_key ≡ Some (record { connection = opened worker.now.limits.turns (E.may end) (E.left end) (E.held end); reads_only = reads_only; silent = 0 })) }
+        ensures others { OnOk result (OthersStay self.old.open.vacant_key (get self.old.open) (get self.new.open)) }
+        ensures waits { OnOk result (self.new.waiting.items ≡ self.old.waiting.items ++ self.old.open.vacant_key ∷ []) }
         ensures ends { self.new.ends ≡ self.old.ends }
     {
         let placed = Placed {
-            connection,
+            connection: Connection::new(worker.alloc, end, worker.limits.turns)?,
             reads_only,
             silent: 0,
-            waits: false,
         };
-        Ok(self.open.insert(placed)?)
+        let place = self.open.insert(placed)?;
+        self.waiting.push_back(place)?;
+        Ok(())
     }
 
     /// Gives the connection at a place a turn, if one is there.
     fn turn<A: Ask>(&mut self, place: usize, is_closing: bool, ask: &mut AtPort<A>) -> Option<After>
         ensures turn { HadTurn A.answers place is_closing result (get self.old.open) (get self.new.open) ask.old.ask ask.new.ask }
+        ensures waiting { self.new.waiting ≡ self.old.waiting }
         ensures ends { self.new.ends ≡ self.old.ends }
     {
         let placed = self.open.get_mut(place)?;
@@ -103,6 +118,7 @@ impl<E: Stream + Drop> Served<E> {
         ask: &mut AtPort<A>,
     ) -> Option<Result<u64, FrontError>>
         ensures turn { HadLastTurn A.answers place result (get self.old.open) (get self.new.open) ask.old.ask ask.new.ask }
+        ensures waiting { self.new.waiting ≡ self.old.waiting }
         ensures ends { self.new.ends ≡ self.old.ends }
     {
         let placed = self.open.get_mut(place)?;
@@ -111,46 +127,15 @@ impl<E: Stream + Drop> Served<E> {
         Some(connection.last_turn(&mut self.documents, &mut self.room, ask))
     }
 
-    /// The connection at a place waits for another turn, after those that wait already. It waits once.
-    fn wait_again(&mut self, place: usize) -> Result<(), AllocError>
-        ensures same { get self.new.open place ≡ get self.old.open place }
-        ensures others { OthersStay place (get self.old.open) (get self.new.open) }
-        ensures ends { self.new.ends ≡ self.old.ends }
-    {
-        let Some(placed) = self.open.get_mut(place) else {
-            return Ok(());
-        };
-        if placed.waits {
-            return Ok(());
-        }
-        self.again.push_back(place)?;
-        placed.waits = true;
-        Ok(())
-    }
-
-    /// The connection at a place does not wait for another turn any more.
-    fn wait_no_more(&mut self, place: usize)
-        ensures same { get self.new.open place ≡ get self.old.open place }
-        ensures others { OthersStay place (get self.old.open) (get self.new.open) }
-        ensures ends { self.new.ends ≡ self.old.ends }
-    {
-        if let Some(placed) = self.open.get_mut(place) {
-            placed.waits = false;
-        }
-    }
-
-    /// Takes the connection at a place out. It does not wait for another turn any more.
+    /// Takes the connection at a place out, if one is there. It waits for no turn any more.
     fn remove(&mut self, place: usize)
         ensures left { get self.new.open place ≡ None }
         ensures others { OthersStay place (get self.old.open) (get self.new.open) }
+        ensures waits { self.new.waiting.items ≡ without place self.old.waiting.items }
         ensures ends { self.new.ends ≡ self.old.ends }
     {
-        let Some(placed) = self.open.try_remove(place) else {
-            return;
-        };
-        if placed.waits {
-            self.again.retain(|other| *other != place);
-        }
+        drop(self.open.try_remove(place));
+        wait_no_more(&mut self.waiting, place);
     }
 
     /// Leaves the connection at a place, and notes how its session ended.
@@ -162,6 +147,7 @@ impl<E: Stream + Drop> Served<E> {
     ) -> Result<(), AllocError>
         ensures left { get self.new.open place ≡ None }
         ensures others { OthersStay place (get self.old.open) (get self.new.open) }
+        ensures waits { self.new.waiting.items ≡ without place self.old.waiting.items }
         ensures noted { OnOk result (Notes (front_end end ∷ []) self.old.ends self.new.ends) }
     {
         let ended = match end {
@@ -174,7 +160,8 @@ impl<E: Stream + Drop> Served<E> {
         Ok(())
     }
 
-    /// Gives the connection at a place a turn, and leaves it if its session is over then.
+    /// Gives the connection at a place a turn, if one is there. If it has more to do then, it waits behind the others; if its
+    /// session is over, it is left.
     fn serve<A: Ask, L: Log>(
         &mut self,
         place: usize,
@@ -182,13 +169,16 @@ impl<E: Stream + Drop> Served<E> {
         ask: &mut AtPort<A>,
         worker: &Worker<'_, L>,
     ) -> Result<(), AllocError>
-        ensures { OnOk result ((ready : Option Bool) → closing_of ready ≡ is_closing → Serves A.answers worker.now.limits (turn_news place ready) (get self.old.open) (get self.new.open) self.old.ends self.new.ends ask.old.ask ask.new.ask) }
+        ensures { OnOk result ((ready : Option Bool) → closing_of ready ≡ is_closing → Serves A.answers worker.now.limits (IsTurn place ready (get self.old.open place)) (work_of self.old) (work_of self.new) ask.old.ask ask.new.ask) }
     {
-        match self.turn(place, is_closing, ask) {
-            None => Ok(()),
-            Some(After::Waits) => Ok(()),
-            Some(After::Again) => self.wait_again(place),
-            Some(After::Over(end)) => self.close(place, end, worker),
+        let Some(after) = self.turn(place, is_closing, ask) else {
+            return Ok(());
+        };
+        wait_no_more(&mut self.waiting, place);
+        match after {
+            After::Waits => Ok(()),
+            After::Again => Ok(self.waiting.push_back(place)?),
+            After::Over(end) => self.close(place, end, worker),
         }
     }
 
@@ -196,6 +186,7 @@ impl<E: Stream + Drop> Served<E> {
     fn tick_at(&mut self, place: usize)
         ensures ticked { get self.new.open place ≡ ticked (get self.old.open place) }
         ensures others { OthersStay place (get self.old.open) (get self.new.open) }
+        ensures waiting { self.new.waiting ≡ self.old.waiting }
         ensures ends { self.new.ends ≡ self.old.ends }
     {
         if let Some(placed) = self.open.get_mut(place) {
@@ -207,6 +198,7 @@ impl<E: Stream + Drop> Served<E> {
     /// A tick has passed.
     fn tick(&mut self)
         ensures ticked { AllTick (get self.old.open) (get self.new.open) }
+        ensures waiting { self.new.waiting ≡ self.old.waiting }
         ensures ends { self.new.ends ≡ self.old.ends }
     {
         let places = self.open.capacity();
@@ -236,7 +228,7 @@ impl<E: Stream + Drop> Served<E> {
         place: usize,
         worker: &Worker<'_, L>,
     ) -> Result<(), AllocError>
-        ensures { OnOk result (Leaves worker.now.limits (get self.old.open) (get self.new.open) self.old.ends self.new.ends) }
+        ensures { OnOk result (Serves Asks worker.now.limits (AllByRecursion IsGivenUp) (work_of self.old) (work_of self.new) tt tt) }
     {
         match self.is_silent(place, worker.limits.most_silent) {
             Some(error) => self.close(place, Err(error), worker),
@@ -246,7 +238,7 @@ impl<E: Stream + Drop> Served<E> {
 
     /// Leaves each connection whose client has been silent for too long.
     fn leave_silent<L: Log>(&mut self, worker: &Worker<'_, L>) -> Result<(), AllocError>
-        ensures { OnOk result (Leaves worker.now.limits (get self.old.open) (get self.new.open) self.old.ends self.new.ends) }
+        ensures { OnOk result (Serves Asks worker.now.limits (AllByRecursion IsGivenUp) (work_of self.old) (work_of self.new) tt tt) }
     {
         let places = self.open.capacity();
         let mut place = 0;
@@ -264,7 +256,7 @@ impl<E: Stream + Drop> Served<E> {
         ask: &mut AtPort<A>,
         worker: &Worker<'_, L>,
     ) -> Result<(), AllocError>
-        ensures served { OnOk result (EndsSome A.answers (get self.old.open) (get self.new.open) self.old.ends self.new.ends ask.old.ask ask.new.ask) }
+        ensures served { OnOk result (Serves A.answers worker.now.limits (AllByRecursion IsLast) (work_of self.old) (work_of self.new) ask.old.ask ask.new.ask) }
         ensures left { OnOk result (get self.new.open place ≡ None) }
         ensures others { OthersStay place (get self.old.open) (get self.new.open) }
     {
@@ -280,7 +272,8 @@ impl<E: Stream + Drop> Served<E> {
         ask: &mut AtPort<A>,
         worker: &Worker<'_, L>,
     ) -> Result<(), AllocError>
-        ensures { OnOk result (EndsSome A.answers (get self.old.open) nobody self.old.ends self.new.ends ask.old.ask ask.new.ask) }
+        ensures served { OnOk result (Serves A.answers worker.now.limits (AllByRecursion IsLast) (work_of self.old) (work_of self.new) ask.old.ask ask.new.ask) }
+        ensures left { OnOk result ((place : ℕ) → get self.new.open place ≡ None) }
     {
         let places = self.open.capacity();
         let mut place = 0;
@@ -291,24 +284,10 @@ impl<E: Stream + Drop> Served<E> {
         Ok(())
     }
 
-    /// Takes a client at the next free place, and gives it a turn.
-    fn begin<A: Ask, L: Log>(
-        &mut self,
-        end: E,
-        reads_only: bool,
-        ask: &mut AtPort<A>,
-        worker: &Worker<'_, L>,
-    ) -> Result<(), AllocError>
-        ensures { OnOk result (Serves A.answers worker.now.limits (NewClient self.old.open.vacant_key (opened worker.now.limits.turns (E.may end) (E.left end) (E.held end)) reads_only ∷ []) (get self.old.open) (get self.new.open) self.old.ends self.new.ends ask.old.ask ask.new.ask) }
-    {
-        let connection = Connection::new(worker.alloc, end, worker.limits.turns)?;
-        let place = self.take(connection, reads_only)?;
-        self.serve(place, false, ask, worker)
-    }
-
     /// Notes that the listener failed.
     fn note_failure<L: Log>(&mut self, worker: &Worker<'_, L>) -> Result<(), AllocError>
         ensures open { self.new.open ≡ self.old.open }
+        ensures waiting { self.new.waiting ≡ self.old.waiting }
         ensures noted { OnOk result (Notes (told_by Fails) self.old.ends self.new.ends) }
     {
         let none_came = Err(SessionFault::Listen);
@@ -325,10 +304,10 @@ impl<E: Stream + Drop> Served<E> {
         worker: &Worker<'_, L>,
     ) -> Result<(), AllocError>
         requires { ¬ (IsStop arrival) }
-        ensures { OnOk result (Serves A.answers worker.now.limits (news_in (λ end. opened worker.now.limits.turns (E.may end) (E.left end) (E.held end)) self.old.open.vacant_key arrival) (get self.old.open) (get self.new.open) self.old.ends self.new.ends ask.old.ask ask.new.ask) }
+        ensures { OnOk result (Serves A.answers worker.now.limits (Follows (news_in (λ end. opened worker.now.limits.turns (E.may end) (E.left end) (E.held end)) self.old.open.vacant_key arrival)) (work_of self.old) (work_of self.new) ask.old.ask ask.new.ask) }
     {
         match arrival {
-            Arrival::Opens { end, reads_only } => self.begin(end, reads_only, ask, worker),
+            Arrival::Opens { end, reads_only } => self.take(end, reads_only, worker),
             Arrival::Ready { place, is_closing } => { self.serve(place, is_closing, ask, worker) }
             Arrival::Tick => {
                 self.tick();
@@ -340,26 +319,25 @@ impl<E: Stream + Drop> Served<E> {
         }
     }
 
-    /// Gives a turn to the connection that has waited longest for another one.
-    fn serve_again<A: Ask, L: Log>(
+    /// Gives a turn to the connection that has waited longest for one.
+    fn serve_first<A: Ask, L: Log>(
         &mut self,
         ask: &mut AtPort<A>,
         worker: &Worker<'_, L>,
     ) -> Result<(), AllocError>
-        ensures { OnOk result (Serves A.answers worker.now.limits [] (get self.old.open) (get self.new.open) self.old.ends self.new.ends ask.old.ask ask.new.ask) }
+        requires { AreOpen (get self.old.open) self.old.waiting.items }
+        ensures { OnOk result (Serves A.answers worker.now.limits (ServesFirst self.old.waiting.items) (work_of self.old) (work_of self.new) ask.old.ask ask.new.ask) }
     {
-        match self.again.pop_front() {
-            Some(place) => {
-                self.wait_no_more(place);
-                self.serve(place, false, ask, worker)
-            }
+        match self.waiting.front() {
+            Some(&place) => self.serve(place, false, ask, worker),
             None => Ok(()),
         }
     }
 }
 
-/// Serves connections beside each other until no more come: each whose stream is ready has a turn, and one that has had its
-/// share has another after one of the others. A session may make `limits.turns` reads. A client that owes the rest of a
+/// Serves connections beside each other until no more come. What comes is followed at once: a connection whose stream is ready
+/// has a turn. After each arrival the connection that has waited longest has one: those that are new wait, and those that
+/// have had their share and may have more to do. A session may make `limits.turns` reads. A client that owes the rest of a
 /// frame, or that it takes replies, is given up after `limits.most_silent` ticks without a turn. Once no more come, what was
 /// read is answered, as far as the clients take it at once. The answer is what is kept of how the sessions ended, in this
 /// order; the log is told of each end.
@@ -369,17 +347,17 @@ pub fn serve_arrivals<V: Arrivals, A: Ask, L: Log>(
     ask: &mut AtPort<A>,
 ) -> Result<SessionEnds, AllocError>
     ensures { IfOk result (λ ends. (served : ServedAll A.answers worker.now.limits.most_silent worker.now.limits.turns ends ask.old.ask ask.new.ask)
-        × Follows (λ end. opened worker.now.limits.turns (V.End.may end) (V.End.left end) (V.End.held end)) V.comes served.steps arrivals.old arrivals.new) }
+        × Brings (λ end. opened worker.now.limits.turns (V.End.may end) (V.End.left end) (V.End.held end)) V.comes (served.news ++ IsToStop ∷ []) arrivals.old arrivals.new) }
 {
     let mut served = Served::new(worker.alloc);
     loop {
         let free = served.open.vacant_key();
-        let is_busy = !served.again.is_empty();
+        let is_busy = !served.waiting.is_empty();
         match arrivals.next(free, served.open.len(), is_busy) {
             Arrival::Stops => break,
             arrival => served.follow(arrival, ask, worker)?,
         }
-        served.serve_again(ask, worker)?;
+        served.serve_first(ask, worker)?;
     }
     served.end_all(ask, worker)?;
     Ok(served.ends)

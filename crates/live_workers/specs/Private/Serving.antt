@@ -1,27 +1,41 @@
 -- What a worker does in a part of its work.
-use Rattle.std.specs.Prelude.{◌≡◌, List, [], ◌∷◌, ℕ, Bool, Option, Some, None, Result}
-use Rattle.std.specs.List.{AllByRecursion, flat_map}
+use Rattle.std.specs.Prelude.{◌≡◌, List, [], ◌∷◌, fold, ℕ, Bool, Option, Some, None, IsSome, Result}
+use Rattle.std.specs.List.{AllByRecursion}
+use Rattle.slab.specs.Slab.{get}
 use Rattle.map_core.specs.declared.op.Op.{Op}
 use Rattle.map_core.specs.declared.reply.Reply.{Reply}
 use Rattle.map_core.specs.declared.reply.AskError.{AskError}
 use Rattle.frame_front.specs.declared.error.FrontError.{FrontError}
 use Rattle.connections.specs.Connection.{ConnectionView, LastTurn, Turn, told, turn_rounds}
 use Rattle.connections.specs.declared.after.After.{After}
-use Rattle.live_workers.specs.Arrivals.{News, IsReady, ComesAll, news_of_both}
 use Rattle.live_workers.specs.AtPort.{PortAnswer}
-use Rattle.live_workers.specs.Sessions.{Place, Places, GoesSoFar, OthersStay, AllStay, AllAreLast, NoneIsLast, Step, GivesUp, TakesAll, told_all, all_news}
-use Rattle.live_workers.specs.declared.arrivals.Arrival.{Arrival}
+use Rattle.live_workers.specs.Sessions.{Place, Places, GoesSoFar, OthersStay, AllStay, Step, Misses, TakesAll, nobody, told_all, turn_steps, waiting_after}
 use Rattle.live_workers.specs.declared.limits.Limits.{Limits}
-use Rattle.workers.specs.Ended.{EndsView, Notes}
+use Rattle.live_workers.specs.declared.serving.Served.{Served}
+use Rattle.workers.specs.Ended.{EndsView, Notes, kept_of}
 
--- the news that a turn follows
-abbrev pub turn_news : ℕ → Option Bool → List News
-turn_news place (Some is_closing) = IsReady place is_closing ∷ []
-turn_news place None = []
+-- a worker between two steps: its connections, the places that wait for a turn, and what is kept of how sessions ended
+pub record Work : Type 0 where
+  pub places : Places
+  pub waiting : List ℕ
+  pub kept : EndsView
 
--- no step went farther with a client than the limits say
-abbrev pub AreLimited : Limits → List Step → Type 0
-AreLimited limits steps = AllByRecursion (GoesSoFar limits.most_silent limits.turns) steps
+abbrev pub work_of : {E : Type 0} → Served E → Work
+work_of served = record { places = get served.open; waiting = served.waiting.items; kept = served.ends }
+
+-- nothing is done yet
+abbrev pub begun : Work
+begun = record { places = nobody; waiting = []; kept = kept_of [] }
+
+-- at each of these places is a connection
+abbrev pub AreOpen : Places → List ℕ → Type 0
+AreOpen places waiting = AllByRecursion (λ place. IsSome (places place)) waiting
+
+-- a turn of the connection that is maybe at this place
+abbrev pub IsTurn : ℕ → Option Bool → Option Place → List Step → Type 0
+IsTurn place ready (Some p) steps = (after : After) × (steps ≡ turn_steps place ready after)
+IsTurn place (Some is_closing) None steps = steps ≡ Misses place is_closing ∷ []
+IsTurn place None None steps = steps ≡ []
 
 module _ {S : Type 0} (answers : S → Op → Result Reply AskError → S → Type 0) where
   -- the connection at a place was asked for something
@@ -49,43 +63,16 @@ module _ {S : Type 0} (answers : S → Op → Result Reply AskError → S → Ty
       AtPlace place (λ p. p.silent) (λ p c. LastTurn (PortAnswer answers p.reads_only) end p.connection c map_old map_new) old new
   HadLastTurn place None old new map_old map_new = NobodyThere place old new map_old map_new
 
-  -- Steps were taken, one after the other, which follow this news, and each end of a session was noted. None was a last turn, and
-  -- none went farther with a client than the limits say.
-  pub record Serves (limits : Limits) (news : List News) (old new : Places) (noted_old noted_new : EndsView) (map_old map_new : S) : Type 0 where
+  -- Steps of some kind were taken, one after the other, and each end of a session was noted. None went farther with a client than the
+  -- limits say.
+  pub record Serves (limits : Limits) (Are : List Step → Type 0) (old new : Work) (map_old map_new : S) : Type 0 where
     pub steps : List Step
-    pub takes : TakesAll answers steps (old, map_old) (new, map_new)
-    pub notes : Notes (told_all steps) noted_old noted_new
-    pub follows : all_news steps ≡ news
-    pub going : NoneIsLast steps
-    pub limited : AreLimited limits steps
-
-  -- Connections had their last turns, one after the other, and each end of a session was noted.
-  pub record EndsSome (old new : Places) (noted_old noted_new : EndsView) (map_old map_new : S) : Type 0 where
-    pub steps : List Step
-    pub takes : TakesAll answers steps (old, map_old) (new, map_new)
-    pub notes : Notes (told_all steps) noted_old noted_new
-    pub ending : AllAreLast steps
-
--- clients were given up, and nothing else was done
-abbrev pub GiveUp : List Step → Type 0
-GiveUp [] = Unit {0}
-GiveUp (GivesUp place ticks error ∷ steps) = GiveUp steps
-GiveUp (step ∷ steps) = ⊥
+    pub are : Are steps
+    pub takes : TakesAll answers steps (old.places, map_old) (new.places, map_new)
+    pub waits : new.waiting ≡ fold waiting_after old.waiting steps
+    pub notes : Notes (told_all steps) old.kept new.kept
+    pub limited : AllByRecursion (GoesSoFar limits.most_silent limits.turns) steps
 
 -- nothing is asked
 abbrev pub Asks : Unit {0} → Op → Result Reply AskError → Unit {0} → Type 0
 Asks old op answer new = ⊥
-
--- clients were given up, none before the limits say so, and nothing was asked
-pub record Leaves (limits : Limits) (old new : Places) (noted_old noted_new : EndsView) : Type 0 where
-  pub steps : List Step
-  pub ends : GiveUp steps
-  pub takes : TakesAll Asks steps (old, tt) (new, tt)
-  pub notes : Notes (told_all steps) noted_old noted_new
-  pub limited : AreLimited limits steps
-
--- this news came
-pub record Heard {E V : Type 0} (start : E → ConnectionView) (comes : V → ℕ → Arrival E → V → Type 0) (news : List News) (old new : V) : Type 0 where
-  pub arrivals : List (ℕ × Arrival E)
-  pub came : ComesAll comes arrivals old new
-  pub all : flat_map (news_of_both start) arrivals ≡ news

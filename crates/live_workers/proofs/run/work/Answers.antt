@@ -1,9 +1,10 @@
-use Rattle.std.proofs.Common.{◌≡◌, sym, ap, subst, ◌∙◌}
+use Rattle.std.proofs.Common.{◌≡◌, [], ◌∷◌, ◌++◌, sym, ap, subst, ◌∙◌}
 use Rattle.shard_store.specs.declared.change.Seen.{Seen}
 use Rattle.shard_store.specs.Seated.{SeatedAnswer}
 use Rattle.workers.specs.Gate.{GatedAnswer}
 use Rattle.connections.specs.Connection.{ConnectionView, opened}
-use Rattle.live_workers.specs.Sessions.{Follows, ServedAll}
+use Rattle.live_workers.specs.Arrivals.{Brings, IsToStop}
+use Rattle.live_workers.specs.Sessions.{ServedAll}
 use Rattle.workers.specs.Workers.{IsFurther, AtWork, at_work, WorkerAnswer}
 use Rattle.live_workers.proofs.KeptAlong.{sessions_keep}
 use Rattle.live_workers.proofs.Simulated.{sessions_seen}
@@ -48,10 +49,10 @@ returns g c =
     ∙ (ap (λ x. at_work store x begun.calls) start_seen ∙ ap (at_work store c.args.task.pass.seen) (ap (λ gated. gated.calls) is ∙ c.new.ensures.calls)) in
     let end : at_work ends_at.store ends_at.seen done.calls ≡ at_work store c.into_pass.result.seen done.calls =
     ap (λ x. at_work x ends_at.seen done.calls) store_is ∙ ap (λ x. at_work store x done.calls) (sym c.into_pass.ensures.seen) in
-    let steps = c.in_ok-ends.ensures.0.steps in
-    let all : AtWork → AtWork → Type 0 = λ x y. (b : ServedAll (WorkerAnswer opens number) limits.most_silent limits.turns c.in_ok-ends.ends x y) × (b.steps ≡ steps) in
+    let news = c.in_ok-ends.ensures.0.news in
+    let all : AtWork → AtWork → Type 0 = λ x y. (b : ServedAll (WorkerAnswer opens number) limits.most_silent limits.turns c.in_ok-ends.ends x y) × (b.news ≡ news) in
     let both : all (at_work store c.args.task.pass.seen 0) (at_work store c.into_pass.result.seen done.calls) =
     subst (λ s. all s (at_work store c.into_pass.result.seen done.calls)) start (subst (λ s. all (begins_at, begun.calls) s) end served) in
     let begins : g.row.V-End.Denot → ConnectionView = λ end. opened limits.turns (g.V.End.Stream.may end) (g.V.End.Stream.left end) (g.V.End.Stream.held end) in
-    let follows = subst (λ l. Follows begins g.V.Arrivals.comes l c.args.task.arrivals c.serve_arrivals.new.arrivals) (sym both.1) c.in_ok-ends.ensures.1 in
+    let follows = subst (λ l. Brings begins g.V.Arrivals.comes (l ++ IsToStop ∷ []) c.args.task.arrivals c.serve_arrivals.new.arrivals) (sym both.1) c.in_ok-ends.ensures.1 in
     (record { own = own; further = far; calls = done.calls; served = both.0 }, (c.serve_arrivals.new.arrivals, follows))

@@ -7,6 +7,7 @@ abbrev pub invariant-loop-place : goal.invariant-loop-place
 invariant-loop-place g l =
     ((other : ℕ) → other < l.place → get l.self.open other ≡ ticked (get l.fn.self.open other))
     × ((other : ℕ) → l.place ≤ other → get l.self.open other ≡ get l.fn.self.open other)
+    × (l.self.waiting ≡ l.fn.self.waiting)
     × (l.self.ends ≡ l.fn.self.ends)
 
 abbrev pub decreases-loop-place : goal.decreases-loop-place
