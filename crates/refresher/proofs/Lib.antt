@@ -1,2 +1,5 @@
 pub mod Rounds
 pub mod Words
+pub mod ListWords
+pub mod ListReading
+pub mod ListLines

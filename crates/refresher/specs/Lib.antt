@@ -3,3 +3,5 @@ pub mod Target
 pub mod Folder
 pub mod OutcomeLine
 pub mod Each
+pub mod List
+pub mod Private

@@ -7,6 +7,7 @@
 mod each;
 mod folder;
 mod list;
+mod list_line;
 mod outcome_lines;
 mod report;
 mod target;

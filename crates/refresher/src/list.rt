@@ -1,18 +1,24 @@
 //! Lists of relationships: what the command `refresh` reads.
-ghost use Rattle.std.specs.Prelude.{◌≡◌, IfOk, length, replicate};
+ghost use Rattle.std.specs.Prelude.{◌≡◌, ◌⊎◌, ◌<◌, ◌-◌, ◌^◌, ℕ, List, Option, true, IfOk, IfErr, OnOk};
+ghost use Rattle.frame_front.specs.Counted.{end_in, faults_in};
+ghost use Rattle.refresher.specs.List.{has_domain, lines_of, list_fault, listed_behind, AreListed, IsListFault, NoSchedule, Schedules};
+ghost use Rattle.refresher.specs.Private.Listing.{Adds, AreDomainsOf, Follows, IsLineFault};
 
+use crate::list_line::read_line;
 use commands::{Fault, RefreshFault, read_input};
 use frame_front::{Counted, FrontError};
 use refresh::{RelationError, Relationship, Schedule};
+use spiffe_doc::TrustDomain;
 use std::alloc::{AllocError, Global};
 use std::collections::BTreeSet;
 use std::fs::{File, Files};
+use std::io::Read;
 use thiserror::Error;
 
 /// Why a list is refused.
 #[derive(Clone, Copy, Debug, PartialEq, Eq, Drop, Error)]
 pub enum ListError {
-    /// This line, from 1, has too few or too many words, or the trust domain of a line before it.
+    /// This line, from 1, is not UTF-8, or has too few or too many words, or the trust domain of a line before it.
     #[error("line {0} has too few or too many words, or the trust domain of a line before it")]
     BadLine(u64),
     /// The words of this line, from 1, are not a relationship.
@@ -23,6 +29,11 @@ pub enum ListError {
 }
 
 impl From<AllocError> for ListError {
+    ghost use Rattle.std.specs.Prelude.{◌≡◌};
+    ghost use Rattle.refresher.specs.declared.list.ListError.TheVariants.{Memory};
+
+    ghost from_gives = { λ _ e. e ≡ Memory };
+
     fn from(_refused: AllocError) -> ListError {
         ListError::Memory
     }
@@ -31,70 +42,107 @@ impl From<AllocError> for ListError {
 /// The relationships of a list, a line each: the trust domain, the URL of its bundle endpoint, the profile of the
 /// endpoint and, if the profile needs it, the SPIFFE ID of the endpoint, with blanks between. A word that begins with
 /// `#` begins a comment, and a line may hold no relationship. No trust domain stands there twice.
-pub fn read_list(alloc: Global, list: &[u8]) -> Result<Vec<Relationship>, ListError> {
+pub fn read_list(alloc: Global, list: &[u8]) -> Result<Vec<Relationship>, ListError>
+    ensures ok { IfOk result (λ relationships. AreListed (lines_of list.now) relationships.items) }
+    ensures err { IfErr result (λ error. IsListFault error list.now) }
+{
     let mut relationships = Vec::new(alloc);
     let mut domains = BTreeSet::new(alloc);
     let mut number = 0u64;
     for line in list.split(|byte| *byte == b'\n') {
         number = number.saturating_add(1);
-        if let Some(relationship) = read_line(alloc, line, number)? {
-            match domains.insert(relationship.domain().copy()?) {
-                Ok(true) => {}
-                Ok(false) => return Err(ListError::BadLine(number)),
-                Err(_) => return Err(ListError::Memory),
-            }
-            push(&mut relationships, relationship)?;
+        if let Err(error) = add_line(alloc, line, number, &mut relationships, &mut domains) {
+            return Err(error);
         }
     }
     Ok(relationships)
 }
 
-fn push(list: &mut Vec<Relationship>, relationship: Relationship) -> Result<(), AllocError> {
-    list.push(relationship)?;
-    Ok(())
+/// Adds the relationship of the line with this number, if it has one. It is none of a trust domain that is there.
+fn add_line(
+    alloc: Global,
+    line: &[u8],
+    number: u64,
+    relationships: &mut Vec<Relationship>,
+    domains: &mut BTreeSet<TrustDomain>,
+) -> Result<(), ListError>
+    requires { AreDomainsOf relationships.old.items domains.old }
+    ensures ok { OnOk result (Follows relationships.old.items line.now relationships.new.items) }
+    ensures known { OnOk result (AreDomainsOf relationships.new.items domains.new) }
+    ensures err { IfErr result (λ error. IsLineFault number (listed_behind relationships.old.items line.now) error) }
+{
+    match read_line(alloc, line, number) {
+        Ok(None) => Ok(()),
+        Ok(Some(relationship)) => add(relationship, number, relationships, domains),
+        Err(error) => Err(error),
+    }
 }
 
-/// The relationship of a line, if it has one.
-fn read_line(alloc: Global, line: &[u8], number: u64) -> Result<Option<Relationship>, ListError> {
-    let bad_line = ListError::BadLine(number);
-    let text = str::from_utf8(line).ok().ok_or(bad_line)?;
-    let mut words = text
-        .split_ascii_whitespace()
-        .take_while(|word| !word.starts_with('#'));
-    let Some(domain) = words.next() else {
-        return Ok(None);
-    };
-    let url = words.next().ok_or(bad_line)?;
-    let profile = words.next().ok_or(bad_line)?;
-    let endpoint_id = words.next();
-    if words.next().is_some() {
-        return Err(bad_line);
+/// Adds a relationship of the line with this number, unless its trust domain is there.
+fn add(
+    relationship: Relationship,
+    number: u64,
+    relationships: &mut Vec<Relationship>,
+    domains: &mut BTreeSet<TrustDomain>,
+) -> Result<(), ListError>
+    requires { AreDomainsOf relationships.old.items domains.old }
+    ensures ok { OnOk result (Adds relationship relationships.old.items relationships.new.items) }
+    ensures known { OnOk result (AreDomainsOf relationships.new.items domains.new) }
+    ensures err { IfErr result (λ error. (error ≡ ListError.Memory)
+        ⊎ ((has_domain relationships.old.items relationship.domain ≡ true) × (error ≡ ListError.BadLine number))) }
+{
+    let domain = relationship.domain().copy()?;
+    match domains.insert(domain) {
+        Ok(true) => {}
+        Ok(false) => return Err(ListError::BadLine(number)),
+        Err(_) => return Err(ListError::Memory),
     }
-    match Relationship::read(alloc, domain, url, profile, endpoint_id) {
-        Ok(relationship) => Ok(Some(relationship)),
-        Err(RelationError::Memory) => Err(ListError::Memory),
-        Err(error) => Err(ListError::BadRelationship(error, number)),
+    if let Err(_) = relationships.push(relationship) {
+        return Err(ListError::Memory);
     }
+    Ok(())
 }
 
 /// The relationships of a list, each due at 0.
 pub fn read_schedule<H: Files>(alloc: Global, host: &H, list: &str) -> Result<Schedule, Fault>
-    ensures { IfOk result (λ schedule. schedule.due_times ≡ replicate (length schedule.relationships) 0) }
+    ensures ok { IfOk result (λ schedule. (left_old : Option (List ℕ)) × (left_new : Option (List ℕ)) × Schedules schedule left_old left_new) }
+    ensures err { IfErr result (λ fault. (left_old : Option (List ℕ)) × (left_new : Option (List ℕ)) × NoSchedule fault left_old left_new) }
 {
     let Ok(file) = File::open(host, list) else {
         return Err(Fault::Front(FrontError::ReadFault));
     };
-    let text = read_input(alloc, &mut Counted::new(file))?;
-    let relationships = match read_list(alloc, text.as_slice()) {
-        Ok(relationships) => relationships,
-        Err(ListError::BadLine(line)) => return Err(Fault::BadLine(line)),
-        Err(ListError::BadRelationship(error, line)) => {
-            return Err(Fault::Refresh(RefreshFault::BadRelationship(error, line)));
-        }
-        Err(ListError::Memory) => return Err(Fault::Front(FrontError::Memory)),
+    schedule_of(alloc, &mut Counted::new(file))
+}
+
+/// The relationships of the list that is the input, each due at 0.
+fn schedule_of<R: Read>(alloc: Global, reader: &mut Counted<R>) -> Result<Schedule, Fault>
+    requires { faults_in reader.old < 2 ^ 64 - 1 }
+    ensures ok { IfOk result (λ schedule. Schedules schedule (R.remaining (end_in reader.old)) (R.remaining (end_in reader.new))) }
+    ensures err { IfErr result (λ fault. NoSchedule fault (R.remaining (end_in reader.old)) (R.remaining (end_in reader.new))) }
+{
+    let list = match read_input(alloc, reader) {
+        Ok(list) => list,
+        Err(fault) => return Err(fault),
+    };
+    let relationships = match read_list(alloc, list.as_slice()) {
+        Ok(listed) => listed,
+        Err(error) => return Err(fault_of(error)),
     };
     match Schedule::new(alloc, relationships) {
         Ok(schedule) => Ok(schedule),
-        Err(_) => Err(Fault::Front(FrontError::Memory)),
+        Err(AllocError) => Err(Fault::Front(FrontError::Memory)),
+    }
+}
+
+/// The fault of a list that is refused.
+fn fault_of(error: ListError) -> Fault
+    ensures { result ≡ list_fault error }
+{
+    match error {
+        ListError::BadLine(line) => Fault::BadLine(line),
+        ListError::BadRelationship(error, line) => {
+            Fault::Refresh(RefreshFault::BadRelationship(error, line))
+        }
+        ListError::Memory => Fault::Front(FrontError::Memory),
     }
 }
