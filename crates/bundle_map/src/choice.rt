@@ -60,7 +60,7 @@ fn keep(
     for item in domains {
         push_wanted(&mut some, wanted, item)?;
     }
-    Snapshot::from_pairs(alloc, some)
+    Ok(Snapshot::from_pairs(some))
 }
 
 /// Adds a domain whose name is in the set.

@@ -156,10 +156,7 @@ pub(crate) fn read_all<R: Read>(
     match read_head(&buffer[..size]) {
         Some(Ok(count)) => {
             let items = read_listing(alloc, reader, buffer, count)?;
-            let Ok(all) = Snapshot::from_pairs(alloc, items) else {
-                return Err(ClientError::Memory);
-            };
-            Ok(Ok(Reply::All(all)))
+            Ok(Ok(Reply::All(Snapshot::from_pairs(items))))
         }
         Some(Err(error)) => Ok(Err(error)),
         None => Err(ClientError::BadReply),

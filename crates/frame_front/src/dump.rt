@@ -79,10 +79,7 @@ pub fn read_dump(alloc: Global, dump: &[u8]) -> Result<Snapshot, DumpError>
     if !rest.is_empty() {
         return Err(DumpError::BadDump(place + 1));
     }
-    match Snapshot::from_pairs(alloc, domains) {
-        Ok(all) => Ok(all),
-        Err(_) => Err(DumpError::Memory),
-    }
+    Ok(Snapshot::from_pairs(domains))
 }
 
 /// The requests of version 2 that store again what a dump of version 1 holds. Errors as `read_dump` does.

@@ -1,5 +1,6 @@
 pub mod Name
 pub mod Op
+pub mod Snapshot
 pub mod Reply
 pub mod Table
 pub mod PlainMap

@@ -272,7 +272,7 @@ impl Contents {
                 pairs.push((domain.copy()?, bundle.copy()?))?;
             }
         }
-        Snapshot::from_pairs(self.alloc, pairs)
+        Ok(Snapshot::from_pairs(pairs))
     }
 
     /// What is held under the name.

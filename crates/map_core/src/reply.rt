@@ -1,52 +1,94 @@
 //! What a map of trust bundles answers.
-ghost use Rattle.std.specs.Prelude.{◌≡◌, length, IfOk};
+ghost use Rattle.std.specs.Prelude.{◌≡◌, length, IfOk, MatchResult};
 ghost use Rattle.map_core.specs.Reply.{is_change, refusal_number, error_number};
+ghost use Rattle.map_core.specs.Snapshot.{pairs_of};
 
 use crate::op::Expect;
 use spiffe_doc::{Bundle, TrustDomain};
 use std::alloc::{AllocError, Global};
 use std::marker::Model;
+use std::mem;
 use std::sync::Arc;
 use thiserror::Error;
 
 /// Trust domains with their bundles. In a reply they stand in byte order of the names, as they were held
-/// together at one moment. Copies share them.
-#[derive(Drop)]
+/// together at one moment. It owns its pairs until it is shared.
 pub struct Snapshot {
-    pairs: Arc<Vec<(TrustDomain, Bundle)>>,
+    pairs: Pairs,
+}
+
+/// Pairs of one snapshot, or of all that share them.
+#[derive(Drop)]
+enum Pairs {
+    Owned(Vec<(TrustDomain, Bundle)>),
+    Shared(Arc<Vec<(TrustDomain, Bundle)>>),
 }
 
 impl Model for Snapshot {
     ghost use Rattle.std.specs.Prelude.{List};
-    ghost use Rattle.std.specs.Arc.{arc_value};
     ghost use Rattle.map_core.specs.Name.{Name};
+    ghost use Rattle.map_core.specs.Snapshot.{pairs_of};
     ghost use Rattle.spiffe_doc.specs.Authority.{BundleValue};
 
     ghost Value = { List (Name × BundleValue) };
 
-    ghost view = { λ snapshot. (arc_value snapshot.pairs).items };
+    ghost view = { λ snapshot. pairs_of snapshot.pairs };
+}
+
+// By hand, so that whoever lets a snapshot go makes one call: the prover does not follow it into both cases there.
+impl Drop for Snapshot {
+    fn drop(self) {
+        let Snapshot { pairs } = self;
+        drop(pairs);
+    }
 }
 
 impl Snapshot {
-    /// Takes the pairs as they are. If memory runs out, they are gone.
-    pub fn from_pairs(
-        alloc: Global,
-        pairs: Vec<(TrustDomain, Bundle)>,
-    ) -> Result<Snapshot, AllocError>
-        ensures { IfOk result (λ all. all ≡ pairs.items) }
+    /// Takes the pairs as they are.
+    pub fn from_pairs(pairs: Vec<(TrustDomain, Bundle)>) -> Snapshot
+        ensures { result ≡ pairs.items }
     {
-        match Arc::new(alloc, pairs) {
-            Ok(pairs) => Ok(Snapshot { pairs }),
-            Err(_) => Err(AllocError),
+        Snapshot {
+            pairs: Pairs::Owned(pairs),
         }
     }
 
-    /// The same pairs, shared. Errors only if as many copies share them as can be counted.
-    pub fn copy(&self) -> Result<Snapshot, AllocError>
-        ensures { IfOk result (λ copy. copy ≡ self.now) }
+    /// Gives the pairs back, and takes no memory. If another snapshot shares them, it stays as it is.
+    pub fn into_pairs(self) -> Result<Vec<(TrustDomain, Bundle)>, Snapshot>
+        ensures { MatchResult result (λ pairs. pairs.items ≡ self) (λ shared. shared ≡ self) }
     {
+        let Snapshot { pairs } = self;
+        match pairs {
+            Pairs::Owned(pairs) => Ok(pairs),
+            Pairs::Shared(pairs) => match Arc::try_unwrap(pairs) {
+                Ok(pairs) => Ok(pairs),
+                Err(pairs) => Err(Snapshot {
+                    pairs: Pairs::Shared(pairs),
+                }),
+            },
+        }
+    }
+
+    /// Another snapshot of the same pairs, which both share. It takes memory if they are not shared yet, and errors also if
+    /// as many share them as can be counted.
+    pub fn share(&mut self, alloc: Global) -> Result<Snapshot, AllocError>
+        ensures same { IfOk result (λ all. all ≡ self.old) }
+        ensures left { self.new ≡ self.old }
+    {
+        let pairs = match mem::replace(&mut self.pairs, Pairs::Owned(Vec::new(alloc))) {
+            Pairs::Owned(pairs) => match Arc::new(alloc, pairs) {
+                Ok(pairs) => pairs,
+                Err(refused) => {
+                    self.pairs = Pairs::Owned(refused.value);
+                    return Err(AllocError);
+                }
+            },
+            Pairs::Shared(pairs) => pairs,
+        };
+        let other = Arc::try_clone(&pairs);
+        self.pairs = Pairs::Shared(pairs);
         Ok(Snapshot {
-            pairs: Arc::try_clone(&self.pairs)?,
+            pairs: Pairs::Shared(other?),
         })
     }
 
@@ -54,14 +96,25 @@ impl Snapshot {
     pub fn pairs(&self) -> &[(TrustDomain, Bundle)]
         ensures { result.now ≡ self.now }
     {
-        self.pairs.as_slice()
+        self.pairs.get().as_slice()
     }
 
     /// How many trust domains there are.
     pub fn len(&self) -> usize
         ensures { result ≡ length self.now }
     {
-        self.pairs.len()
+        self.pairs.get().len()
+    }
+}
+
+impl Pairs {
+    fn get(&self) -> &Vec<(TrustDomain, Bundle)>
+        ensures { result.now.items ≡ pairs_of self.now }
+    {
+        match self {
+            Pairs::Owned(pairs) => pairs,
+            Pairs::Shared(pairs) => pairs,
+        }
     }
 }
 

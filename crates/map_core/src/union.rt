@@ -114,7 +114,7 @@ fn take_bundles(alloc: Global, entries: Vec<(TrustDomain, Holding)>) -> Result<S
             taken.push((domain, bundle))?;
         }
     }
-    Snapshot::from_pairs(alloc, taken)
+    Ok(Snapshot::from_pairs(taken))
 }
 
 /// The entries in order of their names. Those under one name stay in their order.

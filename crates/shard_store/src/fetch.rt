@@ -97,14 +97,14 @@ pub(crate) fn ask_all(
         (λ reply. IsReply Op.FetchAll seat.old.me.0.seen reply seat.new.me.0.seen)
         (IsRefused (record { id = seat.old.table_id; rounds = rounds; tries = tries }) Op.FetchAll seat.old.me.0.seen seat.new.me.0.seen) }
 {
-    if let Some(all) = recall_all(shards, seat, last_all)? {
+    if let Some(all) = recall_all(alloc, shards, seat, last_all)? {
         return Ok(Reply::All(all));
     }
     *last_all = None;
-    let last = fetch_anew(alloc, shards, seat, last_reads, tries, rounds)?;
-    let copy = last.all.copy()?;
+    let mut last = fetch_anew(alloc, shards, seat, last_reads, tries, rounds)?;
+    let shared = last.all.share(alloc)?;
     *last_all = Some(last);
-    Ok(Reply::All(copy))
+    Ok(Reply::All(shared))
 }
 
 // All bundles, read from the shards.

@@ -9,7 +9,7 @@ ghost use Rattle.shard_store.specs.Private.Seat.{IsAt, IsSameSeat, IsIdle};
 use crate::fetch::confirm_all;
 use crate::rule::{ShardTable, StoreSeat};
 use map_core::Snapshot;
-use std::alloc::AllocError;
+use std::alloc::{AllocError, Global};
 
 /// All bundles as they stood together at one moment, and which revisions the shards had then.
 #[derive(Drop)]
@@ -21,15 +21,17 @@ pub(crate) struct LastAll {
 /// What the last fetch-all was answered, if no shard has changed since. Each word is loaded once: as no revision has
 /// grown by its load, none had grown when the first was loaded, and all stood together at that moment.
 pub(crate) fn recall_all(
+    alloc: Global,
     shards: &ShardTable,
     seat: &mut StoreSeat,
-    remembered: &Option<LastAll>,
+    remembered: &mut Option<LastAll>,
 ) -> Result<Option<Snapshot>, AllocError>
     requires own { IsAt seat.old shards.now.shared.table_id }
     requires idle { IsIdle seat.old.me }
-    requires told { IsLastAll seat.old.table_id.slots seat.old.me.0.seen.log remembered.now }
+    requires told { IsLastAll seat.old.table_id.slots seat.old.me.0.seen.log remembered.old }
     ensures seat { IsSameSeat seat.old seat.new × IsIdle seat.new.me }
     ensures later { IsLater seat.new.me.0.seen seat.old.me.0.seen }
+    ensures kept { remembered.new ≡ remembered.old }
     ensures all { IfOk result (λ found. IfSome found (λ all. all ≡ bundles (after seat.old.me.0.seen.log))) }
 {
     let Some(last) = remembered else {
@@ -37,7 +39,7 @@ pub(crate) fn recall_all(
     };
     match confirm_all(shards, seat, last.revisions.as_slice()) {
         None => {
-            let all = last.all.copy()?;
+            let all = last.all.share(alloc)?;
             Ok(Some(all))
         }
         Some(_) => Ok(None),

@@ -10,20 +10,38 @@ use test_kit::{Shown, bundle, is_equal, operation, snapshot_text};
 fn snapshot_of(alloc: Global, name: &str, word: &str) -> Result<Snapshot, Fail> {
     let mut pairs = Vec::new(alloc);
     pairs.push((TrustDomain::parse(alloc, name)?, bundle(alloc, word)?))?;
-    Ok(Snapshot::from_pairs(alloc, pairs)?)
+    Ok(Snapshot::from_pairs(pairs))
 }
 
 #[test]
-fn a_copy_of_a_snapshot_outlives_it(rt: HostRuntime) -> Result<(), Fail> {
-    let all = snapshot_of(rt.alloc(), "a", "5")?;
-    let copy = all.copy()?;
+fn a_shared_snapshot_outlives_the_other(rt: HostRuntime) -> Result<(), Fail> {
+    let mut all = snapshot_of(rt.alloc(), "a", "5")?;
+    let other = all.share(rt.alloc())?;
     let text = snapshot_text(rt.alloc(), Shown::Counted, &all)?;
     is_equal(&text.as_str(), &"all 1 a 5/0")?;
     is_equal(&all.pairs().len(), &1)?;
     drop(all);
-    let text = snapshot_text(rt.alloc(), Shown::Counted, &copy)?;
+    let text = snapshot_text(rt.alloc(), Shown::Counted, &other)?;
     is_equal(&text.as_str(), &"all 1 a 5/0")?;
-    is_equal(&copy.len(), &1)
+    is_equal(&other.len(), &1)
+}
+
+/// How many pairs the snapshot gives back, if it does.
+fn given_back(all: Snapshot) -> Option<usize> {
+    match all.into_pairs() {
+        Ok(pairs) => Some(pairs.len()),
+        Err(_) => None,
+    }
+}
+
+#[test]
+fn pairs_are_given_back_by_their_last_owner(rt: HostRuntime) -> Result<(), Fail> {
+    let only = snapshot_of(rt.alloc(), "a", "5")?;
+    is_equal(&given_back(only), &Some(1))?;
+    let mut first = snapshot_of(rt.alloc(), "a", "5")?;
+    let second = first.share(rt.alloc())?;
+    is_equal(&given_back(first), &None)?;
+    is_equal(&given_back(second), &Some(1))
 }
 
 /// Sets the domain of a number below a thousand to a bundle that has it as its sequence.

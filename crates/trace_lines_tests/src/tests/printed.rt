@@ -29,7 +29,7 @@ fn snapshot(alloc: Global, documents: &[(&str, &[u8])]) -> Result<Snapshot, Fail
         let domain = TrustDomain::parse(alloc, name)?;
         pairs.push((domain, read_document(alloc, document)?))?;
     }
-    Ok(Snapshot::from_pairs(alloc, pairs)?)
+    Ok(Snapshot::from_pairs(pairs))
 }
 
 fn reply(alloc: Global, answer: Answer) -> Result<Option<Result<Reply, AskError>>, Fail> {

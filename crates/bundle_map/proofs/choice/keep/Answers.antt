@@ -3,7 +3,6 @@ use Rattle.std.specs.List.{filter}
 use Rattle.std.proofs.lemmas.List.{take_all, take_more}
 use Rattle.std.proofs.lemmas.List.Elements.{filter-append}
 use Rattle.map_core.specs.Name.{Name}
-use Rattle.map_core.proofs.Apart.{if_ok}
 use Rattle.spiffe_doc.specs.Authority.{BundleValue}
 use Rattle.bundle_map.specs.Private.Names.{has}
 use Rattle.bundle_map.proofs.choice.keep.Goals as goal
@@ -22,4 +21,4 @@ loop-item-preserved c =
 pub returns : goal.returns
 returns c =
     let test = λ (d : Name × BundleValue). has c.args.wanted.now d.0 in
-    if_ok c.from_pairs.result (λ all e. e ∙ c.loop-item.invariant ∙ ap (filter test) (take_all c.loop-item.item-index c.args.domains.now c.loop-item-test.false)) c.from_pairs.ensures
+    c.from_pairs.ensures ∙ c.loop-item.invariant ∙ ap (filter test) (take_all c.loop-item.item-index c.args.domains.now c.loop-item-test.false)

@@ -29,16 +29,8 @@ returns-in_err-items-in-Some-Ok-clause-err g c =
     let first = frame (97 ∷ to_be_bytes w64 count) in
     rw is_fault (first ++ cut.0, Consumes-trans _ _ _ first cut.0 (subst (Consumes _ _) (ap frame head.0) c.in_ok-size.ensures.ok.2) cut.1, all_breaks count head.1 why cut.0 _ cut.2)
 
-pub returns-in_default-clause-err : goal.returns-in_default-clause-err
-returns-in_default-clause-err g c =
-    let count = c.in-Some-Ok.count in
-    let head = rw c.in-Some-Ok.field-0-is at c.in-Some-Ok.ensures.count in
-    let frames = flat_map item_frame c.in_ok-items-in-Some-Ok.items.items in
-    let first = frame (97 ∷ to_be_bytes w64 count) in
-    (first ++ frames, Consumes-trans _ _ _ first frames (subst (Consumes _ _) (ap frame head.0) c.in_ok-size.ensures.ok.2) c.in_ok-items-in-Some-Ok.ensures.ok, tt)
-
-pub returns-in-Ok-clause-ok : goal.returns-in-Ok-clause-ok
-returns-in-Ok-clause-ok g c =
+pub returns-in_ok-items-in-Some-Ok-clause-ok : goal.returns-in_ok-items-in-Some-Ok-clause-ok
+returns-in_ok-items-in-Some-Ok-clause-ok g c =
     let count = c.in-Some-Ok.count in
     let head = rw c.in-Some-Ok.field-0-is at c.in-Some-Ok.ensures.count in
     let items = c.in_ok-items-in-Some-Ok.items.items in
@@ -46,7 +38,7 @@ returns-in-Ok-clause-ok g c =
     let frames = flat_map item_frame items in
     let first = frame (97 ∷ to_be_bytes w64 count) in
     let took = Consumes-trans _ _ _ first frames (subst (Consumes _ _) (ap frame head.0) c.in_ok-size.ensures.ok.2) c.in_ok-items-in-Some-Ok.ensures.ok in
-    rw c.in-Ok.ensures (
+    rw c.from_pairs.ensures (
       may_all items,
       (valid.0, valid.1, omega (arith, valid.2, head.1)),
       subst (Consumes _ _) (ap (λ n. frame (97 ∷ to_be_bytes w64 n) ++ frames) (sym valid.2)) took,

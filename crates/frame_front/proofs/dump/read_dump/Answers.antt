@@ -24,11 +24,11 @@ returns-then-not-is_empty-clause-err c =
     too_much c.args.dump.now c.in-Some.count c.loop-place.rest.now c.loop-place.place c.loop-place.domains.items c.loop-place.invariant.0
     (λ i. search rules) (omega arith) some
 
-pub returns-in-Ok-clause-ok : goal.returns-in-Ok-clause-ok
-returns-in-Ok-clause-ok c =
+pub returns-clause-ok : goal.returns-clause-ok
+returns-clause-ok c =
     let none : c.loop-place.rest.now ≡ [] = nothing_left c.loop-place.rest.now c.if-not-is_empty.ensures in
     let so_far = c.loop-place.invariant.0 in
-    rw c.in-Ok.ensures
+    rw c.from_pairs.ensures
     (HasRead-whole c.args.dump.now c.in-Some.count c.loop-place.rest.now c.loop-place.place c.loop-place.domains.items so_far (omega arith) none, so_far.valid)
 
 pub returns-in-Ok-None-clause-err : goal.returns-in-Ok-None-clause-err

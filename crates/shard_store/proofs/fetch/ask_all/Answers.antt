@@ -21,7 +21,8 @@ pub returns-in-Some-clause-told : goal.returns-in-Some-clause-told
 returns-in-Some-clause-told c = reads_later _ c.args.seat.now.me.0.seen c.recall_all.new.seat.me.0.seen _ c.recall_all.ensures.later c.requires.told
 
 pub returns-in-Some-clause-all : goal.returns-in-Some-clause-all
-returns-in-Some-clause-all c = all_later _ c.args.seat.now.me.0.seen c.recall_all.new.seat.me.0.seen c.args.last_all.now c.recall_all.ensures.later c.requires.all
+returns-in-Some-clause-all c = let t = c.recall_all.new.seat.me.0.seen in
+    subst (IsLastAll _ t.log) (sym c.recall_all.ensures.kept) (all_later _ c.args.seat.now.me.0.seen t c.args.last_all.now c.recall_all.ensures.later c.requires.all)
 
 pub returns-in-Some-clause-answer : goal.returns-in-Some-clause-answer
 returns-in-Some-clause-answer c = let s = c.args.seat.now.me.0.seen in let l = c.recall_all.ensures.later in
@@ -31,18 +32,19 @@ pub returns-in_err-all-clause-told : goal.returns-in_err-all-clause-told
 returns-in_err-all-clause-told c = reads_later _ c.args.seat.now.me.0.seen c.recall_all.new.seat.me.0.seen _ c.recall_all.ensures.later c.requires.told
 
 pub returns-in_err-all-clause-all : goal.returns-in_err-all-clause-all
-returns-in_err-all-clause-all c = all_later _ c.args.seat.now.me.0.seen c.recall_all.new.seat.me.0.seen c.args.last_all.now c.recall_all.ensures.later c.requires.all
+returns-in_err-all-clause-all c = let t = c.recall_all.new.seat.me.0.seen in
+    subst (IsLastAll _ t.log) (sym c.recall_all.ensures.kept) (all_later _ c.args.seat.now.me.0.seen t c.args.last_all.now c.recall_all.ensures.later c.requires.all)
 
 pub returns-in_err-all-clause-answer : goal.returns-in_err-all-clause-answer
 returns-in_err-all-clause-answer c = error_passed c.from_residual.result Memory _ _ c.from_residual.ensures.1 c.recall_all.ensures.later
 
-pub returns-in_err-copy-clause-told : goal.returns-in_err-copy-clause-told
-returns-in_err-copy-clause-told c = let u = c.fetch_anew.new.seat.me.0.seen in
+pub returns-in_err-shared-clause-told : goal.returns-in_err-shared-clause-told
+returns-in_err-shared-clause-told c = let u = c.fetch_anew.new.seat.me.0.seen in
     at_slots (λ z. AreLastReads z.slots u.log c.fetch_anew.new.last_reads.by_shard.items) _ _ (sym c.recall_all.ensures.seat.0.0) c.fetch_anew.ensures.told
 
-pub returns-in_err-copy-clause-answer : goal.returns-in_err-copy-clause-answer
-returns-in_err-copy-clause-answer c = let s = c.args.seat.now.me.0.seen in let t = c.recall_all.new.seat.me.0.seen in let u = c.fetch_anew.new.seat.me.0.seen in
-    error_passed c.from_residual-in_err-copy.result Memory _ _ c.from_residual-in_err-copy.ensures.1
+pub returns-in_err-shared-clause-answer : goal.returns-in_err-shared-clause-answer
+returns-in_err-shared-clause-answer c = let s = c.args.seat.now.me.0.seen in let t = c.recall_all.new.seat.me.0.seen in let u = c.fetch_anew.new.seat.me.0.seen in
+    error_passed c.from_residual-in_err-shared.result Memory _ _ c.from_residual-in_err-shared.ensures.1
     (later_then s t u c.recall_all.ensures.later (fetched_later _ t u c.in_ok-last.last c.in_ok-last.ensures.answer))
 
 pub fetch_anew-requires-clause-told : goal.fetch_anew-requires-clause-told
@@ -66,9 +68,10 @@ returns-clause-told c = let u = c.fetch_anew.new.seat.me.0.seen in
 
 pub returns-clause-all : goal.returns-clause-all
 returns-clause-all c = let u = c.fetch_anew.new.seat.me.0.seen in let last = c.in_ok-last.last in
-    at_slots (λ z. IsLastAll z.slots u.log (Some last)) _ _ (sym c.recall_all.ensures.seat.0.0) (kept_all _ u.log (Some last) last refl c.in_ok-last.ensures.answer.1)
+    subst (λ (all : List (Name × BundleValue)). IsLastAll c.args.seat.now.table_id.slots u.log (Some (record { revisions = last.revisions; all = all }))) (sym c.in_ok-shared.ensures.left)
+    (at_slots (λ z. IsLastAll z.slots u.log (Some last)) _ _ (sym c.recall_all.ensures.seat.0.0) (kept_all _ u.log (Some last) last refl c.in_ok-last.ensures.answer.1))
 
 pub returns-clause-answer : goal.returns-clause-answer
 returns-clause-answer c = let s = c.args.seat.now.me.0.seen in let u = c.fetch_anew.new.seat.me.0.seen in
-    subst (λ (all : List (Name × BundleValue)). IsReply FetchAll s (All all) u) (sym c.in_ok-copy.ensures)
+    subst (λ (all : List (Name × BundleValue)). IsReply FetchAll s (All all) u) (sym c.in_ok-shared.ensures.same)
     (answered_since FetchAll s c.recall_all.new.seat.me.0.seen u (All c.in_ok-last.last.all) c.recall_all.ensures.later c.in_ok-last.ensures.answer.0)
