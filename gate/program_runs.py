@@ -6,9 +6,10 @@ OUT_OF_MEMORY = Ended(1, b"", b"fault 22\n")
 NO_MEMORY = b"\0\0\0\1\x16"
 
 
-def session(name, options, rows):
+def session(name, options, rows, tells_each=False):
     """A session of requests and their replies. A request that met a refusal is answered by 22, and the others are
-    answered as if it had not been asked; or the session ends by fault 22, and whole replies stand written."""
+    answered as if it had not been asked; or the session ends by fault 22, and whole replies stand written. If it tells
+    each refusal, all is answered only if nothing was refused."""
     words = [program(), "run", *options]
     requests = [frame(request) for request, _ in rows]
     known = {(): [b"".join(frame(it) for it in reply) for _, reply in rows]}
@@ -27,16 +28,20 @@ def session(name, options, rows):
         given = list(replies_of(ended.out))
         left_out = tuple(place for place, reply in enumerate(given) if reply == NO_MEMORY)
         wanted = answers(left_out)[: len(given) if is_fault else len(rows)]
-        return given == wanted and is_fault + len(left_out) <= refused
+        fewest = 1 if refused and tells_each else 0
+        return given == wanted and fewest <= is_fault + len(left_out) <= refused
 
     return Run(name, words, b"".join(requests), allows)
 
 
-def command(words, given, is_plain):
-    """A command that out of memory writes nothing but `fault 22`."""
+def command(words, given, is_plain, tells_each=False):
+    """A command that out of memory writes nothing but `fault 22`. If it tells each refusal, it ends plainly only if nothing
+    was refused."""
 
     def allows(ended, refused):
-        return is_plain(ended) or refused and ended == OUT_OF_MEMORY
+        if refused and (tells_each or ended == OUT_OF_MEMORY):
+            return ended == OUT_OF_MEMORY
+        return is_plain(ended)
 
     return Run(f"bundled {' '.join(words)}".strip(), [program(), *words], given, allows)
 
@@ -82,8 +87,8 @@ def program_runs():
     one_key = b'{"keys":[{"e":"AQAB","kid":"k","kty":"RSA","n":"AQAB","use":"jwt-svid"}]}'
     of_one = b"a" + (1).to_bytes(8, "big")
     set_and_fetch = [(b"S\x01a" + empty, [b"s"]), (b"F", [of_one, b"i\x01a" + empty])]
-    yield session("a set and a fetch-all", [], set_and_fetch)
-    yield session("a set and a fetch-all, 256 shards", ["--shards", "256"], set_and_fetch)
+    yield session("a set and a fetch-all", [], set_and_fetch, tells_each=True)
+    yield session("a set and a fetch-all, 256 shards", ["--shards", "256"], set_and_fetch, tells_each=True)
     yield session("a real bundle", [], [(b"S\x01a" + real, [b"s"]), (b"G\x01a", [b"f" + text])])
     rows = [(b"S\x01b" + empty, [b"s"]), (b"A\x01b" + entry, [b"p\x00"]), (b"V\x02", [b"v\x02"])]
     rows += [(b"C\x01a\x00" + real, [b"s"]), (b"G\x01b", [b"f" + one_key]), (b"R\x01a", [b"d"])]
@@ -96,7 +101,7 @@ def program_runs():
     stream = b"".join(map(frame, [b"V\x02", b"C\x01a\x00" + text, b"C\x01b\x00" + empty]))
     yield command(["migrate"], b"".join(map(frame, dump)), lambda it: it == Ended(0, stream, b""))
     race, lines = ["trace", "--shards", "2", "--rounds", "2"], bytes_of(f"{ROOT}/examples/race.trace")
-    yield command(race, bytes_of(f"{ROOT}/examples/race.events"), lambda it: it == Ended(0, lines, b""))
+    yield command(race, bytes_of(f"{ROOT}/examples/race.events"), lambda it: it == Ended(0, lines, b""), tells_each=True)
     words = [b"set a %s\n" % text, b"fetch\n", b"found %s\n" % text, b"stored\n"]
     frames = [frame(it) for it in (b"S\x01a" + text, b"F", b"f" + text, b"s")]
     yield pieces("encode", b"".join(words[:2]), frames[:2])
