@@ -58,7 +58,7 @@ pub fn read_list(alloc: Global, list: &[u8]) -> Result<Vec<Relationship>, ListEr
     Ok(relationships)
 }
 
-/// Adds the relationship of the line with this number, if it has one. It is none of a trust domain that is there.
+/// Adds the relationship of the line with this number, if it has one, unless its trust domain is there.
 fn add_line(
     alloc: Global,
     line: &[u8],
