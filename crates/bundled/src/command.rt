@@ -146,10 +146,7 @@ fn run_wanted<
             log: is_on,
             settings,
         } => {
-            let log = LineLog {
-                end: notes,
-                is_on: *is_on,
-            };
+            let log = LineLog::new(notes, *is_on);
             let host = Host {
                 rt: host,
                 alloc,

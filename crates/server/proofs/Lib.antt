@@ -1,1 +1,2 @@
 mod ReportLemmas
+pub mod LogLines

@@ -1,0 +1,16 @@
+-- What becomes of the log of a server that is told a change.
+use Rattle.std.specs.Prelude.{◌≡◌, ℕ, List, Bool, Option}
+use Rattle.commands.specs.Streams.{End}
+use Rattle.workers.specs.Log.{ChangeView}
+use Rattle.server.specs.declared.log.LineLog.{LineLog}
+use Rattle.server.specs.LogLine.{change_line}
+use Rattle.server.specs.Serve.{IsOffered}
+
+-- what its end holds, if that is known, and how many lines it did not take whole
+abbrev pub log_end : {N : Type 0} → (N → Option (List ℕ)) → LineLog N → End
+log_end held_of log = record { bytes = held_of log.end; faults = log.left_out }
+
+-- The line of the change is written whole; or only a front of it, and it is counted.
+abbrev pub TellsChange : {N : Type 0} → (N → Option (List ℕ)) → ℕ → ChangeView → LineLog N → LineLog N → Type 0
+TellsChange held_of worker change old new =
+    (taken : Bool) × IsOffered taken (change_line worker change) (log_end held_of old) (log_end held_of new) × (new.is_on ≡ old.is_on)

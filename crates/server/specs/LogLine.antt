@@ -1,0 +1,36 @@
+-- The lines of the log of a server, one for each change of a bundle and one for each end of a session.
+use Rattle.std.specs.Prelude.{ℕ, List, [], ◌∷◌, ◌++◌, codes, decimal, Option, None, Some, Result, Ok, Err}
+use Rattle.map_core.specs.declared.op.Expect.{Expect}
+use Rattle.map_core.specs.declared.op.Expect.TheVariants.{Absent, Unnumbered, Sequence}
+use Rattle.workers.specs.Ended.{session_number}
+use Rattle.workers.specs.Log.{ChangeView}
+use Rattle.workers.specs.declared.log.How.{How}
+use Rattle.workers.specs.declared.log.How.TheVariants.{Set, Appended, Removed}
+use Rattle.workers.specs.declared.ended.SessionFault.{SessionFault}
+
+abbrev pub how_word : How → List ℕ
+how_word Set = codes "set"
+how_word Appended = codes "appended"
+how_word Removed = codes "removed"
+
+-- what stands under a name: no bundle, one without a sequence, or one of this sequence
+abbrev pub state_word : Expect → List ℕ
+state_word Absent = codes "none"
+state_word Unnumbered = codes "unnumbered"
+state_word (Sequence sequence) = decimal sequence
+
+-- what stood there before, if that is known
+abbrev pub before_word : Option Expect → List ℕ
+before_word None = codes "unknown"
+before_word (Some state) = state_word state
+
+-- such as `worker 3 set a.example none to 7`; a line feed ends it
+abbrev pub change_line : ℕ → ChangeView → List ℕ
+change_line worker change =
+    codes "worker " ++ decimal worker ++ codes " " ++ how_word change.how ++ codes " " ++ change.domain ++ codes " "
+    ++ before_word change.before ++ codes " to " ++ state_word change.after ++ 10 ∷ []
+
+-- such as `worker 3 session ended after 12 replies`, or `worker 3 session fault 53`; a line feed ends it
+abbrev pub end_line : ℕ → Result ℕ SessionFault → List ℕ
+end_line worker (Ok count) = codes "worker " ++ decimal worker ++ codes " session ended after " ++ decimal count ++ codes " replies" ++ 10 ∷ []
+end_line worker (Err fault) = codes "worker " ++ decimal worker ++ codes " session fault " ++ decimal (session_number fault) ++ 10 ∷ []
