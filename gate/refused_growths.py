@@ -13,7 +13,6 @@ asked for again or done without:
 - a chunk of the arena that a tree of JSON lies in. The kit's `bumpalo` asks for half of a chunk that was refused, if it
   is not the first. The first has room for a document without entries;
 - what the kit asks for by the hint of an iterator: `collect`, `extend`;
-- the halves of a node of the map, which stays whole, and so becomes longer than it should be;
 - the room for a bundle that a lasting session is shown: it takes the bundle instead, and asks again.
 
 Any other end is a failure.
@@ -34,7 +33,7 @@ from refusals import Run, build_shim, run_once, sweep, tests_of  # noqa: E402
 ALL = ["spiffe_doc", "map_core", "step_core"]
 # Of others those with such a word in their names: the rest starts threads, which take memory in any order, or asks
 # whether an answer is a certain one, which 22 is not.
-SOME = {"frame_front": ["a_refused_growth"], "frame_client": ["a_refused_growth"],
+SOME = {"shared_map": ["a_refused_growth"], "frame_front": ["a_refused_growth"], "frame_client": ["a_refused_growth"],
         "shard_store": ["a_refused_growth", "removed_sequences", "a_front_asks"],
         "frame_lines": ["a_refused_growth"], "line_client": ["a_refused_growth"], "trace_lines": ["a_refused_growth"],
         "dump_views": ["a_refused_growth"], "bundle_map": ["a_refused_growth"], "snapshots": ["a_refused_growth"],

@@ -130,6 +130,15 @@ module _ {P V : Type 0} (f : P → Marks V) where
         (same_trans (drop_part r.0.front (r.0.item.0, p) r.0.back none)
         (same_trans (same_is (ap (marks_of f) (sym (set_here p)))) (take_reached p (slice_set ps place (x.0, p)) refl h s)))
 
+  -- the part at a place becomes another, which shows the same
+  pub same_reached : (ps : List (Name × P)) (place : ℕ) (a : Around ps place) (x : Name × P) → x ≡ a.item → (p : P) (new : List (Name × P)) → new ≡ slice_set ps place (x.0, p) → IsSameBut (f p) (f x.1) → IsSameBut (marks_of f new) (marks_of f ps)
+  same_reached ps place a x here p new is same =
+      let set : slice_set ps place (x.0, p) ≡ a.front ++ (x.0, p) ∷ a.back = set_at ps a.front a.item a.back place (x.0, p) a.is a.at in
+      let old : ps ≡ a.front ++ x ∷ a.back = a.is ∙ ap (λ (y : Name × P). a.front ++ y ∷ a.back) (sym here) in
+      same_trans (same_is (ap (marks_of f) (is ∙ set) ∙ around_is a.front (x.0, p) a.back))
+      (same_trans (same_within (ahead a.front x.0) (fenced f a.back) same)
+      (same_is (sym (around_is a.front x a.back) ∙ ap (marks_of f) (sym old))))
+
   -- the part at a place becomes two
   pub halve_reached : (ps : List (Name × P)) (place : ℕ) (a : Around ps place) (x : Name × P) → x ≡ a.item → (p : P) (h : Name × P) (new : List (Name × P)) → new ≡ insert (slice_set ps place (x.0, p)) (place + 1) h → IsSameBut (f p ++ (fence h.0 ∷ f h.1)) (f x.1) → IsSameBut (marks_of f new) (marks_of f ps)
   halve_reached ps place a x here p h new is same =
@@ -144,8 +153,3 @@ module _ {P V : Type 0} (f : P → Marks V) where
   split_reached old new t [] h = absurd h.head
   split_reached old new t (x ∷ back) h =
       same_trans (same_is (ap (λ (n : Name). marks_of f new ++ (fence n ∷ marks_of f (x ∷ back))) (sym h.head))) (same_trans (split_parts new x back h.front_some) (same_is (ap (marks_of f) (sym h.is))))
-
-  -- a level of the two halves of a part
-  pub two_parts : (first second old : P) (n t : Name) (new : List (Name × P)) → new ≡ (n, first) ∷ (t, second) ∷ [] → IsSameBut (f first ++ (fence t ∷ f second)) (f old) → IsSameBut (marks_of f new) (f old)
-  two_parts first second old n t new is same =
-      same_trans (same_is (ap (marks_of f) is ∙ ap (λ z. f first ++ fence t ∷ z) (append-nil (f second)))) same

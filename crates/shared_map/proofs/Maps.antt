@@ -131,3 +131,7 @@ pub record Shows {V : Type 0} (o : Option (Top V)) (count : ℕ) (m : FinMap nam
 
 pub shows_at : {V : Type 0} {o p : Option (Top V)} {count : ℕ} {m : FinMap name_cmp V} → o ≡ p → finite.from_sorted {R = name_cmp} (plain (top_marks o)) ≡ m → IsSorted (top_marks o) × (count ≡ length (plain (top_marks o))) → Shows p count m
 shows_at {V} {o} {p} {count} {m} is view kept = subst (λ x. Shows x count m) is (record { view = view; sorted = kept.0; counted = kept.1 })
+
+-- other levels that show the same
+pub roomed : {V : Type 0} {o : Option (Top V)} {count : ℕ} {m : FinMap name_cmp V} → Shows o count m → (p : Option (Top V)) → IsSameBut (top_marks p) (top_marks o) → Shows p count m
+roomed h p same = record { view = ap (finite.from_sorted {R = name_cmp}) same.entries ∙ h.view; sorted = sorted_new same h.sorted; counted = h.counted ∙ ap length (sym same.entries) }

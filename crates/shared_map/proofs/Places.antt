@@ -95,17 +95,10 @@ pub match_weaker : {A : Type 0} {Q R : A → Type 0} (P : Type 0) (o : Option A)
 match_weaker P None f h = h
 match_weaker P (Some x) f h = f x h
 
-pub on_not_err : {A E P : Type 0} (r : Result A E) → is_err r ≡ false → OnOk r P → P
-on_not_err (Ok x) e h = h
-on_not_err (Err y) e h = absurd (true≢false e)
+-- what holds of a value that is there
+pub at_some : {A : Type 0} (P : Type 0) (Q : A → Type 0) {o : Option A} {x : A} → o ≡ Some x → MatchOption o P Q → Q x
+at_some {A} P Q {o} {x} is h = subst (λ o. MatchOption o P Q) is h
 
 pub inserted : {A B E : Type 0} (r : Result B E) (new old : List A) (place : ℕ) (x : A) → new ≡ (if is_ok r then insert old place x else old) → is_ok r ≡ true → new ≡ insert old place x
 inserted (Ok y) new old place x is e = is
 inserted (Err y) new old place x is e = absurd (true≢false (sym e))
-
-ok_some : {X E : Type 0} {P Q : X → Type 0} (r : Result X E) → ((x : X) → P x → Q x) → IfOk r P → IfSome (result_ok r) Q
-ok_some (Ok x) f h = f x h
-ok_some (Err e) f h = tt
-
-pub some_of_ok : {X E : Type 0} {P Q : X → Type 0} (r : Result X E) (o : Option X) → o ≡ result_ok r → ((x : X) → P x → Q x) → IfOk r P → IfSome o Q
-some_of_ok {X} {E} {P} {Q} r o is f h = subst (λ (x : Option X). IfSome x Q) (sym is) (ok_some r f h)

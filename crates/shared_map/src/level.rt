@@ -36,20 +36,20 @@ impl<P: Shared> Level<P> {
         self.parts.slots()
     }
 
-    /// The two halves of a part, which itself stays. None if it is short, or if memory for that is refused.
-    pub(crate) fn of_halves<V>(alloc: Global, part: &P) -> Option<Level<P>>
+    /// The two halves of a part, which itself stays. None if it is short. Errors if memory runs out.
+    pub(crate) fn of_halves<V>(alloc: Global, part: &P) -> Result<Option<Level<P>>, AllocError>
     where
         P: Part<V>,
-        ensures { IfSome result (λ level. IsSameBut (marks_of P.marks level.parts) (P.marks part.now)) }
+        ensures { IfOk result (λ halves. IfSome halves (λ level. IsSameBut (marks_of P.marks level.parts) (P.marks part.now))) }
     {
         if !part.is_long() {
-            return None;
+            return Ok(None);
         }
-        let Ok(mut first) = part.copy() else {
-            return None;
+        let mut first = part.copy()?;
+        let Some((name, second)) = first.halve()? else {
+            return Ok(None);
         };
-        let (name, second) = first.halve()?;
-        Level::of_two(alloc, first, name, second).ok()
+        Ok(Some(Level::of_two(alloc, first, name, second)?))
     }
 
     fn of_two(alloc: Global, first: P, name: TrustDomain, second: P) -> Result<Level<P>, AllocError>
@@ -80,6 +80,13 @@ impl<V: Shared, P: Part<V>> Part<V> for Level<P> {
         parts[place].1.get(name)
     }
 
+    fn make_room(&mut self, name: &TrustDomain) -> Result<(), AllocError> {
+        match reach(self.parts.slots(), name) {
+            None => Ok(()),
+            Some(place) => make_room_at::<V, P>(&mut self.parts, place, name),
+        }
+    }
+
     fn put(&mut self, name: TrustDomain, value: V) -> Result<bool, AllocError> {
         match reach(self.parts.slots(), &name) {
             None => {
@@ -89,11 +96,7 @@ impl<V: Shared, P: Part<V>> Part<V> for Level<P> {
                 self.parts = Run::one(alloc, fence, part)?;
                 Ok(true)
             }
-            Some(place) => {
-                let is_new = put_at(&mut self.parts, place, name, value)?;
-                halve_at::<V, P>(&mut self.parts, place);
-                Ok(is_new)
-            }
+            Some(place) => put_at(&mut self.parts, place, name, value),
         }
     }
 
@@ -112,9 +115,11 @@ impl<V: Shared, P: Part<V>> Part<V> for Level<P> {
         self.parts.is_long(MOST_PARTS)
     }
 
-    fn halve(&mut self) -> Option<(TrustDomain, Level<P>)> {
-        let (name, parts) = self.parts.split(MOST_PARTS)?;
-        Some((name, Level { parts }))
+    fn halve(&mut self) -> Result<Option<(TrustDomain, Level<P>)>, AllocError> {
+        let Some((name, parts)) = self.parts.split(MOST_PARTS)? else {
+            return Ok(None);
+        };
+        Ok(Some((name, Level { parts })))
     }
 }
 
@@ -128,7 +133,6 @@ fn put_at<V: Shared, P: Part<V>>(
     requires { IsReached name parts.old place }
     ensures ok { OnOk result (IsSorted (marks_of P.marks parts.old) → IsSameBut (marks_of P.marks parts.new) (with name value (marks_of P.marks parts.old))) }
     ensures is_new { IfOk result (λ is_new. IsSorted (marks_of P.marks parts.old) → is_new ≡ not (is_some (find name_cmp name (plain (marks_of P.marks parts.old))))) }
-    ensures within { place < length parts.new }
     ensures err { OnErr result (parts.new ≡ parts.old) }
 {
     let page = Arc::make_mut(&mut parts.page)?;
@@ -153,27 +157,31 @@ fn take_at<V, P: Part<V>>(
     Ok(())
 }
 
-/// Makes two parts of the one at a place, if it is long and memory allows it.
-fn halve_at<V, P: Part<V>>(parts: &mut Run<P>, place: usize)
-    requires { place < length parts.old }
+/// Halves what is long on the way to the name in the part at a place, and then that part, if it is long.
+fn make_room_at<V, P: Part<V>>(
+    parts: &mut Run<P>,
+    place: usize,
+    name: &TrustDomain,
+) -> Result<(), AllocError>
+    requires { IsReached name.now parts.old place }
     ensures { IsSameBut (marks_of P.marks parts.new) (marks_of P.marks parts.old) }
 {
-    if !parts.slots()[place].1.is_long() {
-        return;
-    }
-    if let Ok(page) = Arc::make_mut(&mut parts.page) {
-        halve_in::<V, P>(page, place);
-    }
+    let page = Arc::make_mut(&mut parts.page)?;
+    page.slots[place].1.make_room(name)?;
+    halve_in::<V, P>(page, place)
 }
 
-fn halve_in<V, P: Part<V>>(page: &mut Page<P>, place: usize)
+/// Makes two parts of the one at a place, if it is long.
+fn halve_in<V, P: Part<V>>(page: &mut Page<P>, place: usize) -> Result<(), AllocError>
     requires { place < length page.old.slots.items }
     ensures { IsSameBut (marks_of P.marks page.new.slots.items) (marks_of P.marks page.old.slots.items) }
 {
-    if page.make_room().is_err() {
-        return;
+    if !page.slots[place].1.is_long() {
+        return Ok(());
     }
-    if let Some(half) = page.slots[place].1.halve() {
+    page.make_room()?;
+    if let Some(half) = page.slots[place].1.halve()? {
         let _ = page.slots.insert(place + 1, half);
     }
+    Ok(())
 }

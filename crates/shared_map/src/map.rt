@@ -103,7 +103,8 @@ impl<V: Shared> SharedMap<V> {
                 let Some(more) = self.len.checked_add(1) else {
                     return Err(AllocError);
                 };
-                if top.put(self.alloc, name, value)? {
+                top.make_room(self.alloc, &name)?;
+                if top.put(name, value)? {
                     self.len = more;
                 }
             }

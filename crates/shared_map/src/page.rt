@@ -1,5 +1,5 @@
 //! What one node holds.
-ghost use Rattle.std.specs.Prelude.{◌≡◌, ◌<◌, length, IfOk, OnOk, MatchOption, vec_len, vec_capacity};
+ghost use Rattle.std.specs.Prelude.{◌≡◌, ◌<◌, length, IfOk, OnOk, OnErr, vec_len, vec_capacity};
 ghost use Rattle.std.specs.Arc.{arc_value};
 ghost use Rattle.shared_map.specs.Places.{IsSplit};
 
@@ -11,11 +11,11 @@ use std::sync::Arc;
 /// How many places a full page grows by: few, so that few are empty.
 pub(crate) const STEP: usize = 4;
 
-/// The most entries of a page that is not split. A change copies a page of entries, and counts the owners of each:
-/// in a large map each is a miss of the cache.
+/// The most entries of a page. A change copies a page of entries, and counts the owners of each: in a large map each is
+/// a miss of the cache.
 pub(crate) const MOST_ENTRIES: usize = 15;
 
-/// The most parts of a page that is not split. Pages of parts are few, so that more of them are in the cache.
+/// The most parts of a page. Pages of parts are few, so that more of them are in the cache.
 pub(crate) const MOST_PARTS: usize = 31;
 
 /// Names, with what stands under each.
@@ -48,33 +48,26 @@ impl<X: Shared> Page<X> {
         self.slots.reserve_exact(STEP)
     }
 
-    /// Keeps the first half and gives the second, and the name that it begins with. None if memory for that is refused.
-    pub(crate) fn split(&mut self) -> Option<(TrustDomain, Arc<Page<X>>)>
+    /// Keeps the first half and gives the second, and the name that it begins with. Errors if memory runs out, and nothing
+    /// has changed.
+    pub(crate) fn split(&mut self) -> Result<(TrustDomain, Arc<Page<X>>), AllocError>
         requires { 1 < length self.old.slots.items }
-        ensures { MatchOption result (self.new.slots.items ≡ self.old.slots.items) (λ half. IsSplit self.old.slots.items self.new.slots.items half.0 (arc_value half.1).slots.items) }
+        ensures ok { IfOk result (λ half. IsSplit self.old.slots.items self.new.slots.items half.0 (arc_value half.1).slots.items) }
+        ensures err { OnErr result (self.new.slots.items ≡ self.old.slots.items) }
     {
         let half = self.slots.len() / 2;
-        let Ok(name) = self.slots[half].0.copy() else {
-            return None;
-        };
+        let name = self.slots[half].0.copy()?;
         let alloc = *self.slots.allocator();
-        let Ok(mut other) = Arc::new(
-            alloc,
-            Page {
-                slots: Vec::new(alloc),
-            },
-        ) else {
-            return None;
+        let slots = Vec::new(alloc);
+        let Ok(mut other) = Arc::new(alloc, Page { slots }) else {
+            return Err(AllocError);
         };
         let Some(page) = Arc::get_mut(&mut other) else {
-            return None;
+            return Err(AllocError);
         };
-        let Ok(slots) = self.slots.split_off(half) else {
-            return None;
-        };
-        page.slots = slots;
+        page.slots = self.slots.split_off(half)?;
         self.slots.shrink_to_fit();
-        Some((name, other))
+        Ok((name, other))
     }
 }
 

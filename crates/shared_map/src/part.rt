@@ -25,6 +25,11 @@ pub(crate) trait Part<V>: Shared {
     fn get(&self, name: &TrustDomain) -> Option<&V>
         ensures { IsSorted (marks self.now) → option_copied result ≡ find name_cmp name.now (plain (marks self.now)) };
 
+    /// Halves what is long on the way to the name, so that an entry more finds room. Errors if memory runs out. What it
+    /// shows is the same.
+    fn make_room(&mut self, name: &TrustDomain) -> Result<(), AllocError>
+        ensures { IsSameBut (marks self.new) (marks self.old) };
+
     /// Puts a value under the name, and tells whether the name is new.
     fn put(&mut self, name: TrustDomain, value: V) -> Result<bool, AllocError>
         ensures ok { OnOk result (IsSorted (marks self.old) → IsSameBut (marks self.new) (with name value (marks self.old))) }
@@ -40,12 +45,14 @@ pub(crate) trait Part<V>: Shared {
     fn is_empty(&self) -> bool
         ensures { IsTrue result → marks self.now ≡ [] };
 
-    /// Whether a search in it takes long, so that it should be halved.
+    /// Whether it has as many entries or parts as it may have, so that it should be halved before it gets one more.
     fn is_long(&self) -> bool;
 
-    /// Gives its second half, with the fence before it. None if it is short, or if memory for that is refused.
-    fn halve(&mut self) -> Option<(TrustDomain, Self)>
-        ensures { MatchOption result (self.new ≡ self.old) (λ half. IsSameBut (marks self.new ++ (fence half.0 ∷ marks half.1)) (marks self.old)) };
+    /// Gives its second half, with the fence before it. None if it is short. Errors if memory runs out, and nothing has
+    /// changed.
+    fn halve(&mut self) -> Result<Option<(TrustDomain, Self)>, AllocError>
+        ensures ok { IfOk result (λ half. MatchOption half (self.new ≡ self.old) (λ half. IsSameBut (marks self.new ++ (fence half.0 ∷ marks half.1)) (marks self.old))) }
+        ensures err { OnErr result (self.new ≡ self.old) };
 }
 
 impl<V: Shared> Part<V> for Run<V> {
@@ -63,6 +70,10 @@ impl<V: Shared> Part<V> for Run<V> {
             Seat::Taken(place) => Some(&slots[place].1),
             Seat::Free(_) => None,
         }
+    }
+
+    fn make_room(&mut self, _name: &TrustDomain) -> Result<(), AllocError> {
+        Ok(())
     }
 
     fn put(&mut self, name: TrustDomain, value: V) -> Result<bool, AllocError> {
@@ -93,7 +104,7 @@ impl<V: Shared> Part<V> for Run<V> {
         Run::is_long(self, MOST_ENTRIES)
     }
 
-    fn halve(&mut self) -> Option<(TrustDomain, Run<V>)> {
+    fn halve(&mut self) -> Result<Option<(TrustDomain, Run<V>)>, AllocError> {
         self.split(MOST_ENTRIES)
     }
 }

@@ -105,26 +105,25 @@ impl<X: Shared> Run<X> {
         Ok(())
     }
 
-    /// Whether it has more names than this.
+    /// Whether it has this many names or more.
     pub(crate) fn is_long(&self, most: usize) -> bool
-        ensures { IsTrue result ↔ most < length self.now }
+        ensures { IsTrue result ↔ most ≤ length self.now }
     {
-        self.slots().len() > most
+        self.slots().len() >= most
     }
 
-    /// Keeps the first half and gives the second, and the name that it begins with. None if it has no more names than
-    /// this, or if memory for that is refused.
-    pub(crate) fn split(&mut self, most: usize) -> Option<(TrustDomain, Run<X>)>
-        requires { 0 < most }
-        ensures { MatchOption result (self.new ≡ self.old) (λ half. IsSplit self.old self.new half.0 half.1) }
+    /// Keeps the first half and gives the second, and the name that it begins with. None if it has fewer names than this.
+    /// Errors if memory runs out, and nothing has changed.
+    pub(crate) fn split(&mut self, most: usize) -> Result<Option<(TrustDomain, Run<X>)>, AllocError>
+        requires { 1 < most }
+        ensures ok { IfOk result (λ half. MatchOption half (self.new ≡ self.old) (λ half. IsSplit self.old self.new half.0 half.1)) }
+        ensures err { OnErr result (self.new ≡ self.old) }
     {
         if !self.is_long(most) {
-            return None;
+            return Ok(None);
         }
-        let Ok(page) = Arc::make_mut(&mut self.page) else {
-            return None;
-        };
+        let page: &mut Page<X> = Arc::make_mut(&mut self.page)?;
         let (name, page) = page.split()?;
-        Some((name, Run { page }))
+        Ok(Some((name, Run { page })))
     }
 }

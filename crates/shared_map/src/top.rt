@@ -69,25 +69,31 @@ impl<V: Shared> Top<V> {
         }
     }
 
-    /// Puts a value under the name, and tells whether the name is new. What is then long is raised, if memory allows it.
-    pub(crate) fn put(
-        &mut self,
-        alloc: Global,
-        name: TrustDomain,
-        value: V,
-    ) -> Result<bool, AllocError>
-        ensures ok { OnOk result (IsSorted (marks self.old) → IsSameBut (marks self.new) (with name value (marks self.old))) }
-        ensures is_new { IfOk result (λ is_new. IsSorted (marks self.old) → is_new ≡ not (is_some (find name_cmp name (plain (marks self.old))))) }
-        ensures err { OnErr result (self.new ≡ self.old) }
+    /// Halves what is long on the way to the name, and at last the whole, so that an entry more finds room. Errors if memory
+    /// runs out. What it shows is the same.
+    pub(crate) fn make_room(&mut self, alloc: Global, name: &TrustDomain) -> Result<(), AllocError>
+        ensures { IsSameBut (marks self.new) (marks self.old) }
     {
-        let is_new = self.put_in(name, value)?;
-        if let Some(raised) = self.raised(alloc) {
+        self.make_room_in(name)?;
+        if let Some(raised) = self.raised(alloc)? {
             *self = raised;
         }
-        Ok(is_new)
+        Ok(())
     }
 
-    fn put_in(&mut self, name: TrustDomain, value: V) -> Result<bool, AllocError>
+    fn make_room_in(&mut self, name: &TrustDomain) -> Result<(), AllocError>
+        ensures { IsSameBut (marks self.new) (marks self.old) }
+    {
+        match self {
+            Top::Run(run) => run.make_room(name),
+            Top::Group(group) => group.make_room(name),
+            Top::Region(region) => region.make_room(name),
+            Top::Whole(whole) => whole.make_room(name),
+        }
+    }
+
+    /// Puts a value under the name, and tells whether the name is new. Errors if memory runs out, and nothing has changed.
+    pub(crate) fn put(&mut self, name: TrustDomain, value: V) -> Result<bool, AllocError>
         ensures ok { OnOk result (IsSorted (marks self.old) → IsSameBut (marks self.new) (with name value (marks self.old))) }
         ensures is_new { IfOk result (λ is_new. IsSorted (marks self.old) → is_new ≡ not (is_some (find name_cmp name (plain (marks self.old))))) }
         ensures err { OnErr result (self.new ≡ self.old) }
@@ -113,15 +119,17 @@ impl<V: Shared> Top<V> {
         }
     }
 
-    /// The same with a level over its two halves. None if it is short, or if memory for that is refused.
-    fn raised(&self, alloc: Global) -> Option<Top<V>>
-        ensures { IfSome result (λ raised. IsSameBut (marks raised) (marks self.now)) }
+    /// The same with a level over its two halves. None if it is short. Errors if memory runs out.
+    fn raised(&self, alloc: Global) -> Result<Option<Top<V>>, AllocError>
+        ensures { IfOk result (λ raised. IfSome raised (λ raised. IsSameBut (marks raised) (marks self.now))) }
     {
-        Some(match self {
-            Top::Run(run) => Top::Group(Level::of_halves(alloc, run)?),
-            Top::Group(group) => Top::Region(Level::of_halves(alloc, group)?),
-            Top::Region(region) => Top::Whole(Level::of_halves(alloc, region)?),
-            Top::Whole(_) => return None,
+        Ok(match self {
+            Top::Run(run) => Level::of_halves(alloc, run)?.map(|halves| Top::Group(halves)),
+            Top::Group(group) => Level::of_halves(alloc, group)?.map(|halves| Top::Region(halves)),
+            Top::Region(region) => Level::of_halves(alloc, region)?.map(|halves| Top::Whole(
+                halves,
+            )),
+            Top::Whole(_) => None,
         })
     }
 }

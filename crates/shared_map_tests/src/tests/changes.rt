@@ -150,3 +150,33 @@ fn each_version_stays(rt: HostRuntime) -> Result<(), Fail> {
     }
     takes(rt.alloc(), changes.as_slice())
 }
+
+/// Puts so many names into both maps. A refused growth leaves the map as it was, and ends this.
+fn fill(
+    alloc: Global,
+    map: &mut SharedMap<Number>,
+    plain: &mut BTreeMap<TrustDomain, u64>,
+    count: u64,
+) -> Result<(), Fail> {
+    for place in 0..count {
+        let name = name_at(alloc, place)?;
+        let again = name.copy()?;
+        if map.insert(name, Number(place)).is_err() {
+            are_same(map, plain)?;
+            return Err(Fail::from(AllocError));
+        }
+        put_plain(plain, again, place)?;
+    }
+    are_same(map, plain)
+}
+
+/// Of 600 names each kind of node is halved, and the map gets two levels over its runs.
+#[test]
+fn a_refused_growth_changes_nothing(rt: HostRuntime) -> Result<(), Fail> {
+    let mut map = SharedMap::new(rt.alloc());
+    let mut plain = BTreeMap::new(rt.alloc());
+    let are_so = fill(rt.alloc(), &mut map, &mut plain, 600);
+    drop(plain);
+    drop(map);
+    are_so
+}

@@ -1,5 +1,6 @@
+use Rattle.shared_map.proofs.Places.{at_some}
 use Rattle.shared_map.proofs.Levels.{split_reached}
 use Rattle.shared_map.proofs.level.LevelPart.halve.Goals as goal
 
-pub returns : goal.returns
-returns g c = split_reached g.P.Part.marks c.args.self.now.parts c.split.new.self c.in_ok-name.name c.in_ok-name.parts c.in_ok-name.ensures
+pub returns-clause-ok : goal.returns-clause-ok
+returns-clause-ok g c = split_reached g.P.Part.marks c.args.self.now.parts c.split.new.self c.in-Some.name c.in-Some.parts (at_some _ _ c.in-Some.is c.in_ok-name.ensures.ok)
