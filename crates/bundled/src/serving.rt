@@ -1,16 +1,9 @@
-//! The command `serve`: workers answer connections, over a store that they share.
-mod blocking;
-mod clients;
-mod host;
-mod incoming;
+//! The command `serve`: ports are bound, and workers answer the connections that come to them, over a store that they share.
 mod lasting;
 mod ports;
-mod ready;
 mod serve;
-mod shared;
-mod stream;
+mod waits;
 
-pub use blocking::serve_on;
-pub use host::Host;
 pub use lasting::serve_many;
 pub use serve::{Serving, serve_over};
+pub use server::{Host, serve_on};

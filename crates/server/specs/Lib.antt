@@ -1,3 +1,4 @@
 pub mod LogLine
 pub mod Serve
+pub mod Serving
 pub mod Log

@@ -1,34 +1,22 @@
 //! A server that lasts: each worker serves many clients beside each other.
-ghost use Rattle.std.specs.Prelude.{◌≡◌, false, ◌<◌, ◌-◌, ◌^◌, ◌⊎◌, ◌+◌, IfOk, OnOk, vec_len};
-ghost use Rattle.std.specs.List.{All};
-ghost use Rattle.shard_store.specs.Pass.{IsOf};
-ghost use Rattle.workers.specs.Closing.{AreAll, ranges_of};
-ghost use Rattle.server.specs.Serve.{EndsEarly, ServeRun, SetUpRun};
-ghost use Rattle.commands.specs.Fault.{fault_line};
-ghost use Rattle.commands.specs.Streams.{Tells, end_of};
-ghost use Rattle.commands.specs.declared.fault.Fault.TheVariants.{Front, Listen};
+ghost use Rattle.std.specs.Prelude.{◌≡◌, false, ◌<◌, ◌-◌, ◌^◌, ◌⊎◌};
 ghost use Rattle.frame_front.specs.Counted.{faults_in};
-ghost use Rattle.frame_front.specs.declared.error.FrontError.TheVariants.{Memory};
-ghost use Rattle.bundled.specs.Serve.{ServedBeside};
+ghost use Rattle.commands.specs.Streams.{end_of};
+ghost use Rattle.commands.specs.declared.fault.Fault.TheVariants.{Listen};
+ghost use Rattle.server.specs.Serve.{EndsEarly, SetUpRun};
+ghost use Rattle.server.specs.Serving.{ServedBeside};
 
-use crate::serving::host::Host;
-use crate::serving::incoming::{Incoming, TICKS_A_SECOND};
-use crate::serving::ports::Ports;
-use crate::serving::ready::Ready;
-use crate::serving::shared::{Seat, Shared, Watch};
+use crate::serving::ports::ports_or_told;
+use crate::serving::waits::waits_of;
 use command_line::{Lasting, Settings};
 use commands::Fault;
-use frame_front::{Counted, FrontError};
-use live_workers::{Crew, Limits, run_arrivals};
-use server::{Said, SetUp, report, say};
-use shard_store::{Pass, Store};
-use std::alloc::{AllocError, Global};
+use frame_front::Counted;
+use server::{Host, SetUp, Task, serve_at, tell_early};
 use std::io::{Read, Write};
 use std::net::{Net, TcpListener, TcpStream};
-use std::thread;
 use std::thread::Threads;
 use std::time::Clock;
-use workers::{Log, Open, Worked};
+use workers::Log;
 
 /// Where a server listens, and how it serves.
 #[derive(Clone, Copy)]
@@ -37,215 +25,6 @@ pub struct At {
     pub port: u16,
     pub settings: Settings,
     pub lasting: Lasting,
-}
-
-/// A server that listens, and whose store is set up.
-#[derive(Drop)]
-struct Task {
-    ports: Ports,
-    settings: Settings,
-    lasting: Lasting,
-    set_up: SetUp,
-}
-
-/// What the workers run over.
-#[derive(Drop)]
-struct Work<'h, 'r, 's, 'd, H, L> {
-    host: &'r Host<'h, H, L>,
-    store: &'s Store,
-    shared: &'d Shared,
-    settings: Settings,
-    lasting: Lasting,
-}
-
-/// What the workers wait with, and their seats.
-#[derive(Drop)]
-struct Waits {
-    all: Vec<Ready>,
-    seats: Vec<Seat>,
-}
-
-impl Waits {
-    fn new<N: Net>(net: &N, alloc: Global, ports: &Ports, workers: u64) -> Result<Waits, Fault>
-        ensures { IfOk result (λ waits. vec_len waits.all ≡ workers) }
-    {
-        let mut waits = Waits {
-            all: Vec::new(alloc),
-            seats: Vec::new(alloc),
-        };
-        for _ in 0..workers {
-            waits.push(net, alloc, ports)?;
-        }
-        Ok(waits)
-    }
-
-    fn push<N: Net>(&mut self, net: &N, alloc: Global, ports: &Ports) -> Result<(), Fault>
-        ensures { OnOk result (vec_len self.new.all ≡ vec_len self.old.all + 1) }
-    {
-        let (ready, waker) = Ready::new(net, alloc, ports)?;
-        if self.seats.push(Seat::new(waker)).is_err() || self.all.push(ready).is_err() {
-            return Err(Fault::Front(FrontError::Memory));
-        }
-        Ok(())
-    }
-}
-
-/// What comes to each worker.
-fn incoming_of<'a, C: Clock>(
-    alloc: Global,
-    clock: &'a C,
-    shared: &'a Shared,
-    waits: Vec<Ready>,
-) -> Result<Vec<Incoming<'a, C>>, AllocError>
-    ensures { IfOk result (λ all. vec_len all ≡ vec_len waits) }
-{
-    let mut all = Vec::new(alloc);
-    for ready in waits {
-        let worker = all.len();
-        all.push(Incoming::new(clock, shared, worker, ready))?;
-    }
-    Ok(all)
-}
-
-/// Runs the workers.
-fn run<H: Threads + Clock + Sync, L: Log + Copy + Sync>(
-    work: &Work<'_, '_, '_, '_, H, L>,
-    passes: Vec<Pass>,
-    incoming: Vec<Incoming<'_, H>>,
-) -> Result<Vec<Worked>, AllocError>
-    requires same { vec_len passes ≡ vec_len incoming }
-    requires own { All (λ pass. IsOf pass work.now.store.now) passes.items }
-    ensures { IfOk result (λ all. ServedBeside work.now.lasting work.now.settings.turns work.now.store.now passes.items all.items) }
-{
-    let (host, settings) = (work.host, work.settings);
-    let crew = Crew {
-        rt: host.rt,
-        alloc: host.alloc,
-        log: host.log,
-        limits: Limits {
-            retries: settings.retries,
-            most_silent: work.lasting.idle.saturating_mul(TICKS_A_SECOND),
-            turns: settings.turns,
-        },
-    };
-    run_arrivals(&crew, work.store, passes, incoming, &Open)
-}
-
-/// Runs the workers, and beside them waits for the end of the input: then they are to stop.
-fn run_until_end<H: Threads + Clock + Sync, I: Read, L: Log + Copy + Sync>(
-    work: &Work<'_, '_, '_, '_, H, L>,
-    passes: Vec<Pass>,
-    incoming: Vec<Incoming<'_, H>>,
-    end: &mut Watch<'_, '_, I>,
-) -> Result<Vec<Worked>, AllocError>
-    requires same { vec_len passes ≡ vec_len incoming }
-    requires own { All (λ pass. IsOf pass work.now.store.now) passes.items }
-    ensures { IfOk result (λ all. ServedBeside work.now.lasting work.now.settings.turns work.now.store.now passes.items all.items) }
-{
-    let run = || -> Result<Vec<Worked>, AllocError>
-        requires same { vec_len passes ≡ vec_len incoming }
-        requires own { All (λ pass. IsOf pass work.now.store.now) passes.items }
-        ensures { IfOk result (λ all. ServedBeside work.entry.now.lasting work.entry.now.settings.turns work.entry.now.store.now passes.items all.items) }
-    { run(work, passes, incoming) };
-    let (worked, ()) = thread::join(work.host.rt, run, || end.stop_at_end());
-    worked
-}
-
-/// Runs the workers; if they are to stop at the end of the input, that is waited for beside them.
-fn run_all<H: Threads + Clock + Sync, I: Read, L: Log + Copy + Sync>(
-    work: &Work<'_, '_, '_, '_, H, L>,
-    passes: Vec<Pass>,
-    incoming: Vec<Incoming<'_, H>>,
-    input: &mut Counted<I>,
-) -> Result<Vec<Worked>, AllocError>
-    requires same { vec_len passes ≡ vec_len incoming }
-    requires own { All (λ pass. IsOf pass work.now.store.now) passes.items }
-    ensures served { IfOk result (λ all. ServedBeside work.now.lasting work.now.settings.turns work.now.store.now passes.items all.items) }
-    ensures read { work.now.lasting.until_eof ≡ false → input.new ≡ input.old }
-{
-    if !work.lasting.until_eof {
-        return run(work, passes, incoming);
-    }
-    let shared = work.shared;
-    run_until_end(work, passes, incoming, &mut Watch { input, shared })
-}
-
-/// Serves at the ports, until the end of the input if the server is to stop then; answers the exit status.
-///
-/// `listening PORT` goes to the output first, and if there is a port for reads only, `read-only PORT` behind it on the same
-/// line; no connection is taken if it is not taken. At the end come `served N`, how many sessions were begun, and
-/// `domains M`, how many domains have a bundle then. The faults of sessions are told in between, in order of the workers;
-/// they don't change the status, except that a listener that failed does. The log is told of changes and of the ends of
-/// sessions while it serves.
-fn serve_at<
-    H: Threads + Clock + Net<Listener = TcpListener, Stream = TcpStream> + Sync,
-    I: Read,
-    W: Write,
-    E: Write,
-    L: Log + Copy + Sync,
->(
-    host: &Host<'_, H, L>,
-    task: Task,
-    input: &mut Counted<I>,
-    out: &mut Counted<W>,
-    err: &mut Counted<E>,
-) -> u8
-    requires count { faults_in err.old < 2 ^ 64 - 1 }
-    requires workers { vec_len task.set_up.passes ≡ task.settings.workers }
-    requires own { All (λ pass. IsOf pass task.set_up.store) task.set_up.passes.items }
-    requires all { AreAll (ranges_of task.set_up.passes.items) }
-    ensures run { EndsEarly (Front Memory) result (end_of W.contents out.old) (end_of W.contents out.new) (end_of E.contents err.old) (end_of E.contents err.new)
-        ⊎ ServeRun (ServedBeside task.lasting task.settings.turns) task.set_up.store task.set_up.passes.items result
-        (end_of W.contents out.old) (end_of W.contents out.new) (end_of E.contents err.old) (end_of E.contents err.new) }
-    ensures read { task.lasting.until_eof ≡ false → input.new ≡ input.old }
-{
-    let before = err.faults();
-    let Task {
-        ports,
-        settings,
-        lasting,
-        set_up: SetUp { store, passes },
-    } = task;
-    let (port, read_port) = ports.numbers();
-    let waits = match Waits::new(host.rt, host.alloc, &ports, settings.workers) {
-        Ok(waits) => waits,
-        Err(fault) => return tell_early(fault, err),
-    };
-    let Waits { all, seats } = waits;
-    let shared = Shared::new(ports, seats, lasting.most_open);
-    let Ok(incoming) = incoming_of(host.alloc, host.rt, &shared, all) else {
-        return Fault::Front(FrontError::Memory).tell(err);
-    };
-    if !say(out, err, before, Said::Listening(port, read_port)) {
-        return 1;
-    }
-    let work = Work {
-        host,
-        store: &store,
-        shared: &shared,
-        settings,
-        lasting,
-    };
-    match run_all(&work, passes, incoming, input) {
-        Ok(worked) => report(store, worked, out, err, before),
-        Err(_) => {
-            Fault::Front(FrontError::Memory).tell_unless_failed(err, before);
-            1
-        }
-    }
-}
-
-/// Tells why there is no listener: memory ran out, or the system has none.
-fn tell_early<E: Write>(fault: Fault, err: &mut Counted<E>) -> u8
-    requires { faults_in err.old < 2 ^ 64 - 1 }
-    ensures status { result ≡ 1 }
-    ensures tells { Tells (end_of E.contents err.old) (end_of E.contents err.new) (fault_line Listen)
-        ⊎ Tells (end_of E.contents err.old) (end_of E.contents err.new) (fault_line (Front Memory)) }
-{
-    match fault {
-        Fault::Front(FrontError::Memory) => Fault::Front(FrontError::Memory).tell(err),
-        _ => Fault::Listen.tell(err),
-    }
 }
 
 /// Serves many clients beside each other, over a store that the requests have filled; answers the exit status. A port that
@@ -274,7 +53,7 @@ pub fn serve_many<
         settings,
         lasting,
     } = at;
-    let ports = match Ports::or_told(host.rt, port, lasting.read_port, err) {
+    let ports = match ports_or_told(host.rt, port, lasting.read_port, err) {
         Ok(ports) => ports,
         Err(status) => return status,
     };
@@ -282,8 +61,13 @@ pub fn serve_many<
         Ok(set_up) => set_up,
         Err(error) => return Fault::Front(error).tell(err),
     };
+    let waits = match waits_of(host.rt, host.alloc, &ports, settings.workers) {
+        Ok(waits) => waits,
+        Err(fault) => return tell_early(fault, err),
+    };
     let task = Task {
         ports,
+        waits,
         settings,
         lasting,
         set_up,

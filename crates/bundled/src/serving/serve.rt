@@ -6,15 +6,14 @@ ghost use Rattle.commands.specs.Fault.{fault_line};
 ghost use Rattle.commands.specs.Streams.{Tells, end_of};
 ghost use Rattle.commands.specs.declared.fault.Fault.TheVariants.{Listen};
 ghost use Rattle.server.specs.Serve.{EndsEarly, ServeCommand, SetUpRun};
-ghost use Rattle.bundled.specs.Serve.{ServedAs, ServedInTurn, most_taken, most_turns};
+ghost use Rattle.server.specs.Serving.{ServedInTurn, most_taken, most_turns};
+ghost use Rattle.bundled.specs.Serve.{ServedAs};
 
-use crate::serving::blocking::serve_on;
-use crate::serving::host::Host;
 use crate::serving::lasting::{At, serve_many};
 use command_line::{Connections, Settings};
 use commands::Fault;
 use frame_front::Counted;
-use server::requests_of;
+use server::{Host, requests_of, serve_on};
 use std::fs::Files;
 use std::io::{Read, Write};
 use std::net::{Ipv4Addr, Net, TcpListener, TcpStream};

@@ -1,13 +1,14 @@
-use Rattle.std.proofs.Common.{ℕ, List, inl, inr, refl, ap, subst}
+use Rattle.std.proofs.Common.{◌≡◌, ℕ, List, inl, inr, refl, ap, subst}
 use Rattle.std.specs.Prelude.{◌⊎◌}
 use Rattle.command_line.specs.declared.settings.Settings.{Settings}
-use Rattle.commands.specs.Streams.{End, end_of}
-use Rattle.commands.specs.declared.fault.Fault.TheVariants.{Front}
+use Rattle.commands.specs.Fault.{fault_line}
+use Rattle.commands.specs.Streams.{End, Tells, end_of}
+use Rattle.commands.specs.declared.fault.Fault.TheVariants.{Front, Listen}
 use Rattle.frame_front.specs.declared.error.FrontError.TheVariants.{Memory}
 use Rattle.shard_store.specs.Pass.{StoreView, PassView}
 use Rattle.server.specs.Serve.{EndsEarly, IsSetUp, ServeRun, SetUpRun}
 use Rattle.workers.specs.declared.ended.Worked.{Worked}
-use Rattle.bundled.specs.Serve.{ServedBeside}
+use Rattle.server.specs.Serving.{ServedBeside}
 use Rattle.bundled.proofs.serving.lasting.serve_many.Goals as goal
 
 -- the store is set up, and it ends early for memory, or serves
@@ -24,6 +25,22 @@ returns-in-Err-new-clause-run g c =
     let out = end_of g.W.Write.contents c.args.out.now in
     let run : End → Type 0 = λ old. SetUpRun (ServedBeside c.args.at.lasting c.args.at.settings.turns) c.args.at.settings c.args.host.now.requests.now c.tell.result out out old (end_of g.E.Write.contents c.tell.new.err) in
     inr (subst run same (inl (c.in-Err-new.error, c.in-Err-new.ensures.refused, (c.tell.ensures.status, refl, c.tell.ensures.tells))))
+
+-- what the workers wait with can't be had, which is told
+set_up_unwatched : (Served : StoreView → List PassView → List Worked → Type 0) (settings : Settings) (requests : List ℕ) (store : StoreView) (passes : List PassView) (status : ℕ) (out err_old err_new : End)
+    → IsSetUp settings requests store passes → status ≡ 1
+    → Tells err_old err_new (fault_line Listen) ⊎ Tells err_old err_new (fault_line (Front Memory))
+    → SetUpRun Served settings requests status out out err_old err_new
+set_up_unwatched Served settings requests store passes status out err_old err_new made one (inl listen) = inr (store, passes, made, inl (one, refl, listen))
+set_up_unwatched Served settings requests store passes status out err_old err_new made one (inr memory) = inl (Memory, inl refl, (one, refl, memory))
+
+pub returns-in-Err-waits_of-clause-run : goal.returns-in-Err-waits_of-clause-run
+returns-in-Err-waits_of-clause-run g c =
+    let same = ap (end_of g.E.Write.contents) c.in-Ok.ensures.ok in
+    let out = end_of g.W.Write.contents c.args.out.now in
+    let set_up = c.in-Ok-new.set_up in
+    let run : End → Type 0 = λ old. SetUpRun (ServedBeside c.args.at.lasting c.args.at.settings.turns) c.args.at.settings c.args.host.now.requests.now c.tell_early.result out out old (end_of g.E.Write.contents c.tell_early.new.err) in
+    inr (subst run same (set_up_unwatched (ServedBeside c.args.at.lasting c.args.at.settings.turns) c.args.at.settings _ set_up.store set_up.passes.items _ _ _ _ c.in-Ok-new.ensures.set_up c.tell_early.ensures.status c.tell_early.ensures.tells))
 
 pub returns-clause-run : goal.returns-clause-run
 returns-clause-run g c =

@@ -7,7 +7,8 @@ use Rattle.commands.specs.declared.fault.Fault.TheVariants.{Listen}
 use Rattle.server.specs.Serve.{EndsEarly, SetUpRun}
 use Rattle.shard_store.specs.Pass.{StoreView, PassView}
 use Rattle.workers.specs.declared.ended.Worked.{Worked}
-use Rattle.bundled.specs.Serve.{ServedAs, ServedBeside, ServedInTurn, most_taken, most_turns}
+use Rattle.server.specs.Serving.{ServedBeside, ServedInTurn, most_taken, most_turns}
+use Rattle.bundled.specs.Serve.{ServedAs}
 use Rattle.bundled.proofs.serving.serve.serve_as.Goals as goal
 
 -- what is said of the form with a number of clients is said of these connections

@@ -3,8 +3,8 @@ use Rattle.workers.specs.Closing.{AreAll}
 use Rattle.server.specs.Serve.{always_open, Reports}
 use Rattle.commands.specs.Streams.{TellsUnlessFailed, end_of}
 use Rattle.live_workers.proofs.WorkedLists.{all_own, all_long, ranges_same}
-use Rattle.bundled.specs.Serve.{most_silent}
-use Rattle.bundled.proofs.serving.lasting.serve_at.Goals as goal
+use Rattle.server.specs.Serving.{most_silent}
+use Rattle.server.proofs.serving.lasting.serve_at.Goals as goal
 
 pub report-requires-clause-some : goal.report-requires-clause-some
 report-requires-clause-some g c =

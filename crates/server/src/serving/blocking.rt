@@ -7,15 +7,17 @@ ghost use Rattle.workers.specs.Run.{AllWorked, kept};
 ghost use Rattle.workers.specs.declared.run.Finished.{Finished};
 ghost use Rattle.commands.specs.Streams.{end_of};
 ghost use Rattle.server.specs.Serve.{SetUpRun, always_open};
-ghost use Rattle.bundled.specs.Serve.{ClientComes, EndsClient, MayTake, ServedInTurn, most_taken as taken_by, most_turns as turns_of, unknown};
+ghost use Rattle.server.specs.Serving.{ClientComes, EndsClient, MayTake, ServedInTurn, most_taken as taken_by, most_turns as turns_of, unknown};
 
+use crate::ending::report;
+use crate::lines::{Said, say};
 use crate::serving::clients::Clients;
 use crate::serving::host::Host;
 use crate::serving::stream::close;
+use crate::set_up::SetUp;
 use command_line::{Connections, Settings};
 use commands::Fault;
 use frame_front::{Counted, FrontError};
-use server::{Said, SetUp, report, say};
 use shard_store::{Pass, Store};
 use std::alloc::{AllocError, Global};
 use std::io;
@@ -59,7 +61,7 @@ impl<'a> Sessions for Clients<'a> {
 
     type Writer = TcpStream;
 
-    ghost use Rattle.bundled.specs.Serve.{ClientComes, EndsClient};
+    ghost use Rattle.server.specs.Serving.{ClientComes, EndsClient};
 
     ghost left = { λ clients. clients.left };
 

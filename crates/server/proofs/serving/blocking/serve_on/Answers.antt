@@ -9,8 +9,8 @@ use Rattle.workers.specs.declared.ended.Worked.{Worked}
 use Rattle.workers.proofs.FinishedLists.{all_long, all_own, kept_own, kept_ranges, ranges_same}
 use Rattle.server.specs.Serve.{always_open, Reports}
 use Rattle.commands.specs.Streams.{TellsUnlessFailed, end_of}
-use Rattle.bundled.specs.Serve.{ClientComes, EndsClient, unknown}
-use Rattle.bundled.proofs.serving.blocking.serve_on.Goals as goal
+use Rattle.server.specs.Serving.{ClientComes, EndsClient, unknown}
+use Rattle.server.proofs.serving.blocking.serve_on.Goals as goal
 
 pub report-requires-clause-some : goal.report-requires-clause-some
 report-requires-clause-some g c =

@@ -1,12 +1,8 @@
 //! What a worker waits with.
-use crate::serving::ports::Ports;
-use commands::Fault;
-use frame_front::FrontError;
 use mio::unix::SourceFd;
-use mio::{Events, Interest, Poll, Token, Waker};
-use std::alloc::Global;
+use mio::{Events, Interest, Poll, Token};
+use std::alloc::{AllocError, Global};
 use std::io;
-use std::net::Net;
 use std::os::fd::RawFd;
 use std::time::Duration;
 
@@ -14,7 +10,7 @@ use std::time::Duration;
 pub const MOST_EVENTS: usize = 256;
 
 /// The place of nobody: what the system tells of it is that a client may be waiting, or that the worker was woken.
-const NOBODY: Token = Token(usize::MAX);
+pub const NOBODY: Token = Token(usize::MAX);
 
 /// What the system tells a worker.
 #[derive(Clone, Copy)]
@@ -35,22 +31,14 @@ pub struct Ready {
 }
 
 impl Ready {
-    /// Waits for clients at the ports; and the worker can be woken.
-    pub fn new<N: Net>(net: &N, alloc: Global, ports: &Ports) -> Result<(Ready, Waker), Fault> {
-        let Ok(events) = Events::with_capacity(alloc, MOST_EVENTS) else {
-            return Err(Fault::Front(FrontError::Memory));
-        };
-        match watching(net, ports) {
-            Ok((poll, waker)) => Ok((
-                Ready {
-                    poll,
-                    events,
-                    told: 0,
-                },
-                waker,
-            )),
-            Err(_) => Err(Fault::Listen),
-        }
+    /// Waits with the poll, which waits for clients at the ports already.
+    pub fn new(alloc: Global, poll: Poll) -> Result<Ready, AllocError> {
+        let events = Events::with_capacity(alloc, MOST_EVENTS)?;
+        Ok(Ready {
+            poll,
+            events,
+            told: 0,
+        })
     }
 
     /// Waits for the client at the place, too: until it is closed, whenever more has come, or more can be written.
@@ -80,17 +68,4 @@ impl Ready {
             is_closing: event.is_read_closed() || event.is_error(),
         })
     }
-}
-
-/// What waits for clients at the ports, and what ends its waits.
-fn watching<N: Net>(net: &N, ports: &Ports) -> io::Result<(Poll, Waker)> {
-    let poll = Poll::new(net)?;
-    let registry = poll.registry();
-    let waker = Waker::new(registry, NOBODY)?;
-    let (all, reads) = ports.fds();
-    registry.register(&mut SourceFd(&all), NOBODY, Interest::READABLE)?;
-    if let Some(reads) = reads {
-        registry.register(&mut SourceFd(&reads), NOBODY, Interest::READABLE)?;
-    }
-    Ok((poll, waker))
 }

@@ -1,6 +1,6 @@
 use Rattle.std.proofs.Common.{◌≡◌, ◌++◌, length, vec_len}
 use Rattle.std.specs.Vec.Iter.{into_iter_items, into_iter_len}
-use Rattle.bundled.proofs.serving.lasting.incoming_of.Given as goal
+use Rattle.server.proofs.serving.lasting.incoming_of.Given as goal
 
 abbrev pub invariant-loop-ready : goal.invariant-loop-ready
 invariant-loop-ready g l =

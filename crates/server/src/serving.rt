@@ -1,0 +1,16 @@
+//! How a server serves the clients that come to its listeners: its workers, and what they wait with.
+mod blocking;
+mod clients;
+mod host;
+mod incoming;
+mod lasting;
+mod ports;
+mod ready;
+mod shared;
+mod stream;
+
+pub use blocking::serve_on;
+pub use host::Host;
+pub use lasting::{Task, Waits, serve_at, tell_early};
+pub use ports::Ports;
+pub use ready::NOBODY;
