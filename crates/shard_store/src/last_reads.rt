@@ -4,6 +4,7 @@ ghost use Rattle.std.specs.Arc.{arc_value};
 ghost use Rattle.shard_store.specs.declared.change.Change.{Change};
 ghost use Rattle.shard_store.specs.Private.LastReads.{AreLastReads, IsLastRead};
 
+use crate::in_hand::may_write;
 use map_core::{Contents, Op};
 use std::alloc::{AllocError, Global};
 use std::sync::Arc;
@@ -83,9 +84,4 @@ impl LastReads {
         }
         Ok(())
     }
-}
-
-/// Whether the operation may change the map.
-fn may_write(op: &Op) -> bool {
-    !matches!(op, Op::Get(_) | Op::FetchAll)
 }

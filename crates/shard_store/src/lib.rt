@@ -9,6 +9,7 @@ mod close;
 mod fetch;
 mod held_pass;
 mod holds;
+mod in_hand;
 mod last_all;
 mod last_reads;
 pub mod laws;

@@ -8,6 +8,7 @@ ghost use Rattle.shard_store.specs.Promise.{IsLater, IsRefusedAt};
 ghost use Rattle.shard_store.specs.Private.Seat.{IsAt, IsSameSeat, IsIdle, IsHolding, IsReplyRead, Missed, Writes, Tried, change_by};
 
 use crate::holds::{hold_from, publish, read_version, try_hold};
+use crate::in_hand::change_held;
 use crate::last_reads::LastRead;
 use crate::rule::{ShardTable, StoreSeat};
 use map_core::{AskError, Contents, Op, Reply};
@@ -79,7 +80,7 @@ pub(crate) fn given_up(tries: u64, failed: u64, shard: usize, word: u64) -> AskE
     }
 }
 
-// One try.
+// One try. A change is made where the version is, if nobody else owns it.
 fn try_once(
     alloc: Global,
     shards: &ShardTable,
@@ -96,10 +97,14 @@ fn try_once(
         (Tried seat.old.table_id.slots shard op.now seat.old.me.0.seen seat.new.me.0.seen)
         (IsRefusedAt seat.old.table_id.slots op.now seat.old.me.0.seen seat.new.me.0.seen) }
 {
-    match try_hold(shards, seat, shard) {
-        Ok(word) => try_held(alloc, shards, seat, shard, word, op),
-        Err(found) => Ok(Attempt::Blocked(found)),
+    let word = match try_hold(shards, seat, shard) {
+        Ok(word) => word,
+        Err(found) => return Ok(Attempt::Blocked(found)),
+    };
+    if let Some(reply) = change_held(shards, seat, shard, word, op)? {
+        return Ok(Attempt::Replied(reply, None));
     }
+    try_held(alloc, shards, seat, shard, word, op)
 }
 
 // One try at a shard that is held: its version is read, and the one after it made while nothing is held.

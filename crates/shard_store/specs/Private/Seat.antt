@@ -1,5 +1,6 @@
 -- What a seat knows and has in hand, from step to step.
-use Rattle.std.specs.Prelude.{◌≡◌, ℕ, ◌/◌, ◌<◌, ◌≤◌, List, [], ◌∷◌, ◌++◌, Option, Some, None, Result, Ok, Err}
+use Rattle.std.specs.Prelude.{◌≡◌, ℕ, ◌/◌, ◌<◌, ◌≤◌, true, false, List, [], ◌∷◌, ◌++◌, Option, Some, None, Result, Ok, Err}
+use Rattle.std.specs.declared.alloc.AllocError.{AllocError}
 use Rattle.std.specs.Arc.{arc_value}
 use Rattle.std.specs.declared.sync.Arc.{Arc}
 use Rattle.atomic_table.specs.Table.{Me}
@@ -8,14 +9,15 @@ use Rattle.atomic_table.specs.declared.shared.Seat.{Seat}
 use Rattle.map_core.specs.declared.op.Op.{Op}
 use Rattle.map_core.specs.declared.reply.Reply.{Reply}
 use Rattle.map_core.specs.declared.reply.AskError.{AskError}
-use Rattle.map_core.specs.PlainMap.{PlainMap}
+use Rattle.map_core.specs.Reply.{is_change}
+use Rattle.map_core.specs.PlainMap.{PlainMap, ask}
 use Rattle.shard_store.specs.declared.change.Change.{Change}
 use Rattle.shard_store.specs.declared.change.Seen.{Seen}
 use Rattle.shard_store.specs.declared.change.View.{View}
 use Rattle.shard_store.specs.declared.last_reads.LastRead.{LastRead}
 use Rattle.shard_store.specs.declared.one_shard.Attempt.{Attempt}
 use Rattle.shard_store.specs.declared.one_shard.Attempt.TheVariants.{Replied, Blocked}
-use Rattle.shard_store.specs.Changes.{change_of, count, Extends, own_count, own_number}
+use Rattle.shard_store.specs.Changes.{after, change_of, count, Extends, own_count, own_number}
 use Rattle.shard_store.specs.Numbers.{IsPart}
 use Rattle.shard_store.specs.Promise.{IsLater, IsAlone, IsReply, IsRefusedAt}
 use Rattle.shard_store.specs.Rule.{SlotValue}
@@ -74,3 +76,23 @@ ShardAnswer n op s (Err e) t = IsRefusedAt n op s t e
 abbrev pub Tried : ℕ → ℕ → Op → Seen → Seen → Attempt → Type 0
 Tried n shard op s t (Replied reply read) = IsReplyRead n shard op s reply read t
 Tried n shard op s t (Blocked found) = IsLater t s × Missed n shard s found t
+
+-- What a version says of the operation, and what it is then. Nothing is said if others own it, or if memory was refused.
+abbrev pub AsksAlone : Op → PlainMap → Result (Option Reply) AllocError → PlainMap → Type 0
+AsksAlone op old (Ok (Some reply)) new = (reply ≡ (ask old op).reply) × (new ≡ (ask old op).map)
+AsksAlone op old (Ok None) new = new ≡ old
+AsksAlone op old (Err e) new = new ≡ old
+
+module _ {Z : Type 0} where
+  -- What the version in hand says of the operation, and what is in hand then
+  abbrev pub AsksInHand : ℕ → ℕ → Op → Seen → Result (Option Reply) AllocError → Me (SlotValue Z) View → Type 0
+  AsksInHand n shard op s (Ok (Some reply)) m = (reply ≡ (ask (after s.log) op).reply)
+      × (is_change reply ≡ true → HasInHand n shard (s.log ++ change_by op s ∷ []) m) × (is_change reply ≡ false → HasInHand n shard s.log m)
+  AsksInHand n shard op s (Ok None) m = HasInHand n shard s.log m
+  AsksInHand n shard op s (Err e) m = HasInHand n shard s.log m
+
+  -- what the version of a shard that was held says of the operation: the shard is let go, or still held if others own the version
+  abbrev pub AsksHeld : ℕ → ℕ → Op → Seen → Result (Option Reply) AskError → Me (SlotValue Z) View → Type 0
+  AsksHeld n shard op s (Ok (Some reply)) m = IsIdle m × IsReply op s reply m.0.seen
+  AsksHeld n shard op s (Ok None) m = IsHolding n shard m × (m.0.seen ≡ s)
+  AsksHeld n shard op s (Err e) m = IsIdle m × IsRefusedAt n op s m.0.seen e
