@@ -1,12 +1,13 @@
 /* Refuses memory to a program that it is preloaded into (LD_PRELOAD): of the program's growths, which are the calls
-   of malloc and realloc counted from 1, those from REFUSE_FROM to REFUSE_TO fail. If REFUSE_THREADS is not 0, no thread
-   can be made. To the descriptor REFUSE_REPORT it writes a '+' as it starts and a '-' for each growth that it refuses.
+   of malloc and realloc counted from 1, those from REFUSE_FROM to REFUSE_TO fail. A realloc to no more than the block has
+   gives memory back, and is none. If REFUSE_THREADS is not 0, no thread can be made. To the descriptor REFUSE_REPORT it writes a '+' as it starts and a '-' for each growth that it refuses.
 
    Names are declared here, since the compiler of the Rattle kit, which compiles this file, comes without headers. */
 
 typedef __SIZE_TYPE__ size_t;
 
 void *dlsym(void *library, const char *name);
+size_t malloc_usable_size(void *block);
 char *getenv(const char *name);
 unsigned long strtoul(const char *text, char **end, int base);
 long write(int descriptor, const void *bytes, size_t count);
@@ -56,7 +57,9 @@ void *malloc(size_t size) {
 }
 
 void *realloc(void *old, size_t size) {
-    return is_refused() ? 0 : next_realloc(old, size);
+    start();
+    int shrinks = old && size <= malloc_usable_size(old);
+    return !shrinks && is_refused() ? 0 : next_realloc(old, size);
 }
 
 int pthread_create(void *thread, const void *how, void *(*body)(void *), void *given) {
