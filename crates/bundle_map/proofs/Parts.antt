@@ -8,7 +8,7 @@ use Rattle.serde_json.specs.Written.{comma_if}
 use Rattle.spiffe_doc.specs.declared.authority.Authority.{Authority}
 use Rattle.spiffe_doc.specs.declared.authority.Authority.TheVariants.{X509, Jwt}
 use Rattle.spiffe_doc.specs.Authority.{IsAuthority, BundleValue}
-use Rattle.spiffe_doc.specs.Bundle.{AreApart, IsBundle}
+use Rattle.spiffe_doc.specs.Bundle.{is_x509, AreApart, IsBundle}
 use Rattle.spiffe_doc.specs.Text.{entry_text, text_of}
 use Rattle.spiffe_doc.specs.Private.Writing.{entry_texts, front_text, number_text, rest_text}
 use Rattle.spiffe_doc.proofs.TextLemmas.{text_of-pieces}
@@ -19,7 +19,7 @@ use Rattle.frame_front.proofs.MigrationLemmas.{migration}
 use Rattle.bundle_map.specs.declared.profile.Profile.{Profile}
 use Rattle.bundle_map.specs.declared.profile.Profile.TheVariants as profiles
 use Rattle.bundle_map.specs.Choice.{is_named, chosen}
-use Rattle.bundle_map.specs.Map.{is_x509, x509_part, shown, AreOrdered}
+use Rattle.bundle_map.specs.Map.{x509_part, shown, AreOrdered}
 
 pub dump_ordered : (dump : List ℕ) (items : Domains) → IsDump dump items → AreOrdered items
 dump_ordered dump items is = ((migration dump items is).0, is.ascending)

@@ -11,11 +11,11 @@ use Rattle.spiffe_doc.specs.Authority.{BundleValue}
 use Rattle.spiffe_doc.specs.Name.{IsName}
 use Rattle.spiffe_doc.specs.Text.{entry_text, text_of}
 use Rattle.spiffe_doc.specs.declared.authority.Authority.{Authority}
-use Rattle.spiffe_doc.specs.Private.Writing.{front_text, rest_text, number_text}
-use Rattle.spiffe_doc.proofs.TextLemmas.{front_text-push, rest_text-pieces, text_of-pieces}
+use Rattle.spiffe_doc.specs.Private.Writing.{entry_texts, front_text, rest_text, number_text}
+use Rattle.spiffe_doc.proofs.TextLemmas.{rest_text-pieces, text_of-pieces}
 use Rattle.map_core.specs.Name.{Name}
 use Rattle.frame_front.specs.Dump.{Domains}
-use Rattle.bundle_map.specs.Map.{domain_members, map_text, is_x509}
+use Rattle.bundle_map.specs.Map.{domain_members, map_text}
 use Rattle.bundle_map.specs.Private.Writing.{domain_texts}
 use Rattle.bundle_map.proofs.Names.{quoted-name}
 
@@ -88,19 +88,6 @@ domain_behind front t u v items item first before named told is =
 
 -- ---- the text of a bundle's X.509 authorities
 
-comma-first : (first : Bool) → comma_if (not first) ≡ cond first [] (44 ∷ [])
-comma-first true = refl
-comma-first false = refl
-
-pub entry_behind : (old t u v : List ℕ) (some : List Authority) (authority : Authority) (entry : List ℕ) (first : Bool) → t ≡ old ++ front_text some
-    → u ≡ t ++ comma_if (not first) → v ≡ u ++ entry → entry ≡ entry_text authority → first ≡ (length some == 0) → v ≡ old ++ front_text (some ++ authority ∷ [])
-entry_behind old t u v some authority entry first before comma told same is =
-    told ∙ (λ i. comma i ++ same i) ∙ (λ i. (before i ++ comma-first (is i) i) ++ entry_text authority)
-    ∙ regroup old (front_text some) (cond (length some == 0) [] (44 ∷ [])) (entry_text authority) ∙ ap (λ x. old ++ x) (sym (front_text-push some authority))
-  where
-    regroup : (a b c d : List ℕ) → ((a ++ b) ++ c) ++ d ≡ a ++ (b ++ (c ++ d))
-    regroup a b c d = simp append_assoc
-
 -- the end of a bundle with no hint
 pub rest_behind : (old t u v w : List ℕ) (bundle : BundleValue) → t ≡ old ++ front_text bundle.authorities → u ≡ t ++ codes "]"
     → v ≡ u ++ number_text (codes ",\"spiffe_sequence\":") bundle.sequence → w ≡ v ++ codes "}" → bundle.refresh_hint ≡ None → w ≡ old ++ text_of bundle
@@ -112,15 +99,7 @@ rest_behind old t u v w bundle front list number end none =
     ∙ ap (λ hint. old ++ (front_text bundle.authorities ++ rest_text hint bundle.sequence)) (sym none)
     ∙ ap (λ x. old ++ x) (sym (text_of-pieces bundle))
 
--- one authority more, of which it is known whether it is of X.509
-pub x509_more : (xs : List Authority) (i : ℕ) (a : Authority) → i < length xs → a ≡ get_or xs i a → is_x509 a ≡ true
-    → filter is_x509 (take (i + 1) xs) ≡ filter is_x509 (take i xs) ++ a ∷ []
-x509_more xs i a inside at is = filter_more is_x509 xs i a inside ∙ ap (λ x. filter is_x509 (take i xs) ++ cond (is_x509 x) (x ∷ []) []) (sym at) ∙ ap (λ b. filter is_x509 (take i xs) ++ cond b (a ∷ []) []) is
-
-pub x509_same : (xs : List Authority) (i : ℕ) (a : Authority) → i < length xs → a ≡ get_or xs i a → is_x509 a ≡ false
-    → filter is_x509 (take (i + 1) xs) ≡ filter is_x509 (take i xs)
-x509_same xs i a inside at is = filter_more is_x509 xs i a inside ∙ ap (λ x. filter is_x509 (take i xs) ++ cond (is_x509 x) (x ∷ []) []) (sym at) ∙ ap (λ b. filter is_x509 (take i xs) ++ cond b (a ∷ []) []) is
-    ∙ append-nil (filter is_x509 (take i xs))
-
-pub none_last : {X : Type 0} (xs : List X) (x : X) → false ≡ (length (xs ++ x ∷ []) == 0)
-none_last xs x = rw length_push (grind (arith, nat_tests))
+-- the text before the first entry, and the entries
+pub texts_begun : (old : List ℕ) (xs : List Authority) → (old ++ codes "{\"keys\":[") ++ entry_texts false xs ≡ old ++ front_text xs
+unfolding front_text
+texts_begun old xs = append_assoc old (codes "{\"keys\":[") (entry_texts false xs)

@@ -1,10 +1,10 @@
 -- SPIFFE bundle maps (gRFC A87, `spiffe_trust_bundle_map_file`): one JSON object of the bundles of several trust domains.
-use Rattle.std.specs.Prelude.{List, [], ◌∷◌, ℕ, codes, filter, Bool, true, false, None}
+use Rattle.std.specs.Prelude.{List, [], ◌∷◌, ℕ, codes, filter, None}
 use Rattle.serde_json.specs.Data.{Data, object, Members, no_members, member}
 use Rattle.serde_json.specs.Written.{compact_text}
 use Rattle.spiffe_doc.specs.declared.authority.Authority.{Authority}
-use Rattle.spiffe_doc.specs.declared.authority.Authority.TheVariants.{X509, Jwt}
 use Rattle.spiffe_doc.specs.Authority.{BundleValue}
+use Rattle.spiffe_doc.specs.Bundle.{is_x509}
 use Rattle.spiffe_doc.specs.Text.{document_tree}
 use Rattle.map_core.specs.Name.{Name}
 use Rattle.map_core.specs.Laws.{Ascends}
@@ -30,10 +30,6 @@ abbrev pub AreOrdered : Domains → Type 0
 AreOrdered items = AreValid items × Ascends None items
 
 -- ---- what a map shows of a bundle
-
-abbrev pub is_x509 : Authority → Bool
-is_x509 (X509 key der) = true
-is_x509 (Jwt kid key) = false
 
 -- the bundle with only its X.509 authorities, and with no refresh hint
 abbrev pub x509_part : BundleValue → BundleValue

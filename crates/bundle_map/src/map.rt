@@ -7,7 +7,7 @@ ghost use Rattle.spiffe_doc.specs.Private.Writing.{number_text};
 ghost use Rattle.bundle_map.specs.Map.{map_text, shown, shown_bundle, x509_part};
 
 use crate::profile::Profile;
-use spiffe_doc::{Authority, Bundle, TrustDomain, write_entry};
+use spiffe_doc::{Bundle, TrustDomain};
 use std::alloc::{AllocError, Global};
 
 /// The bundle map of these domains: one line of JSON with no space, in their order. The canonical text of each bundle
@@ -70,10 +70,10 @@ fn put_x509_part(alloc: Global, text: &mut Vec<u8>, bundle: &Bundle) -> Result<(
 {
     text.extend_from_slice(b"{\"keys\":[")?;
     let mut is_first = true;
-    for authority in bundle.authorities() {
-        if let Authority::X509 { .. } = authority {
+    for entry in bundle.authorities().iter() {
+        if entry.is_x509() {
             put_comma(text, is_first)?;
-            text.extend_from_slice(&write_entry(alloc, authority)?)?;
+            text.extend_from_slice(entry.text())?;
             is_first = false;
         }
     }

@@ -20,7 +20,8 @@ use Rattle.spiffe_doc.specs.Text.{text_of}
 use Rattle.spiffe_doc.specs.Document.{elements, verdict, authorities_by, authorities_before, distinct, fault_after, fault_at, least_fault, authorities_of, whole_number, within, json_tree, bundle_of, document}
 use Rattle.doc_report.specs.declared.ignored.Reason.{Reason}
 use Rattle.doc_report.specs.Ignored.{reason}
-use Rattle.doc_report.specs.Report.{entries_of, entries_in, ignored_for, ignored_before, is_x509, is_jwt}
+use Rattle.doc_report.specs.Report.{entries_of, entries_in, ignored_for, ignored_before, is_jwt}
+use Rattle.spiffe_doc.specs.Bundle.{is_x509}
 use Rattle.doc_report.specs.Private.Counts.{AreEntries}
 use Rattle.doc_report.proofs.Reasons.{Agree, judge-reason}
 

@@ -9,7 +9,8 @@ use Rattle.spiffe_doc.specs.declared.error.DocError.TheVariants.{TooLong, NotJso
 use Rattle.spiffe_doc.specs.Authority.{BundleValue}
 use Rattle.spiffe_doc.specs.Document.{authorities_before, distinct, document}
 use Rattle.doc_report.specs.declared.fault.DocFault.{DocFault}
-use Rattle.doc_report.specs.Report.{ReportValue, is_x509, is_jwt, ignored_entries, entries_in, repeats, figures, fault_by, reported, report_of, entries_told}
+use Rattle.spiffe_doc.specs.Bundle.{is_x509}
+use Rattle.doc_report.specs.Report.{ReportValue, is_jwt, ignored_entries, entries_in, repeats, figures, fault_by, reported, report_of, entries_told}
 use Rattle.doc_report.specs.Laws.{FaultsStay}
 use Rattle.doc_report.proofs.Entries.{kinds, distinct-fewer, entries_counted, document-entries}
 use Rattle.doc_report.specs.Private.Counts.{AreEntries}

@@ -8,6 +8,7 @@ use Rattle.spiffe_doc.specs.declared.authority.Authority.TheVariants.{X509, Jwt}
 use Rattle.spiffe_doc.specs.declared.error.DocError.{DocError}
 use Rattle.spiffe_doc.specs.declared.error.DocError.TheVariants.{BadKey}
 use Rattle.spiffe_doc.specs.Authority.{BundleValue}
+use Rattle.spiffe_doc.specs.Bundle.{is_x509}
 use Rattle.spiffe_doc.specs.Document.{elements, authorities_before, distinct, json_tree, document}
 use Rattle.doc_report.specs.declared.fault.DocFault.{DocFault}
 use Rattle.doc_report.specs.declared.ignored.Ignored.{Ignored}
@@ -48,10 +49,6 @@ pub record ReportValue : Type 0 where
   pub jwt : ℕ
   pub repeated : ℕ
   pub ignored : List Ignored
-
-abbrev pub is_x509 : Authority → Bool
-is_x509 (X509 key der) = true
-is_x509 (Jwt kid key) = false
 
 abbrev pub is_jwt : Authority → Bool
 is_jwt (X509 key der) = false

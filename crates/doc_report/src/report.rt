@@ -2,10 +2,11 @@
 ghost use Rattle.std.specs.Prelude.{◌≡◌, ◌⊎◌, ◌≤◌, length, map, Ok, Err, Some, codes, option_map, option_and_then, slice_get, IfOk, MatchResult, count_by};
 ghost use Rattle.serde_json.specs.Find.{get, as_array};
 ghost use Rattle.serde_json.specs.View.{view, items_view};
+ghost use Rattle.spiffe_doc.specs.Bundle.{is_x509 as x509};
 ghost use Rattle.spiffe_doc.specs.Document.{json_tree};
 ghost use Rattle.doc_report.specs.Fault.{no_memory};
 ghost use Rattle.doc_report.specs.KeyMember.{faulty_member as member_of};
-ghost use Rattle.doc_report.specs.Report.{entries_of, entries_in, ignored_entries, figures as figures_of, report_of, value_of, is_x509 as x509};
+ghost use Rattle.doc_report.specs.Report.{entries_of, entries_in, ignored_entries, figures as figures_of, report_of, value_of};
 ghost use Rattle.doc_report.specs.Private.Counts.{AreEntries};
 
 use crate::fault::DocFault;
@@ -13,7 +14,7 @@ use crate::ignored::Ignored;
 use crate::key_member::{KeyMember, faulty_member};
 use crate::reason::reason;
 use serde_json::Value;
-use spiffe_doc::{Authority, Bundle, DocError, read_document};
+use spiffe_doc::{Authorities, Bundle, DocError, read_document};
 use std::alloc::{AllocError, Global};
 
 /// The figures of the bundle that a document is, and what of the document is ignored. Each entry of `keys` gives an
@@ -84,7 +85,7 @@ fn figures(bundle: &Bundle, entries: &[Value], ignored: Vec<Ignored>) -> Report
     ensures { value_of result ≡ figures_of bundle.now (map view entries.now) }
 {
     let authorities = bundle.authorities();
-    let x509 = count_x509(authorities);
+    let x509 = count_x509(&authorities);
     Report {
         sequence: bundle.sequence(),
         refresh_hint: bundle.refresh_hint(),
@@ -136,20 +137,14 @@ fn ignored(alloc: Global, entries: &[Value]) -> Result<Vec<Ignored>, AllocError>
 }
 
 /// How many of them are X.509 authorities.
-fn count_x509(authorities: &[Authority]) -> usize
+fn count_x509(authorities: &Authorities<'_>) -> usize
     ensures { result ≡ count_by x509 authorities.now }
 {
     let mut count = 0;
-    for authority in authorities {
-        if is_x509(authority) {
+    for authority in authorities.iter() {
+        if authority.is_x509() {
             count += 1;
         }
     }
     count
-}
-
-fn is_x509(authority: &Authority) -> bool
-    ensures { result ≡ x509 authority.now }
-{
-    matches!(authority, Authority::X509 { .. })
 }

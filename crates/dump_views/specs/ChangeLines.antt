@@ -1,13 +1,12 @@
 -- Changes as lines of text.
-use Rattle.std.specs.Prelude.{ℕ, ◌==◌, ◌&&◌, List, [], ◌∷◌, ◌++◌, length, codes, decimal, Bool, true, false, not, nat_eq, if◌then◌else◌, Option, Some, None}
+use Rattle.std.specs.Prelude.{ℕ, ◌==◌, ◌&&◌, List, [], ◌∷◌, ◌++◌, length, codes, decimal, Bool, not, nat_eq, if◌then◌else◌, Option, Some, None}
 use Rattle.std.specs.List.{flat_map, count_by, list_all}
 use Rattle.std.specs.Option.{option_eq}
 use Rattle.std.specs.Cmp.Lexicographic.{pointwise}
 use Rattle.spiffe_doc.specs.declared.authority.Authority.{Authority}
-use Rattle.spiffe_doc.specs.declared.authority.Authority.TheVariants.{X509, Jwt}
 use Rattle.spiffe_doc.specs.Authority.{BundleValue}
 use Rattle.spiffe_doc.specs.Equal.{authority_eq}
-use Rattle.spiffe_doc.specs.Bundle.{is_among}
+use Rattle.spiffe_doc.specs.Bundle.{is_x509, is_among}
 use Rattle.map_core.specs.Name.{Name}
 use Rattle.dump_views.specs.Changes.{Change, Added, Removed, Changed}
 
@@ -21,10 +20,6 @@ unfoldable pub number_words : List ℕ → Option ℕ → Option ℕ → List �
 number_words label old new =
     if option_eq nat_eq old new then []
     else label ++ (number_word old ++ (codes " to " ++ number_word new))
-
-abbrev pub is_x509 : Authority → Bool
-is_x509 (X509 key der) = true
-is_x509 (Jwt kid key) = false
 
 -- how many X.509 authorities these have that the others have not
 abbrev pub x509_beyond : List Authority → List Authority → ℕ

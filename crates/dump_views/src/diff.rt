@@ -172,7 +172,7 @@ fn put_bundle_words(old: &Bundle, new: &Bundle, out: &mut Vec<u8>) -> Result<(),
 {
     put_number_words(b" sequence ", old.sequence(), new.sequence(), out)?;
     put_number_words(b" hint ", old.refresh_hint(), new.refresh_hint(), out)?;
-    put_authority_words(old.authorities(), new.authorities(), out)?;
+    put_authority_words(&old.authorities(), &new.authorities(), out)?;
     Ok(())
 }
 

@@ -5,7 +5,7 @@ ghost use Rattle.dump_views.specs.Pem.{base64_of, cut, line, pem_of, pem_of_auth
 ghost use Rattle.dump_views.specs.Private.Fronts.{IsFront};
 
 use base64::engine::general_purpose::STANDARD;
-use spiffe_doc::{Authority, Bundle};
+use spiffe_doc::{Authorities, Authority, Bundle, Entry};
 use std::alloc::AllocError;
 
 /// How many bytes a whole line has as base64 (RFC 7468, section 2).
@@ -22,7 +22,7 @@ pub fn put_pem(bundle: &Bundle, out: &mut Vec<u8>) -> Result<(), AllocError>
     ensures err { OnErr result (out.new.items ≡ out.old.items) }
 {
     let before = out.len();
-    let put = put_authorities(bundle.authorities(), out);
+    let put = put_authorities(&bundle.authorities(), out);
     if put.is_err() {
         out.truncate(before);
     }
@@ -30,21 +30,21 @@ pub fn put_pem(bundle: &Bundle, out: &mut Vec<u8>) -> Result<(), AllocError>
 }
 
 #[tactic(auto, using(crate::proofs::FrontLemmas::front_same, crate::proofs::FrontLemmas::front_more, crate::proofs::FrontLemmas::front_through))]
-fn put_authorities(authorities: &[Authority], out: &mut Vec<u8>) -> Result<(), AllocError>
+fn put_authorities(authorities: &Authorities<'_>, out: &mut Vec<u8>) -> Result<(), AllocError>
     ensures ok { OnOk result (out.new.items ≡ out.old.items ++ flat_map pem_of_authority authorities.now) }
     ensures err { OnErr result (IsFront out.old.items out.new.items) }
 {
-    for authority in authorities {
-        put_authority(authority, out)?;
+    for entry in authorities.iter() {
+        put_entry(&entry, out)?;
     }
     Ok(())
 }
 
-fn put_authority(authority: &Authority, out: &mut Vec<u8>) -> Result<(), AllocError>
-    ensures ok { OnOk result (out.new.items ≡ out.old.items ++ pem_of_authority authority.now) }
+fn put_entry(entry: &Entry<'_>, out: &mut Vec<u8>) -> Result<(), AllocError>
+    ensures ok { OnOk result (out.new.items ≡ out.old.items ++ pem_of_authority entry.now) }
     ensures err { OnErr result (IsFront out.old.items out.new.items) }
 {
-    match authority {
+    match entry.decode(*out.allocator())? {
         Authority::X509 { der, .. } => put_certificate(der.der().as_slice(), out),
         Authority::Jwt { .. } => Ok(()),
     }

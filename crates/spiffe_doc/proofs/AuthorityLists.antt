@@ -8,7 +8,7 @@ use Rattle.spiffe_doc.specs.declared.authority.Authority.{Authority}
 use Rattle.spiffe_doc.specs.Authority.{IsAuthority}
 use Rattle.spiffe_doc.specs.Equal.{authority_eq}
 use Rattle.spiffe_doc.specs.Bundle.{same_kid, is_among, is_kid_taken, AreApart, AreAuthorities}
-use Rattle.spiffe_doc.specs.Private.AuthoritySet.{admission}
+use Rattle.spiffe_doc.specs.Private.EntrySet.{admission}
 
 any_false : (test : Authority → Bool) (xs : List Authority) → list_any test xs ≡ false → (k : ℕ) (d : Authority) → k < length xs → test (get_or xs k d) ≡ false
 any_false test [] h k d less = absurd (omega arith)

@@ -214,7 +214,7 @@ bundle_of-place text tree e is h =
 
 -- ---- the document
 
-json_tree-read : (text : List ℕ) (tree : Data) → json_tree text ≡ Some tree → read text ≡ Some tree
+pub json_tree-read : (text : List ℕ) (tree : Data) → json_tree text ≡ Some tree → read text ≡ Some tree
 json_tree-read text tree h = elim (cases_Bool (is_utf8 text)) [
   | inl utf8 ↦ rw utf8 at h
   | inr other ↦ cc (rw other at h)

@@ -1,5 +1,5 @@
 -- A text stands for the bytes whose encoding it is, and for no others.
-use Rattle.std.proofs.Common.{◌≡◌, ℕ, List, length, true, nat_lt, Option, Some, None, Ok, Err, refl, arith, inl, inr}
+use Rattle.std.proofs.Common.{◌≡◌, ℕ, List, length, true, nat_lt, Option, Some, None, Ok, Err, refl, sym, ap, ◌∙◌, arith, inl, inr}
 use Rattle.std.specs.List.{list_all}
 use Rattle.std.specs.Cmp.Lexicographic.{bytes_decides}
 use Rattle.std.proofs.lemmas.Bool.{cases_Bool, cases_lt, lt-ltb, ltb-true, and_parts}
@@ -10,6 +10,7 @@ use Rattle.base64.specs.declared.engine.general_purpose.GeneralPurpose.{GeneralP
 use Rattle.base64.specs.GeneralPurpose.{encode_of, decode_of, decoded_of, IsBytes, IsConsistent}
 use Rattle.base64.proofs.EngineFacts.{decode_of-encode_of}
 use Rattle.spiffe_doc.specs.Judgement.{if_passes, is_encoding, encoded_bytes}
+use Rattle.spiffe_doc.specs.Private.Encoded.{or_none, Encodes}
 
 pub IsBytes-list_all : (bytes : List ℕ) → list_all (λ byte. nat_lt byte 256) bytes ≡ true → IsBytes bytes
 IsBytes-list_all bytes h i = elim (cases_lt i (length bytes)) [
@@ -46,3 +47,14 @@ encoded_bytes-some e text bytes h = go (decoded_of e text) h
 -- the encoding of bytes stands for them
 pub encoded_bytes-encode_of : (e : GeneralPurpose) (bytes : List ℕ) → IsConsistent e → IsBytes bytes → encoded_bytes e (encode_of e bytes) ≡ Some bytes
 encoded_bytes-encode_of e bytes consistent are = encoded_bytes-ok e _ bytes (decode_of-encode_of e bytes consistent are) are refl
+
+-- what the decoder gives of it
+pub decoded-is : (e : GeneralPurpose) (text bytes out : List ℕ) → IsConsistent e → encoded_bytes e text ≡ Some bytes → decode_of e text ≡ Ok out → out ≡ bytes
+decoded-is e text bytes out consistent h ok =
+    let p = encoded_bytes-some e text bytes h in
+    cc (sym ok ∙ ap (decode_of e) p.1 ∙ decode_of-encode_of e bytes consistent p.0)
+
+pub Encodes-of : (e : GeneralPurpose) (text bytes : List ℕ) (len : ℕ) → encoded_bytes e text ≡ Some bytes → len ≡ length bytes → Encodes e text len
+Encodes-of e text bytes len h long =
+    let is = ap or_none h in
+    record { bytes = h ∙ ap Some (sym is); len_is = long ∙ ap length (sym is) }

@@ -6,7 +6,7 @@ use Rattle.json.specs.declared.value.Value.{Value}
 use Rattle.spiffe_doc.specs.Judgement.{judge}
 use Rattle.spiffe_doc.specs.Document.{elements, distinct, authorities_by, verdict, authorities_before, fault_after, least_fault, authorities_of}
 use Rattle.spiffe_doc.specs.Bundle.{is_among, is_kid_taken}
-use Rattle.spiffe_doc.specs.Private.AuthoritySet.{take_in}
+use Rattle.spiffe_doc.specs.Private.EntrySet.{take_in}
 use Rattle.spiffe_doc.specs.Private.Borrowed.{tree_data, list_data}
 use Rattle.spiffe_doc.specs.declared.authority.Authority.{Authority}
 use Rattle.spiffe_doc.specs.declared.error.DocError.{DocError}

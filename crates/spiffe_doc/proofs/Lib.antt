@@ -15,6 +15,9 @@ pub mod FirstPlaces
 pub mod ReadLemmas
 pub mod EntryLists
 pub mod TextUtf8
+pub mod EntryTexts
+pub mod PlaceLemmas
+pub mod KeptLemmas
 pub mod RoundTrip
 pub mod AuthorityLists
 pub mod SetLemmas
@@ -22,3 +25,5 @@ pub mod AppendLaws
 pub mod TokenCounts
 pub mod TextTrees
 pub mod DocumentLaws
+pub mod MatchingLemmas
+pub mod MatchedTexts

@@ -1,5 +1,5 @@
 -- The canonical text of a valid bundle is a document of that bundle.
-use Rattle.std.proofs.Common.{◌≡◌, ℕ, zero, suc, ◌<◌, ◌≤◌, ◌&&◌, List, [], ◌∷◌, length, get_or, take, Bool, true, false, nat_lt, nat_le, Option, Some, None, Ok, refl, sym, ap, ◌∙◌, arith}
+use Rattle.std.proofs.Common.{◌≡◌, ℕ, zero, suc, ◌<◌, ◌≤◌, ◌&&◌, List, [], ◌∷◌, length, get_or, take, bytes_eq, Bool, true, false, nat_lt, nat_le, Option, Some, None, Ok, refl, sym, ap, ◌∙◌, arith}
 use Rattle.std.specs.List.{list_any, AllPairs, AllByRecursion}
 use Rattle.std.specs.Str.{is_utf8}
 use Rattle.std.proofs.Math.Seq.{take-suc}
@@ -10,6 +10,8 @@ use Rattle.serde_json.specs.Data.{Data, null}
 use Rattle.serde_json.specs.Read.{read}
 use Rattle.spiffe_doc.specs.declared.authority.Authority.{Authority}
 use Rattle.spiffe_doc.specs.Authority.{IsAuthority, BundleValue}
+use Rattle.spiffe_doc.specs.Equal.{bundle_eq}
+use Rattle.spiffe_doc.specs.Private.Equality.{bundle_decides}
 use Rattle.spiffe_doc.specs.Judgement.{judge}
 use Rattle.spiffe_doc.specs.Text.{entry_trees, entry_text, document_tree, text_of}
 use Rattle.spiffe_doc.specs.Bundle.{is_among, is_kid_taken, AreApart, IsBundle}
@@ -17,7 +19,7 @@ use Rattle.spiffe_doc.specs.Document.{distinct, elements, verdict, authorities_b
 use Rattle.std.specs.Str.{IsUtf8}
 use Rattle.spiffe_doc.proofs.TreeLemmas.{read-compact_text}
 use Rattle.spiffe_doc.proofs.TextUtf8.{document_utf8, entry_utf8}
-use Rattle.spiffe_doc.proofs.SetLemmas.{entry_text_reads}
+use Rattle.spiffe_doc.proofs.EntryTexts.{entry_text_reads, decided_alike}
 use Rattle.spiffe_doc.proofs.EntryLaws.{judge-entry_tree}
 use Rattle.spiffe_doc.proofs.TextLemmas.{document_reads, document_numbers, document_depth}
 use Rattle.spiffe_doc.proofs.FirstPlaces.{firsts_push}
@@ -137,3 +139,7 @@ pub text_of-injective : (a b : BundleValue) → IsBundle a → IsBundle b → te
 text_of-injective a b is_a is_b same =
     let read = sym (document-text_of a is_a) ∙ ap document same ∙ document-text_of b is_b in
     cc read
+
+-- bundles are equal if and only if their texts are
+pub same_bundle_text : (a b : BundleValue) → IsBundle a → IsBundle b → bytes_eq (text_of a) (text_of b) ≡ bundle_eq a b
+same_bundle_text a b is_a is_b = decided_alike a b text_of (bundle_eq a b) (bundle_decides a b) (text_of-injective a b is_a is_b)

@@ -1,57 +1,22 @@
--- An equal authority, and an equal key id, are found by their texts.
+-- An equal authority is found by its certificate or its key id.
 use Rattle.std.proofs.Common.{◌≡◌, ℕ, suc, ◌≤◌, ◌<◌, ◌&&◌, ◌||◌, List, [], ◌∷◌, ◌++◌, length, get_or, bytes_eq, cond, Bool, true, false, not, nat_le, Option, Some, None, MatchOption, Ok, Err, refl, sym, ap, subst, ◌∙◌, inl, inr, arith}
-use Rattle.std.specs.Prelude.{is_some}
 use Rattle.std.proofs.lemmas.List.{length-append, get_or_append_left, get_or_push}
 use Rattle.std.proofs.lemmas.List.Folds.{list_any_at}
-use Rattle.std.specs.List.{list_any, AllPairs, AllByRecursion}
+use Rattle.std.specs.List.{list_any, AllPairs}
 use Rattle.std.specs.Cmp.Lexicographic.{bytes_decides}
 use Rattle.std.proofs.lemmas.Bool.{cases_Bool, le-leb}
 use Rattle.std.proofs.lemmas.Bool.Decides.{nat_tests}
 use Rattle.std.specs.BTreeMap.{BTreeMap}
 use Rattle.std.specs.BTreeSet.{BTreeSet}
-use Rattle.serde_json.specs.Read.{read}
 use Rattle.spiffe_doc.specs.declared.authority.Authority.{Authority}
 use Rattle.spiffe_doc.specs.declared.authority.Authority.TheVariants.{X509, Jwt}
-use Rattle.spiffe_doc.specs.Authority.{IsAuthority}
 use Rattle.spiffe_doc.specs.Equal.{authority_eq}
 use Rattle.spiffe_doc.specs.Private.Equality.{authority_decides}
-use Rattle.spiffe_doc.specs.Judgement.{judge}
 use Rattle.spiffe_doc.specs.Bundle.{same_kid, is_among, is_kid_taken, AreApart, AreAuthorities}
-use Rattle.spiffe_doc.specs.Private.AuthoritySet.{admission, has, has_text, place_of_kid, is_some_of, has_kid, kid_of, IsKidAt, AreIndexed}
-use Rattle.spiffe_doc.specs.Text.{entry_tree, entry_text}
+use Rattle.base64.specs.Engines.{standard}
+use Rattle.base64.specs.GeneralPurpose.{encode_of}
+use Rattle.spiffe_doc.specs.Private.EntrySet.{admission, has, has_certificate, place_of_kid, has_kid, IsKidAt, AreIndexed}
 use Rattle.spiffe_doc.specs.declared.error.DocError.TheVariants.{KidTwice, TooMany}
-use Rattle.spiffe_doc.proofs.TextLemmas.{entry_reads, entry_numbers, entry_depth}
-use Rattle.spiffe_doc.proofs.EntryLaws.{judge-entry_tree}
-use Rattle.spiffe_doc.proofs.TreeLemmas.{read-compact_text}
-
-pub entry_text_reads : (a : Authority) → read (entry_text a) ≡ Some (entry_tree a)
-unfolding entry_text
-entry_text_reads a = read-compact_text (entry_tree a) (entry_reads a) (entry_numbers a) (omega (arith, entry_depth a))
-
--- valid authorities of one text are one
-entry_text-injective : (a b : Authority) → IsAuthority a → IsAuthority b → entry_text a ≡ entry_text b → a ≡ b
-entry_text-injective a b is_a is_b same =
-    let trees : Some (entry_tree a) ≡ Some (entry_tree b) = sym (entry_text_reads a) ∙ ap read same ∙ entry_text_reads b in
-    let tree : entry_tree a ≡ entry_tree b = cc trees in
-    let given = sym (judge-entry_tree 0 a is_a) ∙ ap (judge 0) tree ∙ judge-entry_tree 0 b is_b in
-    cc given
-
-same_text : (a b : Authority) → IsAuthority a → IsAuthority b → bytes_eq (entry_text a) (entry_text b) ≡ authority_eq a b
-same_text a b is_a is_b = elim (cases_Bool (authority_eq a b)) [
-  | inl same ↦ let one = (authority_decides a b).0 same in (bytes_decides _ _).1 (ap entry_text one) ∙ sym same
-  | inr other ↦ elim (cases_Bool (bytes_eq (entry_text a) (entry_text b))) [
-    | inl text ↦
-        let one = entry_text-injective a b is_a is_b ((bytes_decides _ _).0 text) in
-        cc ((authority_decides a b).1 one)
-    | inr text ↦ text ∙ sym other
-  ]
-]
-
--- the text of an X.509 authority is among theirs if and only if it is among them
-pub any_text : (xs : List Authority) (key : _) (der : List ℕ) → AllByRecursion IsAuthority xs → IsAuthority (X509 key der) → list_any (has_text (entry_text (X509 key der))) xs ≡ is_among xs (X509 key der)
-any_text [] key der valid is = refl
-any_text (X509 k d ∷ xs) key der valid is = rw (same_text (X509 k d) (X509 key der) valid.0 is, any_text xs key der valid.1 is) refl
-any_text (Jwt own k ∷ xs) key der valid is = any_text xs key der valid.1 is
 
 and_true : (b c : Bool) → (b || c) ≡ ((b && true) || c)
 and_true true c = refl
@@ -142,23 +107,33 @@ no_kid_among xs kid key none = elim (cases_Bool (is_among xs (Jwt kid key))) [
   | inr new ↦ new
 ]
 
-pub held-text : (texts : BTreeSet (List ℕ)) (kids : BTreeMap (List ℕ) ℕ) (kept : List Authority) (a : Authority) → AreAuthorities kept → AreIndexed texts kids kept → IsAuthority a → kid_of a ≡ None
-    → (is_kid_taken kept a ≡ false) × (has texts (entry_text a) ≡ is_among kept a)
-held-text texts kids kept (X509 key der) h index is none = (no_kid kept key der, index.texts_are (entry_text (X509 key der)) ∙ any_text kept key der h.valid is)
-held-text texts kids kept (Jwt kid key) h index is none = cc none
+-- what is among them has its certificate there
+among_has_certificate : (xs : List Authority) (key : _) (der : List ℕ) → is_among xs (X509 key der) ≡ true → list_any (has_certificate (encode_of standard der)) xs ≡ true
+among_has_certificate [] key der there = cc there
+among_has_certificate (x ∷ xs) key der there = elim (cases_Bool (authority_eq x (X509 key der))) [
+  | inl same ↦ let one = (authority_decides x (X509 key der)).0 same in rw (one, (bytes_decides (encode_of standard der) (encode_of standard der)).1 refl) refl
+  | inr other ↦ rw (among_has_certificate xs key der (rw other at there)) (or_true (has_certificate (encode_of standard der) x))
+]
 
-pub held-none : (texts : BTreeSet (List ℕ)) (kids : BTreeMap (List ℕ) ℕ) (kept : List Authority) (a : Authority) (kid : List ℕ) → AreIndexed texts kids kept → kid_of a ≡ Some kid → place_of_kid kids kid ≡ None
-    → (is_kid_taken kept a ≡ false) × (false ≡ is_among kept a)
-held-none texts kids kept (X509 key der) kid index is none = cc is
-held-none texts kids kept (Jwt own key) kid index is none =
-    let same : own ≡ kid = cc is in
+-- it need not be looked for if its certificate is not there
+pub held-certificate : (certificates : BTreeSet (List ℕ)) (kids : BTreeMap (List ℕ) ℕ) (kept : List Authority) (key : _) (der : List ℕ) → AreIndexed certificates kids kept
+    → (has certificates (encode_of standard der) && is_among kept (X509 key der)) ≡ is_among kept (X509 key der)
+held-certificate certificates kids kept key der index = go (has certificates (encode_of standard der)) refl (is_among kept (X509 key der)) refl
+  where
+    go : (b : Bool) → has certificates (encode_of standard der) ≡ b → (m : Bool) → is_among kept (X509 key der) ≡ m → (b && m) ≡ m
+    go true is m there = refl
+    go false is false there = refl
+    go false is true there = cc (sym is ∙ index.certificates_are (encode_of standard der) ∙ among_has_certificate kept key der there)
+
+pub held-none : (certificates : BTreeSet (List ℕ)) (kids : BTreeMap (List ℕ) ℕ) (kept : List Authority) (kid : List ℕ) (key : _) → AreIndexed certificates kids kept → place_of_kid kids kid ≡ None
+    → (is_kid_taken kept (Jwt kid key) ≡ false) × (false ≡ is_among kept (Jwt kid key))
+held-none certificates kids kept kid key index none =
     let without : list_any (has_kid kid) kept ≡ false = subst (λ o. MatchOption o (list_any (has_kid kid) kept ≡ false) (IsKidAt kid kept)) none (index.kids_are kid) in
-    let own_without : list_any (has_kid own) kept ≡ false = rw same without in
-    let new = no_kid_among kept own key own_without in
-    (sym (any_kid kept own key new) ∙ own_without, sym new)
+    let new = no_kid_among kept kid key without in
+    (sym (any_kid kept kid key new) ∙ without, sym new)
 
-pub place_inside : (texts : BTreeSet (List ℕ)) (kids : BTreeMap (List ℕ) ℕ) (kept : List Authority) (kid : List ℕ) (at : ℕ) → AreIndexed texts kids kept → place_of_kid kids kid ≡ Some at → IsKidAt kid kept at
-place_inside texts kids kept kid at index is = subst (λ o. MatchOption o (list_any (has_kid kid) kept ≡ false) (IsKidAt kid kept)) is (index.kids_are kid)
+pub place_inside : (certificates : BTreeSet (List ℕ)) (kids : BTreeMap (List ℕ) ℕ) (kept : List Authority) (kid : List ℕ) (at : ℕ) → AreIndexed certificates kids kept → place_of_kid kids kid ≡ Some at → IsKidAt kid kept at
+place_inside certificates kids kept kid at index is = subst (λ o. MatchOption o (list_any (has_kid kid) kept ≡ false) (IsKidAt kid kept)) is (index.kids_are kid)
 
 pub held-equal : (kept : List Authority) (a other : Authority) (at : ℕ) → AreAuthorities kept → at < length kept → authority_eq (get_or kept at other) a ≡ true → (is_kid_taken kept a ≡ false) × (true ≡ is_among kept a)
 held-equal kept a other at h inside same =
@@ -169,12 +144,9 @@ has_kid-same : (x : Authority) (kid : List ℕ) (key : _) → has_kid kid x ≡ 
 has_kid-same (X509 k der) kid key h = cc h
 has_kid-same (Jwt own k) kid key h = h
 
-pub taken-at : (kept : List Authority) (a other : Authority) (kid : List ℕ) (at : ℕ) → kid_of a ≡ Some kid → IsKidAt kid kept at → authority_eq (get_or kept at other) a ≡ false → is_kid_taken kept a ≡ true
-taken-at kept (X509 key der) other kid at is there differs = cc is
-taken-at kept (Jwt own key) other kid at is there differs =
-    let same : own ≡ kid = cc is in
-    let has_own : has_kid own (get_or kept at other) ≡ true = rw same (there.1 other) in
-    list_any_at (λ x. same_kid x (Jwt own key) && not (authority_eq x (Jwt own key))) kept at other there.0 (rw (has_kid-same (get_or kept at other) own key has_own, differs) refl)
+pub taken-at : (kept : List Authority) (kid : List ℕ) (key : _) (other : Authority) (at : ℕ) → IsKidAt kid kept at → authority_eq (get_or kept at other) (Jwt kid key) ≡ false → is_kid_taken kept (Jwt kid key) ≡ true
+taken-at kept kid key other at there differs =
+    list_any_at (λ x. same_kid x (Jwt kid key) && not (authority_eq x (Jwt kid key))) kept at other there.0 (rw (has_kid-same (get_or kept at other) kid key (there.1 other), differs) refl)
 
 pub admitted-there : (place : ℕ) (kept : List Authority) (a : Authority) → is_kid_taken kept a ≡ false → is_among kept a ≡ true → admission place kept a ≡ Ok kept
 admitted-there place kept a free there = rw (free, there) refl
@@ -204,10 +176,6 @@ any_push test (x ∷ xs) a = rw (any_push test xs a) (swap (test x) (test a) (li
 
 -- ---- the sets of one more
 
-text_of_one : (a : Authority) (text : List ℕ) → (not (is_some (kid_of a)) && bytes_eq (entry_text a) text) ≡ has_text text a
-text_of_one (X509 key der) text = refl
-text_of_one (Jwt kid key) text = refl
-
 -- a place stays, with more behind
 kept_at : (kid : List ℕ) (xs : List Authority) (a : Authority) (at : ℕ) → IsKidAt kid xs at → IsKidAt kid (xs ++ a ∷ []) at
 kept_at kid xs a at h = (
@@ -218,10 +186,6 @@ kept_at kid xs a at h = (
 last_at : (kid : List ℕ) (xs : List Authority) (a : Authority) → has_kid kid a ≡ true → IsKidAt kid (xs ++ a ∷ []) (length xs)
 last_at kid xs a h = (omega (arith, length-append xs (a ∷ [])), λ other. ap (has_kid kid) (get_or_push xs a other (length xs) refl) ∙ h)
 
-has_kid-kid_of : (kid : List ℕ) (a : Authority) → is_some_of kid (kid_of a) ≡ has_kid kid a
-has_kid-kid_of kid (X509 key der) = refl
-has_kid-kid_of kid (Jwt own key) = refl
-
 place_after : (kid : List ℕ) (xs : List Authority) (a : Authority) (old : Option ℕ) (b : Bool) → has_kid kid a ≡ b
     → MatchOption old (list_any (has_kid kid) xs ≡ false) (IsKidAt kid xs)
     → MatchOption (cond b (Some (length xs)) old) (list_any (has_kid kid) (xs ++ a ∷ []) ≡ false) (IsKidAt kid (xs ++ a ∷ []))
@@ -229,14 +193,18 @@ place_after kid xs a old true is h = last_at kid xs a is
 place_after kid xs a None false is h = any_push (has_kid kid) xs a ∙ rw (is, h) refl
 place_after kid xs a (Some at) false is h = kept_at kid xs a at h
 
-pub indexed_push : (texts new_texts : BTreeSet (List ℕ)) (kids new_kids : BTreeMap (List ℕ) ℕ) (xs : List Authority) (a : Authority) → AreIndexed texts kids xs
-    → ((other : List ℕ) → has new_texts other ≡ ((not (is_some (kid_of a)) && bytes_eq (entry_text a) other) || has texts other))
-    → ((other : List ℕ) → place_of_kid new_kids other ≡ cond (is_some_of other (kid_of a)) (Some (length xs)) (place_of_kid kids other))
-    → AreIndexed new_texts new_kids (xs ++ a ∷ [])
-indexed_push texts new_texts kids new_kids xs a h put_text put_kid = record {
-  texts_are = λ text.
-      put_text text ∙ ap (λ b. b || has texts text) (text_of_one a text) ∙ ap (λ b. has_text text a || b) (h.texts_are text) ∙ sym (any_push (has_text text) xs a);
-  kids_are = λ kid.
-      let after = place_after kid xs a (place_of_kid kids kid) (is_some_of kid (kid_of a)) (sym (has_kid-kid_of kid a)) (h.kids_are kid) in
-      subst (λ o. MatchOption o (list_any (has_kid kid) (xs ++ a ∷ []) ≡ false) (IsKidAt kid (xs ++ a ∷ []))) (sym (put_kid kid)) after;
+pub indexed_x509 : (certificates new : BTreeSet (List ℕ)) (kids : BTreeMap (List ℕ) ℕ) (xs : List Authority) (key : _) (der : List ℕ) → AreIndexed certificates kids xs
+    → ((other : List ℕ) → has new other ≡ (bytes_eq (encode_of standard der) other || has certificates other)) → AreIndexed new kids (xs ++ X509 key der ∷ [])
+indexed_x509 certificates new kids xs key der h put = record {
+  certificates_are = λ text. put text ∙ ap (λ b. bytes_eq (encode_of standard der) text || b) (h.certificates_are text) ∙ sym (any_push (has_certificate text) xs (X509 key der));
+  kids_are = λ kid. place_after kid xs (X509 key der) (place_of_kid kids kid) false refl (h.kids_are kid);
+}
+
+pub indexed_jwt : (certificates : BTreeSet (List ℕ)) (kids new : BTreeMap (List ℕ) ℕ) (xs : List Authority) (kid : List ℕ) (key : _) → AreIndexed certificates kids xs
+    → ((other : List ℕ) → place_of_kid new other ≡ cond (bytes_eq kid other) (Some (length xs)) (place_of_kid kids other)) → AreIndexed certificates new (xs ++ Jwt kid key ∷ [])
+indexed_jwt certificates kids new xs kid key h put = record {
+  certificates_are = λ text. h.certificates_are text ∙ sym (any_push (has_certificate text) xs (Jwt kid key));
+  kids_are = λ other.
+      let after = place_after other xs (Jwt kid key) (place_of_kid kids other) (bytes_eq kid other) refl (h.kids_are other) in
+      subst (λ o. MatchOption o (list_any (has_kid other) (xs ++ Jwt kid key ∷ []) ≡ false) (IsKidAt other (xs ++ Jwt kid key ∷ []))) (sym (put other)) after;
 }

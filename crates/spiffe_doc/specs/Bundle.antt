@@ -1,11 +1,16 @@
 -- Which bundles are valid.
-use Rattle.std.specs.Prelude.{◌≡◌, ◌<◌, ◌≤◌, ◌^◌, ◌&&◌, List, length, bytes_eq, Bool, false, not, IfSome}
+use Rattle.std.specs.Prelude.{◌≡◌, ◌<◌, ◌≤◌, ◌^◌, ◌&&◌, List, length, bytes_eq, Bool, true, false, not, IfSome}
 use Rattle.std.specs.List.{list_any, AllPairs, AllByRecursion}
 use Rattle.spiffe_doc.specs.declared.authority.Authority.{Authority}
-use Rattle.spiffe_doc.specs.declared.authority.Authority.TheVariants.{Jwt}
+use Rattle.spiffe_doc.specs.declared.authority.Authority.TheVariants.{X509, Jwt}
 use Rattle.spiffe_doc.specs.Authority.{IsAuthority, BundleValue}
 use Rattle.spiffe_doc.specs.Equal.{authority_eq}
 use Rattle.spiffe_doc.specs.Text.{text_of}
+
+-- it signs X.509-SVIDs; otherwise it signs JWT-SVIDs
+abbrev pub is_x509 : Authority → Bool
+is_x509 (X509 key der) = true
+is_x509 (Jwt kid key) = false
 
 -- both are of jwt-svids, under one key id
 abbrev pub same_kid : Authority → Authority → Bool

@@ -1,7 +1,6 @@
 pub mod Answer
 pub mod Name
 pub mod ShortText
-pub mod Kept
 pub mod Id
 pub mod Key
 pub mod Authority

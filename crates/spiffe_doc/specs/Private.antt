@@ -1,5 +1,12 @@
 -- Definitions that no public contract rests on: private contracts and proofs use them.
-pub mod AuthoritySet
+pub mod EntrySet
+pub mod Encoded
+pub mod Given
+pub mod Entries
+pub mod Places
+pub mod Fronts
+pub mod Kept
+pub mod Matching
 pub mod Borrowed
 pub mod WholeSet
 pub mod Prefix

@@ -1,14 +1,19 @@
 //! Appending an authority to a bundle.
 ghost use Rattle.std.specs.Prelude.{◌≡◌, ◌⊎◌, ◌++◌, ◌∷◌, [], ◌&&◌, not, Err, IsOk, IfOk};
 ghost use Rattle.spiffe_doc.specs.Answer.{Gives};
-ghost use Rattle.spiffe_doc.specs.Private.Writing.{front_text};
+ghost use Rattle.spiffe_doc.specs.Authority.{IsAuthority};
 ghost use Rattle.spiffe_doc.specs.Append.{appended, next_sequence as sequence_after};
-ghost use Rattle.spiffe_doc.specs.Bundle.{same_kid as under_one_kid, is_among as among, is_kid_taken as kid_taken};
+ghost use Rattle.spiffe_doc.specs.Equal.{authority_eq};
+ghost use Rattle.spiffe_doc.specs.Bundle.{is_x509 as of_x509, same_kid, is_among as among, is_kid_taken as kid_taken};
+ghost use Rattle.spiffe_doc.specs.Private.Fronts.{listed, IsWholeFront};
 
 use crate::authority::Authority;
 use crate::bundle::{Bundle, MAX_AUTHORITIES, bundle_from};
+use crate::entries::{Authorities, Entry};
 use crate::error::AppendError;
-use crate::text::{push_entry, write_entry};
+use crate::front::Front;
+use crate::matching::{has_kid_of, is_text_of};
+use crate::text::write_entry;
 use std::alloc::{AllocError, Global};
 
 impl Bundle {
@@ -22,10 +27,10 @@ impl Bundle {
             → IsOk (appended self.now authority.now) ⊎ (appended self.now authority.now ≡ Err AppendError.TooLong) }
     {
         let present = self.authorities();
-        if is_among(present, authority) {
+        if is_among(&present, authority) {
             return Err(AppendError::Present);
         }
-        if is_kid_taken(present, authority) {
+        if is_kid_taken(&present, authority) {
             return Err(AppendError::KidTaken);
         }
         if present.len() >= MAX_AUTHORITIES {
@@ -34,10 +39,8 @@ impl Bundle {
         let Some(sequence) = next_sequence(self.sequence()) else {
             return Err(AppendError::SequenceFull);
         };
-        authority.recall_valid();
         let front = front_and(alloc, self, authority)?;
-        let authorities = copies_and(alloc, present, authority)?;
-        match bundle_from(alloc, sequence, self.refresh_hint(), authorities, front)? {
+        match bundle_from(alloc, sequence, self.refresh_hint(), front)? {
             Some(bundle) => Ok(bundle),
             None => Err(AppendError::TooLong),
         }
@@ -45,13 +48,22 @@ impl Bundle {
 }
 
 /// The text up to the last entry, with the entry of one more authority.
-fn front_and(alloc: Global, bundle: &Bundle, last: &Authority) -> Result<Vec<u8>, AllocError>
-    ensures { IfOk result (λ front. front.items ≡ front_text (bundle.now.authorities ++ last.now ∷ [])) }
+fn front_and(alloc: Global, bundle: &Bundle, last: &Authority) -> Result<Front<Global>, AllocError>
+    ensures whole { IfOk result IsWholeFront }
+    ensures value { IfOk result (λ front. listed front ≡ bundle.now.authorities ++ last.now ∷ []) }
+    ensures valid { IsAuthority last.now }
 {
-    let mut front = bundle.front().to_vec(alloc)?;
-    let entry = write_entry(alloc, last)?;
-    push_entry(&mut front, bundle.authorities().is_empty(), &entry)?;
+    last.recall_valid();
+    let mut front = bundle.front(alloc)?;
+    let text = write_entry(alloc, last)?;
+    front.push(&Entry::new(&text, is_x509(last)))?;
     Ok(front)
+}
+
+fn is_x509(authority: &Authority) -> bool
+    ensures { result ≡ of_x509 authority.now }
+{
+    matches!(authority, Authority::X509 { .. })
 }
 
 /// The sequence after a change, or `None` if it is the greatest.
@@ -65,47 +77,39 @@ fn next_sequence(sequence: Option<u64>) -> Option<Option<u64>>
     }
 }
 
-fn copies_and(
-    alloc: Global,
-    authorities: &[Authority],
-    last: &Authority,
-) -> Result<Vec<Authority>, AllocError>
-    ensures { IfOk result (λ copies. copies.items ≡ authorities.now ++ last.now ∷ []) }
-{
-    let mut copies = copies(alloc, authorities)?;
-    copies.push(last.copy()?)?;
-    Ok(copies)
-}
-
-fn copies(alloc: Global, authorities: &[Authority]) -> Result<Vec<Authority>, AllocError>
-    ensures { IfOk result (λ copies. copies.items ≡ authorities.now) }
-{
-    let mut copies = Vec::new(alloc);
-    for authority in authorities {
-        copies.push(authority.copy()?)?;
-    }
-    Ok(copies)
-}
-
-fn same_kid(a: &Authority, b: &Authority) -> bool
-    ensures { result ≡ under_one_kid a.now b.now }
-{
-    match (a, b) {
-        (Authority::Jwt { kid, .. }, Authority::Jwt { kid: other, .. }) => {
-            kid.as_str() == other.as_str()
-        }
-        _ => false,
-    }
-}
-
-fn is_among(kept: &[Authority], authority: &Authority) -> bool
+fn is_among(kept: &Authorities<'_>, authority: &Authority) -> bool
     ensures { result ≡ among kept.now authority.now }
 {
-    kept.iter().any(|other| other == authority)
+    for other in kept.iter() {
+        if is_equal(&other, authority) {
+            return true;
+        }
+    }
+    false
 }
 
-fn is_kid_taken(kept: &[Authority], authority: &Authority) -> bool
+/// Whether an entry is of this authority.
+fn is_equal(other: &Entry<'_>, authority: &Authority) -> bool
+    ensures { result ≡ authority_eq other.now authority.now }
+{
+    authority.recall_valid();
+    is_text_of(other.text(), authority)
+}
+
+fn is_kid_taken(kept: &Authorities<'_>, authority: &Authority) -> bool
     ensures { result ≡ kid_taken kept.now authority.now }
 {
-    kept.iter().any(|other| same_kid(other, authority) && !(other == authority))
+    for other in kept.iter() {
+        if takes_kid(&other, authority) {
+            return true;
+        }
+    }
+    false
+}
+
+/// Whether an entry is of another authority with this one's key id.
+fn takes_kid(other: &Entry<'_>, authority: &Authority) -> bool
+    ensures { result ≡ (same_kid other.now authority.now && not (authority_eq other.now authority.now)) }
+{
+    has_kid_of(other.text(), authority) && !is_equal(other, authority)
 }

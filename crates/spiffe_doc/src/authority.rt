@@ -2,11 +2,9 @@
 ghost use Rattle.std.specs.Prelude.{◌≡◌, ◌<◌, ◌≤◌, length, IfOk, string_bytes, string_len};
 
 use crate::Memory;
-use crate::kept::Kept;
 use crate::key::PublicKey;
 use crate::octets::Octets;
 use std::marker::Model;
-use std::sync::Arc;
 
 /// The DER bytes of an X.509 certificate, at least one (RFC 7517, section 4.7). Nothing is parsed.
 #[derive(Drop)]
@@ -51,7 +49,7 @@ impl Certificate {
         &self.der
     }
 
-    /// The same certificate. The first copy has memory of its own, which its copies share.
+    /// The same certificate, in memory of its own.
     pub fn copy(&self) -> Result<Certificate, Memory>
         ensures { IfOk result (λ copy. copy ≡ self.now) }
     {
@@ -61,10 +59,10 @@ impl Certificate {
     }
 }
 
-/// A key id: a text of 1 to 255 bytes (RFC 7517, section 4.5). Copies of a copy share its memory.
+/// A key id: a text of 1 to 255 bytes (RFC 7517, section 4.5).
 #[derive(Drop)]
 pub struct KeyId {
-    text: Kept<String>,
+    text: String,
 }
 
 impl Model for KeyId {
@@ -72,11 +70,9 @@ impl Model for KeyId {
 
     ghost Value = { List ℕ };
 
-    ghost use Rattle.spiffe_doc.specs.Kept.{value_of};
+    ghost view = { λ kid. string_bytes kid.text };
 
-    ghost view = { λ kid. string_bytes (value_of kid.text) };
-
-    ghost invariant = { λ kid. (0 < length (string_bytes (value_of kid.text))) × (length (string_bytes (value_of kid.text)) ≤ 255) };
+    ghost invariant = { λ kid. (0 < length (string_bytes kid.text)) × (length (string_bytes kid.text) ≤ 255) };
 }
 
 impl KeyId {
@@ -88,9 +84,7 @@ impl KeyId {
         requires short { string_len text ≤ 255 }
         ensures { result ≡ string_bytes text }
     {
-        KeyId {
-            text: Kept::Made(text),
-        }
+        KeyId { text }
     }
 
     /// The text.
@@ -98,25 +92,23 @@ impl KeyId {
         ensures value { result.now ≡ self.now }
         ensures valid { IsKeyId self.now }
     {
-        self.text.get().as_str()
+        self.text.as_str()
     }
 
     // Only for the prover: recalls that it is a short text.
     pub(crate) fn recall_valid(&self)
         ensures { IsKeyId self.now }
     {
-        let _text = self.text.get().as_str();
+        let _text = self.text.as_str();
     }
 
-    /// The same key id. The first copy has memory of its own, which its copies share.
+    /// The same key id, in memory of its own.
     pub fn copy(&self) -> Result<KeyId, Memory>
         ensures { IfOk result (λ copy. copy ≡ self.now) }
     {
-        let text = match &self.text {
-            Kept::Made(text) => Kept::shared(*text.allocator(), text.clone()?)?,
-            Kept::Shared(text) => Kept::Shared(Arc::try_clone(text)?),
-        };
-        Ok(KeyId { text })
+        Ok(KeyId {
+            text: self.text.clone()?,
+        })
     }
 }
 
@@ -147,7 +139,7 @@ impl Authority {
         }
     }
 
-    /// The same authority. The first copy has memory of its own, which its copies share.
+    /// The same authority, in memory of its own.
     pub fn copy(&self) -> Result<Authority, Memory>
         ensures { IfOk result (λ copy. copy ≡ self.now) }
     {

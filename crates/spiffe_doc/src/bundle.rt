@@ -1,13 +1,15 @@
 //! Trust bundles (SPIFFE Trust Domain and Bundle, section 3).
 ghost use Rattle.spiffe_doc.specs.Bundle.{AreAuthorities};
 ghost use Rattle.spiffe_doc.specs.Text.{text_of};
-ghost use Rattle.spiffe_doc.specs.Private.Writing.{front_text};
+ghost use Rattle.spiffe_doc.specs.Private.Fronts.{listed, IsWholeFront};
 ghost use Rattle.std.specs.Prelude.{◌≡◌, ◌<◌, ◌≤◌, length, IfOk, MatchOption};
 
 use crate::Memory;
-use crate::authority::Authority;
+use crate::entries::Authorities;
+use crate::front::Front;
+use crate::place::Place;
 use crate::text::push_rest;
-use std::alloc::{AllocError, Global};
+use std::alloc::{AllocError, Allocator, Global};
 use std::marker::Model;
 use std::sync::Arc;
 
@@ -17,20 +19,21 @@ pub(crate) const MAX_TEXT: usize = 1048576;
 /// The most authorities of a bundle.
 pub(crate) const MAX_AUTHORITIES: usize = 1024;
 
-/// What a bundle is made of, with its canonical text.
+/// The canonical text of a bundle, its numbers, and where its entries stand.
 #[derive(Drop)]
 pub(crate) struct BundleParts {
+    pub(crate) text: Vec<u8>,
     pub(crate) sequence: Option<u64>,
     pub(crate) refresh_hint: Option<u64>,
-    pub(crate) authorities: Vec<Authority>,
-    pub(crate) text: Vec<u8>,
     /// How many bytes of the text stand up to the last entry.
     pub(crate) front_len: usize,
+    pub(crate) places: Vec<Place>,
 }
 
 /// What a trust domain publishes: a sequence number, a refresh hint in seconds, and its authorities. No two are equal,
 /// no two JWT authorities have one key id, there are at most 1,024, and the canonical text has at most 1,048,576 bytes.
-/// Copies share one allocation. Bundles are equal if their numbers are, and their authorities in order.
+/// It is kept as its canonical text, in one allocation that copies share. Bundles are equal if their numbers are, and
+/// their authorities in order.
 #[derive(Drop)]
 pub struct Bundle {
     pub(crate) published: Arc<BundleParts>,
@@ -39,13 +42,14 @@ pub struct Bundle {
 impl Model for Bundle {
     ghost use Rattle.std.specs.Arc.{arc_value};
     ghost use Rattle.spiffe_doc.specs.Authority.{BundleValue};
-    ghost use Rattle.spiffe_doc.specs.Private.Writing.{IsKept};
+    ghost use Rattle.spiffe_doc.specs.Private.Places.{authorities_in};
+    ghost use Rattle.spiffe_doc.specs.Private.Kept.{IsKept};
 
     ghost Value = { BundleValue };
 
-    ghost view = { λ bundle. record { sequence = (arc_value bundle.published).sequence; refresh_hint = (arc_value bundle.published).refresh_hint; authorities = (arc_value bundle.published).authorities.items } };
+    ghost view = { λ bundle. record { sequence = (arc_value bundle.published).sequence; refresh_hint = (arc_value bundle.published).refresh_hint; authorities = authorities_in (arc_value bundle.published).text.items (arc_value bundle.published).places.items } };
 
-    ghost invariant = { λ bundle. IsKept (arc_value bundle.published).text.items (arc_value bundle.published).front_len (record { sequence = (arc_value bundle.published).sequence; refresh_hint = (arc_value bundle.published).refresh_hint; authorities = (arc_value bundle.published).authorities.items }) };
+    ghost invariant = { λ bundle. IsKept (arc_value bundle.published).text.items (arc_value bundle.published).front_len (arc_value bundle.published).places.items (record { sequence = (arc_value bundle.published).sequence; refresh_hint = (arc_value bundle.published).refresh_hint; authorities = authorities_in (arc_value bundle.published).text.items (arc_value bundle.published).places.items }) };
 }
 
 impl Bundle {
@@ -66,11 +70,12 @@ impl Bundle {
     }
 
     /// The authorities, in the document's order.
-    pub fn authorities(&self) -> &[Authority]
-        ensures value { result.now ≡ self.now.authorities }
+    pub fn authorities(&self) -> Authorities<'_>
+        ensures value { result ≡ self.now.authorities }
         ensures valid { IsBundle self.now }
     {
-        self.published.authorities.as_slice()
+        let published: &BundleParts = &self.published;
+        Authorities::new(published.text.as_slice(), published.places.as_slice())
     }
 
     /// The canonical text, as it is kept.
@@ -87,13 +92,17 @@ impl Bundle {
         self.published.text.len()
     }
 
-    /// The canonical text up to the last entry.
-    pub(crate) fn front(&self) -> &[u8]
-        ensures { result.now ≡ front_text self.now.authorities }
+    /// A copy of the text up to the last entry.
+    pub(crate) fn front(&self, alloc: Global) -> Result<Front<Global>, AllocError>
+        ensures whole { IfOk result IsWholeFront }
+        ensures value { IfOk result (λ front. listed front ≡ self.now.authorities) }
     {
         let published: &BundleParts = &self.published;
         let text = published.text.as_slice();
-        &text[..published.front_len]
+        Ok(Front {
+            text: text[..published.front_len].to_vec(alloc)?,
+            places: published.places.as_slice().to_vec(alloc)?,
+        })
     }
 
     /// The same bundle, shared: it costs a count.
@@ -106,23 +115,22 @@ impl Bundle {
     }
 }
 
-/// The bundle of these parts, whose canonical text begins so; `None` if that text is too long.
-pub(crate) fn bundle_from(
+/// The bundle of these numbers and the entries of a text that begins so; `None` if that text is too long.
+pub(crate) fn bundle_from<A: Allocator>(
     alloc: Global,
     sequence: Option<u64>,
     refresh_hint: Option<u64>,
-    authorities: Vec<Authority>,
-    front: Vec<u8>,
+    front: Front<A>,
 ) -> Result<Option<Bundle>, AllocError>
-    requires valid { AreAuthorities authorities.items }
-    requires front { front.items ≡ front_text authorities.items }
+    requires valid { AreAuthorities (listed front) }
+    requires whole { IsWholeFront front }
     ensures { IfOk result (λ found. MatchOption found
-        (1048576 < length (text_of (record { sequence = sequence; refresh_hint = refresh_hint; authorities = authorities.items })))
-        (λ bundle. (bundle ≡ record { sequence = sequence; refresh_hint = refresh_hint; authorities = authorities.items })
+        (1048576 < length (text_of (record { sequence = sequence; refresh_hint = refresh_hint; authorities = listed front })))
+        (λ bundle. (bundle ≡ record { sequence = sequence; refresh_hint = refresh_hint; authorities = listed front })
         × (length (text_of bundle) ≤ 1048576))) }
 {
-    let front_len = front.len();
-    let mut text = front;
+    let Front { mut text, places } = front;
+    let front_len = text.len();
     push_rest(alloc, &mut text, sequence, refresh_hint)?;
     if text.len() > MAX_TEXT {
         return Ok(None);
@@ -130,11 +138,11 @@ pub(crate) fn bundle_from(
     let published = Arc::new(
         alloc,
         BundleParts {
+            text: text.as_slice().to_vec(alloc)?,
             sequence,
             refresh_hint,
-            authorities,
-            text,
             front_len,
+            places: places.as_slice().to_vec(alloc)?,
         },
     )?;
     Ok(Some(Bundle { published }))
@@ -150,8 +158,8 @@ impl PartialEq for Bundle {
     ghost laws = { partial_equiv_from_equiv (decided bundle_eq bundle_decides) };
 
     fn eq(&self, other: &Bundle) -> bool {
-        self.sequence() == other.sequence()
-            && self.refresh_hint() == other.refresh_hint()
-            && self.authorities() == other.authorities()
+        let ours: &BundleParts = &self.published;
+        let theirs: &BundleParts = &other.published;
+        ours.text.as_slice() == theirs.text.as_slice()
     }
 }

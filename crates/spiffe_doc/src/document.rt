@@ -4,17 +4,18 @@ ghost use Rattle.serde_json.specs.Find.{get, as_array};
 ghost use Rattle.spiffe_doc.specs.Answer.{Gives};
 ghost use Rattle.spiffe_doc.specs.Judgement.{judge as judgement};
 ghost use Rattle.spiffe_doc.specs.Document.{elements, authorities_of, bundle_of, document, entry};
-ghost use Rattle.spiffe_doc.specs.Private.AuthoritySet.{take_in};
+ghost use Rattle.spiffe_doc.specs.Bundle.{AreAuthorities};
+ghost use Rattle.spiffe_doc.specs.Private.EntrySet.{take_in};
+ghost use Rattle.spiffe_doc.specs.Private.Fronts.{listed, IsWholeFront};
 ghost use Rattle.spiffe_doc.specs.Private.Borrowed.{tree_data, list_data};
 ghost use Rattle.spiffe_doc.specs.Private.WholeSet.{IsWhole};
 
 use crate::authority::Authority;
-use crate::authority_set::AuthoritySet;
 use crate::bundle::{Bundle, MAX_TEXT, bundle_from};
 use crate::entry::judge;
-use crate::entry_text::{kid_from_entry, text_from_entry};
+use crate::entry_set::EntrySet;
 use crate::error::DocError;
-use crate::octets::Octets;
+use crate::front::Front;
 use crate::tree::{array, is_object, member, number_of, read_tree};
 use bumpalo::Bump;
 use json::{Scratch, Value};
@@ -109,10 +110,8 @@ fn read_with<A: Allocator + Copy>(
     }
     let tree = read_tree(trees, bytes, scratch)?;
     let room = bytes.len().min(MOST_ROOM);
-    let parts = read_parts(alloc, room, &tree);
-    drop(tree);
-    let (sequence, refresh_hint, set) = parts?;
-    match bundle_from(alloc, sequence, refresh_hint, set.authorities, set.text)? {
+    let (sequence, refresh_hint, front) = read_parts(trees, room, &tree)?;
+    match bundle_from(alloc, sequence, refresh_hint, front)? {
         Some(bundle) => Ok(bundle),
         None => Err(DocError::TooLong),
     }
@@ -129,7 +128,10 @@ pub fn read_entry(alloc: Global, bytes: &[u8]) -> Result<Option<Authority>, DocE
     }
     let mut scratch = Scratch::new(alloc);
     let tree = read_tree(alloc, bytes, &mut scratch)?;
-    judge(alloc, 0, &tree)
+    match judge(alloc, 0, &tree)? {
+        Some(given) => Ok(Some(given.decode(alloc)?)),
+        None => Ok(None),
+    }
 }
 
 /// The elements of `keys`.
@@ -140,60 +142,56 @@ fn keys<'v, 'a, A: Allocator>(tree: &'v Value<'a, A>) -> Option<&'v Vec<Value<'a
     array(member(tree, "keys")?)
 }
 
-/// The authorities that the entries give, each once.
-fn authorities<'a, A: Allocator>(
-    alloc: Global,
+/// The text up to the last of the authorities that the entries give, each once.
+fn front_of<'a, A: Allocator + Copy>(
+    trees: A,
     room: usize,
     entries: &Vec<Value<'a, A>, A>,
-) -> Result<AuthoritySet<'a>, DocError>
-    ensures whole { IfOk result IsWhole }
+) -> Result<Front<A>, DocError>
+    ensures whole { IfOk result IsWholeFront }
+    ensures valid { IfOk result (λ front. AreAuthorities (listed front)) }
     ensures exact { MatchResult result
-        (λ set. authorities_of (elements (list_data entries.now.items)) ≡ Ok set.authorities.items)
+        (λ front. authorities_of (elements (list_data entries.now.items)) ≡ Ok (listed front))
         (λ e. (e ≡ DocError.Memory) ⊎ (authorities_of (elements (list_data entries.now.items)) ≡ Err e)) }
 {
-    let mut set = AuthoritySet::new(alloc, room)?;
+    let mut set = EntrySet::new(trees, room)?;
     for (place, entry) in entries.iter().enumerate() {
-        take_entry(alloc, &mut set, place, entry)?;
+        take_entry(trees, &mut set, place, entry)?;
     }
-    Ok(set)
+    Ok(set.front)
 }
 
 /// Judges one more entry.
-fn take_entry<'a, A: Allocator>(
-    alloc: Global,
-    set: &mut AuthoritySet<'a>,
+fn take_entry<'a, A: Allocator + Copy>(
+    trees: A,
+    set: &mut EntrySet<'a, A>,
     place: usize,
     entry: &Value<'a, A>,
 ) -> Result<(), DocError>
     requires whole { IsWhole set.old }
     ensures whole { OnOk result (IsWhole set.new) }
     ensures exact { MatchResult result
-        (λ _. take_in place set.old.authorities.items (judgement place (tree_data entry.now)) ≡ Ok set.new.authorities.items)
-        (λ e. (e ≡ DocError.Memory) ⊎ (take_in place set.old.authorities.items (judgement place (tree_data entry.now)) ≡ Err e)) }
+        (λ _. take_in place (listed set.old.front) (judgement place (tree_data entry.now)) ≡ Ok (listed set.new.front))
+        (λ e. (e ≡ DocError.Memory) ⊎ (take_in place (listed set.old.front) (judgement place (tree_data entry.now)) ≡ Err e)) }
 {
-    match judge(alloc, place, entry)? {
-        Some(authority) => {
-            let Ok(text) = text_from_entry(alloc, entry, &authority) else {
-                drop(authority);
-                return Err(DocError::Memory);
-            };
-            let kid = kid_from_entry(entry, &authority);
-            set.admit(place, authority, Octets::new(text), &kid)
-        }
-        None => Ok(()),
-    }
+    let Some(given) = judge(trees, place, entry)? else {
+        return Ok(());
+    };
+    let text = given.text(trees)?;
+    set.admit(place, &given, &given.entry(&text))
 }
 
-/// The sequence, the refresh hint and the authorities of a document's tree.
+/// The sequence, the refresh hint and the authorities of a document's tree, these as the text up to the last.
 #[tactic(auto, unfolding(crate::specs::Document::bundle_of))]
-fn read_parts<'a, A: Allocator>(
-    alloc: Global,
+fn read_parts<'a, A: Allocator + Copy>(
+    trees: A,
     room: usize,
     tree: &Value<'a, A>,
-) -> Result<(Option<u64>, Option<u64>, AuthoritySet<'a>), DocError>
-    ensures whole { IfOk result (λ parts. IsWhole parts.2) }
+) -> Result<(Option<u64>, Option<u64>, Front<A>), DocError>
+    ensures whole { IfOk result (λ parts. IsWholeFront parts.2) }
+    ensures valid { IfOk result (λ parts. AreAuthorities (listed parts.2)) }
     ensures exact { MatchResult result
-        (λ parts. bundle_of (tree_data tree.now) ≡ Ok (record { sequence = parts.0; refresh_hint = parts.1; authorities = parts.2.authorities.items }))
+        (λ parts. bundle_of (tree_data tree.now) ≡ Ok (record { sequence = parts.0; refresh_hint = parts.1; authorities = listed parts.2 }))
         (λ e. (e ≡ DocError.Memory) ⊎ (bundle_of (tree_data tree.now) ≡ Err e)) }
 {
     if !is_object(tree) {
@@ -208,6 +206,6 @@ fn read_parts<'a, A: Allocator>(
     let Some(refresh_hint) = number_of(member(tree, "spiffe_refresh_hint")) else {
         return Err(DocError::BadHint);
     };
-    let authorities = authorities(alloc, room, keys)?;
-    Ok((sequence, refresh_hint, authorities))
+    let front = front_of(trees, room, keys)?;
+    Ok((sequence, refresh_hint, front))
 }

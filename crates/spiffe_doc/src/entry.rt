@@ -1,22 +1,19 @@
 //! Entries of a bundle document (RFC 7517 section 4, RFC 7518 section 6).
-ghost use Rattle.std.specs.Prelude.{◌≡◌, ◌<◌, ◌≤◌, codes, length, Ok, Some, None, Option, List, ℕ, option_map, option_and_then, nat_lt, nat_le, ◌&&◌};
+ghost use Rattle.std.specs.Prelude.{◌≡◌, ◌⊎◌, codes, length, Ok, Err, option_map, option_and_then, nat_lt, nat_le, ◌&&◌, IfOk, MatchResult};
 ghost use Rattle.std.specs.Str.{is_utf8};
 ghost use Rattle.serde_json.specs.Find.{get, as_array};
-ghost use Rattle.base64.specs.Engines.{standard, url_safe_no_pad};
-ghost use Rattle.spiffe_doc.specs.Answer.{Gives};
 ghost use Rattle.spiffe_doc.specs.Entry.{member_text as text_of_member};
 ghost use Rattle.spiffe_doc.specs.Judgement as judged;
 ghost use Rattle.spiffe_doc.specs.Private.Borrowed.{tree_data, list_data};
+ghost use Rattle.spiffe_doc.specs.Private.Given.{key_given, authority_given};
 
-use crate::authority::{Authority, Certificate, KeyId};
+use crate::encoded::{Standard, UrlSafe};
 use crate::error::DocError;
-use crate::key::{Curve, EcKey, PublicKey, RsaKey};
-use crate::octets::Octets;
+use crate::given::{Given, GivenKey};
+use crate::key::Curve;
 use crate::tree::{array, is_object, member, string};
-use base64::DecodeAllocError;
-use base64::engine::general_purpose::{STANDARD, URL_SAFE_NO_PAD};
 use json::Value;
-use std::alloc::{Allocator, Global};
+use std::alloc::{AllocError, Allocator};
 
 /// The most bytes that a member of an RSA key has.
 const MAX_RSA_MEMBER: usize = 1024;
@@ -39,7 +36,7 @@ pub(crate) enum KeyUse {
 }
 
 /// The text of a member, if it is one.
-pub(crate) fn member_text<'a, A: Allocator>(entry: &Value<'a, A>, name: &str) -> Option<&'a str>
+fn member_text<'a, A: Allocator>(entry: &Value<'a, A>, name: &str) -> Option<&'a str>
     ensures { option_map (λ text. text.now) result ≡ text_of_member name.now (tree_data entry.now) }
 {
     string(member(entry, name)?)
@@ -95,116 +92,100 @@ fn key_use<A: Allocator>(entry: &Value<'_, A>) -> Option<KeyUse>
     key_use_named(member_text(entry, "use")?)
 }
 
-/// The bytes that an unpadded base64url text stands for.
-fn url_safe_bytes(alloc: Global, text: &str) -> Result<Option<Octets>, DocError>
-    ensures { Gives DocError.Memory result (Ok (judged.encoded_bytes url_safe_no_pad text.now)) }
-{
-    match URL_SAFE_NO_PAD.decode(alloc, text.as_bytes()) {
-        Ok(bytes) => Ok(Some(Octets::new(bytes))),
-        Err(DecodeAllocError::OutOfMemory) => Err(DocError::Memory),
-        Err(DecodeAllocError::DecodeError(_)) => Ok(None),
-    }
-}
-
-/// The bytes that a padded base64 text stands for.
-fn standard_bytes(alloc: Global, text: &str) -> Result<Option<Octets>, DocError>
-    ensures { Gives DocError.Memory result (Ok (judged.encoded_bytes standard text.now)) }
-{
-    match STANDARD.decode(alloc, text.as_bytes()) {
-        Ok(bytes) => Ok(Some(Octets::new(bytes))),
-        Err(DecodeAllocError::OutOfMemory) => Err(DocError::Memory),
-        Err(DecodeAllocError::DecodeError(_)) => Ok(None),
-    }
-}
-
-/// The bytes of a key's member.
+/// A key's member. Its bytes are decoded in memory of `scratch`, as are those of other members.
 #[tactic(auto, unfolding(crate::specs::Judgement::key_bytes))]
-fn key_bytes<A: Allocator>(
-    alloc: Global,
-    entry: &Value<'_, A>,
+fn key_bytes<'a, A: Allocator>(
+    scratch: A,
+    entry: &Value<'a, A>,
     name: &str,
-) -> Result<Option<Octets>, DocError>
-    ensures { Gives DocError.Memory result (Ok (judged.key_bytes name.now (tree_data entry.now))) }
+) -> Result<Option<UrlSafe<'a>>, AllocError>
+    ensures { IfOk result (λ found. found ≡ judged.key_bytes name.now (tree_data entry.now)) }
 {
     match member_text(entry, name) {
-        Some(text) => url_safe_bytes(alloc, text),
+        Some(text) => UrlSafe::read(scratch, text),
         None => Ok(None),
     }
 }
 
 #[tactic(auto, unfolding(crate::specs::Judgement::key_bytes))]
-fn coordinate<A: Allocator>(
-    alloc: Global,
-    entry: &Value<'_, A>,
+fn coordinate<'a, A: Allocator>(
+    scratch: A,
+    entry: &Value<'a, A>,
     name: &str,
     curve: Curve,
-) -> Result<Option<Octets>, DocError>
-    ensures { Gives DocError.Memory result (Ok (judged.coordinate curve name.now (tree_data entry.now))) }
+) -> Result<Option<UrlSafe<'a>>, AllocError>
+    ensures { IfOk result (λ found. found ≡ judged.coordinate curve name.now (tree_data entry.now)) }
 {
-    match key_bytes(alloc, entry, name)? {
+    match key_bytes(scratch, entry, name)? {
         Some(bytes) if bytes.len() == curve.coordinate_len() => Ok(Some(bytes)),
         _ => Ok(None),
     }
 }
 
 #[tactic(auto, unfolding(crate::specs::Judgement::key_bytes))]
-fn rsa_member<A: Allocator>(
-    alloc: Global,
-    entry: &Value<'_, A>,
+fn rsa_member<'a, A: Allocator>(
+    scratch: A,
+    entry: &Value<'a, A>,
     name: &str,
-) -> Result<Option<Octets>, DocError>
-    ensures { Gives DocError.Memory result (Ok (judged.rsa_member name.now (tree_data entry.now))) }
+) -> Result<Option<UrlSafe<'a>>, AllocError>
+    ensures { IfOk result (λ found. found ≡ judged.rsa_member name.now (tree_data entry.now)) }
 {
-    match key_bytes(alloc, entry, name)? {
-        Some(bytes) if !bytes.is_empty() && bytes.len() <= MAX_RSA_MEMBER => Ok(Some(bytes)),
+    match key_bytes(scratch, entry, name)? {
+        Some(bytes) if bytes.len() > 0 && bytes.len() <= MAX_RSA_MEMBER => Ok(Some(bytes)),
         _ => Ok(None),
     }
 }
 
 #[tactic(auto, unfolding(crate::specs::Judgement::point_key))]
-fn point_key<A: Allocator>(
-    alloc: Global,
+fn point_key<'a, A: Allocator + Copy>(
+    scratch: A,
     place: usize,
-    entry: &Value<'_, A>,
+    entry: &Value<'a, A>,
     curve: Curve,
-) -> Result<PublicKey, DocError>
-    ensures { Gives DocError.Memory result (judged.point_key place curve (tree_data entry.now)) }
+) -> Result<GivenKey<'a>, DocError>
+    ensures { MatchResult result
+        (λ key. judged.point_key place curve (tree_data entry.now) ≡ Ok (key_given key))
+        (λ e. (e ≡ DocError.Memory) ⊎ (judged.point_key place curve (tree_data entry.now) ≡ Err e)) }
 {
-    let Some(x) = coordinate(alloc, entry, "x", curve)? else {
+    let Some(x) = coordinate(scratch, entry, "x", curve)? else {
         return Err(DocError::BadKey(place));
     };
-    let Some(y) = coordinate(alloc, entry, "y", curve)? else {
+    let Some(y) = coordinate(scratch, entry, "y", curve)? else {
         return Err(DocError::BadKey(place));
     };
-    Ok(PublicKey::Ec(EcKey::new(curve, x, y)))
+    Ok(GivenKey::Ec { curve, x, y })
 }
 
 #[tactic(auto, unfolding(crate::specs::Judgement::rsa_key))]
-fn rsa_key<A: Allocator>(
-    alloc: Global,
+fn rsa_key<'a, A: Allocator + Copy>(
+    scratch: A,
     place: usize,
-    entry: &Value<'_, A>,
-) -> Result<PublicKey, DocError>
-    ensures { Gives DocError.Memory result (judged.rsa_key place (tree_data entry.now)) }
+    entry: &Value<'a, A>,
+) -> Result<GivenKey<'a>, DocError>
+    ensures { MatchResult result
+        (λ key. judged.rsa_key place (tree_data entry.now) ≡ Ok (key_given key))
+        (λ e. (e ≡ DocError.Memory) ⊎ (judged.rsa_key place (tree_data entry.now) ≡ Err e)) }
 {
-    let Some(n) = rsa_member(alloc, entry, "n")? else {
+    let Some(n) = rsa_member(scratch, entry, "n")? else {
         return Err(DocError::BadKey(place));
     };
-    let Some(e) = rsa_member(alloc, entry, "e")? else {
+    let Some(e) = rsa_member(scratch, entry, "e")? else {
         return Err(DocError::BadKey(place));
     };
-    Ok(PublicKey::Rsa(RsaKey::new(n, e)))
+    Ok(GivenKey::Rsa { n, e })
 }
 
 /// The key of an entry of this type, or `None` if its curve is unknown.
 #[tactic(auto, unfolding(crate::specs::Judgement::key_of))]
-fn key_of<A: Allocator>(
-    alloc: Global,
+fn key_of<'a, A: Allocator + Copy>(
+    scratch: A,
     place: usize,
     key_type: KeyType,
-    entry: &Value<'_, A>,
-) -> Result<Option<PublicKey>, DocError>
-    ensures { Gives DocError.Memory result (judged.key_of place key_type (tree_data entry.now)) }
+    entry: &Value<'a, A>,
+) -> Result<Option<GivenKey<'a>>, DocError>
+    ensures { MatchResult result
+        (λ key. judged.key_of place key_type (tree_data entry.now) ≡ Ok (option_map key_given key))
+        (λ e. (e ≡ DocError.Memory) ⊎ (judged.key_of place key_type (tree_data entry.now) ≡ Err e)) }
 {
     match key_type {
         KeyType::Ec => {
@@ -212,11 +193,11 @@ fn key_of<A: Allocator>(
                 return Err(DocError::BadKey(place));
             };
             match curve_named(name) {
-                Some(curve) => Ok(Some(point_key(alloc, place, entry, curve)?)),
+                Some(curve) => Ok(Some(point_key(scratch, place, entry, curve)?)),
                 None => Ok(None),
             }
         }
-        KeyType::Rsa => Ok(Some(rsa_key(alloc, place, entry)?)),
+        KeyType::Rsa => Ok(Some(rsa_key(scratch, place, entry)?)),
     }
 }
 
@@ -233,7 +214,7 @@ fn only_text<'a, A: Allocator>(list: &Vec<Value<'a, A>, A>) -> Option<&'a str>
 }
 
 /// The text of an `x5c` that is a list of one text.
-pub(crate) fn x5c_text<'a, A: Allocator>(entry: &Value<'a, A>) -> Option<&'a str>
+fn x5c_text<'a, A: Allocator>(entry: &Value<'a, A>) -> Option<&'a str>
     ensures { option_map (λ text. text.now) result
         ≡ option_and_then judged.only_text (option_and_then as_array (get (codes "x5c") (tree_data entry.now))) }
 {
@@ -241,17 +222,17 @@ pub(crate) fn x5c_text<'a, A: Allocator>(entry: &Value<'a, A>) -> Option<&'a str
 }
 
 #[tactic(auto, unfolding(crate::specs::Judgement::der_bytes))]
-fn certificate<A: Allocator>(
-    alloc: Global,
-    entry: &Value<'_, A>,
-) -> Result<Option<Certificate>, DocError>
-    ensures { Gives DocError.Memory result (Ok (judged.certificate (tree_data entry.now))) }
+fn certificate<'a, A: Allocator>(
+    scratch: A,
+    entry: &Value<'a, A>,
+) -> Result<Option<Standard<'a>>, AllocError>
+    ensures { IfOk result (λ found. found ≡ judged.certificate (tree_data entry.now)) }
 {
     let Some(text) = x5c_text(entry) else {
         return Ok(None);
     };
-    match standard_bytes(alloc, text)? {
-        Some(der) if !der.is_empty() => Ok(Some(Certificate::new(der))),
+    match Standard::read(scratch, text)? {
+        Some(der) if der.len() > 0 => Ok(Some(der)),
         _ => Ok(None),
     }
 }
@@ -262,59 +243,47 @@ fn is_key_id(text: &str) -> bool
     !text.is_empty() && text.len() <= MAX_KEY_ID
 }
 
-fn key_id<A: Allocator>(alloc: Global, entry: &Value<'_, A>) -> Result<Option<KeyId>, DocError>
-    ensures { Gives DocError.Memory result (Ok (judged.key_id (tree_data entry.now))) }
+fn key_id<'a, A: Allocator>(entry: &Value<'a, A>) -> Option<&'a str>
+    ensures { option_map (λ kid. kid.now) result ≡ judged.key_id (tree_data entry.now) }
 {
-    match member_text(entry, "kid") {
-        Some(text) if is_key_id(text) => Ok(Some(KeyId::new(String::from_str(alloc, text)?))),
-        _ => Ok(None),
-    }
+    let text = member_text(entry, "kid")?;
+    if is_key_id(text) { Some(text) } else { None }
 }
 
 #[tactic(auto, unfolding(crate::specs::Judgement::authority_for))]
-fn authority_for<A: Allocator>(
-    alloc: Global,
+fn given_for<'a, A: Allocator>(
+    scratch: A,
     place: usize,
     key_use: KeyUse,
-    key: PublicKey,
-    entry: &Value<'_, A>,
-) -> Result<Authority, DocError>
-    ensures { Gives DocError.Memory result (judged.authority_for place key_use key (tree_data entry.now)) }
+    key: GivenKey<'a>,
+    entry: &Value<'a, A>,
+) -> Result<Given<'a>, DocError>
+    ensures { MatchResult result
+        (λ given. judged.authority_for place key_use (key_given key.entry) (tree_data entry.now) ≡ Ok (authority_given given))
+        (λ e. (e ≡ DocError.Memory) ⊎ (judged.authority_for place key_use (key_given key.entry) (tree_data entry.now) ≡ Err e)) }
 {
     match key_use {
-        KeyUse::X509 => match certificate(alloc, entry) {
-            Ok(Some(der)) => Ok(Authority::X509 { key, der }),
-            Ok(None) => {
-                drop(key);
-                Err(DocError::BadX5c(place))
-            }
-            Err(why) => {
-                drop(key);
-                Err(why)
-            }
+        KeyUse::X509 => match certificate(scratch, entry)? {
+            Some(x5c) => Ok(Given::X509 { key, x5c }),
+            None => Err(DocError::BadX5c(place)),
         },
-        KeyUse::Jwt => match key_id(alloc, entry) {
-            Ok(Some(kid)) => Ok(Authority::Jwt { kid, key }),
-            Ok(None) => {
-                drop(key);
-                Err(DocError::BadKid(place))
-            }
-            Err(why) => {
-                drop(key);
-                Err(why)
-            }
+        KeyUse::Jwt => match key_id(entry) {
+            Some(kid) => Ok(Given::Jwt { kid, key }),
+            None => Err(DocError::BadKid(place)),
         },
     }
 }
 
 /// The entry at this place of a document: its authority, or `None` if it is ignored.
 #[tactic(auto, unfolding(crate::specs::Judgement::judge))]
-pub(crate) fn judge<A: Allocator>(
-    alloc: Global,
+pub(crate) fn judge<'a, A: Allocator + Copy>(
+    scratch: A,
     place: usize,
-    entry: &Value<'_, A>,
-) -> Result<Option<Authority>, DocError>
-    ensures { Gives DocError.Memory result (judged.judge place (tree_data entry.now)) }
+    entry: &Value<'a, A>,
+) -> Result<Option<Given<'a>>, DocError>
+    ensures { MatchResult result
+        (λ given. judged.judge place (tree_data entry.now) ≡ Ok (option_map authority_given given))
+        (λ e. (e ≡ DocError.Memory) ⊎ (judged.judge place (tree_data entry.now) ≡ Err e)) }
 {
     if !is_object(entry) {
         return Err(DocError::BadEntry(place));
@@ -325,8 +294,8 @@ pub(crate) fn judge<A: Allocator>(
     let Some(key_use) = key_use(entry) else {
         return Ok(None);
     };
-    let Some(key) = key_of(alloc, place, key_type, entry)? else {
+    let Some(key) = key_of(scratch, place, key_type, entry)? else {
         return Ok(None);
     };
-    Ok(Some(authority_for(alloc, place, key_use, key, entry)?))
+    Ok(Some(given_for(scratch, place, key_use, key, entry)?))
 }

@@ -80,7 +80,7 @@ impl EcKey {
         &self.y
     }
 
-    /// The same key. The first copy has memory of its own, which its copies share.
+    /// The same key, in memory of its own.
     pub fn copy(&self) -> Result<EcKey, Memory>
         ensures { IfOk result (λ copy. copy ≡ self.now) }
     {
@@ -153,7 +153,7 @@ impl RsaKey {
         &self.e
     }
 
-    /// The same key. The first copy has memory of its own, which its copies share.
+    /// The same key, in memory of its own.
     pub fn copy(&self) -> Result<RsaKey, Memory>
         ensures { IfOk result (λ copy. copy ≡ self.now) }
     {
@@ -202,7 +202,7 @@ impl PublicKey {
         }
     }
 
-    /// The same key. The first copy has memory of its own, which its copies share.
+    /// The same key, in memory of its own.
     pub fn copy(&self) -> Result<PublicKey, Memory>
         ensures { IfOk result (λ copy. copy ≡ self.now) }
     {

@@ -35,16 +35,6 @@ impl<'a> KidKey<'a> {
             text,
         }
     }
-
-    /// The same key id.
-    pub(crate) fn copy(&self) -> KidKey<'a>
-        ensures { result ≡ self.now }
-    {
-        KidKey {
-            prefix: self.prefix,
-            text: self.text,
-        }
-    }
 }
 
 impl<'a> PartialEq for KidKey<'a> {

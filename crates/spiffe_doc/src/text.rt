@@ -15,7 +15,7 @@ use crate::key::{Curve, PublicKey};
 use crate::octets::Octets;
 use base64::engine::general_purpose::{STANDARD, URL_SAFE_NO_PAD};
 use json::Writer;
-use std::alloc::{AllocError, Global};
+use std::alloc::{AllocError, Allocator, Global};
 
 /// The most bytes of an entry beside its three texts that vary, and one more: with each token, and so with the last, the
 /// writer asks for room for a comma.
@@ -79,7 +79,11 @@ fn write_jwt(alloc: Global, kid: &KeyId, key: &PublicKey) -> Result<Vec<u8>, All
 }
 
 /// Adds an entry's text to the text up to the last entry.
-pub(crate) fn push_entry(text: &mut Vec<u8>, is_first: bool, entry: &[u8]) -> Result<(), AllocError>
+pub(crate) fn push_entry<A: Allocator>(
+    text: &mut Vec<u8, A>,
+    is_first: bool,
+    entry: &[u8],
+) -> Result<(), AllocError>
     ensures { OnOk result (text.new.items ≡ text.old.items ++ (cond is_first [] (44 ∷ []) ++ entry.now)) }
 {
     if !is_first {
@@ -89,9 +93,9 @@ pub(crate) fn push_entry(text: &mut Vec<u8>, is_first: bool, entry: &[u8]) -> Re
 }
 
 /// Adds what follows the last entry: the end of the list, the numbers and the end of the document.
-pub(crate) fn push_rest(
+pub(crate) fn push_rest<A: Allocator>(
     alloc: Global,
-    text: &mut Vec<u8>,
+    text: &mut Vec<u8, A>,
     sequence: Option<u64>,
     refresh_hint: Option<u64>,
 ) -> Result<(), AllocError>
@@ -105,9 +109,9 @@ pub(crate) fn push_rest(
 }
 
 /// Adds a member of a number, if there is one.
-fn push_number(
+fn push_number<A: Allocator>(
     alloc: Global,
-    text: &mut Vec<u8>,
+    text: &mut Vec<u8, A>,
     label: &str,
     number: Option<u64>,
 ) -> Result<(), AllocError>
@@ -122,7 +126,7 @@ fn push_number(
     }
 }
 
-fn curve_name(curve: Curve) -> &'static str
+pub(crate) fn curve_name(curve: Curve) -> &'static str
     ensures { result.now ≡ curve_text curve }
 {
     match curve {
@@ -146,7 +150,12 @@ fn standard_text(alloc: Global, bytes: &Octets) -> Result<String, AllocError>
 
 /// A writer within an entry. If these are the texts of the entry that vary, it has room for the whole, and grows only
 /// if one of them has to be escaped.
-fn entry_writer(alloc: Global, first: &str, second: &str, third: &str) -> Result<Writer, AllocError>
+fn entry_writer<A: Allocator>(
+    alloc: A,
+    first: &str,
+    second: &str,
+    third: &str,
+) -> Result<Writer<A>, AllocError>
     ensures before { IfOk result (λ writer. writer.before ≡ []) }
     ensures tokens { IfOk result (λ writer. writer.tokens ≡ begin_object ∷ []) }
 {
@@ -161,7 +170,11 @@ fn entry_writer(alloc: Global, first: &str, second: &str, third: &str) -> Result
 }
 
 /// Writes a member that is a text.
-fn push_member(writer: &mut Writer, name: &str, text: &str) -> Result<(), AllocError>
+fn push_member<A: Allocator>(
+    writer: &mut Writer<A>,
+    name: &str,
+    text: &str,
+) -> Result<(), AllocError>
     ensures before { OnOk result (writer.new.before ≡ writer.old.before) }
     ensures tokens { OnOk result (writer.new.tokens ≡ writer.old.tokens ++ key name.now ∷ string text.now ∷ []) }
 {
@@ -170,7 +183,7 @@ fn push_member(writer: &mut Writer, name: &str, text: &str) -> Result<(), AllocE
 }
 
 /// Writes the member `x5c`, a list of one text.
-fn push_x5c(writer: &mut Writer, text: &str) -> Result<(), AllocError>
+fn push_x5c<A: Allocator>(writer: &mut Writer<A>, text: &str) -> Result<(), AllocError>
     ensures before { OnOk result (writer.new.before ≡ writer.old.before) }
     ensures tokens { OnOk result (writer.new.tokens ≡ writer.old.tokens ++ key (codes "x5c") ∷ begin_array ∷ string text.now ∷ end_array ∷ []) }
 {
@@ -181,13 +194,13 @@ fn push_x5c(writer: &mut Writer, text: &str) -> Result<(), AllocError>
 }
 
 /// The text of an X.509 authority over a curve, by the base64 texts of its members.
-pub(crate) fn x509_point(
-    alloc: Global,
+pub(crate) fn x509_point<A: Allocator>(
+    alloc: A,
     curve: Curve,
     x: &str,
     y: &str,
     x5c: &str,
-) -> Result<Vec<u8>, AllocError>
+) -> Result<Vec<u8, A>, AllocError>
     ensures { IfOk result (λ text. text.items ≡ compact_text (x509_point_tree curve x.now y.now x5c.now)) }
 {
     let mut writer = entry_writer(alloc, x, y, x5c)?;
@@ -202,7 +215,12 @@ pub(crate) fn x509_point(
 }
 
 /// The text of an X.509 authority with an RSA key, by the base64 texts of its members.
-pub(crate) fn x509_rsa(alloc: Global, n: &str, e: &str, x5c: &str) -> Result<Vec<u8>, AllocError>
+pub(crate) fn x509_rsa<A: Allocator>(
+    alloc: A,
+    n: &str,
+    e: &str,
+    x5c: &str,
+) -> Result<Vec<u8, A>, AllocError>
     ensures { IfOk result (λ text. text.items ≡ compact_text (x509_rsa_tree n.now e.now x5c.now)) }
 {
     let mut writer = entry_writer(alloc, n, e, x5c)?;
@@ -216,13 +234,13 @@ pub(crate) fn x509_rsa(alloc: Global, n: &str, e: &str, x5c: &str) -> Result<Vec
 }
 
 /// The text of a JWT authority over a curve, by the texts of its members.
-pub(crate) fn jwt_point(
-    alloc: Global,
+pub(crate) fn jwt_point<A: Allocator>(
+    alloc: A,
     kid: &str,
     curve: Curve,
     x: &str,
     y: &str,
-) -> Result<Vec<u8>, AllocError>
+) -> Result<Vec<u8, A>, AllocError>
     ensures { IfOk result (λ text. text.items ≡ compact_text (jwt_point_tree kid.now curve x.now y.now)) }
 {
     let mut writer = entry_writer(alloc, kid, x, y)?;
@@ -237,7 +255,12 @@ pub(crate) fn jwt_point(
 }
 
 /// The text of a JWT authority with an RSA key, by the texts of its members.
-pub(crate) fn jwt_rsa(alloc: Global, kid: &str, n: &str, e: &str) -> Result<Vec<u8>, AllocError>
+pub(crate) fn jwt_rsa<A: Allocator>(
+    alloc: A,
+    kid: &str,
+    n: &str,
+    e: &str,
+) -> Result<Vec<u8, A>, AllocError>
     ensures { IfOk result (λ text. text.items ≡ compact_text (jwt_rsa_tree kid.now n.now e.now)) }
 {
     let mut writer = entry_writer(alloc, kid, n, e)?;

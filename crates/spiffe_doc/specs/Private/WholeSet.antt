@@ -1,11 +1,10 @@
--- What the authorities of a set keep, for private contracts.
-use Rattle.std.specs.Prelude.{◌≡◌}
-use Rattle.spiffe_doc.specs.declared.authority_set.AuthoritySet.{AuthoritySet}
+-- What a set of entries keeps, for private contracts.
+use Rattle.spiffe_doc.specs.declared.entry_set.EntrySet.{EntrySet}
 use Rattle.spiffe_doc.specs.Bundle.{AreAuthorities}
-use Rattle.spiffe_doc.specs.Private.Writing.{front_text}
-use Rattle.spiffe_doc.specs.Private.AuthoritySet.{AreIndexed}
+use Rattle.spiffe_doc.specs.Private.Fronts.{listed, IsWholeFront}
+use Rattle.spiffe_doc.specs.Private.EntrySet.{AreIndexed}
 
-pub record IsWhole (set : AuthoritySet) : Type 0 where
-  pub valid : AreAuthorities set.authorities.items
-  pub indexed : AreIndexed set.texts set.kids set.authorities.items
-  pub written : set.text.items ≡ front_text set.authorities.items
+pub record IsWhole {A : Type 0} (set : EntrySet A) : Type 0 where
+  pub valid : AreAuthorities (listed set.front)
+  pub indexed : AreIndexed set.certificates set.kids (listed set.front)
+  pub front : IsWholeFront set.front

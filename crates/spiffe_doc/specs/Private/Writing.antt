@@ -1,13 +1,11 @@
 -- A canonical text in two pieces, for private contracts: up to the last entry, and what follows.
-use Rattle.std.specs.Prelude.{◌≡◌, ℕ, ◌≤◌, List, [], ◌∷◌, ◌++◌, length, take, codes, Bool, true, false, Option, Some, None, decimal}
+use Rattle.std.specs.Prelude.{ℕ, List, [], ◌∷◌, ◌++◌, codes, Bool, true, false, Option, Some, None, decimal}
 use Rattle.serde_json.specs.Data.{Data, string, array, object, no_items, item, no_members, member}
 use Rattle.serde_json.specs.Written.{comma_if}
 use Rattle.spiffe_doc.specs.declared.key.Curve.{Curve}
 use Rattle.spiffe_doc.specs.Key.{curve_text}
 use Rattle.spiffe_doc.specs.declared.authority.Authority.{Authority}
-use Rattle.spiffe_doc.specs.Authority.{BundleValue}
-use Rattle.spiffe_doc.specs.Text.{entry_text, text_of}
-use Rattle.spiffe_doc.specs.Bundle.{IsBundle}
+use Rattle.spiffe_doc.specs.Text.{entry_text}
 
 -- an authority as a JWK, by the texts of its members
 abbrev pub x509_point_tree : Curve → List ℕ → List ℕ → List ℕ → Data
@@ -46,10 +44,3 @@ number_text label (Some n) = label ++ decimal n
 unfoldable pub rest_text : Option ℕ → Option ℕ → List ℕ
 rest_text hint sequence =
     codes "]" ++ (number_text (codes ",\"spiffe_refresh_hint\":") hint ++ (number_text (codes ",\"spiffe_sequence\":") sequence ++ codes "}"))
-
--- what a bundle in memory keeps: its canonical text, and how many bytes of it stand up to the last entry
-pub record IsKept (text : List ℕ) (front_len : ℕ) (bundle : BundleValue) : Type 0 where
-  pub valid : IsBundle bundle
-  pub written : text ≡ text_of bundle
-  pub inside : front_len ≤ length text
-  pub front : take front_len text ≡ front_text bundle.authorities

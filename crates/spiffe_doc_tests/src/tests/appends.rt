@@ -1,6 +1,6 @@
 //! Authorities that are appended.
 use super::{authority, bundle, holds_at, is_equal_at};
-use spiffe_doc::{Authority, Bundle};
+use spiffe_doc::{Authority, Bundle, write_entry};
 use std::alloc::Global;
 use std::process::Abort;
 use std::test::Fail;
@@ -53,14 +53,10 @@ fn is_appended(
     let after = before.appended(alloc, last)?;
     let copy: Bundle = after.copy()?;
     is_equal_at(rt, &copy.text(), &wanted.as_bytes(), &wanted);
-    holds_at(
-        rt,
-        after
-            .authorities()
-            .last()
-            .is_some_and(|kept| *kept == *last),
-        &wanted,
-    );
+    let entry = write_entry(alloc, last)?;
+    let kept = after.authorities();
+    let is_last = |at: usize| kept.get(at).is_some_and(|it| it.text() == entry.as_slice());
+    holds_at(rt, is_last(kept.len() - 1), &wanted);
     holds_at(rt, copy == after && copy != *before, &wanted);
     holds_at(rt, after == bundle(alloc, wanted)?, &wanted);
     Ok(())

@@ -328,37 +328,30 @@ fn is_kept_of(
     is_kept(rt, key, other, wanted)
 }
 
-/// The document has one authority, with this certificate or key id and these members.
-fn is_in_document(
-    rt: &impl Abort,
-    document: &Bundle,
-    other: &Authority,
-    own: &[u8],
-    wanted: Members<'_>,
-) -> Result<(), AllocError> {
+/// The one authority of a document.
+fn only_one(rt: &impl Abort, alloc: Global, document: &Bundle) -> Result<Authority, Fail> {
     let authorities = document.authorities();
-    is_equal_at(rt, &authorities.len(), &1, &own);
-    match authorities.first() {
-        Some(authority) => is_kept_of(rt, authority, other, own, wanted),
-        None => Ok(()),
-    }
+    is_equal_at(rt, &authorities.len(), &1, &"authorities");
+    let first = authorities.get(0).ok_or("an authority")?;
+    Ok(first.decode(alloc)?)
 }
 
 // By itself, and in a document, which has no room for the spaces behind an entry.
 #[test]
 fn members(rt: HostRuntime) -> Result<(), Fail> {
     let others = bundle(rt.alloc(), OTHER)?;
-    let other = others.authorities().first().ok_or("an authority")?;
+    let other = only_one(&rt, rt.alloc(), &others)?;
     for &(parts, own, wanted) in &KEPT {
         let entry = text_of(rt.alloc(), parts)?;
         let read = authority(rt.alloc(), &entry)?;
-        let is_so = is_copied(&rt, &read, other, own, wanted);
+        let is_so = is_copied(&rt, &read, &other, own, wanted);
         drop(read);
         is_so?;
         let document = format!(in rt.alloc(); "{{\"keys\":[{}]}}", entry.as_str().trim_end())?;
         let read = bundle(rt.alloc(), &document)?;
-        let is_so = is_in_document(&rt, &read, other, own, wanted);
-        drop(read);
+        let kept = only_one(&rt, rt.alloc(), &read)?;
+        let is_so = is_kept_of(&rt, &kept, &other, own, wanted);
+        drop(kept);
         is_so?;
     }
     Ok(())

@@ -148,7 +148,10 @@ fn front_of(alloc: Global, bundle: &Bundle) -> Result<Vec<u8>, AllocError> {
         if place > 0 {
             front.push(b',')?;
         }
-        front.extend_from_slice(&write_entry(alloc, authority)?)?;
+        let kept = authority.decode(alloc)?;
+        let entry = write_entry(alloc, &kept);
+        drop(kept);
+        front.extend_from_slice(&entry?)?;
     }
     front.push(b']')?;
     Ok(front)

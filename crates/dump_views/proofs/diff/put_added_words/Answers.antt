@@ -6,7 +6,7 @@ use Rattle.dump_views.proofs.diff.put_added_words.Goals as goal
 pub returns-clause-ok : goal.returns-clause-ok
 unfolding added_words
 returns-clause-ok c =
-    let count : c.format.result.now ≡ decimal (length c.args.bundle.now.authorities) = c.format.ensures.text ∙ ap (λ xs. decimal (length xs)) c.authorities.ensures.value in
+    let count : c.format.result.now ≡ decimal (length c.args.bundle.now.authorities) = c.format.ensures.text ∙ ap decimal (c.len.ensures ∙ ap length c.authorities.ensures.value) in
     four_appended c.args.out.now.items c.extend_from_slice.new.self.items c.extend_from_slice-2.new.self.items c.extend_from_slice-3.new.self.items c.put_number.new.out.items
     (codes " authorities ") (decimal (length c.args.bundle.now.authorities)) (codes " sequence ") (number_word c.args.bundle.now.sequence)
     c.in_ok-extend_from_slice.ensures.items

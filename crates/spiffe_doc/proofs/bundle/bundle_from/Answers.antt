@@ -1,44 +1,41 @@
-use Rattle.std.proofs.Common.{◌≡◌, ◌≤◌, ◌++◌, length, refl, sym, ap, ◌∙◌, rules, arith, length-append}
-use Rattle.std.proofs.Math.Seq.{take-append_seam}
-use Rattle.spiffe_doc.specs.Authority.{BundleValue}
+use Rattle.std.proofs.Common.{◌≡◌, ◌≤◌, length, refl, ap, ◌∙◌, rules, arith}
 use Rattle.spiffe_doc.specs.Text.{text_of}
-use Rattle.spiffe_doc.specs.Private.Writing.{rest_text}
-use Rattle.spiffe_doc.proofs.TextLemmas.{text_of-pieces}
+use Rattle.spiffe_doc.specs.Private.Places.{authorities_in}
+use Rattle.spiffe_doc.specs.Private.Fronts.{listed}
+use Rattle.spiffe_doc.proofs.KeptLemmas.{bundle_of, IsContinued, continued_listed, continued_text, continued_kept}
+use Rattle.spiffe_doc.proofs.bundle.bundle_from.Given as given
 use Rattle.spiffe_doc.proofs.bundle.bundle_from.Goals as goal
 
 pub returns-then-len-gt-MAX_TEXT : goal.returns-then-len-gt-MAX_TEXT
-returns-then-len-gt-MAX_TEXT c =
-    let bundle : BundleValue = record { sequence = c.args.sequence; refresh_hint = c.args.refresh_hint; authorities = c.args.authorities.items } in
-    let rest = rest_text c.args.refresh_hint c.args.sequence in
-    let whole = c.in_ok-push_rest.ensures ∙ ap (λ front. front ++ rest) c.requires.front ∙ sym (text_of-pieces bundle) in
-    let same = ap length whole in
-    omega (arith, same, c.len.ensures, c.if-len-gt-MAX_TEXT.true)
+returns-then-len-gt-MAX_TEXT g c =
+    let front = c.args.front.text.items in
+    let is : IsContinued front c.push_rest.new.text.items c.args.front.places.items c.args.sequence c.args.refresh_hint = record { begins = c.requires.whole; valid = c.requires.valid; is_text = c.in_ok-push_rest.ensures } in
+    omega (arith, ap length (continued_text _ _ _ _ _ is), c.len.ensures, c.if-len-gt-MAX_TEXT.true)
+
+-- the text and the places as they are kept
+kept : (g : given.Over) (c : goal.In_ok-published g) → IsContinued c.args.front.text.items c.in_ok-to_vec.field-0.items c.args.front.places.items c.args.sequence c.args.refresh_hint
+kept g c = record {
+  begins = c.requires.whole;
+  valid = c.requires.valid;
+  is_text = c.in_ok-to_vec.ensures.items_if_clones_equal (λ x y same. same) ∙ c.as_slice.ensures.value ∙ c.in_ok-push_rest.ensures;
+}
 
 pub invariant_of-result : goal.invariant_of-result
-invariant_of-result c =
-    let bundle : BundleValue = record { sequence = c.args.sequence; refresh_hint = c.args.refresh_hint; authorities = c.args.authorities.items } in
-    let rest = rest_text c.args.refresh_hint c.args.sequence in
-    let whole = c.in_ok-push_rest.ensures ∙ ap (λ front. front ++ rest) c.requires.front ∙ sym (text_of-pieces bundle) in
-    let same = ap length whole in
-    let longer = ap length c.in_ok-push_rest.ensures in
-    let front_len : c.len-front_len.result ≡ length c.args.front.items = omega (arith, c.len-front_len.ensures) in
-    rw c.in_ok-published.ensures.ok (record {
-      valid = record {
-        sequence_fits = search rules;
-        hint_fits = search rules;
-        authorities = c.requires.valid;
-        short = omega (arith, same, c.len.ensures, c.if-len-gt-MAX_TEXT.false);
-      };
-      written = whole;
-      inside = omega (arith, c.len-front_len.ensures, simp length-append at longer);
-      front = rw (c.in_ok-push_rest.ensures, front_len, take-append_seam) c.requires.front;
-    })
+invariant_of-result g c =
+    let is = kept g c in
+    let places = c.in_ok-to_vec-2.ensures.items_if_clones_equal (λ x y same. same) ∙ c.as_slice-2.ensures.value in
+    let long : length c.in_ok-to_vec.field-0.items ≤ 1048576 = omega (arith, ap length (is.is_text), ap length c.in_ok-push_rest.ensures, c.len.ensures, c.if-len-gt-MAX_TEXT.false) in
+    rw (c.in_ok-published.ensures.ok, places) (continued_kept c.args.front.text.items c.in_ok-to_vec.field-0.items c.args.front.places.items c.len-front_len.result c.args.sequence c.args.refresh_hint is (omega (arith, c.len-front_len.ensures)) (search rules) (search rules) long)
 
 pub returns : goal.returns
-returns c =
-    let bundle : BundleValue = record { sequence = c.args.sequence; refresh_hint = c.args.refresh_hint; authorities = c.args.authorities.items } in
-    let rest = rest_text c.args.refresh_hint c.args.sequence in
-    let whole = c.in_ok-push_rest.ensures ∙ ap (λ front. front ++ rest) c.requires.front ∙ sym (text_of-pieces bundle) in
-    let same = ap length whole in
-    let short : length (text_of bundle) ≤ 1048576 = omega (arith, same, c.len.ensures, c.if-len-gt-MAX_TEXT.false) in
-    rw c.in_ok-published.ensures.ok (refl, short)
+returns g c =
+    let is : IsContinued c.args.front.text.items c.in_ok-to_vec.field-0.items c.args.front.places.items c.args.sequence c.args.refresh_hint = record {
+      begins = c.requires.whole;
+      valid = c.requires.valid;
+      is_text = c.in_ok-to_vec.ensures.items_if_clones_equal (λ x y same. same) ∙ c.as_slice.ensures.value ∙ c.in_ok-push_rest.ensures;
+    } in
+    let places = c.in_ok-to_vec-2.ensures.items_if_clones_equal (λ x y same. same) ∙ c.as_slice-2.ensures.value in
+    let same : authorities_in c.in_ok-to_vec.field-0.items c.in_ok-to_vec-2.field-0.items ≡ listed c.args.front = ap (authorities_in c.in_ok-to_vec.field-0.items) places ∙ continued_listed _ _ _ _ _ is in
+    let short : length (text_of (bundle_of c.args.sequence c.args.refresh_hint (listed c.args.front))) ≤ 1048576 =
+    omega (arith, ap length (continued_text _ _ _ _ _ is), ap length is.is_text, ap length c.in_ok-push_rest.ensures, c.len.ensures, c.if-len-gt-MAX_TEXT.false) in
+    rw (c.in_ok-published.ensures.ok, same) (refl, short)

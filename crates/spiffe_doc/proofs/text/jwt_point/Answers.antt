@@ -4,7 +4,7 @@ use Rattle.spiffe_doc.proofs.WrittenLemmas.{written, behind, member_behind}
 use Rattle.spiffe_doc.proofs.text.jwt_point.Goals as goal
 
 pub returns : goal.returns
-returns c =
+returns g c =
     let t1 = member_behind _ _ _ _ _ _ c.in_ok-push_member.ensures.tokens c.curve_name.ensures c.in_ok-writer.ensures.tokens in
     let t2 = behind _ _ _ _ c.in_ok-push_member-2.ensures.tokens t1 in
     let t3 = behind _ _ _ _ c.in_ok-push_member-3.ensures.tokens t2 in

@@ -4,7 +4,7 @@ use Rattle.spiffe_doc.proofs.TextLemmas.{rest_text-pieces}
 use Rattle.spiffe_doc.proofs.text.push_rest.Goals as goal
 
 pub returns : goal.returns
-returns c =
+returns g c =
     let hints = number_text (codes ",\"spiffe_refresh_hint\":") c.args.refresh_hint in
     let sequences = number_text (codes ",\"spiffe_sequence\":") c.args.sequence in
     c.in_ok-push-2.ensures.items

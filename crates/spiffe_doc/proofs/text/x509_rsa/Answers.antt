@@ -4,7 +4,7 @@ use Rattle.spiffe_doc.proofs.WrittenLemmas.{written, behind}
 use Rattle.spiffe_doc.proofs.text.x509_rsa.Goals as goal
 
 pub returns : goal.returns
-returns c =
+returns g c =
     let t1 = behind _ _ _ _ c.in_ok-push_member.ensures.tokens c.in_ok-writer.ensures.tokens in
     let t2 = behind _ _ _ _ c.in_ok-push_member-2.ensures.tokens t1 in
     let t3 = behind _ _ _ _ c.in_ok-push_member-3.ensures.tokens t2 in

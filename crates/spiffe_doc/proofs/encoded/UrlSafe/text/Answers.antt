@@ -1,0 +1,8 @@
+use Rattle.std.proofs.Common.{ap, ◌∙◌}
+use Rattle.base64.specs.Engines.{url_safe_no_pad}
+use Rattle.base64.specs.GeneralPurpose.{encode_of}
+use Rattle.spiffe_doc.proofs.EncodedLemmas.{encoded_bytes-some}
+use Rattle.spiffe_doc.proofs.encoded.UrlSafe.text.Goals as goal
+
+pub returns : goal.returns
+returns c = (encoded_bytes-some url_safe_no_pad _ _ c.self.invariant.bytes).1 ∙ ap (encode_of url_safe_no_pad) c.self.view_is
