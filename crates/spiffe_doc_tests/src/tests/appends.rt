@@ -55,8 +55,9 @@ fn is_appended(
     is_equal_at(rt, &copy.text(), &wanted.as_bytes(), &wanted);
     let entry = write_entry(alloc, last)?;
     let kept = after.authorities();
-    let is_last = |at: usize| kept.get(at).is_some_and(|it| it.text() == entry.as_slice());
-    holds_at(rt, is_last(kept.len() - 1), &wanted);
+    let at = kept.len().saturating_sub(1);
+    let is_last = kept.get(at).is_some_and(|it| it.text() == entry.as_slice());
+    holds_at(rt, is_last, &wanted);
     holds_at(rt, copy == after && copy != *before, &wanted);
     holds_at(rt, after == bundle(alloc, wanted)?, &wanted);
     Ok(())
