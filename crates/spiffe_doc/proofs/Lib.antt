@@ -5,6 +5,7 @@ pub mod IdLaws
 pub mod BorrowedLemmas
 pub mod MemberLemmas
 pub mod EncodedLemmas
+pub mod SymbolLemmas
 pub mod Members
 pub mod Keys
 pub mod EntryLaws

@@ -1,6 +1,7 @@
 -- Definitions that no public contract rests on: private contracts and proofs use them.
 pub mod EntrySet
 pub mod Encoded
+pub mod Symbols
 pub mod Given
 pub mod Entries
 pub mod Places

@@ -5,6 +5,7 @@ ghost use Rattle.base64.specs.GeneralPurpose.{encode_of};
 ghost use Rattle.spiffe_doc.specs.Judgement.{encoded_bytes};
 
 use crate::octets::Octets;
+use crate::symbols::{standard_len, url_safe_len};
 use base64::DecodeAllocError;
 use base64::engine::general_purpose::{STANDARD, URL_SAFE_NO_PAD};
 use std::alloc::{AllocError, Allocator, Global};
@@ -31,13 +32,17 @@ impl<'a> Model for UrlSafe<'a> {
 }
 
 impl<'a> UrlSafe<'a> {
-    /// Reads a text, if it is one. The bytes are decoded in memory of `scratch`, and forgotten.
+    /// Reads a text, if it is one. Most can be seen to be one; for others the bytes are decoded in memory of `scratch`,
+    /// and forgotten.
     pub(crate) fn read<A: Allocator>(
         scratch: A,
         text: &'a str,
     ) -> Result<Option<UrlSafe<'a>>, AllocError>
         ensures { IfOk result (λ found. found ≡ encoded_bytes url_safe_no_pad text.now) }
     {
+        if let Some(len) = url_safe_len(text.as_bytes()) {
+            return Ok(Some(UrlSafe { text, len }));
+        }
         match URL_SAFE_NO_PAD.decode(scratch, text.as_bytes()) {
             Ok(bytes) => Ok(Some(UrlSafe {
                 text,
@@ -95,13 +100,17 @@ impl<'a> Model for Standard<'a> {
 }
 
 impl<'a> Standard<'a> {
-    /// Reads a text, if it is one. The bytes are decoded in memory of `scratch`, and forgotten.
+    /// Reads a text, if it is one. Most can be seen to be one; for others the bytes are decoded in memory of `scratch`,
+    /// and forgotten.
     pub(crate) fn read<A: Allocator>(
         scratch: A,
         text: &'a str,
     ) -> Result<Option<Standard<'a>>, AllocError>
         ensures { IfOk result (λ found. found ≡ encoded_bytes standard text.now) }
     {
+        if let Some(len) = standard_len(text.as_bytes()) {
+            return Ok(Some(Standard { text, len }));
+        }
         match STANDARD.decode(scratch, text.as_bytes()) {
             Ok(bytes) => Ok(Some(Standard {
                 text,

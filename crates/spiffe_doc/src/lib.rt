@@ -27,6 +27,7 @@ mod octets;
 mod place;
 mod rest;
 mod short_text;
+mod symbols;
 mod text;
 mod tree;
 
