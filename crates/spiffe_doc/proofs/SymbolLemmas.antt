@@ -1,6 +1,7 @@
 -- Symbols that end with a whole byte are the encoding of some bytes.
-use Rattle.std.proofs.Common.{◌≡◌, ℕ, zero, suc, ◌+◌, ◌*◌, ◌/◌, ◌%◌, ◌-◌, ◌<◌, ◌==◌, Bool, true, false, not, ◌||◌, ◌&&◌, List, [], ◌∷◌, ◌++◌, length, replicate, slice_index, get_or, refl, sym, ap, ◌∙◌, arith}
-use Rattle.std.specs.List.{list_all}
+use Rattle.std.proofs.Common.{◌≡◌, ℕ, zero, suc, ◌+◌, ◌*◌, ◌/◌, ◌%◌, ◌-◌, ◌<◌, ◌==◌, Bool, true, false, not, ◌||◌, ◌&&◌, List, [], ◌∷◌, ◌++◌, length, map, replicate, slice_index, get_or, refl, sym, ap, ◌∙◌, arith}
+use Rattle.std.specs.Char.{is_ascii_alphanumeric}
+use Rattle.std.specs.List.{list_all, range_with_len}
 use Rattle.std.proofs.lemmas.Bool.{and_parts, eqb-true, ltb-true}
 use Rattle.std.proofs.lemmas.Bool.Decides.{nat_tests}
 use Rattle.std.proofs.lemmas.List.{append-nil}
@@ -11,21 +12,26 @@ use Rattle.base64.specs.Rfc4648.{encode_symbols, padding_len}
 use Rattle.base64.specs.GeneralPurpose.{encode_of, IsBytes}
 use Rattle.base64.specs.Tables.{all_below}
 use Rattle.base64.proofs.Tables.{all_below_at}
-use Rattle.spiffe_doc.specs.declared.symbols.TheConstants.{STANDARD_SYMBOLS, URL_SAFE_SYMBOLS}
 use Rattle.spiffe_doc.specs.Judgement.{encoded_bytes}
 use Rattle.spiffe_doc.specs.Private.Encoded.{Encodes}
 use Rattle.spiffe_doc.specs.Private.Symbols.{bits_of, is_symbol, is_end_of_one, is_end_of_two, EndsWhole}
 use Rattle.spiffe_doc.proofs.EncodedLemmas.{encoded_bytes-encode_of, Encodes-of}
 
--- ---- the tables of the code
+-- ---- the tests of the code
 
-pub standard_symbol-tabled : (x : ℕ) → x < 256 → get_or STANDARD_SYMBOLS x false ≡ is_symbol standard x
-unfolding is_symbol
-standard_symbol-tabled x below = get_or-map-range_with_len (is_symbol standard) 0 256 x x false below (omega arith)
+-- two tests that agree on every byte
+agree_below : (f g : ℕ → Bool) → map f (range_with_len 0 256) ≡ map g (range_with_len 0 256) → (x : ℕ) → x < 256 → f x ≡ g x
+agree_below f g same x below =
+    sym (get_or-map-range_with_len f 0 256 x x false below (omega arith)) ∙ ap (λ answers. get_or answers x false) same
+    ∙ get_or-map-range_with_len g 0 256 x x false below (omega arith)
 
-pub url_safe_symbol-tabled : (x : ℕ) → x < 256 → get_or URL_SAFE_SYMBOLS x false ≡ is_symbol url_safe_no_pad x
+pub standard_symbol-is : (x : ℕ) → x < 256 → (is_ascii_alphanumeric x || x == 43 || x == 47) ≡ is_symbol standard x
 unfolding is_symbol
-url_safe_symbol-tabled x below = get_or-map-range_with_len (is_symbol url_safe_no_pad) 0 256 x x false below (omega arith)
+standard_symbol-is = agree_below (λ x. is_ascii_alphanumeric x || x == 43 || x == 47) (is_symbol standard) refl
+
+pub url_safe_symbol-is : (x : ℕ) → x < 256 → (is_ascii_alphanumeric x || x == 45 || x == 95) ≡ is_symbol url_safe_no_pad x
+unfolding is_symbol
+url_safe_symbol-is = agree_below (λ x. is_ascii_alphanumeric x || x == 45 || x == 95) (is_symbol url_safe_no_pad) refl
 
 -- ---- bits
 

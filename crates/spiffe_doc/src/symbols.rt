@@ -1,39 +1,11 @@
-//! Base64 texts that can be seen to be encodings without decoding them (RFC 4648, sections 4 and 5).
+//! Base64 texts that can be seen to be encodings, with no need to decode them (RFC 4648, sections 4 and 5): whole groups
+//! of symbols, and at the end two or three symbols with no bits to spare, and their padding. Most of what a document is
+//! made of are such texts.
 ghost use Rattle.std.specs.Prelude.{◌≡◌, ◌/◌, ◌%◌, ◌*◌, ◌+◌, ◌-◌, ◌++◌, length, replicate, IfSome, true};
 ghost use Rattle.std.specs.List.{list_all};
 ghost use Rattle.base64.specs.Engines.{standard, url_safe_no_pad};
 ghost use Rattle.spiffe_doc.specs.Private.Encoded.{Encodes};
 ghost use Rattle.spiffe_doc.specs.Private.Symbols.{is_symbol, is_end_of_one, is_end_of_two, EndsWhole};
-
-/// A yes and a no of the tables below.
-const Y: bool = true;
-
-const N: bool = false;
-
-/// Whether a byte is one of `A-Z`, `a-z`, `0-9`, `+` and `/`, by its code: 32 codes a line. Most of what a document is
-/// made of are such texts, and one look-up a byte costs less than decoding them.
-const STANDARD_SYMBOLS: [bool; 256] = [
-    N, N, N, N, N, N, N, N, N, N, N, N, N, N, N, N, N, N, N, N, N, N, N, N, N, N, N, N, N, N, N, N,
-    N, N, N, N, N, N, N, N, N, N, N, Y, N, N, N, Y, Y, Y, Y, Y, Y, Y, Y, Y, Y, Y, N, N, N, N, N, N,
-    N, Y, Y, Y, Y, Y, Y, Y, Y, Y, Y, Y, Y, Y, Y, Y, Y, Y, Y, Y, Y, Y, Y, Y, Y, Y, Y, N, N, N, N, N,
-    N, Y, Y, Y, Y, Y, Y, Y, Y, Y, Y, Y, Y, Y, Y, Y, Y, Y, Y, Y, Y, Y, Y, Y, Y, Y, Y, N, N, N, N, N,
-    N, N, N, N, N, N, N, N, N, N, N, N, N, N, N, N, N, N, N, N, N, N, N, N, N, N, N, N, N, N, N, N,
-    N, N, N, N, N, N, N, N, N, N, N, N, N, N, N, N, N, N, N, N, N, N, N, N, N, N, N, N, N, N, N, N,
-    N, N, N, N, N, N, N, N, N, N, N, N, N, N, N, N, N, N, N, N, N, N, N, N, N, N, N, N, N, N, N, N,
-    N, N, N, N, N, N, N, N, N, N, N, N, N, N, N, N, N, N, N, N, N, N, N, N, N, N, N, N, N, N, N, N,
-];
-
-/// The same for `A-Z`, `a-z`, `0-9`, `-` and `_`.
-const URL_SAFE_SYMBOLS: [bool; 256] = [
-    N, N, N, N, N, N, N, N, N, N, N, N, N, N, N, N, N, N, N, N, N, N, N, N, N, N, N, N, N, N, N, N,
-    N, N, N, N, N, N, N, N, N, N, N, N, N, Y, N, N, Y, Y, Y, Y, Y, Y, Y, Y, Y, Y, N, N, N, N, N, N,
-    N, Y, Y, Y, Y, Y, Y, Y, Y, Y, Y, Y, Y, Y, Y, Y, Y, Y, Y, Y, Y, Y, Y, Y, Y, Y, Y, N, N, N, N, Y,
-    N, Y, Y, Y, Y, Y, Y, Y, Y, Y, Y, Y, Y, Y, Y, Y, Y, Y, Y, Y, Y, Y, Y, Y, Y, Y, Y, N, N, N, N, N,
-    N, N, N, N, N, N, N, N, N, N, N, N, N, N, N, N, N, N, N, N, N, N, N, N, N, N, N, N, N, N, N, N,
-    N, N, N, N, N, N, N, N, N, N, N, N, N, N, N, N, N, N, N, N, N, N, N, N, N, N, N, N, N, N, N, N,
-    N, N, N, N, N, N, N, N, N, N, N, N, N, N, N, N, N, N, N, N, N, N, N, N, N, N, N, N, N, N, N, N,
-    N, N, N, N, N, N, N, N, N, N, N, N, N, N, N, N, N, N, N, N, N, N, N, N, N, N, N, N, N, N, N, N,
-];
 
 /// How many bytes an unpadded base64url text stands for; `None` if only decoding can tell.
 pub(crate) fn url_safe_len(text: &[u8]) -> Option<usize>
@@ -128,7 +100,8 @@ fn ends_two(symbol: u8) -> bool
     )
 }
 
-/// Most texts are all symbols, so this reads all of them, with no branch at each.
+/// Whether all are symbols of the standard alphabet. Most texts are, so this reads all of them, with no branch at each:
+/// so the compiler tests sixteen at once.
 fn are_standard(text: &[u8]) -> bool
     ensures { result ≡ list_all (is_symbol standard) text.now }
 {
@@ -139,7 +112,7 @@ fn are_standard(text: &[u8]) -> bool
     all
 }
 
-/// As `are_standard`.
+/// The same for the URL-safe alphabet.
 fn are_url_safe(text: &[u8]) -> bool
     ensures { result ≡ list_all (is_symbol url_safe_no_pad) text.now }
 {
@@ -150,14 +123,16 @@ fn are_url_safe(text: &[u8]) -> bool
     all
 }
 
+/// One of `A-Z`, `a-z`, `0-9`, `+` and `/`.
 fn is_standard(byte: u8) -> bool
     ensures { result ≡ is_symbol standard byte }
 {
-    STANDARD_SYMBOLS[byte as usize]
+    byte.is_ascii_alphanumeric() | (byte == b'+') | (byte == b'/')
 }
 
+/// One of `A-Z`, `a-z`, `0-9`, `-` and `_`.
 fn is_url_safe(byte: u8) -> bool
     ensures { result ≡ is_symbol url_safe_no_pad byte }
 {
-    URL_SAFE_SYMBOLS[byte as usize]
+    byte.is_ascii_alphanumeric() | (byte == b'-') | (byte == b'_')
 }
