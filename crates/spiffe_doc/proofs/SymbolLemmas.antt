@@ -39,11 +39,12 @@ pub record IsValue (e : GeneralPurpose) (x : ℕ) : Type 0 where
   pub small : bits_of e x < 64
   pub back : slice_index e.encode_table (bits_of e x) ≡ x
 
-IsValue-is_symbol : (e : GeneralPurpose) (x : ℕ) → is_symbol e x ≡ true → IsValue e x
+first_of : (e : GeneralPurpose) (x : ℕ) (rest : List ℕ) → list_all (is_symbol e) (x ∷ rest) ≡ true → IsValue e x × (list_all (is_symbol e) rest ≡ true)
 unfolding is_symbol
-IsValue-is_symbol e x h =
-    let parts = and_parts _ _ h in
-    record { small = ltb-true _ _ parts.0; back = eqb-true _ _ parts.1 }
+first_of e x rest h =
+    let both = and_parts (is_symbol e x) (list_all (is_symbol e) rest) h in
+    let parts = and_parts _ _ both.0 in
+    (record { small = ltb-true _ _ parts.0; back = eqb-true _ _ parts.1 }, both.1)
 
 -- what the ends say of the bits, tried on every byte
 abbrev ends_agree : GeneralPurpose → ℕ → Bool
@@ -107,34 +108,25 @@ unfolding bytes_told
 IsBytes-bytes_told e [] h i = omega arith
 IsBytes-bytes_told e (a ∷ []) h i = omega arith
 IsBytes-bytes_told e (a ∷ b ∷ []) h zero =
-    let p = and_parts (is_symbol e a) _ h in
-    let q = and_parts (is_symbol e b) _ p.1 in
-    let va = IsValue-is_symbol e a p.0 in
-    let vb = IsValue-is_symbol e b q.0 in
+    let p = first_of e a (b ∷ []) h in
+    let q = first_of e b [] p.1 in
     omega arith
 IsBytes-bytes_told e (a ∷ b ∷ []) h (suc i) = omega arith
 IsBytes-bytes_told e (a ∷ b ∷ c ∷ []) h zero =
-    let p = and_parts (is_symbol e a) _ h in
-    let q = and_parts (is_symbol e b) _ p.1 in
-    let va = IsValue-is_symbol e a p.0 in
-    let vb = IsValue-is_symbol e b q.0 in
+    let p = first_of e a (b ∷ c ∷ []) h in
+    let q = first_of e b (c ∷ []) p.1 in
     omega arith
 IsBytes-bytes_told e (a ∷ b ∷ c ∷ []) h (suc zero) =
-    let p = and_parts (is_symbol e a) _ h in
-    let q = and_parts (is_symbol e b) _ p.1 in
-    let r = and_parts (is_symbol e c) _ q.1 in
-    let vc = IsValue-is_symbol e c r.0 in
+    let p = first_of e a (b ∷ c ∷ []) h in
+    let q = first_of e b (c ∷ []) p.1 in
+    let r = first_of e c [] q.1 in
     omega arith
 IsBytes-bytes_told e (a ∷ b ∷ c ∷ []) h (suc (suc i)) = omega arith
 IsBytes-bytes_told e (a ∷ b ∷ c ∷ d ∷ rest) h i =
-    let p = and_parts (is_symbol e a) _ h in
-    let q = and_parts (is_symbol e b) _ p.1 in
-    let r = and_parts (is_symbol e c) _ q.1 in
-    let s = and_parts (is_symbol e d) _ r.1 in
-    let va = IsValue-is_symbol e a p.0 in
-    let vb = IsValue-is_symbol e b q.0 in
-    let vc = IsValue-is_symbol e c r.0 in
-    let vd = IsValue-is_symbol e d s.0 in
+    let p = first_of e a (b ∷ c ∷ d ∷ rest) h in
+    let q = first_of e b (c ∷ d ∷ rest) p.1 in
+    let r = first_of e c (d ∷ rest) q.1 in
+    let s = first_of e d rest r.1 in
     group _ _ _ (bytes_told e rest) (omega arith) (omega arith) (omega arith) (IsBytes-bytes_told e rest s.1) i
   where
     group : (x y z : ℕ) (later : List ℕ) → x < 256 → y < 256 → z < 256 → IsBytes later → IsBytes (x ∷ y ∷ z ∷ later)
@@ -149,40 +141,31 @@ unfolding encode_symbols bytes_told
 encode_symbols-bytes_told e [] ends h whole = refl
 encode_symbols-bytes_told e (a ∷ []) ends h whole = absurd (whole.none_alone refl)
 encode_symbols-bytes_told e (a ∷ b ∷ []) ends h whole =
-    let p = and_parts (is_symbol e a) _ h in
-    let q = and_parts (is_symbol e b) _ p.1 in
-    let va = IsValue-is_symbol e a p.0 in
-    let vb = IsValue-is_symbol e b q.0 in
+    let p = first_of e a (b ∷ []) h in
+    let q = first_of e b [] p.1 in
     let zeros : bits_of e b % 16 ≡ 0 = ends.one b (whole.one 1 refl refl) in
     let e0 : (bits_of e a * 4 + bits_of e b / 16) / 4 ≡ bits_of e a = omega arith in
     let e1 : (bits_of e a * 4 + bits_of e b / 16) % 4 * 16 ≡ bits_of e b = omega arith in
-    rw (e0, e1, va.back, vb.back) refl
+    rw (e0, e1, p.0.back, q.0.back) refl
 encode_symbols-bytes_told e (a ∷ b ∷ c ∷ []) ends h whole =
-    let p = and_parts (is_symbol e a) _ h in
-    let q = and_parts (is_symbol e b) _ p.1 in
-    let r = and_parts (is_symbol e c) _ q.1 in
-    let va = IsValue-is_symbol e a p.0 in
-    let vb = IsValue-is_symbol e b q.0 in
-    let vc = IsValue-is_symbol e c r.0 in
+    let p = first_of e a (b ∷ c ∷ []) h in
+    let q = first_of e b (c ∷ []) p.1 in
+    let r = first_of e c [] q.1 in
     let zeros : bits_of e c % 4 ≡ 0 = ends.two c (whole.two 2 refl refl) in
     let e0 : (bits_of e a * 4 + bits_of e b / 16) / 4 ≡ bits_of e a = omega arith in
     let e1 : (bits_of e a * 4 + bits_of e b / 16) % 4 * 16 + (bits_of e b % 16 * 16 + bits_of e c / 4) / 16 ≡ bits_of e b = omega arith in
     let e2 : (bits_of e b % 16 * 16 + bits_of e c / 4) % 16 * 4 ≡ bits_of e c = omega arith in
-    rw (e0, e1, e2, va.back, vb.back, vc.back) refl
+    rw (e0, e1, e2, p.0.back, q.0.back, r.0.back) refl
 encode_symbols-bytes_told e (a ∷ b ∷ c ∷ d ∷ rest) ends h whole =
-    let p = and_parts (is_symbol e a) _ h in
-    let q = and_parts (is_symbol e b) _ p.1 in
-    let r = and_parts (is_symbol e c) _ q.1 in
-    let s = and_parts (is_symbol e d) _ r.1 in
-    let va = IsValue-is_symbol e a p.0 in
-    let vb = IsValue-is_symbol e b q.0 in
-    let vc = IsValue-is_symbol e c r.0 in
-    let vd = IsValue-is_symbol e d s.0 in
+    let p = first_of e a (b ∷ c ∷ d ∷ rest) h in
+    let q = first_of e b (c ∷ d ∷ rest) p.1 in
+    let r = first_of e c (d ∷ rest) q.1 in
+    let s = first_of e d rest r.1 in
     let e0 : (bits_of e a * 4 + bits_of e b / 16) / 4 ≡ bits_of e a = omega arith in
     let e1 : (bits_of e a * 4 + bits_of e b / 16) % 4 * 16 + (bits_of e b % 16 * 16 + bits_of e c / 4) / 16 ≡ bits_of e b = omega arith in
     let e2 : (bits_of e b % 16 * 16 + bits_of e c / 4) % 16 * 4 + (bits_of e c % 4 * 64 + bits_of e d) / 64 ≡ bits_of e c = omega arith in
     let e3 : (bits_of e c % 4 * 64 + bits_of e d) % 64 ≡ bits_of e d = omega arith in
-    rw (e0, e1, e2, e3, va.back, vb.back, vc.back, vd.back, encode_symbols-bytes_told e rest ends s.1 (ends_later a b c d rest whole)) refl
+    rw (e0, e1, e2, e3, p.0.back, q.0.back, r.0.back, s.0.back, encode_symbols-bytes_told e rest ends s.1 (ends_later a b c d rest whole)) refl
 
 -- ---- the two engines
 
