@@ -10,7 +10,7 @@ pub mod Members
 pub mod Keys
 pub mod EntryLaws
 pub mod TreeLemmas
-pub mod WrittenLemmas
+pub mod PlainTexts
 pub mod TextLemmas
 pub mod FirstPlaces
 pub mod ReadLemmas

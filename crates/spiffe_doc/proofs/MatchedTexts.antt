@@ -1,22 +1,19 @@
 -- The texts of entries, matched piece by piece.
-use Rattle.std.proofs.Common.{◌≡◌, ℕ, zero, suc, ◌+◌, ◌/◌, ◌%◌, ◌*◌, ◌<◌, ◌==◌, ◌||◌, true, false, List, [], ◌∷◌, ◌++◌, length, replicate, slice_index, codes, append_assoc, Option, Some, None, refl, sym, ap, ◌∙◌, arith, inl, inr}
+use Rattle.std.proofs.Common.{◌≡◌, ℕ, ◌==◌, ◌||◌, true, false, List, [], ◌∷◌, ◌++◌, codes, append_assoc, Option, Some, None, refl, sym, ap, ◌∙◌, inl, inr}
 use Rattle.std.specs.Prelude.{bytes_eq, is_some}
-use Rattle.std.specs.List.{list_all}
+use Rattle.std.specs.List.{list_all, concat}
 use Rattle.std.specs.Cmp.Lexicographic.{bytes_decides}
-use Rattle.std.proofs.lemmas.Bool.{cases_Bool, eqb-false, ltb-false, not-true, or_parts, and_parts}
-use Rattle.std.proofs.lemmas.List.Sums.{AllPass-from_list_all}
-use Rattle.json.specs.Print.{escape_byte, escape, quoted}
+use Rattle.std.proofs.lemmas.Bool.{cases_Bool, not-true, or_parts, and_parts}
+use Rattle.json.specs.Print.{escape, quoted}
 use Rattle.json.specs.Run.{is_plain}
 use Rattle.json.specs.Text.{content, plain}
-use Rattle.json.proofs.Printed.Strings.{content-escape, escape_byte_plain}
+use Rattle.json.proofs.Printed.Strings.{content-escape}
 use Rattle.serde_json.specs.Data.{Data, object, string, Members, member}
 use Rattle.serde_json.specs.Written.{compact_text, members_text}
 use Rattle.serde_json.proofs.OnLiterals.{serde_json_on_literals}
-use Rattle.base64.specs.Engines.{standard, url_safe_no_pad}
-use Rattle.base64.specs.GeneralPurpose.{IsBytes, encode_of}
-use Rattle.base64.specs.Rfc4648.{encode_symbols, padding_len}
+use Rattle.base64.specs.Engines.{url_safe_no_pad}
+use Rattle.base64.specs.GeneralPurpose.{encode_of}
 use Rattle.spiffe_doc.specs.declared.key.Curve.{Curve}
-use Rattle.spiffe_doc.specs.declared.key.Curve.TheVariants.{P256, P384, P521}
 use Rattle.spiffe_doc.specs.declared.key.PublicKey.{PublicKey}
 use Rattle.spiffe_doc.specs.declared.key.PublicKey.TheVariants.{Ec, Rsa}
 use Rattle.spiffe_doc.specs.declared.authority.Authority.{Authority}
@@ -25,23 +22,12 @@ use Rattle.spiffe_doc.specs.Key.{curve_text}
 use Rattle.spiffe_doc.specs.Authority.{IsAuthority}
 use Rattle.spiffe_doc.specs.Text.{entry_tree, entry_text}
 use Rattle.spiffe_doc.specs.Bundle.{same_kid}
-use Rattle.spiffe_doc.specs.Private.Writing.{x509_point_tree, x509_rsa_tree, jwt_point_tree, jwt_rsa_tree}
+use Rattle.spiffe_doc.specs.Private.Writing.{NeedsNoEscape, x509_point_tree, x509_rsa_tree, jwt_point_tree, jwt_rsa_tree}
 use Rattle.spiffe_doc.specs.Private.Matching.{strip, strip_quote, after, after_quote, behind_member, is_kid_next}
-use Rattle.spiffe_doc.proofs.MatchingLemmas.{strip-some, strip-same, after-append}
+use Rattle.spiffe_doc.proofs.MatchingLemmas.{strip-some, strip-same, after-append, after-nil}
+use Rattle.spiffe_doc.proofs.PlainTexts.{escape-plain, plain_curve, url_safe_plain, x509_point_pieces, x509_rsa_pieces, jwt_point_pieces, jwt_rsa_pieces, x509_point-pieces, x509_rsa-pieces, jwt_point-pieces, jwt_rsa-pieces}
 
--- ---- plain text, which needs no escape
-
-plain_byte : (x : ℕ) → is_plain x ≡ true → escape_byte x ≡ x ∷ []
-plain_byte x h =
-    let none = or_parts ((x == 34) || (x == 92)) _ (not-true _ h) in
-    let tests = or_parts (x == 34) _ none.0 in
-    escape_byte_plain x (eqb-false x 34 tests.0) (eqb-false x 92 tests.1) (ltb-false x 32 none.1)
-
-escape-plain : (xs : List ℕ) → list_all is_plain xs ≡ true → escape xs ≡ xs
-escape-plain [] h = refl
-escape-plain (x ∷ xs) h =
-    let parts = and_parts (is_plain x) _ h in
-    rw (plain_byte x parts.0) (ap (λ l. x ∷ l) (escape-plain xs parts.1))
+-- ---- up to a quotation mark
 
 strip_quote-plain : (a b : List ℕ) → list_all is_plain a ≡ true → strip_quote (a ++ 34 ∷ b) ≡ Some b
 unfolding strip_quote
@@ -52,122 +38,36 @@ strip_quote-plain (x ∷ a) b h =
     let tests = or_parts (x == 34) _ none.0 in
     rw (tests.0) (strip_quote-plain a b parts.1)
 
--- ---- base64 is plain
-
-symbol_plain : (t : List ℕ) → length t ≡ 64 → list_all is_plain t ≡ true → (i : ℕ) → i < 64 → is_plain (slice_index t i) ≡ true
-symbol_plain t len h i below = AllPass-from_list_all is_plain t h i 0 (omega arith)
-
-symbols_plain : (t m : List ℕ) → length t ≡ 64 → list_all is_plain t ≡ true → IsBytes m → list_all is_plain (encode_symbols t m) ≡ true
-unfolding encode_symbols
-symbols_plain t [] len h bytes = refl
-symbols_plain t (a ∷ []) len h bytes =
-    let la : a < 256 = bytes 0 in
-    rw (symbol_plain t len h (a / 4) (omega arith), symbol_plain t len h (a % 4 * 16) (omega arith)) refl
-symbols_plain t (a ∷ b ∷ []) len h bytes =
-    let la : a < 256 = bytes 0 in
-    let lb : b < 256 = bytes 1 in
-    rw (symbol_plain t len h (a / 4) (omega arith), symbol_plain t len h (a % 4 * 16 + b / 16) (omega arith), symbol_plain t len h (b % 16 * 4) (omega arith)) refl
-symbols_plain t (a ∷ b ∷ c ∷ rest) len h bytes =
-    let la : a < 256 = bytes 0 in
-    let lb : b < 256 = bytes 1 in
-    let lc : c < 256 = bytes 2 in
-    rw (symbol_plain t len h (a / 4) (omega arith), symbol_plain t len h (a % 4 * 16 + b / 16) (omega arith), symbol_plain t len h (b % 16 * 4 + c / 64) (omega arith), symbol_plain t len h (c % 64) (omega arith))
-    (symbols_plain t rest len h (λ i. bytes (suc (suc (suc i)))))
-
-list_all-append : (xs ys : List ℕ) → list_all is_plain xs ≡ true → list_all is_plain ys ≡ true → list_all is_plain (xs ++ ys) ≡ true
-list_all-append [] ys hx hy = hy
-list_all-append (x ∷ xs) ys hx hy =
-    let parts = and_parts (is_plain x) _ hx in
-    rw (parts.0) (list_all-append xs ys parts.1 hy)
-
-padding_plain : (n : ℕ) → list_all is_plain (replicate n 61) ≡ true
-padding_plain zero = refl
-padding_plain (suc n) = padding_plain n
-
-pub url_safe_plain : (m : List ℕ) → IsBytes m → list_all is_plain (encode_of url_safe_no_pad m) ≡ true
-url_safe_plain m bytes = list_all-append (encode_symbols url_safe_no_pad.encode_table m) [] (symbols_plain url_safe_no_pad.encode_table m refl refl bytes) refl
-
-pub standard_plain : (m : List ℕ) → IsBytes m → list_all is_plain (encode_of standard m) ≡ true
-standard_plain m bytes = list_all-append (encode_symbols standard.encode_table m) (replicate (padding_len (length m)) 61) (symbols_plain standard.encode_table m refl refl bytes) (padding_plain (padding_len (length m)))
-
 -- ---- the texts of entries
 
-plain_curve : (curve : Curve) → list_all is_plain (curve_text curve) ≡ true
-plain_curve P256 = refl
-plain_curve P384 = refl
-plain_curve P521 = refl
+-- each piece in turn
+abbrev pub after_each : List (List ℕ) → Option (List ℕ) → Option (List ℕ)
+after_each [] o = o
+after_each (piece ∷ pieces) o = after_each pieces (after piece o)
 
--- a fixed text, one that varies, and a quotation mark with the rest
-after-member : (fixed text rest : List ℕ) (o : Option (List ℕ)) → after (fixed ++ ((text ++ 34 ∷ []) ++ rest)) o ≡ after (34 ∷ rest) (after text (after fixed o))
-after-member fixed text rest o =
-    after-append fixed ((text ++ 34 ∷ []) ++ rest) o
-    ∙ after-append (text ++ 34 ∷ []) rest (after fixed o)
-    ∙ ap (after rest) (after-append text (34 ∷ []) (after fixed o))
-    ∙ sym (after-append (34 ∷ []) rest (after text (after fixed o)))
+after-concat : (pieces : List (List ℕ)) (o : Option (List ℕ)) → after (concat pieces) o ≡ after_each pieces o
+after-concat [] o = after-nil o
+after-concat (piece ∷ pieces) o = after-append piece (concat pieces) o ∙ after-concat pieces (after piece o)
 
-pub after-x509_point : (curve : Curve) (x y x5c : List ℕ) (o : Option (List ℕ)) → list_all is_plain x ≡ true → list_all is_plain y ≡ true → list_all is_plain x5c ≡ true
-    → after (compact_text (x509_point_tree curve x y x5c)) o
-    ≡ after (codes "\"}") (after y (after (codes "\"],\"y\":\"") (after x5c (after (codes "\",\"x5c\":[\"")
-    (after x (after (codes "\",\"kty\":\"EC\",\"use\":\"x509-svid\",\"x\":\"") (after (curve_text curve) (after (codes "{\"crv\":\"") o))))))))
-unfolding serde_json_on_literals
-after-x509_point curve x y x5c o hx hy h5 =
-    let m4 = codes "}" in
-    let m3 = codes ",\"y\":\"" ++ ((y ++ 34 ∷ []) ++ m4) in
-    let m2 = codes ",\"x5c\":[\"" ++ ((x5c ++ 34 ∷ []) ++ (codes "]" ++ m3)) in
-    let m1 = codes ",\"kty\":\"EC\",\"use\":\"x509-svid\",\"x\":\"" ++ ((x ++ 34 ∷ []) ++ m2) in
-    rw (escape-plain (curve_text curve) (plain_curve curve), escape-plain x hx, escape-plain y hy, escape-plain x5c h5, append_assoc (x5c ++ 34 ∷ []) (codes "]") m3) (
-    after-member (codes "{\"crv\":\"") (curve_text curve) m1 o
-    ∙ after-member (codes "\",\"kty\":\"EC\",\"use\":\"x509-svid\",\"x\":\"") x m2 _
-    ∙ after-member (codes "\",\"x5c\":[\"") x5c (codes "]" ++ m3) _
-    ∙ after-member (codes "\"],\"y\":\"") y m4 _
-    )
+-- a text that is put together from them
+after-pieces : (text : List ℕ) (pieces : List (List ℕ)) (o : Option (List ℕ)) → text ≡ concat pieces → after text o ≡ after_each pieces o
+after-pieces text pieces o same = ap (λ t. after t o) same ∙ after-concat pieces o
 
-pub after-x509_rsa : (n e x5c : List ℕ) (o : Option (List ℕ)) → list_all is_plain n ≡ true → list_all is_plain e ≡ true → list_all is_plain x5c ≡ true
-    → after (compact_text (x509_rsa_tree n e x5c)) o
-    ≡ after (codes "\"]}") (after x5c (after (codes "\",\"use\":\"x509-svid\",\"x5c\":[\"")
-    (after n (after (codes "\",\"kty\":\"RSA\",\"n\":\"") (after e (after (codes "{\"e\":\"") o))))))
-unfolding serde_json_on_literals
-after-x509_rsa n e x5c o hn he h5 =
-    let m3 = codes "}" in
-    let m2 = codes ",\"use\":\"x509-svid\",\"x5c\":[\"" ++ ((x5c ++ 34 ∷ []) ++ (codes "]" ++ m3)) in
-    let m1 = codes ",\"kty\":\"RSA\",\"n\":\"" ++ ((n ++ 34 ∷ []) ++ m2) in
-    rw (escape-plain n hn, escape-plain e he, escape-plain x5c h5, append_assoc (x5c ++ 34 ∷ []) (codes "]") m3) (
-    after-member (codes "{\"e\":\"") e m1 o
-    ∙ after-member (codes "\",\"kty\":\"RSA\",\"n\":\"") n m2 _
-    ∙ after-member (codes "\",\"use\":\"x509-svid\",\"x5c\":[\"") x5c (codes "]" ++ m3) _
-    )
+pub after-x509_point : (curve : Curve) (x y x5c : List ℕ) (o : Option (List ℕ)) → NeedsNoEscape x → NeedsNoEscape y → NeedsNoEscape x5c
+    → after (compact_text (x509_point_tree curve x y x5c)) o ≡ after_each (x509_point_pieces curve x y x5c) o
+after-x509_point curve x y x5c o hx hy h5 = after-pieces _ (x509_point_pieces curve x y x5c) o (x509_point-pieces curve x y x5c hx hy h5)
 
-pub after-jwt_point : (kid : List ℕ) (curve : Curve) (x y : List ℕ) (o : Option (List ℕ)) → list_all is_plain x ≡ true → list_all is_plain y ≡ true
-    → after (compact_text (jwt_point_tree kid curve x y)) o
-    ≡ after (codes "\"}") (after y (after (codes "\",\"y\":\"") (after x (after (codes "\",\"kty\":\"EC\",\"use\":\"jwt-svid\",\"x\":\"")
-    (after (escape kid) (after (codes "\",\"kid\":\"") (after (curve_text curve) (after (codes "{\"crv\":\"") o))))))))
-unfolding serde_json_on_literals
-after-jwt_point kid curve x y o hx hy =
-    let m4 = codes "}" in
-    let m3 = codes ",\"y\":\"" ++ ((y ++ 34 ∷ []) ++ m4) in
-    let m2 = codes ",\"kty\":\"EC\",\"use\":\"jwt-svid\",\"x\":\"" ++ ((x ++ 34 ∷ []) ++ m3) in
-    let m1 = codes ",\"kid\":\"" ++ ((escape kid ++ 34 ∷ []) ++ m2) in
-    rw (escape-plain (curve_text curve) (plain_curve curve), escape-plain x hx, escape-plain y hy) (
-    after-member (codes "{\"crv\":\"") (curve_text curve) m1 o
-    ∙ after-member (codes "\",\"kid\":\"") (escape kid) m2 _
-    ∙ after-member (codes "\",\"kty\":\"EC\",\"use\":\"jwt-svid\",\"x\":\"") x m3 _
-    ∙ after-member (codes "\",\"y\":\"") y m4 _
-    )
+pub after-x509_rsa : (n e x5c : List ℕ) (o : Option (List ℕ)) → NeedsNoEscape n → NeedsNoEscape e → NeedsNoEscape x5c
+    → after (compact_text (x509_rsa_tree n e x5c)) o ≡ after_each (x509_rsa_pieces n e x5c) o
+after-x509_rsa n e x5c o hn he h5 = after-pieces _ (x509_rsa_pieces n e x5c) o (x509_rsa-pieces n e x5c hn he h5)
 
-pub after-jwt_rsa : (kid n e : List ℕ) (o : Option (List ℕ)) → list_all is_plain n ≡ true → list_all is_plain e ≡ true
-    → after (compact_text (jwt_rsa_tree kid n e)) o
-    ≡ after (codes "\",\"use\":\"jwt-svid\"}") (after n (after (codes "\",\"kty\":\"RSA\",\"n\":\"")
-    (after (escape kid) (after (codes "\",\"kid\":\"") (after e (after (codes "{\"e\":\"") o))))))
-unfolding serde_json_on_literals
-after-jwt_rsa kid n e o hn he =
-    let m3 = codes ",\"use\":\"jwt-svid\"}" in
-    let m2 = codes ",\"kty\":\"RSA\",\"n\":\"" ++ ((n ++ 34 ∷ []) ++ m3) in
-    let m1 = codes ",\"kid\":\"" ++ ((escape kid ++ 34 ∷ []) ++ m2) in
-    rw (escape-plain n hn, escape-plain e he) (
-    after-member (codes "{\"e\":\"") e m1 o
-    ∙ after-member (codes "\",\"kid\":\"") (escape kid) m2 _
-    ∙ after-member (codes "\",\"kty\":\"RSA\",\"n\":\"") n m3 _
-    )
+pub after-jwt_point : (kid : List ℕ) (curve : Curve) (x y : List ℕ) (o : Option (List ℕ)) → NeedsNoEscape x → NeedsNoEscape y
+    → after (compact_text (jwt_point_tree kid curve x y)) o ≡ after_each (jwt_point_pieces kid curve x y) o
+after-jwt_point kid curve x y o hx hy = after-pieces _ (jwt_point_pieces kid curve x y) o (jwt_point-pieces kid curve x y hx hy)
+
+pub after-jwt_rsa : (kid n e : List ℕ) (o : Option (List ℕ)) → NeedsNoEscape n → NeedsNoEscape e
+    → after (compact_text (jwt_rsa_tree kid n e)) o ≡ after_each (jwt_rsa_pieces kid n e) o
+after-jwt_rsa kid n e o hn he = after-pieces _ (jwt_rsa_pieces kid n e) o (jwt_rsa-pieces kid n e hn he)
 
 -- ---- the key id of an entry
 

@@ -3,6 +3,7 @@ ghost use Rattle.std.specs.Prelude.{◌≡◌, length, IfOk};
 ghost use Rattle.base64.specs.Engines.{standard, url_safe_no_pad};
 ghost use Rattle.base64.specs.GeneralPurpose.{encode_of};
 ghost use Rattle.spiffe_doc.specs.Judgement.{encoded_bytes};
+ghost use Rattle.spiffe_doc.specs.Private.Writing.{NeedsNoEscape};
 
 use crate::octets::Octets;
 use crate::symbols::{standard_len, url_safe_len};
@@ -55,7 +56,8 @@ impl<'a> UrlSafe<'a> {
 
     /// The text.
     pub(crate) fn text(&self) -> &'a str
-        ensures { result.now ≡ encode_of url_safe_no_pad self.now }
+        ensures value { result.now ≡ encode_of url_safe_no_pad self.now }
+        ensures plain { NeedsNoEscape result.now }
     {
         self.text
     }
@@ -123,7 +125,8 @@ impl<'a> Standard<'a> {
 
     /// The text.
     pub(crate) fn text(&self) -> &'a str
-        ensures { result.now ≡ encode_of standard self.now }
+        ensures value { result.now ≡ encode_of standard self.now }
+        ensures plain { NeedsNoEscape result.now }
     {
         self.text
     }

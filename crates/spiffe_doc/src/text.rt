@@ -1,12 +1,12 @@
 //! The canonical text of a bundle (RFC 7517, sections 4 and 5).
-ghost use Rattle.std.specs.Prelude.{◌≡◌, ◌++◌, ◌∷◌, [], codes, string_bytes, IfOk, OnOk, length, cond, ◌==◌};
-ghost use Rattle.json.specs.Token.{begin_object, begin_array, end_array, key, string};
+ghost use Rattle.std.specs.Prelude.{◌≡◌, ◌++◌, ◌∷◌, [], string_bytes, IfOk, OnOk, cond};
+ghost use Rattle.json.specs.Print.{quoted};
 ghost use Rattle.serde_json.specs.Written.{compact_text};
 ghost use Rattle.base64.specs.Engines.{standard, url_safe_no_pad};
 ghost use Rattle.base64.specs.GeneralPurpose.{encode_of};
 ghost use Rattle.spiffe_doc.specs.Key.{curve_text};
 ghost use Rattle.spiffe_doc.specs.Text.{entry_text, text_of};
-ghost use Rattle.spiffe_doc.specs.Private.Writing.{number_text, rest_text, x509_point_tree, x509_rsa_tree, jwt_point_tree, jwt_rsa_tree};
+ghost use Rattle.spiffe_doc.specs.Private.Writing.{NeedsNoEscape, number_text, rest_text, x509_point_tree, x509_rsa_tree, jwt_point_tree, jwt_rsa_tree};
 
 use crate::Memory;
 use crate::authority::{Authority, Certificate, KeyId};
@@ -17,9 +17,8 @@ use base64::engine::general_purpose::{STANDARD, URL_SAFE_NO_PAD};
 use json::Writer;
 use std::alloc::{AllocError, Allocator, Global};
 
-/// The most bytes of an entry beside its three texts that vary, and one more: with each token, and so with the last, the
-/// writer asks for room for a comma.
-const FIXED_LEN: usize = 70;
+/// The most bytes of an entry beside its three texts that vary, which are those of an X.509 authority over a curve.
+const FIXED_LEN: usize = 69;
 
 /// The canonical text of a bundle: compact JSON of the members that are kept, in byte order of their names. Errors only
 /// if memory runs out; `Bundle::text` lends the same bytes without it.
@@ -137,61 +136,60 @@ pub(crate) fn curve_name(curve: Curve) -> &'static str
 }
 
 fn url_safe_text(alloc: Global, bytes: &Octets) -> Result<String, AllocError>
-    ensures { IfOk result (λ text. string_bytes text ≡ encode_of url_safe_no_pad bytes.now) }
+    ensures value { IfOk result (λ text. string_bytes text ≡ encode_of url_safe_no_pad bytes.now) }
+    ensures plain { IfOk result (λ text. NeedsNoEscape (string_bytes text)) }
 {
+    bytes.recall_valid();
     URL_SAFE_NO_PAD.encode(alloc, bytes.as_slice())
 }
 
 fn standard_text(alloc: Global, bytes: &Octets) -> Result<String, AllocError>
-    ensures { IfOk result (λ text. string_bytes text ≡ encode_of standard bytes.now) }
+    ensures value { IfOk result (λ text. string_bytes text ≡ encode_of standard bytes.now) }
+    ensures plain { IfOk result (λ text. NeedsNoEscape (string_bytes text)) }
 {
+    bytes.recall_valid();
     STANDARD.encode(alloc, bytes.as_slice())
 }
 
-/// A writer within an entry. If these are the texts of the entry that vary, it has room for the whole, and grows only
-/// if one of them has to be escaped.
-fn entry_writer<A: Allocator>(
+/// No text of an entry yet, with room for the whole if these are the texts of the entry that vary. It grows only if the key id has
+/// to be escaped.
+fn entry_room<A: Allocator>(
     alloc: A,
     first: &str,
     second: &str,
     third: &str,
-) -> Result<Writer<A>, AllocError>
-    ensures before { IfOk result (λ writer. writer.before ≡ []) }
-    ensures tokens { IfOk result (λ writer. writer.tokens ≡ begin_object ∷ []) }
+) -> Result<Vec<u8, A>, AllocError>
+    ensures { IfOk result (λ text. text.items ≡ []) }
 {
     let texts = first
         .len()
         .saturating_add(second.len())
         .saturating_add(third.len());
-    let room = texts.saturating_add(FIXED_LEN);
-    let mut writer = Writer::new(Vec::with_capacity(alloc, room)?);
-    writer.begin_object()?;
-    Ok(writer)
+    Vec::with_capacity(alloc, texts.saturating_add(FIXED_LEN))
 }
 
-/// Writes a member that is a text.
-fn push_member<A: Allocator>(
-    writer: &mut Writer<A>,
-    name: &str,
-    text: &str,
+/// Adds a fixed text and one that varies.
+fn push_pair<A: Allocator>(
+    text: &mut Vec<u8, A>,
+    fixed: &[u8],
+    varying: &str,
 ) -> Result<(), AllocError>
-    ensures before { OnOk result (writer.new.before ≡ writer.old.before) }
-    ensures tokens { OnOk result (writer.new.tokens ≡ writer.old.tokens ++ key name.now ∷ string text.now ∷ []) }
+    ensures { OnOk result (text.new.items ≡ text.old.items ++ (fixed.now ++ varying.now)) }
 {
-    writer.key(name)?;
-    writer.string(text)
+    text.extend_from_slice(fixed)?;
+    text.extend_from_slice(varying.as_bytes())
 }
 
-/// Writes the member `x5c`, a list of one text.
-fn push_x5c<A: Allocator>(writer: &mut Writer<A>, text: &str) -> Result<(), AllocError>
-    ensures before { OnOk result (writer.new.before ≡ writer.old.before) }
-    ensures tokens { OnOk result (writer.new.tokens ≡ writer.old.tokens ++ key (codes "x5c") ∷ begin_array ∷ string text.now ∷ end_array ∷ []) }
+/// The text with a string of JSON behind it.
+fn with_string<A: Allocator>(text: Vec<u8, A>, string: &str) -> Result<Vec<u8, A>, AllocError>
+    ensures { IfOk result (λ longer. longer.items ≡ text.items ++ quoted string.now) }
 {
-    writer.key("x5c")?;
-    writer.begin_array()?;
-    writer.string(text)?;
-    writer.end_array()
+    let mut writer = Writer::new(text);
+    writer.string(string)?;
+    Ok(writer.into_inner())
 }
+
+// The four forms of an entry's text, put together from its texts. Base64 has no bytes to escape, so only a key id may have some.
 
 /// The text of an X.509 authority over a curve, by the base64 texts of its members.
 pub(crate) fn x509_point<A: Allocator>(
@@ -201,17 +199,22 @@ pub(crate) fn x509_point<A: Allocator>(
     y: &str,
     x5c: &str,
 ) -> Result<Vec<u8, A>, AllocError>
+    requires x { NeedsNoEscape x.now }
+    requires y { NeedsNoEscape y.now }
+    requires x5c { NeedsNoEscape x5c.now }
     ensures { IfOk result (λ text. text.items ≡ compact_text (x509_point_tree curve x.now y.now x5c.now)) }
 {
-    let mut writer = entry_writer(alloc, x, y, x5c)?;
-    push_member(&mut writer, "crv", curve_name(curve))?;
-    push_member(&mut writer, "kty", "EC")?;
-    push_member(&mut writer, "use", "x509-svid")?;
-    push_member(&mut writer, "x", x)?;
-    push_x5c(&mut writer, x5c)?;
-    push_member(&mut writer, "y", y)?;
-    writer.end_object()?;
-    Ok(writer.into_inner())
+    let mut text = entry_room(alloc, x, y, x5c)?;
+    push_pair(&mut text, b"{\"crv\":\"", curve_name(curve))?;
+    push_pair(
+        &mut text,
+        b"\",\"kty\":\"EC\",\"use\":\"x509-svid\",\"x\":\"",
+        x,
+    )?;
+    push_pair(&mut text, b"\",\"x5c\":[\"", x5c)?;
+    push_pair(&mut text, b"\"],\"y\":\"", y)?;
+    text.extend_from_slice(b"\"}")?;
+    Ok(text)
 }
 
 /// The text of an X.509 authority with an RSA key, by the base64 texts of its members.
@@ -221,19 +224,20 @@ pub(crate) fn x509_rsa<A: Allocator>(
     e: &str,
     x5c: &str,
 ) -> Result<Vec<u8, A>, AllocError>
+    requires n { NeedsNoEscape n.now }
+    requires e { NeedsNoEscape e.now }
+    requires x5c { NeedsNoEscape x5c.now }
     ensures { IfOk result (λ text. text.items ≡ compact_text (x509_rsa_tree n.now e.now x5c.now)) }
 {
-    let mut writer = entry_writer(alloc, n, e, x5c)?;
-    push_member(&mut writer, "e", e)?;
-    push_member(&mut writer, "kty", "RSA")?;
-    push_member(&mut writer, "n", n)?;
-    push_member(&mut writer, "use", "x509-svid")?;
-    push_x5c(&mut writer, x5c)?;
-    writer.end_object()?;
-    Ok(writer.into_inner())
+    let mut text = entry_room(alloc, n, e, x5c)?;
+    push_pair(&mut text, b"{\"e\":\"", e)?;
+    push_pair(&mut text, b"\",\"kty\":\"RSA\",\"n\":\"", n)?;
+    push_pair(&mut text, b"\",\"use\":\"x509-svid\",\"x5c\":[\"", x5c)?;
+    text.extend_from_slice(b"\"]}")?;
+    Ok(text)
 }
 
-/// The text of a JWT authority over a curve, by the texts of its members.
+/// The text of a JWT authority over a curve, by its key id and the base64 texts of its other members.
 pub(crate) fn jwt_point<A: Allocator>(
     alloc: A,
     kid: &str,
@@ -241,34 +245,40 @@ pub(crate) fn jwt_point<A: Allocator>(
     x: &str,
     y: &str,
 ) -> Result<Vec<u8, A>, AllocError>
+    requires x { NeedsNoEscape x.now }
+    requires y { NeedsNoEscape y.now }
     ensures { IfOk result (λ text. text.items ≡ compact_text (jwt_point_tree kid.now curve x.now y.now)) }
 {
-    let mut writer = entry_writer(alloc, kid, x, y)?;
-    push_member(&mut writer, "crv", curve_name(curve))?;
-    push_member(&mut writer, "kid", kid)?;
-    push_member(&mut writer, "kty", "EC")?;
-    push_member(&mut writer, "use", "jwt-svid")?;
-    push_member(&mut writer, "x", x)?;
-    push_member(&mut writer, "y", y)?;
-    writer.end_object()?;
-    Ok(writer.into_inner())
+    let mut front = entry_room(alloc, kid, x, y)?;
+    push_pair(&mut front, b"{\"crv\":\"", curve_name(curve))?;
+    front.extend_from_slice(b"\",\"kid\":")?;
+    let mut text = with_string(front, kid)?;
+    push_pair(
+        &mut text,
+        b",\"kty\":\"EC\",\"use\":\"jwt-svid\",\"x\":\"",
+        x,
+    )?;
+    push_pair(&mut text, b"\",\"y\":\"", y)?;
+    text.extend_from_slice(b"\"}")?;
+    Ok(text)
 }
 
-/// The text of a JWT authority with an RSA key, by the texts of its members.
+/// The text of a JWT authority with an RSA key, by its key id and the base64 texts of its other members.
 pub(crate) fn jwt_rsa<A: Allocator>(
     alloc: A,
     kid: &str,
     n: &str,
     e: &str,
 ) -> Result<Vec<u8, A>, AllocError>
+    requires n { NeedsNoEscape n.now }
+    requires e { NeedsNoEscape e.now }
     ensures { IfOk result (λ text. text.items ≡ compact_text (jwt_rsa_tree kid.now n.now e.now)) }
 {
-    let mut writer = entry_writer(alloc, kid, n, e)?;
-    push_member(&mut writer, "e", e)?;
-    push_member(&mut writer, "kid", kid)?;
-    push_member(&mut writer, "kty", "RSA")?;
-    push_member(&mut writer, "n", n)?;
-    push_member(&mut writer, "use", "jwt-svid")?;
-    writer.end_object()?;
-    Ok(writer.into_inner())
+    let mut front = entry_room(alloc, kid, n, e)?;
+    push_pair(&mut front, b"{\"e\":\"", e)?;
+    front.extend_from_slice(b"\",\"kid\":")?;
+    let mut text = with_string(front, kid)?;
+    push_pair(&mut text, b",\"kty\":\"RSA\",\"n\":\"", n)?;
+    text.extend_from_slice(b"\",\"use\":\"jwt-svid\"}")?;
+    Ok(text)
 }

@@ -1,11 +1,17 @@
 -- A canonical text in two pieces, for private contracts: up to the last entry, and what follows.
-use Rattle.std.specs.Prelude.{ℕ, List, [], ◌∷◌, ◌++◌, codes, Bool, true, false, Option, Some, None, decimal}
+use Rattle.std.specs.Prelude.{◌≡◌, ℕ, List, [], ◌∷◌, ◌++◌, codes, Bool, true, false, Option, Some, None, decimal}
+use Rattle.std.specs.List.{list_all}
+use Rattle.json.specs.Run.{is_plain}
 use Rattle.serde_json.specs.Data.{Data, string, array, object, no_items, item, no_members, member}
 use Rattle.serde_json.specs.Written.{comma_if}
 use Rattle.spiffe_doc.specs.declared.key.Curve.{Curve}
 use Rattle.spiffe_doc.specs.Key.{curve_text}
 use Rattle.spiffe_doc.specs.declared.authority.Authority.{Authority}
 use Rattle.spiffe_doc.specs.Text.{entry_text}
+
+-- no byte of the text is escaped in a string of JSON
+abbrev pub NeedsNoEscape : List ℕ → Type 0
+NeedsNoEscape text = list_all is_plain text ≡ true
 
 -- an authority as a JWK, by the texts of its members
 abbrev pub x509_point_tree : Curve → List ℕ → List ℕ → List ℕ → Data

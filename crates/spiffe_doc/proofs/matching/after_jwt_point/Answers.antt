@@ -5,7 +5,8 @@ use Rattle.base64.specs.GeneralPurpose.{encode_of}
 use Rattle.spiffe_doc.specs.Key.{curve_text}
 use Rattle.spiffe_doc.specs.Text.{entry_text}
 use Rattle.spiffe_doc.proofs.MatchingLemmas.{behind}
-use Rattle.spiffe_doc.proofs.MatchedTexts.{url_safe_plain, after-jwt_point}
+use Rattle.spiffe_doc.proofs.PlainTexts.{url_safe_plain}
+use Rattle.spiffe_doc.proofs.MatchedTexts.{after-jwt_point}
 use Rattle.spiffe_doc.proofs.matching.after_jwt_point.Goals as goal
 
 pub returns : goal.returns

@@ -4,7 +4,8 @@ use Rattle.base64.specs.Engines.{url_safe_no_pad}
 use Rattle.base64.specs.GeneralPurpose.{encode_of}
 use Rattle.spiffe_doc.specs.Text.{entry_text}
 use Rattle.spiffe_doc.proofs.MatchingLemmas.{behind}
-use Rattle.spiffe_doc.proofs.MatchedTexts.{url_safe_plain, after-jwt_rsa}
+use Rattle.spiffe_doc.proofs.PlainTexts.{url_safe_plain}
+use Rattle.spiffe_doc.proofs.MatchedTexts.{after-jwt_rsa}
 use Rattle.spiffe_doc.proofs.matching.after_jwt_rsa.Goals as goal
 
 pub returns : goal.returns

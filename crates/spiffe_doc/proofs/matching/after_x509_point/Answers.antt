@@ -4,7 +4,8 @@ use Rattle.base64.specs.GeneralPurpose.{encode_of}
 use Rattle.spiffe_doc.specs.Key.{curve_text}
 use Rattle.spiffe_doc.specs.Text.{entry_text}
 use Rattle.spiffe_doc.proofs.MatchingLemmas.{behind}
-use Rattle.spiffe_doc.proofs.MatchedTexts.{url_safe_plain, standard_plain, after-x509_point}
+use Rattle.spiffe_doc.proofs.PlainTexts.{url_safe_plain, standard_plain}
+use Rattle.spiffe_doc.proofs.MatchedTexts.{after-x509_point}
 use Rattle.spiffe_doc.proofs.matching.after_x509_point.Goals as goal
 
 pub returns : goal.returns

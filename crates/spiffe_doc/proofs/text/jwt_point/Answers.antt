@@ -1,16 +1,7 @@
-use Rattle.std.proofs.Common.{◌∙◌}
-use Rattle.spiffe_doc.specs.Private.Writing.{jwt_point_tree}
-use Rattle.spiffe_doc.proofs.WrittenLemmas.{written, behind, member_behind}
+use Rattle.spiffe_doc.proofs.PlainTexts.{jwt_point-written}
 use Rattle.spiffe_doc.proofs.text.jwt_point.Goals as goal
 
 pub returns : goal.returns
 returns g c =
-    let t1 = member_behind _ _ _ _ _ _ c.in_ok-push_member.ensures.tokens c.curve_name.ensures c.in_ok-writer.ensures.tokens in
-    let t2 = behind _ _ _ _ c.in_ok-push_member-2.ensures.tokens t1 in
-    let t3 = behind _ _ _ _ c.in_ok-push_member-3.ensures.tokens t2 in
-    let t4 = behind _ _ _ _ c.in_ok-push_member-4.ensures.tokens t3 in
-    let t5 = behind _ _ _ _ c.in_ok-push_member-5.ensures.tokens t4 in
-    let t6 = behind _ _ _ _ c.in_ok-push_member-6.ensures.tokens t5 in
-    let last = behind _ _ _ _ c.in_ok-end_object.ensures.ok t6 in
-    let none = c.end_object.ensures.room.0 ∙ c.in_ok-push_member-6.ensures.before ∙ c.in_ok-push_member-5.ensures.before ∙ c.in_ok-push_member-4.ensures.before ∙ c.in_ok-push_member-3.ensures.before ∙ c.in_ok-push_member-2.ensures.before ∙ c.in_ok-push_member.ensures.before ∙ c.in_ok-writer.ensures.before in
-    c.into_inner.ensures.items ∙ written (jwt_point_tree c.args.kid.now c.args.curve c.args.x.now c.args.y.now) _ _ none last
+    rw (c.in_ok-extend_from_slice-2.ensures.items, c.in_ok-push_pair-3.ensures, c.in_ok-push_pair-2.ensures, c.in_ok-text.ensures, c.in_ok-extend_from_slice.ensures.items, c.in_ok-push_pair.ensures, c.in_ok-front.ensures, c.curve_name.ensures)
+    (jwt_point-written c.args.kid.now c.args.curve c.args.x.now c.args.y.now c.requires.x c.requires.y)

@@ -1,15 +1,7 @@
-use Rattle.std.proofs.Common.{◌∙◌}
-use Rattle.spiffe_doc.specs.Private.Writing.{jwt_rsa_tree}
-use Rattle.spiffe_doc.proofs.WrittenLemmas.{written, behind}
+use Rattle.spiffe_doc.proofs.PlainTexts.{jwt_rsa-written}
 use Rattle.spiffe_doc.proofs.text.jwt_rsa.Goals as goal
 
 pub returns : goal.returns
 returns g c =
-    let t1 = behind _ _ _ _ c.in_ok-push_member.ensures.tokens c.in_ok-writer.ensures.tokens in
-    let t2 = behind _ _ _ _ c.in_ok-push_member-2.ensures.tokens t1 in
-    let t3 = behind _ _ _ _ c.in_ok-push_member-3.ensures.tokens t2 in
-    let t4 = behind _ _ _ _ c.in_ok-push_member-4.ensures.tokens t3 in
-    let t5 = behind _ _ _ _ c.in_ok-push_member-5.ensures.tokens t4 in
-    let last = behind _ _ _ _ c.in_ok-end_object.ensures.ok t5 in
-    let none = c.end_object.ensures.room.0 ∙ c.in_ok-push_member-5.ensures.before ∙ c.in_ok-push_member-4.ensures.before ∙ c.in_ok-push_member-3.ensures.before ∙ c.in_ok-push_member-2.ensures.before ∙ c.in_ok-push_member.ensures.before ∙ c.in_ok-writer.ensures.before in
-    c.into_inner.ensures.items ∙ written (jwt_rsa_tree c.args.kid.now c.args.n.now c.args.e.now) _ _ none last
+    rw (c.in_ok-extend_from_slice-2.ensures.items, c.in_ok-push_pair-2.ensures, c.in_ok-text.ensures, c.in_ok-extend_from_slice.ensures.items, c.in_ok-push_pair.ensures, c.in_ok-front.ensures)
+    (jwt_rsa-written c.args.kid.now c.args.n.now c.args.e.now c.requires.n c.requires.e)

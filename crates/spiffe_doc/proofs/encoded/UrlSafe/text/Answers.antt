@@ -2,7 +2,13 @@ use Rattle.std.proofs.Common.{ap, ◌∙◌}
 use Rattle.base64.specs.Engines.{url_safe_no_pad}
 use Rattle.base64.specs.GeneralPurpose.{encode_of}
 use Rattle.spiffe_doc.proofs.EncodedLemmas.{encoded_bytes-some}
+use Rattle.spiffe_doc.proofs.PlainTexts.{url_safe_plain}
 use Rattle.spiffe_doc.proofs.encoded.UrlSafe.text.Goals as goal
 
-pub returns : goal.returns
-returns c = (encoded_bytes-some url_safe_no_pad _ _ c.self.invariant.bytes).1 ∙ ap (encode_of url_safe_no_pad) c.self.view_is
+pub returns-clause-value : goal.returns-clause-value
+returns-clause-value c = (encoded_bytes-some url_safe_no_pad _ _ c.self.invariant.bytes).1 ∙ ap (encode_of url_safe_no_pad) c.self.view_is
+
+pub returns-clause-plain : goal.returns-clause-plain
+returns-clause-plain c =
+    let bytes = encoded_bytes-some url_safe_no_pad _ _ c.self.invariant.bytes in
+    rw (bytes.1) (url_safe_plain _ bytes.0)

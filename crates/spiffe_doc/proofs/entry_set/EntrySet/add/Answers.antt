@@ -12,7 +12,7 @@ returns-in_ok-put_text-in-X509-clause-indexed g c =
     let old = c.args.self.now in
     rw (c.in_ok-push.ensures.value, entry) (
     indexed_x509 old.certificates _ old.kids (listed old.front) (key_given c.in-X509.key) c.in-X509.x5c c.requires.indexed
-    (λ other. c.in_ok-put_text-in-X509.ensures other ∙ ap (λ text. bytes_eq text other || has old.certificates other) (c.new.ensures ∙ c.text.ensures)))
+    (λ other. c.in_ok-put_text-in-X509.ensures other ∙ ap (λ text. bytes_eq text other || has old.certificates other) (c.new.ensures ∙ c.text.ensures.value)))
 
 pub returns-in_ok-put_kid-in-Jwt-clause-indexed : goal.returns-in_ok-put_kid-in-Jwt-clause-indexed
 returns-in_ok-put_kid-in-Jwt-clause-indexed g c =

@@ -27,7 +27,7 @@ returns-else-contains g c =
     let entry = c.requires.given ∙ ap authority_given c.in-X509.is in
     let certificates = c.args.self.now.certificates in
     let there = is_among (listed c.args.self.now.front) (X509 (key_given c.in-X509.key) c.in-X509.x5c) in
-    let none : has certificates (encode_of standard c.in-X509.x5c) ≡ false = ap (has certificates) (sym (c.new-text.ensures ∙ c.text.ensures)) ∙ sym c.contains.ensures ∙ c.if-contains.false in
+    let none : has certificates (encode_of standard c.in-X509.x5c) ≡ false = ap (has certificates) (sym (c.new-text.ensures ∙ c.text.ensures.value)) ∙ sym c.contains.ensures ∙ c.if-contains.false in
     (rw entry (no_kid (listed c.args.self.now.front) (key_given c.in-X509.key) c.in-X509.x5c), c.if-contains.false ∙ rw entry (ap (λ b. b && there) (sym none) ∙ held-certificate certificates _ _ (key_given c.in-X509.key) c.in-X509.x5c c.requires.whole.indexed))
 
 pub returns-then-is_at : goal.returns-then-is_at
