@@ -336,23 +336,49 @@ fn only_one(rt: &impl Abort, alloc: Global, document: &Bundle) -> Result<Authori
     Ok(first.decode(alloc)?)
 }
 
+/// The entry by itself gives an authority with this certificate or key id and these members.
+fn is_kept_alone(
+    rt: &impl Abort,
+    alloc: Global,
+    other: &Authority,
+    entry: &str,
+    kept: (&[u8], Members<'_>),
+) -> Result<(), Fail> {
+    let read = authority(alloc, entry)?;
+    let is_so = is_copied(rt, &read, other, kept.0, kept.1);
+    drop(read);
+    Ok(is_so?)
+}
+
+/// A document of the entry has one authority, with this certificate or key id and these members.
+fn is_kept_in_document(
+    rt: &impl Abort,
+    alloc: Global,
+    other: &Authority,
+    entry: &str,
+    kept: (&[u8], Members<'_>),
+) -> Result<(), Fail> {
+    let document = format!(in alloc; "{{\"keys\":[{}]}}", entry.trim_end())?;
+    let read = only_one(rt, alloc, &bundle(alloc, &document)?)?;
+    let is_so = is_kept_of(rt, &read, other, kept.0, kept.1);
+    drop(read);
+    Ok(is_so?)
+}
+
 // By itself, and in a document, which has no room for the spaces behind an entry.
 #[test]
 fn members(rt: HostRuntime) -> Result<(), Fail> {
-    let others = bundle(rt.alloc(), OTHER)?;
-    let other = only_one(&rt, rt.alloc(), &others)?;
+    let other = only_one(&rt, rt.alloc(), &bundle(rt.alloc(), OTHER)?)?;
+    let are_so = are_kept(&rt, rt.alloc(), &other);
+    drop(other);
+    are_so
+}
+
+fn are_kept(rt: &impl Abort, alloc: Global, other: &Authority) -> Result<(), Fail> {
     for &(parts, own, wanted) in &KEPT {
-        let entry = text_of(rt.alloc(), parts)?;
-        let read = authority(rt.alloc(), &entry)?;
-        let is_so = is_copied(&rt, &read, &other, own, wanted);
-        drop(read);
-        is_so?;
-        let document = format!(in rt.alloc(); "{{\"keys\":[{}]}}", entry.as_str().trim_end())?;
-        let read = bundle(rt.alloc(), &document)?;
-        let kept = only_one(&rt, rt.alloc(), &read)?;
-        let is_so = is_kept_of(&rt, &kept, &other, own, wanted);
-        drop(kept);
-        is_so?;
+        let entry = text_of(alloc, parts)?;
+        is_kept_alone(rt, alloc, other, &entry, (own, wanted))?;
+        is_kept_in_document(rt, alloc, other, &entry, (own, wanted))?;
     }
     Ok(())
 }
