@@ -25,7 +25,7 @@ use Rattle.refresher.specs.declared.list.ListError.{ListError}
 use Rattle.refresher.specs.declared.list.ListError.TheVariants.{BadLine, BadRelationship, Memory}
 use Rattle.refresh.specs.Relationship.{RelationshipValue}
 use Rattle.refresher.specs.List.{Listed, lines_of, listed_in, listed_behind, unless_there, has_domain, fault_at, AreListed, IsFirstBad, IsListFault}
-use Rattle.spiffe_doc.specs.Private.AuthoritySet.{has}
+use Rattle.spiffe_doc.specs.Private.EntrySet.{has}
 use Rattle.refresher.specs.Private.Listing.{AreDomainsOf, Follows, IsLineFault}
 
 -- ---- the lines

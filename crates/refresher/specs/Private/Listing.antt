@@ -2,7 +2,7 @@
 use Rattle.std.specs.Prelude.{◌≡◌, ◌⊎◌, ◌++◌, ◌∷◌, [], ℕ, List, Option, None, Some, Ok, Err, false, option_copied}
 use Rattle.std.specs.BTreeSet.{BTreeSet}
 use Rattle.std.specs.Option.{option_to_list}
-use Rattle.spiffe_doc.specs.Private.AuthoritySet.{has}
+use Rattle.spiffe_doc.specs.Private.EntrySet.{has}
 use Rattle.refresh.specs.Relationship.{RelationshipValue}
 use Rattle.refresh.specs.declared.error.RelationError.{RelationError}
 use Rattle.refresh.specs.declared.error.RelationError.TheVariants as relation

@@ -3,7 +3,7 @@ use Rattle.std.specs.BTreeMap.{is_at}
 use Rattle.std.specs.Cmp.Lexicographic.{slice_cmp}
 use Rattle.std.specs.Ordering.{nat_cmp}
 use Rattle.refresh.specs.Relationship.{RelationshipValue}
-use Rattle.spiffe_doc.specs.Private.AuthoritySet.{has}
+use Rattle.spiffe_doc.specs.Private.EntrySet.{has}
 use Rattle.refresher.specs.Private.Listing.{AreDomainsOf}
 use Rattle.refresher.proofs.ListLines.{one_known}
 use Rattle.refresher.proofs.list.add.Goals as goal
