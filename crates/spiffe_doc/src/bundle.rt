@@ -32,8 +32,8 @@ pub(crate) struct BundleParts {
 
 /// What a trust domain publishes: a sequence number, a refresh hint in seconds, and its authorities. No two are equal,
 /// no two JWT authorities have one key id, there are at most 1,024, and the canonical text has at most 1,048,576 bytes.
-/// It is kept as its canonical text, in one allocation that copies share. Bundles are equal if their numbers are, and
-/// their authorities in order.
+/// It is kept as its canonical text, which its copies share. Bundles are equal if their numbers are, and their authorities
+/// in order.
 #[derive(Drop)]
 pub struct Bundle {
     pub(crate) published: Arc<BundleParts>,

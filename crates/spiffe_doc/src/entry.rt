@@ -92,7 +92,7 @@ fn key_use<A: Allocator>(entry: &Value<'_, A>) -> Option<KeyUse>
     key_use_named(member_text(entry, "use")?)
 }
 
-/// A key's member. Its bytes are decoded in memory of `scratch`, as are those of other members.
+/// A key's member. What has to be decoded to tell whether it is base64 is decoded in memory of `scratch`, here and below.
 #[tactic(auto, unfolding(crate::specs::Judgement::key_bytes))]
 fn key_bytes<'a, A: Allocator>(
     scratch: A,

@@ -13,7 +13,7 @@ use crate::entries::{Authorities, Entry};
 use crate::error::DocError;
 use crate::front::Front;
 use crate::given::Given;
-use crate::kid_key::KidKey;
+use crate::text_key::TextKey;
 use std::alloc::{AllocError, Allocator};
 use std::collections::{BTreeMap, BTreeSet};
 
@@ -23,9 +23,9 @@ use std::collections::{BTreeMap, BTreeSet};
 pub(crate) struct EntrySet<'a, A: Allocator> {
     pub(crate) front: Front<A>,
     /// The texts of the certificates of the X.509 authorities.
-    pub(crate) certificates: BTreeSet<KidKey<'a>, A>,
+    pub(crate) certificates: BTreeSet<TextKey<'a>, A>,
     /// Where the JWT authority of a key id is.
-    pub(crate) kids: BTreeMap<KidKey<'a>, usize, A>,
+    pub(crate) kids: BTreeMap<TextKey<'a>, usize, A>,
 }
 
 impl<'a, A: Allocator + Copy> EntrySet<'a, A> {
@@ -92,11 +92,11 @@ impl<'a, A: Allocator + Copy> EntrySet<'a, A> {
         let present = self.front.authorities();
         match given {
             Given::X509 { x5c, .. } => {
-                let text = KidKey::new(x5c.text());
+                let text = TextKey::new(x5c.text());
                 Ok(self.certificates.contains(&text) && is_among(&present, entry))
             }
             Given::Jwt { kid, .. } => {
-                let Some(at) = self.kids.get(&KidKey::new(kid)) else {
+                let Some(at) = self.kids.get(&TextKey::new(kid)) else {
                     return Ok(false);
                 };
                 if is_at(&present, *at, entry) {
@@ -120,15 +120,15 @@ impl<'a, A: Allocator + Copy> EntrySet<'a, A> {
         let at = self.front.places.len();
         self.front.push(entry)?;
         match given {
-            Given::X509 { x5c, .. } => put_text(&mut self.certificates, KidKey::new(x5c.text()))?,
-            Given::Jwt { kid, .. } => put_kid(&mut self.kids, KidKey::new(kid), at)?,
+            Given::X509 { x5c, .. } => put_text(&mut self.certificates, TextKey::new(x5c.text()))?,
+            Given::Jwt { kid, .. } => put_kid(&mut self.kids, TextKey::new(kid), at)?,
         }
         Ok(())
     }
 }
 
 /// Whether the authority of an entry is among these.
-pub(crate) fn is_among(present: &Authorities<'_>, entry: &Entry<'_>) -> bool
+fn is_among(present: &Authorities<'_>, entry: &Entry<'_>) -> bool
     ensures { result ≡ among present.now entry.now }
 {
     for other in present.iter() {
@@ -152,8 +152,8 @@ fn is_at(present: &Authorities<'_>, at: usize, entry: &Entry<'_>) -> bool
 
 /// Adds a text.
 fn put_text<'a, A: Allocator + Copy>(
-    set: &mut BTreeSet<KidKey<'a>, A>,
-    text: KidKey<'a>,
+    set: &mut BTreeSet<TextKey<'a>, A>,
+    text: TextKey<'a>,
 ) -> Result<(), AllocError>
     ensures { OnOk result ((other : List ℕ) → has set.new other ≡ (bytes_eq text.entry other || has set.old other)) }
 {
@@ -163,8 +163,8 @@ fn put_text<'a, A: Allocator + Copy>(
 
 /// Adds a key id with its place.
 fn put_kid<'a, A: Allocator + Copy>(
-    kids: &mut BTreeMap<KidKey<'a>, usize, A>,
-    kid: KidKey<'a>,
+    kids: &mut BTreeMap<TextKey<'a>, usize, A>,
+    kid: TextKey<'a>,
     at: usize,
 ) -> Result<(), AllocError>
     ensures { OnOk result ((other : List ℕ) → place_of_kid kids.new other ≡ cond (bytes_eq kid.entry other) (Some at) (place_of_kid kids.old other)) }

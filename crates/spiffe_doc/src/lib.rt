@@ -18,7 +18,6 @@ mod front;
 mod given;
 mod id;
 mod key;
-mod kid_key;
 pub mod laws;
 mod matching;
 mod name;
@@ -29,6 +28,7 @@ mod rest;
 mod short_text;
 mod symbols;
 mod text;
+mod text_key;
 mod tree;
 
 pub use authority::{Authority, Certificate, KeyId};

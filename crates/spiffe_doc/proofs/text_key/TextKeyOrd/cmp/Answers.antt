@@ -1,7 +1,7 @@
 use Rattle.std.proofs.Common.{nat_cmp, ◌∙◌}
 use Rattle.std.specs.Cmp.Lexicographic.{slice_cmp}
 use Rattle.spiffe_doc.proofs.NameOrder.{texts_by_prefix}
-use Rattle.spiffe_doc.proofs.kid_key.KidKeyOrd.cmp.Goals as goal
+use Rattle.spiffe_doc.proofs.text_key.TextKeyOrd.cmp.Goals as goal
 
 pub returns-in_default : goal.returns-in_default
 returns-in_default c =

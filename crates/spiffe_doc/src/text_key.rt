@@ -1,4 +1,4 @@
-//! Key ids as a document has them, to be found among others.
+//! Texts as they lie in a document, to be found among others.
 ghost use Rattle.std.specs.Prelude.{◌≡◌};
 ghost use Rattle.spiffe_doc.specs.Private.Prefix.{prefix_number};
 
@@ -6,38 +6,38 @@ use crate::name::prefix_of;
 use std::cmp::Ordering;
 use std::marker::Model;
 
-/// A key id that lies in a document, ordered by its bytes.
+/// A key id, or the base64 text of a certificate, that lies in a document. Ordered by its bytes.
 #[derive(Drop)]
-pub(crate) struct KidKey<'a> {
-    /// The first 8 bytes, as one number: most key ids differ there.
+pub(crate) struct TextKey<'a> {
+    /// The first 8 bytes, as one number: most key ids differ there, and are told apart without a look at their texts.
     prefix: u64,
     text: &'a str,
 }
 
-impl<'a> Model for KidKey<'a> {
+impl<'a> Model for TextKey<'a> {
     ghost use Rattle.std.specs.Prelude.{◌≡◌, List, ℕ};
     ghost use Rattle.spiffe_doc.specs.Key.{AreBytes};
     ghost use Rattle.spiffe_doc.specs.Private.Prefix.{prefix_number};
 
     ghost Value = { List ℕ };
 
-    ghost view = { λ kid. kid.text.now };
+    ghost view = { λ key. key.text.now };
 
-    ghost invariant = { λ kid. AreBytes kid.text.now × (kid.prefix ≡ prefix_number 8 kid.text.now) };
+    ghost invariant = { λ key. AreBytes key.text.now × (key.prefix ≡ prefix_number 8 key.text.now) };
 }
 
-impl<'a> KidKey<'a> {
-    pub(crate) fn new(text: &'a str) -> KidKey<'a>
+impl<'a> TextKey<'a> {
+    pub(crate) fn new(text: &'a str) -> TextKey<'a>
         ensures { result ≡ text.now }
     {
-        KidKey {
+        TextKey {
             prefix: prefix_of(text.as_bytes()),
             text,
         }
     }
 }
 
-impl<'a> PartialEq for KidKey<'a> {
+impl<'a> PartialEq for TextKey<'a> {
     ghost use Rattle.std.specs.Prelude.{bytes_eq};
     ghost use Rattle.std.specs.Cmp.{partial_equiv_from_equiv};
     ghost use Rattle.std.specs.Cmp.Lexicographic.{nat_list_eq_equiv};
@@ -46,18 +46,18 @@ impl<'a> PartialEq for KidKey<'a> {
 
     ghost laws = { partial_equiv_from_equiv nat_list_eq_equiv };
 
-    fn eq(&self, other: &KidKey<'a>) -> bool {
+    fn eq(&self, other: &TextKey<'a>) -> bool {
         self.text == other.text
     }
 }
 
-impl<'a> Eq for KidKey<'a> {
+impl<'a> Eq for TextKey<'a> {
     ghost use Rattle.std.specs.Cmp.Lexicographic.{nat_list_eq_equiv};
 
     ghost laws = { nat_list_eq_equiv };
 }
 
-impl<'a> PartialOrd for KidKey<'a> {
+impl<'a> PartialOrd for TextKey<'a> {
     ghost use Rattle.std.specs.Prelude.{Some};
     ghost use Rattle.std.specs.Ordering.{nat_cmp};
     ghost use Rattle.std.specs.Cmp.Lexicographic.{slice_cmp, texts_po};
@@ -66,12 +66,12 @@ impl<'a> PartialOrd for KidKey<'a> {
 
     ghost laws = { texts_po };
 
-    fn partial_cmp(&self, other: &KidKey<'a>) -> Option<Ordering> {
+    fn partial_cmp(&self, other: &TextKey<'a>) -> Option<Ordering> {
         Some(self.cmp(other))
     }
 }
 
-impl<'a> Ord for KidKey<'a> {
+impl<'a> Ord for TextKey<'a> {
     ghost use Rattle.std.specs.Prelude.{refl};
     ghost use Rattle.std.specs.Ordering.{nat_cmp};
     ghost use Rattle.std.specs.Cmp.Lexicographic.{slice_cmp, nat_list_cmp_total, texts_ties};
@@ -84,7 +84,7 @@ impl<'a> Ord for KidKey<'a> {
 
     ghost matches_eq = { texts_ties };
 
-    fn cmp(&self, other: &KidKey<'a>) -> Ordering {
+    fn cmp(&self, other: &TextKey<'a>) -> Ordering {
         match self.prefix.cmp(&other.prefix) {
             Ordering::Equal => self.text.cmp(other.text),
             order => order,
