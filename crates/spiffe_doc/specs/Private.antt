@@ -7,6 +7,7 @@ pub mod Entries
 pub mod Places
 pub mod Fronts
 pub mod Kept
+pub mod Numbers
 pub mod Matching
 pub mod Borrowed
 pub mod WholeSet

@@ -7,6 +7,7 @@ ghost use Rattle.std.specs.Prelude.{◌≡◌, ◌<◌, ◌≤◌, length, IfOk,
 use crate::Memory;
 use crate::entries::Authorities;
 use crate::front::Front;
+use crate::numbers::Numbers;
 use crate::place::Place;
 use crate::text::push_rest;
 use std::alloc::{AllocError, Allocator, Global};
@@ -23,11 +24,8 @@ pub(crate) const MAX_AUTHORITIES: usize = 1024;
 #[derive(Drop)]
 pub(crate) struct BundleParts {
     pub(crate) text: Vec<u8>,
-    pub(crate) sequence: Option<u64>,
-    pub(crate) refresh_hint: Option<u64>,
-    /// How many bytes of the text stand up to the last entry.
-    pub(crate) front_len: usize,
     pub(crate) places: Vec<Place>,
+    pub(crate) numbers: Numbers,
 }
 
 /// What a trust domain publishes: a sequence number, a refresh hint in seconds, and its authorities. No two are equal,
@@ -47,9 +45,9 @@ impl Model for Bundle {
 
     ghost Value = { BundleValue };
 
-    ghost view = { λ bundle. record { sequence = (arc_value bundle.published).sequence; refresh_hint = (arc_value bundle.published).refresh_hint; authorities = authorities_in (arc_value bundle.published).text.items (arc_value bundle.published).places.items } };
+    ghost view = { λ bundle. record { sequence = (arc_value bundle.published).numbers.sequence; refresh_hint = (arc_value bundle.published).numbers.refresh_hint; authorities = authorities_in (arc_value bundle.published).text.items (arc_value bundle.published).places.items } };
 
-    ghost invariant = { λ bundle. IsKept (arc_value bundle.published).text.items (arc_value bundle.published).front_len (arc_value bundle.published).places.items (record { sequence = (arc_value bundle.published).sequence; refresh_hint = (arc_value bundle.published).refresh_hint; authorities = authorities_in (arc_value bundle.published).text.items (arc_value bundle.published).places.items }) };
+    ghost invariant = { λ bundle. IsKept (arc_value bundle.published).text.items (arc_value bundle.published).numbers.front_len (arc_value bundle.published).places.items (record { sequence = (arc_value bundle.published).numbers.sequence; refresh_hint = (arc_value bundle.published).numbers.refresh_hint; authorities = authorities_in (arc_value bundle.published).text.items (arc_value bundle.published).places.items }) };
 }
 
 impl Bundle {
@@ -59,14 +57,14 @@ impl Bundle {
     pub fn sequence(&self) -> Option<u64>
         ensures { result ≡ self.now.sequence }
     {
-        self.published.sequence
+        self.published.numbers.sequence()
     }
 
     /// The refresh hint in seconds, if the document had one.
     pub fn refresh_hint(&self) -> Option<u64>
         ensures { result ≡ self.now.refresh_hint }
     {
-        self.published.refresh_hint
+        self.published.numbers.refresh_hint()
     }
 
     /// The authorities, in the document's order.
@@ -100,7 +98,7 @@ impl Bundle {
         let published: &BundleParts = &self.published;
         let text = published.text.as_slice();
         Ok(Front {
-            text: text[..published.front_len].to_vec(alloc)?,
+            text: text[..published.numbers.front_len()].to_vec(alloc)?,
             places: published.places.as_slice().to_vec(alloc)?,
         })
     }
@@ -139,10 +137,8 @@ pub(crate) fn bundle_from<A: Allocator>(
         alloc,
         BundleParts {
             text: text.as_slice().to_vec(alloc)?,
-            sequence,
-            refresh_hint,
-            front_len,
             places: places.as_slice().to_vec(alloc)?,
+            numbers: Numbers::new(sequence, refresh_hint, front_len),
         },
     )?;
     Ok(Some(Bundle { published }))

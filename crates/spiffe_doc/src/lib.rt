@@ -22,6 +22,7 @@ pub mod laws;
 mod matching;
 mod name;
 mod number;
+mod numbers;
 mod octets;
 mod place;
 mod rest;

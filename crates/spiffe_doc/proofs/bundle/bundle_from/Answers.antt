@@ -25,7 +25,7 @@ invariant_of-result g c =
     let is = kept g c in
     let places = c.in_ok-to_vec-2.ensures.items_if_clones_equal (λ x y same. same) ∙ c.as_slice-2.ensures.value in
     let long : length c.in_ok-to_vec.field-0.items ≤ 1048576 = omega (arith, ap length (is.is_text), ap length c.in_ok-push_rest.ensures, c.len.ensures, c.if-len-gt-MAX_TEXT.false) in
-    rw (c.in_ok-published.ensures.ok, places) (continued_kept c.args.front.text.items c.in_ok-to_vec.field-0.items c.args.front.places.items c.len-front_len.result c.args.sequence c.args.refresh_hint is (omega (arith, c.len-front_len.ensures)) (search rules) (search rules) long)
+    rw (c.in_ok-published.ensures.ok, c.new.ensures, places) (continued_kept c.args.front.text.items c.in_ok-to_vec.field-0.items c.args.front.places.items c.len-front_len.result c.args.sequence c.args.refresh_hint is (omega (arith, c.len-front_len.ensures)) (search rules) (search rules) long)
 
 pub returns : goal.returns
 returns g c =
@@ -38,4 +38,4 @@ returns g c =
     let same : authorities_in c.in_ok-to_vec.field-0.items c.in_ok-to_vec-2.field-0.items ≡ listed c.args.front = ap (authorities_in c.in_ok-to_vec.field-0.items) places ∙ continued_listed _ _ _ _ _ is in
     let short : length (text_of (bundle_of c.args.sequence c.args.refresh_hint (listed c.args.front))) ≤ 1048576 =
     omega (arith, ap length (continued_text _ _ _ _ _ is), ap length is.is_text, ap length c.in_ok-push_rest.ensures, c.len.ensures, c.if-len-gt-MAX_TEXT.false) in
-    rw (c.in_ok-published.ensures.ok, same) (refl, short)
+    rw (c.in_ok-published.ensures.ok, c.new.ensures, same) (refl, short)
