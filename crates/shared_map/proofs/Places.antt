@@ -1,8 +1,7 @@
 -- A place of a list.
-use Rattle.std.proofs.Common.{◌≡◌, ◌≢◌, ◌⊎◌, inl, inr, ◌<◌, ℕ, zero, suc, List, [], ◌∷◌, ◌++◌, length, take, drop, Option, Some, None, Result, Ok, Err, true≢false, true, false, refl, sym, ap, subst, ◌∙◌, arith}
+use Rattle.std.proofs.Common.{◌≡◌, ◌≢◌, ◌⊎◌, inl, inr, ◌<◌, ℕ, zero, suc, List, [], ◌∷◌, ◌++◌, length, take, drop, Option, Some, None, Result, Ok, Err, true≢false, true, refl, sym, ap, subst, ◌∙◌, arith}
 use Rattle.std.specs.List.{slice_get, insert, remove}
-use Rattle.std.specs.Prelude.{slice_index_or, slice_set, MatchOption, IfOk, IfSome, OnOk, is_ok, if◌then◌else◌}
-use Rattle.std.specs.Result.{is_err, result_ok}
+use Rattle.std.specs.Prelude.{slice_index_or, slice_set, MatchOption, is_ok, if◌then◌else◌}
 use Rattle.std.specs.declared.cmp.Ordering.TheVariants.{Less}
 use Rattle.shared_map.specs.Name.{Name, name_cmp}
 use Rattle.shared_map.specs.Places.{Around, IsBefore, IsReached}

@@ -8,16 +8,16 @@ use Rattle.std.specs.declared.cmp.Ordering.{Ordering}
 use Rattle.std.specs.Cmp.Lexicographic.{nat_list_cmp_total, texts_ties}
 use Rattle.std.specs.FinMap.Entries.{find, put, where_key, is_sorted}
 use Rattle.shared_map.specs.Name.{Name, name_cmp}
-use Rattle.shared_map.specs.Places.{IsReached, IsTaken, IsFree, IsSplit}
+use Rattle.shared_map.specs.Places.{Around, IsReached, IsTaken, IsFree, IsSplit}
 use Rattle.shared_map.specs.Marks.{IsSorted, IsSameBut, fence, entries_only, plain, with, without}
 use Rattle.shared_map.proofs.Places.{read_at, insert_at, remove_at}
 use Rattle.shared_map.proofs.Sides.{others, find_inside, put_inside, kept_inside, find_middle, put_middle, kept_middle}
 use Rattle.shared_map.proofs.Plain.{sorted_names, plain-entries_only, entries_only-with, entries_only-without}
 use Rattle.shared_map.proofs.Same.{same_is, same_trans, fence_in}
 
-pub seat_equal : {X : Type 0} {q : Name} {xs : List (Name × X)} {place : ℕ} → (r : IsReached q xs place) → (d : Name × X) → name_cmp q (slice_index_or xs place d).0 ≡ Equal → IsTaken q xs place
-seat_equal {X} {q} {xs} {place} r d same =
-    record { around = r.0; same = ap (λ (y : Name × X). name_cmp q y.0) (sym (read_at r.0 d)) ∙ same }
+pub seat_equal : {X : Type 0} {q : Name} {xs : List (Name × X)} {place : ℕ} → (a : Around xs place) → (d : Name × X) → name_cmp q (slice_index_or xs place d).0 ≡ Equal → IsTaken q xs place
+seat_equal {X} {q} {xs} {place} a d same =
+    record { around = a; same = ap (λ (y : Name × X). name_cmp q y.0) (sym (read_at a d)) ∙ same }
 
 pub seat_greater : {X : Type 0} {q : Name} {xs : List (Name × X)} {place : ℕ} → (r : IsReached q xs place) → (d : Name × X) → name_cmp q (slice_index_or xs place d).0 ≡ Greater → IsFree q xs (place + 1)
 seat_greater {X} {q} {xs} {place} r d more =
@@ -37,9 +37,9 @@ tied o h = grind arith
 past : (o : Ordering) → is_eq o ≡ false → is_lt o ≡ false → o ≡ Greater
 past o h k = grind arith
 
--- the name that a search came to is the one that was sought
-pub seat_same : {X : Type 0} {q : Name} {xs : List (Name × X)} {place : ℕ} → (r : IsReached q xs place) → (d : Name × X) → bytes_eq q (slice_index_or xs place d).0 ≡ true → IsTaken q xs place
-seat_same {X} {q} {xs} {place} r d same = seat_equal r d (tied _ (sym (texts_ties q (slice_index_or xs place d).0) ∙ same))
+-- the name at a place is the one that was sought
+pub seat_same : {X : Type 0} {q : Name} {xs : List (Name × X)} {place : ℕ} → (a : Around xs place) → (d : Name × X) → bytes_eq q (slice_index_or xs place d).0 ≡ true → IsTaken q xs place
+seat_same {X} {q} {xs} {place} a d same = seat_equal a d (tied _ (sym (texts_ties q (slice_index_or xs place d).0) ∙ same))
 
 -- the name that was sought is another, and not before it
 pub seat_past : {X : Type 0} {q : Name} {xs : List (Name × X)} {place : ℕ} → (r : IsReached q xs place) → (d e : Name × X) → bytes_eq q (slice_index_or xs place d).0 ≡ false → is_lt (name_cmp q (slice_index_or xs place e).0) ≡ false → IsFree q xs (place + 1)

@@ -76,19 +76,19 @@ impl<V: Shared, P: Part<V>> Part<V> for Level<P> {
 
     fn get(&self, name: &TrustDomain) -> Option<&V> {
         let parts = self.parts.slots();
-        let place = reach(parts, name)?;
+        let place = reach(parts, name, self.parts.guess(name))?;
         parts[place].1.get(name)
     }
 
     fn make_room(&mut self, name: &TrustDomain) -> Result<(), AllocError> {
-        match reach(self.parts.slots(), name) {
+        match reach(self.parts.slots(), name, self.parts.guess(name)) {
             None => Ok(()),
             Some(place) => make_room_at::<V, P>(&mut self.parts, place, name),
         }
     }
 
     fn put(&mut self, name: TrustDomain, value: V) -> Result<bool, AllocError> {
-        match reach(self.parts.slots(), &name) {
+        match reach(self.parts.slots(), &name, self.parts.guess(&name)) {
             None => {
                 let alloc = self.parts.alloc();
                 let fence = name.copy()?;
@@ -101,7 +101,7 @@ impl<V: Shared, P: Part<V>> Part<V> for Level<P> {
     }
 
     fn take_out(&mut self, name: &TrustDomain) -> Result<(), AllocError> {
-        if let Some(place) = reach(self.parts.slots(), name) {
+        if let Some(place) = reach(self.parts.slots(), name, self.parts.guess(name)) {
             take_at::<V, P>(&mut self.parts, place, name)?;
         }
         Ok(())
@@ -153,6 +153,7 @@ fn take_at<V, P: Part<V>>(
     page.slots[place].1.take_out(name)?;
     if page.slots[place].1.is_empty() {
         page.slots.remove(place);
+        page.note_gone(place);
     }
     Ok(())
 }
@@ -182,6 +183,7 @@ fn halve_in<V, P: Part<V>>(page: &mut Page<P>, place: usize) -> Result<(), Alloc
     page.make_room()?;
     if let Some(half) = page.slots[place].1.halve()? {
         let _ = page.slots.insert(place + 1, half);
+        page.note_new(place + 1);
     }
     Ok(())
 }

@@ -5,6 +5,7 @@
 #![tactic(auto)]
 
 mod entries;
+mod hints;
 mod level;
 mod map;
 mod page;

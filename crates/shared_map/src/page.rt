@@ -4,6 +4,7 @@ ghost use Rattle.std.specs.Arc.{arc_value};
 ghost use Rattle.shared_map.specs.Places.{IsSplit};
 
 use crate::Shared;
+use crate::hints::Hints;
 use spiffe_doc::TrustDomain;
 use std::alloc::AllocError;
 use std::sync::Arc;
@@ -22,6 +23,8 @@ pub(crate) const MOST_PARTS: usize = 31;
 #[derive(Drop)]
 pub(crate) struct Page<X> {
     pub(crate) slots: Vec<(TrustDomain, X)>,
+    /// Where a search begins: no part of what the page shows.
+    pub(crate) hints: Hints,
 }
 
 impl<X: Shared> Page<X> {
@@ -34,7 +37,31 @@ impl<X: Shared> Page<X> {
         for slot in &self.slots {
             slots.push((slot.0.copy()?, slot.1.copy()?))?;
         }
-        Ok(Page { slots })
+        Ok(Page {
+            slots,
+            hints: self.hints,
+        })
+    }
+
+    /// Makes the hints anew.
+    fn note_all(&mut self)
+        ensures { self.new.slots ≡ self.old.slots }
+    {
+        self.hints = Hints::of(&self.slots);
+    }
+
+    /// Minds a name that was put in at a place.
+    pub(crate) fn note_new(&mut self, place: usize)
+        ensures { self.new.slots ≡ self.old.slots }
+    {
+        self.hints.take_in(&self.slots, place);
+    }
+
+    /// Minds that the name at a place was taken out.
+    pub(crate) fn note_gone(&mut self, place: usize)
+        ensures { self.new.slots ≡ self.old.slots }
+    {
+        self.hints.take_out(place);
     }
 
     /// Has room for one more name.
@@ -59,14 +86,17 @@ impl<X: Shared> Page<X> {
         let name = self.slots[half].0.copy()?;
         let alloc = *self.slots.allocator();
         let slots = Vec::new(alloc);
-        let Ok(mut other) = Arc::new(alloc, Page { slots }) else {
+        let hints = Hints::new();
+        let Ok(mut other) = Arc::new(alloc, Page { slots, hints }) else {
             return Err(AllocError);
         };
         let Some(page) = Arc::get_mut(&mut other) else {
             return Err(AllocError);
         };
         page.slots = self.slots.split_off(half)?;
+        page.note_all();
         self.slots.shrink_to_fit();
+        self.note_all();
         Ok((name, other))
     }
 }

@@ -66,7 +66,7 @@ impl<V: Shared> Part<V> for Run<V> {
 
     fn get(&self, name: &TrustDomain) -> Option<&V> {
         let slots = self.slots();
-        match seat_of(slots, name) {
+        match seat_of(slots, name, self.guess(name)) {
             Seat::Taken(place) => Some(&slots[place].1),
             Seat::Free(_) => None,
         }
@@ -77,7 +77,7 @@ impl<V: Shared> Part<V> for Run<V> {
     }
 
     fn put(&mut self, name: TrustDomain, value: V) -> Result<bool, AllocError> {
-        match seat_of(self.slots(), &name) {
+        match seat_of(self.slots(), &name, self.guess(&name)) {
             Seat::Taken(place) => {
                 self.set(place, value)?;
                 Ok(false)
@@ -90,7 +90,7 @@ impl<V: Shared> Part<V> for Run<V> {
     }
 
     fn take_out(&mut self, name: &TrustDomain) -> Result<(), AllocError> {
-        match seat_of(self.slots(), name) {
+        match seat_of(self.slots(), name, self.guess(name)) {
             Seat::Taken(place) => self.remove(place),
             Seat::Free(_) => Ok(()),
         }

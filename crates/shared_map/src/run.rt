@@ -4,6 +4,7 @@ ghost use Rattle.std.specs.List.{insert, remove};
 ghost use Rattle.shared_map.specs.Places.{Around, IsSplit};
 
 use crate::Shared;
+use crate::hints::Hints;
 use crate::page::{Page, STEP};
 use spiffe_doc::TrustDomain;
 use std::alloc::{AllocError, Global};
@@ -46,7 +47,8 @@ impl<X: Shared> Run<X> {
     fn from_slots(alloc: Global, slots: Vec<(TrustDomain, X)>) -> Result<Run<X>, AllocError>
         ensures { IfOk result (λ run. run ≡ slots.items) }
     {
-        match Arc::new(alloc, Page { slots }) {
+        let hints = Hints::of(&slots);
+        match Arc::new(alloc, Page { slots, hints }) {
             Ok(page) => Ok(Run { page }),
             Err(_) => Err(AllocError),
         }
@@ -62,6 +64,11 @@ impl<X: Shared> Run<X> {
         ensures { result.now ≡ self.now }
     {
         &self.page.slots
+    }
+
+    /// A place where a search for the name should begin.
+    pub(crate) fn guess(&self, name: &TrustDomain) -> usize {
+        self.page.hints.guess(name)
     }
 
     /// Puts this under the name at a place.
@@ -89,7 +96,10 @@ impl<X: Shared> Run<X> {
         let page: &mut Page<X> = Arc::make_mut(&mut self.page)?;
         page.make_room()?;
         match page.slots.insert(place, (name, held)) {
-            Ok(()) => Ok(()),
+            Ok(()) => {
+                page.note_new(place);
+                Ok(())
+            }
             Err(_) => Err(AllocError),
         }
     }
@@ -102,6 +112,7 @@ impl<X: Shared> Run<X> {
     {
         let page: &mut Page<X> = Arc::make_mut(&mut self.page)?;
         page.slots.remove(place);
+        page.note_gone(place);
         Ok(())
     }
 

@@ -1,6 +1,6 @@
 //! The place of a name among names in order.
-ghost use Rattle.std.specs.Prelude.{◌≡◌, ◌≢◌, [], MatchOption};
-ghost use Rattle.shared_map.specs.Places.{IsReached};
+ghost use Rattle.std.specs.Prelude.{◌≡◌, ◌≢◌, ◌+◌, ◌<◌, [], IsTrue, MatchOption};
+ghost use Rattle.shared_map.specs.Places.{IsReached, IsTaken};
 ghost use Rattle.shared_map.specs.Seats.{IsSeat};
 
 use spiffe_doc::TrustDomain;
@@ -14,11 +14,15 @@ pub(crate) enum Seat {
     Free(usize),
 }
 
-/// The place of the name. Most searches find it, and whether two names are equal costs less than their order.
-pub(crate) fn seat_of<X>(slots: &[(TrustDomain, X)], name: &TrustDomain) -> Seat
+/// The place of the name, which may be that of the guess. Most searches find the name, and whether two names are equal
+/// costs less than their order.
+pub(crate) fn seat_of<X>(slots: &[(TrustDomain, X)], name: &TrustDomain, guess: usize) -> Seat
     ensures { IsSeat name.now slots.now result }
 {
-    let Some(place) = reach(slots, name) else {
+    if is_at(slots, name, guess) {
+        return Seat::Taken(guess);
+    }
+    let Some(place) = reach(slots, name, guess) else {
         return Seat::Free(0);
     };
     if *name == slots[place].0 {
@@ -31,24 +35,36 @@ pub(crate) fn seat_of<X>(slots: &[(TrustDomain, X)], name: &TrustDomain) -> Seat
     }
 }
 
-/// The last place whose name is not after the given one, or the first place. None if there is no place.
-pub(crate) fn reach<X>(slots: &[(TrustDomain, X)], name: &TrustDomain) -> Option<usize>
+/// Whether the name stands at a place.
+fn is_at<X>(slots: &[(TrustDomain, X)], name: &TrustDomain, place: usize) -> bool
+    ensures { IsTrue result → IsTaken name.now slots.now place }
+{
+    place < slots.len() && *name == slots[place].0
+}
+
+/// The last place whose name is not after the given one, or the first place: the guess, if that is right. None if there is
+/// no place.
+pub(crate) fn reach<X>(
+    slots: &[(TrustDomain, X)],
+    name: &TrustDomain,
+    guess: usize,
+) -> Option<usize>
     ensures { MatchOption result (slots.now ≡ []) (IsReached name.now slots.now) }
 {
     if slots.is_empty() {
         return None;
     }
-    Some(last_from(slots, name))
+    Some(last_from(slots, name, guess))
 }
 
-fn last_from<X>(slots: &[(TrustDomain, X)], name: &TrustDomain) -> usize
+fn last_from<X>(slots: &[(TrustDomain, X)], name: &TrustDomain, guess: usize) -> usize
     requires { slots.now ≢ [] }
     ensures { IsReached name.now slots.now result }
 {
     let mut low = 0;
     let mut high = slots.len();
     while high - low > 1 {
-        let middle = low + (high - low) / 2;
+        let middle = between(low, high, guess);
         if name.cmp(&slots[middle].0).is_lt() {
             high = middle;
         } else {
@@ -56,4 +72,19 @@ fn last_from<X>(slots: &[(TrustDomain, X)], name: &TrustDomain) -> usize
         }
     }
     low
+}
+
+/// A place between two, at a guess or behind it if that is one.
+fn between(low: usize, high: usize, guess: usize) -> usize
+    requires { low + 1 < high }
+    ensures { (low < result) × (result < high) }
+{
+    if low < guess && guess < high {
+        return guess;
+    }
+    let behind = guess.saturating_add(1);
+    if low < behind && behind < high {
+        return behind;
+    }
+    low + (high - low) / 2
 }

@@ -254,6 +254,7 @@ impl Ord for TrustDomain {
 
     ghost matches_eq = { texts_ties };
 
+    #[inline]
     fn cmp(&self, other: &TrustDomain) -> Ordering {
         match self.prefix.cmp(&other.prefix) {
             Ordering::Equal => self.text.as_str().cmp(other.text.as_str()),

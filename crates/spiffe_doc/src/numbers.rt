@@ -24,11 +24,7 @@ impl Model for Numbers {
 }
 
 impl Numbers {
-    pub(crate) fn new(
-        sequence: Option<u64>,
-        refresh_hint: Option<u64>,
-        front_len: usize,
-    ) -> Numbers
+    pub(crate) fn new(sequence: Option<u64>, refresh_hint: Option<u64>, front_len: usize) -> Numbers
         requires { front_len < 2 ^ 32 }
         ensures { result ≡ record { sequence = sequence; refresh_hint = refresh_hint; front_len = front_len } }
     {

@@ -16,4 +16,4 @@ returns-in-Some g c =
     let set : List (Name × g.row.P.Denot) = slice_set c.make_room.new.self.slots.items place (x.0, c.halve.new.self) in
     let made : c.insert.new.self.items ≡ insert set (place + 1) c.in-Some.half = inserted c.insert.result c.insert.new.self.items set (place + 1) c.in-Some.half c.insert.ensures.items (c.insert.ensures.succeeds c.in_ok-make_room.ensures.ok) in
     let over : insert set (place + 1) c.in-Some.half ≡ insert (slice_set ps place (x.0, c.halve.new.self)) (place + 1) c.in-Some.half = ap (λ (l : List (Name × g.row.P.Denot)). insert (slice_set l place (x.0, c.halve.new.self)) (place + 1) c.in-Some.half) kept in
-    halve_reached g.P.Part.marks ps place a x (read_same kept a x c.index_mut.ensures.value) c.halve.new.self c.in-Some.half _ (made ∙ over) (at_some _ _ c.in-Some.is c.in_ok-half.ensures.ok)
+    halve_reached g.P.Part.marks ps place a x (read_same kept a x c.index_mut.ensures.value) c.halve.new.self c.in-Some.half _ (ap (λ v. v.items) c.note_new.ensures ∙ made ∙ over) (at_some _ _ c.in-Some.is c.in_ok-half.ensures.ok)

@@ -13,7 +13,7 @@ returns-in_err-make_room g c =
     let page = c.in_ok-page.page.now in
     let kept : page.slots.items ≡ c.args.parts.now = elim c.in_ok-page.ensures.value [ inl e ↦ ap (λ p. p.slots.items) e | inr e ↦ e ] ∙ c.parts.view_is in
     let x = c.index_mut.result.now in
-    let set = ap (λ p. p.slots.items) (c.make_mut.follows.holds (record { slots = with_item page.slots c.args.place (x.0, c.make_room.new.self) }) (ap is_ok c.in_ok-page.was)) ∙ ap (λ (l : List (Name × g.row.P.Denot)). slice_set l c.args.place (x.0, c.make_room.new.self)) kept in
+    let set = ap (λ p. p.slots.items) (c.make_mut.follows.holds (record { slots = with_item page.slots c.args.place (x.0, c.make_room.new.self); hints = page.hints }) (ap is_ok c.in_ok-page.was)) ∙ ap (λ (l : List (Name × g.row.P.Denot)). slice_set l c.args.place (x.0, c.make_room.new.self)) kept in
     same_reached g.P.Part.marks c.args.parts.now c.args.place c.requires.0 x (read_same kept c.requires.0 x c.index_mut.ensures.value) c.make_room.new.self _ set c.make_room.ensures
 
 pub returns : goal.returns

@@ -14,7 +14,7 @@ returns-clause-ok g c =
     let page = c.in_ok-page.page.now in
     let kept : page.slots.items ≡ c.args.parts.now = elim c.in_ok-page.ensures.value [ inl e ↦ ap (λ p. p.slots.items) e | inr e ↦ e ] ∙ c.parts.view_is in
     let x = c.index_mut.result.now in
-    let set = ap (λ p. p.slots.items) (c.make_mut.follows.holds (record { slots = with_item page.slots c.args.place (x.0, c.put.new.self) }) (ap is_ok c.in_ok-page.was)) ∙ ap (λ (l : List (Name × g.row.P.Denot)). slice_set l c.args.place (x.0, c.put.new.self)) kept in
+    let set = ap (λ p. p.slots.items) (c.make_mut.follows.holds (record { slots = with_item page.slots c.args.place (x.0, c.put.new.self); hints = page.hints }) (ap is_ok c.in_ok-page.was)) ∙ ap (λ (l : List (Name × g.row.P.Denot)). slice_set l c.args.place (x.0, c.put.new.self)) kept in
     IfOk-weaker c.put.result _ _ (λ _ h. put_reached g.P.Part.marks c.args.name c.args.parts.now c.args.place c.requires x (read_same kept c.requires.0 x c.index_mut.ensures.value) c.args.value c.put.new.self _ set h) c.put.ensures.ok
 
 pub returns-clause-is_new : goal.returns-clause-is_new

@@ -3,7 +3,7 @@ use Rattle.shared_map.proofs.Seats.{seat_same, seat_past}
 use Rattle.shared_map.proofs.search.seat_of.Goals as goal
 
 pub returns-then-eq : goal.returns-then-eq
-returns-then-eq g c = seat_same c.in-Some.ensures c.index-slots-place.result (sym c.eq.ensures ∙ c.if-eq.true)
+returns-then-eq g c = seat_same c.in-Some.ensures.0 c.index-slots-place.result (sym c.eq.ensures ∙ c.if-eq.true)
 
 pub returns-else-is_lt : goal.returns-else-is_lt
 returns-else-is_lt g c =
