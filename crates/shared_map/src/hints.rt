@@ -1,8 +1,9 @@
 //! Where a search in a page begins.
+use crate::page::MOST;
 use spiffe_doc::TrustDomain;
 
-/// How many names of a page have a hint: as many as it has, unless memory for its halves was refused.
-const MOST: usize = 32;
+/// How many names of a page have a hint: all but those of the top of the largest maps.
+const HINTED: usize = MOST + 1;
 
 /// Four bytes of each name of a page, from the first place on in which two of them differ. They lie in the page itself,
 /// and the names beside it: so a search looks at them first, and then at two names only. Nothing rests on them but how
@@ -12,7 +13,7 @@ pub(crate) struct Hints {
     /// How many bytes all names begin with.
     skip: usize,
     /// A place without a name has the greatest word.
-    words: [u32; MOST],
+    words: [u32; HINTED],
 }
 
 impl Hints {
@@ -20,14 +21,14 @@ impl Hints {
     pub(crate) fn new() -> Hints {
         Hints {
             skip: 0,
-            words: [u32::MAX; MOST],
+            words: [u32::MAX; HINTED],
         }
     }
 
     /// Those of names in order.
     pub(crate) fn of<X>(slots: &[(TrustDomain, X)]) -> Hints {
         let skip = shared_len(slots);
-        let mut words = [u32::MAX; MOST];
+        let mut words = [u32::MAX; HINTED];
         for (word, slot) in words.iter_mut().zip(slots) {
             *word = word_at(&slot.0, skip);
         }
@@ -38,11 +39,11 @@ impl Hints {
     pub(crate) fn take_in<X>(&mut self, slots: &[(TrustDomain, X)], place: usize) {
         // A name between two others begins as they do.
         let is_between = place > 0 && place < slots.len().saturating_sub(1);
-        if place >= MOST || (!is_between && shared_len(slots) != self.skip) {
+        if place >= HINTED || (!is_between && shared_len(slots) != self.skip) {
             *self = Hints::of(slots);
             return;
         }
-        self.words.copy_within(place..MOST - 1, place + 1);
+        self.words.copy_within(place..HINTED - 1, place + 1);
         if let Some(slot) = slots.get(place) {
             self.words[place] = word_at(&slot.0, self.skip);
         }
@@ -50,9 +51,9 @@ impl Hints {
 
     /// Those of the names that are left when the one at a place has gone.
     pub(crate) fn take_out(&mut self, place: usize) {
-        if place < MOST {
-            self.words.copy_within(place + 1..MOST, place);
-            self.words[MOST - 1] = u32::MAX;
+        if place < HINTED {
+            self.words.copy_within(place + 1..HINTED, place);
+            self.words[HINTED - 1] = u32::MAX;
         }
     }
 

@@ -6,7 +6,7 @@ ghost use Rattle.shared_map.specs.Places.{IsReached};
 ghost use Rattle.shared_map.specs.Marks.{IsSorted, IsSameBut, plain, with, without, marks_of};
 
 use crate::Shared;
-use crate::page::{MOST_PARTS, Page};
+use crate::page::Page;
 use crate::part::Part;
 use crate::run::Run;
 use crate::search::reach;
@@ -112,11 +112,11 @@ impl<V: Shared, P: Part<V>> Part<V> for Level<P> {
     }
 
     fn is_long(&self) -> bool {
-        self.parts.is_long(MOST_PARTS)
+        self.parts.is_long()
     }
 
     fn halve(&mut self) -> Result<Option<(TrustDomain, Level<P>)>, AllocError> {
-        let Some((name, parts)) = self.parts.split(MOST_PARTS)? else {
+        let Some((name, parts)) = self.parts.split()? else {
             return Ok(None);
         };
         Ok(Some((name, Level { parts })))

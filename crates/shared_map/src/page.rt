@@ -12,12 +12,9 @@ use std::sync::Arc;
 /// How many places a full page grows by: few, so that few are empty.
 pub(crate) const STEP: usize = 4;
 
-/// The most entries of a page. A change copies a page of entries, and counts the owners of each: in a large map each is
-/// a miss of the cache.
-pub(crate) const MOST_ENTRIES: usize = 15;
-
-/// The most parts of a page. Pages of parts are few, so that more of them are in the cache.
-pub(crate) const MOST_PARTS: usize = 31;
+/// The most names of a page that is not halved. A change of a page that is shared copies it, and counts the owners of all
+/// that stands in it; but the more names a page has, the fewer levels a search goes through.
+pub(crate) const MOST: usize = 31;
 
 /// Names, with what stands under each.
 #[derive(Drop)]

@@ -5,7 +5,6 @@ ghost use Rattle.shared_map.specs.Name.{name_cmp};
 ghost use Rattle.shared_map.specs.Marks.{Marks, IsSorted, IsSameBut, entry, fence, plain, with, without};
 
 use crate::Shared;
-use crate::page::MOST_ENTRIES;
 use crate::run::Run;
 use crate::search::{Seat, seat_of};
 use spiffe_doc::TrustDomain;
@@ -101,10 +100,10 @@ impl<V: Shared> Part<V> for Run<V> {
     }
 
     fn is_long(&self) -> bool {
-        Run::is_long(self, MOST_ENTRIES)
+        Run::is_long(self)
     }
 
     fn halve(&mut self) -> Result<Option<(TrustDomain, Run<V>)>, AllocError> {
-        self.split(MOST_ENTRIES)
+        self.split()
     }
 }

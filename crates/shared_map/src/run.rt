@@ -5,7 +5,7 @@ ghost use Rattle.shared_map.specs.Places.{Around, IsSplit};
 
 use crate::Shared;
 use crate::hints::Hints;
-use crate::page::{Page, STEP};
+use crate::page::{MOST, Page, STEP};
 use spiffe_doc::TrustDomain;
 use std::alloc::{AllocError, Global};
 use std::marker::Model;
@@ -116,21 +116,20 @@ impl<X: Shared> Run<X> {
         Ok(())
     }
 
-    /// Whether it has this many names or more.
-    pub(crate) fn is_long(&self, most: usize) -> bool
-        ensures { IsTrue result ↔ most ≤ length self.now }
+    /// Whether it has as many names as a node may have, or more.
+    pub(crate) fn is_long(&self) -> bool
+        ensures { IsTrue result ↔ 31 ≤ length self.now }
     {
-        self.slots().len() >= most
+        self.slots().len() >= MOST
     }
 
-    /// Keeps the first half and gives the second, and the name that it begins with. None if it has fewer names than this.
+    /// Keeps the first half and gives the second, and the name that it begins with. None if it has few.
     /// Errors if memory runs out, and nothing has changed.
-    pub(crate) fn split(&mut self, most: usize) -> Result<Option<(TrustDomain, Run<X>)>, AllocError>
-        requires { 1 < most }
+    pub(crate) fn split(&mut self) -> Result<Option<(TrustDomain, Run<X>)>, AllocError>
         ensures ok { IfOk result (λ half. MatchOption half (self.new ≡ self.old) (λ half. IsSplit self.old self.new half.0 half.1)) }
         ensures err { OnErr result (self.new ≡ self.old) }
     {
-        if !self.is_long(most) {
+        if !self.is_long() {
             return Ok(None);
         }
         let page: &mut Page<X> = Arc::make_mut(&mut self.page)?;

@@ -1,4 +1,5 @@
-//! Maps that get one level after another: with 9,000 names there are over 31 groups, so that a map has all its levels.
+//! Maps that get one level after another: with 9,000 names that come in order there are over 31 groups, so that a map
+//! has all its levels.
 use crate::tests::*;
 
 /// The name at a place, in the order of the step. The names of numbers from 10,000 on have the order of these.
