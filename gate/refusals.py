@@ -22,8 +22,8 @@ def build_shim(room):
 
 
 def tests_of(crate):
-    """The tests over the crate's public contract, which stand in a crate of their own."""
-    return built(f"{crate}_tests", f"{crate}_tests_tests")
+    """The program that runs the tests of this crate."""
+    return built(crate, f"{crate}_tests")
 
 
 def run_once(words, given, first=0, last=0, shim=None):

@@ -29,27 +29,28 @@ from checks import Told, what_went_wrong  # noqa: E402
 from program_runs import program_runs  # noqa: E402
 from refusals import Run, build_shim, run_once, sweep, tests_of  # noqa: E402
 
-# The crates of which all tests are run, but for those that have too many growths to try each.
-ALL = ["spiffe_doc", "map_core", "step_core"]
+# The modules of test crates of which all tests are run, but for those that have too many growths to try each.
+ALL = ["documents_tests spiffe", "map_tests plain_maps", "map_tests machines"]
 # Of others those with such a word in their names: the rest starts threads, which take memory in any order, or asks
 # whether an answer is a certain one, which 22 is not.
-SOME = {"shared_map": ["a_refused_growth"], "frame_front": ["a_refused_growth"], "frame_client": ["a_refused_growth"],
-        "shard_store": ["a_refused_growth", "removed_sequences", "a_front_asks"],
-        "frame_lines": ["a_refused_growth"], "line_client": ["a_refused_growth"], "trace_lines": ["a_refused_growth"],
-        "dump_views": ["a_refused_growth"], "bundle_map": ["a_refused_growth"], "snapshots": ["a_refused_growth"],
-        "doc_report": ["a_refused_growth"], "dump_commands": ["a_refused_growth"],
-        "refresh": ["a_refused_growth", "parts_of"]}
+SOME = {"map_tests shared_maps": ["a_refused_growth"], "map_tests stores": ["a_refused_growth", "removed_sequences", "a_front_asks"],
+        "documents_tests reports": ["a_refused_growth"], "commands_tests dumps": ["a_refused_growth"],
+        "protocol_tests frames": ["a_refused_growth"], "protocol_tests lines": ["a_refused_growth"],
+        "protocol_tests clients": ["a_refused_growth"], "protocol_tests asked_lines": ["a_refused_growth"],
+        "protocol_tests traces": ["a_refused_growth"],
+        "views_tests views": ["a_refused_growth"], "views_tests trees": ["a_refused_growth"],
+        "views_tests folders": ["a_refused_growth"], "views_tests schedules": ["a_refused_growth", "parts_of"]}
 # The tests for refused growths that read documents with entries, and that of a lasting session.
-MAY_GO_ON = {"frame_front a_refused_growth_is_met_again", "dump_views a_refused_growth_leaves_no_part_of_a_diff",
-             "dump_views a_refused_growth_leaves_no_part_of_a_pem", "snapshots a_refused_growth_shows_nothing",
-             "doc_report a_refused_growth_appends_nothing", "dump_commands a_refused_growth_is_told",
-             "refresh a_refused_growth_changes_nothing"}
+MAY_GO_ON = {"frames a_refused_growth_is_met_again", "views a_refused_growth_leaves_no_part_of_a_diff",
+             "views a_refused_growth_leaves_no_part_of_a_pem", "folders a_refused_growth_shows_nothing",
+             "reports a_refused_growth_appends_nothing", "dumps a_refused_growth_is_told",
+             "schedules a_refused_growth_changes_nothing"}
 WANT_OF_MEMORY = re.compile(r'error: (Memory|AllocError|AllocFailed \{ \.\. \}|"out of memory")', re.I)
 ANSWERED_MEMORY = re.compile(r'(error: ".*: |")memory\b.*, and not .*"')
 
 
 def test_allows(name):
-    """What may become of a test, by its crate and its own name."""
+    """What may become of a test, by its module and its own name."""
     is_for_growths = "a_refused_growth" in name
     tells_each = is_for_growths and name not in MAY_GO_ON
 
@@ -64,18 +65,25 @@ def test_allows(name):
     return allows
 
 
+def tests_in(tests, module):
+    """The names of the tests of one module, as the program of the tests lists them."""
+    names = re.findall(r"^(\S+): test$", run_once([tests, "--list"], b"")[0].out.decode(), re.M)
+    return [name for name in names if name.startswith(f"{module}::")]
+
+
 def test_runs():
     may_go_on = set(MAY_GO_ON)
-    for crate in [*ALL, *SOME]:
+    for place in [*ALL, *SOME]:
+        crate, module = place.split()
         tests = tests_of(crate)
-        names = re.findall(r"^(\S+): test$", run_once([tests, "--list"], b"")[0].out.decode(), re.M)
-        words = SOME.get(crate, [""])
+        names = tests_in(tests, module)
+        words = SOME.get(place, [""])
         for word in words:
             if not any(word in name for name in names):
-                sys.exit(f"no test of {crate} has {word} in its name, which gate/refused_growths.py looks for")
+                sys.exit(f"no test of {place} has {word} in its name, which gate/refused_growths.py looks for")
         for name in names:
             if any(word in name for word in words):
-                short = f"{crate} {name.rpartition('::')[2]}"
+                short = f"{module} {name.rpartition('::')[2]}"
                 may_go_on.discard(short)
                 yield Run(f"{crate} {name}", [tests, name], b"", test_allows(short))
     if may_go_on:

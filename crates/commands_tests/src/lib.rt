@@ -1,5 +1,11 @@
-//! Tests of `commands`, over its public contract: worked examples, and what no clause says.
+//! Tests of the crates of the program, over their public contracts: worked examples, and what no clause says.
 #![tactic(auto)]
 
 #[cfg(test)]
-mod tests;
+mod dumps;
+#[cfg(test)]
+mod races;
+#[cfg(test)]
+mod streams;
+#[cfg(test)]
+mod words;

@@ -1,0 +1,7 @@
+//! Tests of the crates of documents, over their public contracts: worked examples, and what no clause says.
+#![tactic(auto)]
+
+#[cfg(test)]
+mod reports;
+#[cfg(test)]
+mod spiffe;

@@ -1,5 +1,0 @@
-//! Tests of `step_core`, over its public contract: worked examples, and what no clause says.
-#![tactic(auto)]
-
-#[cfg(test)]
-mod tests;
