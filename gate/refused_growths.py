@@ -34,12 +34,12 @@ ALL = ["documents_tests spiffe", "map_tests plain_maps", "map_tests machines"]
 # Of others those with such a word in their names: the rest starts threads, which take memory in any order, or asks
 # whether an answer is a certain one, which 22 is not.
 SOME = {"map_tests shared_maps": ["a_refused_growth"], "map_tests stores": ["a_refused_growth", "removed_sequences", "a_front_asks"],
-        "documents_tests reports": ["a_refused_growth"], "commands_tests dumps": ["a_refused_growth"],
+        "documents_tests reports": ["a_refused_growth"], "program_tests dumps": ["a_refused_growth"],
         "protocol_tests frames": ["a_refused_growth"], "protocol_tests lines": ["a_refused_growth"],
         "protocol_tests clients": ["a_refused_growth"], "protocol_tests asked_lines": ["a_refused_growth"],
         "protocol_tests traces": ["a_refused_growth"],
-        "views_tests views": ["a_refused_growth"], "views_tests trees": ["a_refused_growth"],
-        "views_tests folders": ["a_refused_growth"], "views_tests schedules": ["a_refused_growth", "parts_of"]}
+        "protocol_tests views": ["a_refused_growth"], "protocol_tests trees": ["a_refused_growth"],
+        "program_tests folders": ["a_refused_growth"], "program_tests schedules": ["a_refused_growth", "parts_of"]}
 # The tests for refused growths that read documents with entries, and that of a lasting session.
 MAY_GO_ON = {"frames a_refused_growth_is_met_again", "views a_refused_growth_leaves_no_part_of_a_diff",
              "views a_refused_growth_leaves_no_part_of_a_pem", "folders a_refused_growth_shows_nothing",

@@ -7,9 +7,9 @@ use Rattle.commands.specs.Fault.{fault_line}
 use Rattle.commands.specs.Streams.{Streams, Tells}
 use Rattle.commands.specs.declared.fault.Fault.TheVariants.{Server}
 use Rattle.commands.specs.declared.fault.ServerFault.TheVariants.{NoConnection}
-use Rattle.line_client.specs.declared.asking.Asking.{Asking}
-use Rattle.line_client.specs.declared.asking.Form.{Form}
-use Rattle.line_client.specs.declared.asking.Form.TheVariants.{Lines, Frames}
+use Rattle.client.specs.declared.asking.Asking.{Asking}
+use Rattle.client.specs.declared.asking.Form.{Form}
+use Rattle.client.specs.declared.asking.Form.TheVariants.{Lines, Frames}
 
 -- frames if they are wanted raw, and else lines
 abbrev pub form : Bool → Form

@@ -16,14 +16,14 @@ use Rattle.commands.specs.Encode.{Encodes, Decodes, of_files}
 use Rattle.commands.specs.Explain.{Explains}
 use Rattle.commands.specs.Trace.{Tracing}
 use Rattle.commands.specs.Migrate.{Migration}
-use Rattle.bundle_map.specs.declared.profile.Profile.{Profile}
-use Rattle.bundle_map.specs.declared.profile.Profile.TheVariants.{Whole, X509}
-use Rattle.dump_commands.specs.Reading.{Filters, Unread}
-use Rattle.dump_commands.specs.Check.{Checks}
-use Rattle.dump_commands.specs.Map.{MapOf, NoMap}
-use Rattle.dump_commands.specs.Import.{RequestsOf, NoRequests}
-use Rattle.dump_commands.specs.Pem.{PemOf, NoPem, DigestOf}
-use Rattle.dump_commands.specs.Diff.{Inputs, DiffRun}
+use Rattle.dump_views.specs.declared.profile.Profile.{Profile}
+use Rattle.dump_views.specs.declared.profile.Profile.TheVariants.{Whole, X509}
+use Rattle.commands.specs.Reading.{Filters, Unread}
+use Rattle.commands.specs.Check.{Checks}
+use Rattle.commands.specs.Map.{MapOf, NoMap}
+use Rattle.commands.specs.Import.{RequestsOf, NoRequests}
+use Rattle.commands.specs.Pem.{PemOf, NoPem, DigestOf}
+use Rattle.commands.specs.Diff.{Inputs, DiffRun}
 use Rattle.bundled.specs.Ask.{AskRun}
 use Rattle.bundled.specs.Refresh.{RefreshRun}
 use Rattle.bundled.specs.Snapshot.{SnapshotRun}

@@ -5,10 +5,10 @@ ghost use Rattle.bundled.specs.Ask.{AskRun, form};
 ghost use Rattle.commands.specs.Streams.{streams};
 
 use crate::refreshing::streams;
+use client::{Asking, Form, Link};
 use command_line::Inquiry;
 use commands::{Fault, FileTexts, ServerFault, ask_over, ask_words_over};
 use frame_front::Counted;
-use line_client::{Asking, Form, Link};
 use std::alloc::Global;
 use std::fs::Files;
 use std::io::{Read, Write};

@@ -10,14 +10,14 @@ use crate::racing::race_over;
 use crate::refreshing::refresh_over;
 use crate::serving::{Host, Serving, serve_over};
 use crate::snapshotting::snapshot_over;
-use bundle_map::Profile;
 use clap::error::ErrorKind;
 use command_line::{Wanted, wanted_by};
 use commands::{
-    Fault, FileTexts, decode_over, encode_over, explain_over, migrate_over, picture_over, run_over,
-    tell, trace_over, write_flushed,
+    Fault, FileTexts, check_over, decode_over, diff_over, digest_over, encode_over, explain_over,
+    import_over, map_over, migrate_over, pem_over, picture_over, run_over, tell, trace_over,
+    write_flushed,
 };
-use dump_commands::{check_over, diff_over, digest_over, import_over, map_over, pem_over};
+use dump_views::Profile;
 use frame_front::{Counted, FrontError};
 use server::LineLog;
 use std::alloc::{AllocError, Global};

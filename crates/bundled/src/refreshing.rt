@@ -4,9 +4,9 @@ ghost use Rattle.frame_front.specs.Counted.{faults_in};
 ghost use Rattle.bundled.specs.Refresh.{RefreshRun};
 ghost use Rattle.commands.specs.Streams.{Source, Tells, end_of};
 
+use client::Client;
 use command_line::Refreshing;
 use commands::{Fault, RefreshFault, ServerFault};
-use frame_client::Client;
 use frame_front::{Counted, FrontError};
 use refresher::{Folder, Sender, Server, Times, read_schedule, refresh_each};
 use std::alloc::Global;

@@ -6,9 +6,9 @@ ghost use Rattle.commands.specs.Streams.{Source, Tells, TellsUnlessFailed, end_o
 ghost use Rattle.commands.specs.Fault.{fault_line};
 
 use crate::refreshing::streams;
+use client::{Client, ClientError};
 use command_line::Snapshotting;
 use commands::{Fault, ServerFault, SnapshotFault, write_flushed};
-use frame_client::{Client, ClientError};
 use frame_front::{Counted, FrontError};
 use map_core::{AskError, Snapshot};
 use snapshots::{FetchError, FolderError, HostFolder, SnapshotError, fetch, update};

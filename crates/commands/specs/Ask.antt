@@ -4,12 +4,12 @@ use Rattle.std.specs.List.{flat_map}
 use Rattle.frame_lines.specs.Encoding.{Gives}
 use Rattle.frame_lines.specs.RequestForm.{IsOneLine}
 use Rattle.frame_front.specs.declared.error.FrontError.TheVariants.{Memory}
-use Rattle.frame_client.specs.declared.client_error.ClientError.TheVariants.{ReadFault, WriteFault}
-use Rattle.line_client.specs.Asking.{AsksStream, ends}
-use Rattle.line_client.specs.declared.asking.Asking.{Asking}
-use Rattle.line_client.specs.declared.fault.AskFault.{AskFault}
-use Rattle.line_client.specs.declared.fault.AskFault.TheVariants as asking
-use Rattle.line_client.specs.declared.link.Link.{Link}
+use Rattle.client.specs.declared.client_error.ClientError.TheVariants.{ReadFault, WriteFault}
+use Rattle.client.specs.Asking.{AsksStream, ends}
+use Rattle.client.specs.declared.asking.Asking.{Asking}
+use Rattle.client.specs.declared.fault.AskFault.{AskFault}
+use Rattle.client.specs.declared.fault.AskFault.TheVariants as asking
+use Rattle.client.specs.declared.link.Link.{Link}
 use Rattle.commands.specs.declared.fault.Fault.{Fault}
 use Rattle.commands.specs.declared.fault.Fault.TheVariants.{Front, BadLine, UnreadText, Server}
 use Rattle.commands.specs.declared.fault.ServerFault.TheVariants.{Client}

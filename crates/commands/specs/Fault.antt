@@ -2,7 +2,7 @@
 use Rattle.std.specs.Prelude.{ℕ, List, [], ◌∷◌, ◌++◌, codes, decimal}
 use Rattle.frame_front.specs.Error.{front_number}
 use Rattle.frame_front.specs.Dump.{dump_number}
-use Rattle.frame_client.specs.ClientError.{client_number}
+use Rattle.client.specs.ClientError.{client_number}
 use Rattle.shard_store.specs.Close.{close_number}
 use Rattle.shard_store.specs.declared.close.CloseError.TheVariants as closing
 use Rattle.refresh.specs.Number.{relation_number}

@@ -7,3 +7,10 @@ pub mod Trace
 pub mod Ask
 pub mod Encode
 pub mod Explain
+pub mod Reading
+pub mod Map
+pub mod Import
+pub mod Pem
+pub mod Diff
+pub mod Check
+pub mod Private

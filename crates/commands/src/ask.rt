@@ -6,9 +6,9 @@ ghost use Rattle.commands.specs.Ask.{Asks, AsksWords, ask_status, server, spaced
 ghost use Rattle.commands.specs.Streams.{end_of, streams};
 
 use crate::fault::{Fault, ServerFault};
+use client::{AskFault, Asking, Link, ask_stream};
 use frame_front::{Counted, FrontError};
 use frame_lines::TextSource;
-use line_client::{AskFault, Asking, Link, ask_stream};
 use std::alloc::{AllocError, Global};
 use std::io::{Read, Write};
 

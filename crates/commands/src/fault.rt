@@ -6,7 +6,7 @@ ghost use Rattle.commands.specs.Streams.{Tells, TellsUnlessFailed, end_of};
 
 use crate::output::tell;
 use arrayvec::ArrayVec;
-use frame_client::ClientError;
+use client::ClientError;
 use frame_front::{Counted, DumpError, FrontError};
 use itoa::Buffer;
 use map_core::AskError;

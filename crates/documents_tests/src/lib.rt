@@ -1,4 +1,4 @@
-//! Tests of the crates of documents, over their public contracts: worked examples, and what no clause says.
+//! Tests of the crates of the documents, over their public contracts: worked examples, and what no clause says.
 #![tactic(auto)]
 
 #[cfg(test)]

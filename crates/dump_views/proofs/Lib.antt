@@ -8,3 +8,13 @@ pub mod MergeLemmas
 pub mod MergeLaws
 pub mod PieceLaws
 pub mod WordLaws
+pub mod Names
+pub mod Texts
+pub mod Choices
+pub mod Members
+pub mod Named
+pub mod Orders
+pub mod Readings
+pub mod Maps
+pub mod Parts
+pub mod MapLaws

@@ -4,4 +4,8 @@ pub mod Changes
 pub mod ChangeLines
 pub mod OfDump
 pub mod Laws
+pub mod Map
+pub mod Choice
+pub mod Import
+pub mod Number
 pub mod Private

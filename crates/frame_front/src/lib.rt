@@ -5,7 +5,7 @@
 //! one map, or shards of it. `LiveSession` is a session without a reader and a writer, for a thread that drives many
 //! of them. `Decoder` takes frames out of a stream by itself. `read_dump` gives what the
 //! reply to a fetch-all holds, and `migrate` turns it into requests that store it again. `wire` has what both
-//! ends of a stream share: the other end is the client of crate `frame_client`.
+//! ends of a stream share: the other end is the client of crate `client`.
 #![tactic(auto)]
 
 mod answered;

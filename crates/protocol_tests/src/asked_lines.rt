@@ -1,8 +1,7 @@
 //! Lines are asked of a server whose replies are written down beforehand.
-use frame_client::ClientError;
+use client::{AskFault, Asking, ClientError, Form, Link, ask_stream};
 use frame_front::{Counted, FrontError};
 use frame_lines::{TextError, TextSource};
-use line_client::{AskFault, Asking, Form, Link, ask_stream};
 use std::alloc::{AllocError, Global};
 use std::io;
 use std::io::Write;

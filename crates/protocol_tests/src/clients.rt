@@ -4,7 +4,7 @@ mod ends;
 mod exchanges;
 mod longest;
 
-use frame_client::{Client, ClientError};
+use client::{Client, ClientError};
 use map_core::Ask;
 use std::alloc::Global;
 use std::io::{Read, Write};

@@ -11,3 +11,7 @@ mod frames;
 mod lines;
 #[cfg(test)]
 mod traces;
+#[cfg(test)]
+mod trees;
+#[cfg(test)]
+mod views;

@@ -13,9 +13,9 @@ use Rattle.map_core.specs.declared.reply.AskError.TheVariants.{GateShut, Memory}
 use Rattle.commands.specs.declared.fault.Fault.{Fault}
 use Rattle.commands.specs.declared.fault.Fault.TheVariants.{Front, Server}
 use Rattle.commands.specs.declared.fault.ServerFault.TheVariants.{Client}
-use Rattle.frame_client.specs.Asking.{request_bytes}
-use Rattle.frame_client.specs.Client.{ClientState, Asks}
-use Rattle.frame_client.specs.declared.client_error.ClientError.{ClientError}
+use Rattle.client.specs.Request.{request_bytes}
+use Rattle.client.specs.Client.{ClientState, Asks}
+use Rattle.client.specs.declared.client_error.ClientError.{ClientError}
 use Rattle.frame_front.specs.Outbox.{WritesFront}
 use Rattle.frame_front.specs.declared.error.FrontError.TheVariants.{WriteFault}
 

@@ -3,8 +3,8 @@ ghost use Rattle.std.specs.Prelude.{◌≡◌, ◌<◌, ◌-◌, ◌^◌, false,
 ghost use Rattle.frame_front.specs.Counted.{end_in, faults_in};
 ghost use Rattle.refresher.specs.Target.{Looks, SenderState, Sends, ServerState, emptied_by, has_authorities as reply_has_authorities};
 
+use client::{Client, write_request};
 use commands::{Fault, ServerFault};
-use frame_client::{Client, write_request};
 use frame_front::{Counted, FrontError};
 use map_core::{Ask, AskError, Op, Reply};
 use spiffe_doc::TrustDomain;

@@ -2,7 +2,7 @@
 use Rattle.std.specs.Prelude.{◌≡◌, ℕ, ◌+◌, ◌*◌, ◌<◌, min, List, map, Option, Some, None, Result, Ok, Err}
 use Rattle.std.specs.List.{All}
 use Rattle.std.specs.declared.net.TcpStream.{TcpStream}
-use Rattle.connections.specs.Connection.{counted}
+use Rattle.workers.specs.Connection.{counted}
 use Rattle.frame_front.specs.declared.counted.Counted.{Counted}
 use Rattle.shard_store.specs.Pass.{StoreView, PassView}
 use Rattle.workers.specs.Run.{AllWorked, kept}
@@ -10,7 +10,7 @@ use Rattle.workers.specs.declared.ended.Worked.{Worked}
 use Rattle.workers.specs.declared.run.Finished.{Finished}
 use Rattle.workers.specs.declared.sessions.ListenFault.{ListenFault}
 use Rattle.workers.specs.declared.session.Session.{Session}
-use Rattle.live_workers.specs.Workers.{AllServed}
+use Rattle.workers.specs.Followed.{AllServed}
 use Rattle.command_line.specs.declared.settings.Connections.{Connections}
 use Rattle.command_line.specs.declared.settings.Connections.TheVariants.{Each, Unlimited}
 use Rattle.command_line.specs.declared.settings.Lasting.{Lasting}

@@ -10,8 +10,6 @@ mod stops;
 mod threads;
 mod turns;
 
-use connections::Stream;
-use live_workers::{Arrival, Arrivals, AtPort, Limits, Worker, serve_arrivals};
 use map_core::Contents;
 use std::alloc::{AllocError, Global};
 use std::fmt::Debug;
@@ -19,7 +17,10 @@ use std::io;
 use std::io::{ErrorKind, Read, Write};
 use std::process::Abort;
 use std::test::Fail;
-use workers::{Quiet, SessionEnds, SessionFault};
+use workers::{
+    Arrival, Arrivals, AtPort, Limits, Quiet, SessionEnds, SessionFault, Stream, Worker,
+    serve_arrivals,
+};
 
 /// What was found is what is wanted.
 fn is_equal<T: PartialEq + Debug>(rt: &impl Abort, found: &T, wanted: &T) {

@@ -11,10 +11,10 @@ use Rattle.frame_front.specs.Frame.{frame}
 use Rattle.frame_front.specs.Reply.{code_of, map_detail}
 use Rattle.frame_front.specs.Dump.{Domains}
 use Rattle.frame_front.proofs.ReplyLemmas.{not_both}
-use Rattle.frame_client.specs.declared.client_error.ClientError.{ClientError}
-use Rattle.frame_client.specs.Answer.{Answer, MayAnswer, is_code_for}
-use Rattle.frame_client.specs.Client.{ClientState, Ends, Exchange, IsAsked, IsIdle, Asks}
-use Rattle.frame_client.proofs.MapAnswers.{one_code}
+use Rattle.client.specs.declared.client_error.ClientError.{ClientError}
+use Rattle.client.specs.Answer.{Answer, MayAnswer, is_code_for}
+use Rattle.client.specs.Client.{ClientState, Ends, Exchange, IsAsked, IsIdle, Asks}
+use Rattle.client.proofs.MapAnswers.{one_code}
 use Rattle.snapshots.specs.declared.fetching.FetchError.TheVariants as fetches
 use Rattle.snapshots.specs.Fetch.{Fetches}
 

@@ -4,7 +4,7 @@ use Rattle.map_core.specs.declared.op.Op.TheVariants.{FetchAll}
 use Rattle.map_core.specs.declared.reply.Reply.TheVariants.{All}
 use Rattle.map_core.specs.declared.reply.AskError.TheVariants as error
 use Rattle.frame_front.specs.Dump.{Domains}
-use Rattle.frame_client.specs.Client.{ClientState, Exchange}
+use Rattle.client.specs.Client.{ClientState, Exchange}
 use Rattle.snapshots.specs.declared.fetching.FetchError.{FetchError}
 use Rattle.snapshots.specs.declared.fetching.FetchError.TheVariants.{Refused, Ended}
 

@@ -5,8 +5,8 @@ use Rattle.spiffe_doc.specs.Text.{text_of}
 use Rattle.map_core.specs.Name.{Name}
 use Rattle.frame_front.specs.Dump.{Domains}
 use Rattle.dump_views.specs.Pem.{pem_of}
-use Rattle.bundle_map.specs.declared.profile.Profile.TheVariants.{Whole}
-use Rattle.bundle_map.specs.Map.{map_text, shown}
+use Rattle.dump_views.specs.declared.profile.Profile.TheVariants.{Whole}
+use Rattle.dump_views.specs.Map.{map_text, shown}
 use Rattle.snapshots.specs.Names.{json_name, pem_name, map_name}
 
 -- a name and bytes

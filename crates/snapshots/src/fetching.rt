@@ -4,7 +4,7 @@ ghost use Rattle.frame_front.specs.Dump.{Domains};
 ghost use Rattle.map_core.specs.declared.reply.Reply.TheVariants.{All};
 ghost use Rattle.snapshots.specs.Fetch.{Fetches};
 
-use frame_client::{Client, ClientError};
+use client::{Client, ClientError};
 use map_core::{Ask, AskError, Op, Reply, Snapshot};
 use std::io::{Read, Write};
 use thiserror::Error;

@@ -11,8 +11,7 @@ ghost use Rattle.snapshots.specs.Private.Errors.{IsOfFolder};
 use crate::error::SnapshotError;
 use crate::folder::Folder;
 use crate::names::{MAP, first_long, json_name, pem_name};
-use bundle_map::{Profile, write_map};
-use dump_views::put_pem;
+use dump_views::{Profile, put_pem, write_map};
 use spiffe_doc::{Bundle, TrustDomain};
 use std::alloc::{AllocError, Global};
 

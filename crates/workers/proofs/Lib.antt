@@ -1,16 +1,25 @@
 mod EndLemmas
 mod PassLists
-pub mod FinishedLists
 mod ClosingLemmas
-pub mod KeptAlong
 mod NumberLemmas
-pub mod PassLaws
-pub mod Seats
 mod ServedLists
 mod Simulated
+mod KeptByTurns
+mod SimulatedTurns
 mod Retries
 mod Fillings
 mod LoggedLaws
 mod LogLaws
 mod ReadLaws
+mod ReadLemmas
+mod TurnLemmas
+mod ArrivalLemmas
+mod ServingLemmas
+mod StepLemmas
+mod WaitingLemmas
+pub mod FinishedLists
+pub mod KeptAlong
+pub mod PassLaws
+pub mod Seats
 pub mod ShownAgain
+pub mod WorkedLists

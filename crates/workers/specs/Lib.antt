@@ -8,4 +8,11 @@ pub mod Closing
 pub mod Retrying
 pub mod Log
 pub mod Filling
+pub mod Stream
+pub mod Reads
+pub mod Connection
+pub mod Arrivals
+pub mod AtPort
+pub mod Places
+pub mod Followed
 pub mod Private

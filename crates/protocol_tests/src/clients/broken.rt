@@ -1,7 +1,7 @@
 //! Replies that are cut off, or are no replies to what was asked.
 use super::exchanges::{APPEND, EXCHANGES, REMOVE, SET_IF_ABSENT};
 use super::is_answered;
-use frame_client::{Client, ClientError};
+use client::{Client, ClientError};
 use frame_front::Counted;
 use std::alloc::Global;
 use std::io::{Read, Write};

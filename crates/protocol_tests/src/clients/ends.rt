@@ -1,7 +1,7 @@
 //! Readers, writers and memory that fail.
 use super::exchanges::{EXCHANGES, Exchange};
 use super::is_answered;
-use frame_client::{Client, ClientError};
+use client::{Client, ClientError};
 use frame_front::{Counted, FaultyReader, FaultyWriter};
 use map_core::{Ask, AskError};
 use std::alloc::{AllocError, Global};

@@ -1,6 +1,6 @@
 //! Exchanges of a client: what it is asked, what it writes, what it reads and what it answers.
 use super::is_answered;
-use frame_client::{Client, write_request};
+use client::{Client, write_request};
 use frame_front::{Counted, serve};
 use map_core::{Ask, Contents};
 use std::alloc::{AllocError, Global};

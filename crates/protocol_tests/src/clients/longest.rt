@@ -3,7 +3,7 @@ ghost use Rattle.spiffe_doc.specs.Key.{IsRsaMember};
 
 use super::exchanges::answers_so;
 use super::is_answered;
-use frame_client::{Client, RequestError, write_request};
+use client::{Client, RequestError, write_request};
 use frame_front::Counted;
 use map_core::{Ask, AskError, Op};
 use spiffe_doc::{Authority, Certificate, Octets, PublicKey, RsaKey, TrustDomain};

@@ -5,9 +5,9 @@ use crate::serving::ports::Ports;
 use crate::serving::ready::{MOST_EVENTS, Ready, Told};
 use crate::serving::shared::Shared;
 use crate::serving::stream::Stream;
-use live_workers::{Arrival, Arrivals};
 use std::io;
 use std::time::{Clock, Duration, Instant};
+use workers::{Arrival, Arrivals};
 
 /// How many milliseconds a tick is.
 const TICK: u64 = 250;

@@ -22,7 +22,6 @@ use crate::set_up::SetUp;
 use command_line::{Lasting, Settings};
 use commands::Fault;
 use frame_front::{Counted, FrontError};
-use live_workers::{Crew, Limits, run_arrivals};
 use mio::{Poll, Waker};
 use shard_store::{Pass, Store};
 use std::alloc::{AllocError, Global};
@@ -30,7 +29,7 @@ use std::io::{Read, Write};
 use std::thread;
 use std::thread::Threads;
 use std::time::Clock;
-use workers::{Log, Open, Worked};
+use workers::{Crew, Limits, Log, Open, Worked, run_arrivals};
 
 /// A server that listens, and whose store is set up.
 #[derive(Drop)]

@@ -48,7 +48,7 @@ impl<'a> Stream<'a> {
     }
 }
 
-impl connections::Stream for Stream<'_> {
+impl workers::Stream for Stream<'_> {
     ghost use Rattle.std.specs.Prelude.{None, true};
 
     ghost left = { λ _. None };

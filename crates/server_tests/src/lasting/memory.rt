@@ -1,14 +1,12 @@
 //! Two workers that have one client each, over memory.
 use super::LIMITS;
 use super::threads::store_for_two;
-use connections::Stream;
-use live_workers::{Arrival, Arrivals, Crew, run_arrivals};
 use std::alloc::{AllocError, Global};
 use std::io;
 use std::io::{Read, Write};
 use std::thread::Threads;
 use std::time::Clock;
-use workers::{Gate, Log, Quiet, SessionFault};
+use workers::{Arrival, Arrivals, Crew, Gate, Log, Quiet, SessionFault, Stream, run_arrivals};
 
 /// A client in memory that gives all that it has, and then its end, and takes all.
 #[derive(Drop)]

@@ -1,12 +1,11 @@
 //! Clients that send without pause, beside others.
 use super::turns::Steady;
 use super::{LIMITS, SET_A, STORED, has_ended, is_equal};
-use live_workers::{Arrival, Arrivals, AtPort, Worker, serve_arrivals};
 use map_core::Contents;
 use std::alloc::{AllocError, Global};
 use std::process::Abort;
 use std::test::Fail;
-use workers::{Quiet, SessionEnds};
+use workers::{Arrival, Arrivals, AtPort, Quiet, SessionEnds, Worker, serve_arrivals};
 
 /// How many sets the other client sends.
 const SETS: usize = 20;

@@ -4,8 +4,6 @@ ghost use Rattle.std.specs.List.{All};
 ghost use Rattle.shard_store.specs.Pass.{IsOf};
 
 use super::{LIMITS, MOST_ARRIVALS, is_equal};
-use connections::Stream;
-use live_workers::{Arrival, Arrivals, Crew, run_arrivals};
 use shard_store::{Pass, Store};
 use std::alloc::{AllocError, Global};
 use std::io;
@@ -14,7 +12,7 @@ use std::sync::atomic::{AtomicU64, Ordering};
 use std::test::Fail;
 use std::thread::Threads;
 use std::time::Clock;
-use workers::{Open, Quiet, Worked};
+use workers::{Arrival, Arrivals, Crew, Open, Quiet, Stream, Worked, run_arrivals};
 
 /// A set of `a` and a get of it.
 const SET_AND_GET: &[u8] = b"\x00\x00\x00\x0eS\x01a{\"keys\":[]}\x00\x00\x00\x03G\x01a";

@@ -2,7 +2,7 @@ use Rattle.std.proofs.Common.{rules, ◌≡◌, ◌≢◌, List, ℕ, [], ◌∷
 use Rattle.commands.specs.Ask.{Asks, AsksWords, ServerEnds}
 use Rattle.commands.specs.Encode.{of_files}
 use Rattle.commands.specs.Streams.{Streams}
-use Rattle.line_client.specs.declared.asking.Asking.{Asking}
+use Rattle.client.specs.declared.asking.Asking.{Asking}
 use Rattle.bundled.specs.Ask.{AsksAll, asking}
 use Rattle.bundled.proofs.asking.ask_server.Goals as goal
 

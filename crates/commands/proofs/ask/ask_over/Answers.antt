@@ -1,9 +1,9 @@
 use Rattle.std.proofs.Common.{◌≡◌, ◌<◌, Err, refl, ap, ◌∙◌}
 use Rattle.frame_front.specs.declared.error.FrontError.{FrontError}
 use Rattle.frame_front.specs.declared.error.FrontError.TheVariants.{Memory, BadLength, Truncated, ReadFault, WriteFault, TurnsUsed}
-use Rattle.frame_client.specs.declared.client_error.ClientError.{ClientError}
-use Rattle.frame_client.specs.declared.client_error.ClientError.TheVariants as client
-use Rattle.line_client.specs.declared.fault.AskFault.TheVariants as asking
+use Rattle.client.specs.declared.client_error.ClientError.{ClientError}
+use Rattle.client.specs.declared.client_error.ClientError.TheVariants as client
+use Rattle.client.specs.declared.fault.AskFault.TheVariants as asking
 use Rattle.commands.specs.declared.fault.Fault.TheVariants.{Front, Server}
 use Rattle.commands.specs.declared.fault.ServerFault.TheVariants.{Client}
 use Rattle.commands.specs.Ask.{ServerEnds, BlamesServer}

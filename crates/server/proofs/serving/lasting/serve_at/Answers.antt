@@ -2,7 +2,7 @@ use Rattle.std.proofs.Common.{ℕ, [], true, subst, sym, arith, inr}
 use Rattle.workers.specs.Closing.{AreAll}
 use Rattle.server.specs.Serve.{always_open, Reports}
 use Rattle.commands.specs.Streams.{TellsUnlessFailed, end_of}
-use Rattle.live_workers.proofs.WorkedLists.{all_own, all_long, ranges_same}
+use Rattle.workers.proofs.WorkedLists.{all_own, all_long, ranges_same}
 use Rattle.server.specs.Serving.{most_silent}
 use Rattle.server.proofs.serving.lasting.serve_at.Goals as goal
 

@@ -1,8 +1,0 @@
-use Rattle.std.proofs.Common.{◌≡◌, take}
-use Rattle.std.specs.List.{filter}
-use Rattle.bundle_map.specs.Private.Names.{has}
-use Rattle.bundle_map.proofs.choice.keep.Given as goal
-
--- those of the domains before
-abbrev pub invariant-loop-item : goal.invariant-loop-item
-invariant-loop-item l = l.some.items ≡ filter (λ item. has l.wanted item.0) (take l.item-index l.domains)

@@ -1,7 +1,0 @@
-use Rattle.std.proofs.Common.{◌≡◌, ℕ, List, take}
-use Rattle.bundle_map.specs.Choice.{is_named}
-use Rattle.bundle_map.specs.Private.Names.{has}
-use Rattle.bundle_map.proofs.choice.set_of.Given as goal
-
-abbrev pub invariant-loop-name : goal.invariant-loop-name
-invariant-loop-name l = (other : List ℕ) → has l.set other ≡ is_named (take l.name-index l.names) other

@@ -1,7 +1,0 @@
-use Rattle.json.specs.Value.{members_view}
-use Rattle.bundle_map.specs.Import.{member_list}
-use Rattle.bundle_map.proofs.Members.{HasRead}
-use Rattle.bundle_map.proofs.import.requests_of_members.Given as goal
-
-abbrev pub invariant-loop-place : goal.invariant-loop-place
-invariant-loop-place l = HasRead (member_list (members_view l.members.items)) l.place l.names l.stream.items

@@ -1,5 +1,0 @@
-use Rattle.bundle_map.proofs.MapLaws.{valid_map, map_sets}
-use Rattle.bundle_map.proofs.laws.requests_of_maps_set.Goals as goal
-
-pub returns : goal.returns
-returns c = record { valid = valid_map; set = map_sets }

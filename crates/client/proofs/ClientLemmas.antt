@@ -1,0 +1,107 @@
+-- Lemmas on what a client reads.
+use Rattle.std.proofs.Common.{◌≡◌, ◌≢◌, ℕ, List, [], ◌∷◌, ◌++◌, refl, sym, ap, ◌∙◌, inl, inr, arith, append_assoc, Result, Ok, Err}
+use Rattle.std.specs.Prelude.{Option, IfOk, IfErr, OnOk}
+use Rattle.std.specs.Io.KnownBytes.{Appends, Consumes}
+use Rattle.std.specs.List.{flat_map}
+use Rattle.std.proofs.lemmas.List.{append_cancel_left}
+use Rattle.spiffe_doc.specs.Authority.{BundleValue}
+use Rattle.map_core.specs.Name.{Name}
+use Rattle.map_core.specs.declared.op.Op.{Op}
+use Rattle.map_core.specs.declared.op.Op.TheVariants.{Set, SetIf, Append, Remove, Get, FetchAll}
+use Rattle.map_core.specs.declared.op.Expect.{Expect}
+use Rattle.frame_front.specs.Frame.{IsPayload, HasFrames, frame}
+use Rattle.frame_front.specs.Reply.{answer_frames}
+use Rattle.client.specs.Request.{request_bytes}
+use Rattle.client.specs.Reading.{CountsFault}
+use Rattle.client.specs.Reading.{NoFrame}
+use Rattle.client.specs.Answer.{Answer, MayAnswer, IsValidAnswer}
+use Rattle.client.specs.Client.{Breaks, BeginsNoReply, reply_preface, reply_bytes, ends, Exchange}
+use Rattle.client.specs.declared.client_error.ClientError.{ClientError}
+use Rattle.client.specs.declared.client_error.ClientError.TheVariants.{Memory, BadLength, BadReply, Truncated, ReadFault, WriteFault}
+use Rattle.frame_front.proofs.FrameLemmas.{frame_first, none_at_end}
+use Rattle.client.proofs.AnswerLemmas.{unfinished_reply}
+
+-- if no frame was read, no reply was
+pub frame_breaks : (op : Op) (why : ClientError) (read : List ℕ) (left : Option (List ℕ)) → NoFrame why read left → Breaks op answer_frames why read left
+frame_breaks op Truncated read left none = (unfinished_reply op read none.0, none.1)
+frame_breaks op ReadFault read left none = unfinished_reply op read none
+frame_breaks op BadLength read left none = ([], read, record { whole = refl; each = tt; ends = inr none.0 }, none.0)
+frame_breaks op BadReply read left none = absurd none
+frame_breaks op WriteFault read left none = absurd none
+frame_breaks op Memory read left none = absurd none
+
+-- the reply that version 2 is set
+abbrev version_set : List ℕ
+version_set = 118 ∷ 2 ∷ []
+
+version_payload : IsPayload version_set
+version_payload = (omega arith, omega arith)
+
+-- frames behind that of the version
+behind_version : (op : Op) (read rest : List ℕ) (payloads : List (List ℕ)) → HasFrames read payloads rest
+    → (before : List (List ℕ)) × HasFrames (reply_preface op ++ read) (before ++ payloads) rest
+behind_version (Set d b) read rest payloads framed = ([], framed)
+behind_version (SetIf d expect b) read rest payloads framed = (
+  version_set ∷ [],
+  record {
+    whole = ap (λ r. frame version_set ++ r) framed.whole ∙ sym (append_assoc (frame version_set) (flat_map frame payloads) rest);
+    each = (version_payload, framed.each);
+    ends = framed.ends;
+  },
+)
+behind_version (Append d a) read rest payloads framed = ([], framed)
+behind_version (Remove d) read rest payloads framed = ([], framed)
+behind_version (Get d) read rest payloads framed = ([], framed)
+behind_version FetchAll read rest payloads framed = ([], framed)
+
+-- no reply behind the one to the version
+pub breaks_behind : (op : Op) (why : ClientError) (read : List ℕ) (left : Option (List ℕ)) → Breaks op answer_frames why read left
+    → Breaks op (reply_bytes op) why (reply_preface op ++ read) left
+breaks_behind op Truncated read left breaks = (λ a may valid same. breaks.0 a may valid (append_cancel_left (reply_preface op) (answer_frames a) read same), breaks.1)
+breaks_behind op ReadFault read left breaks = λ a may valid same. breaks a may valid (append_cancel_left (reply_preface op) (answer_frames a) read same)
+breaks_behind op BadReply read left breaks = λ rest a may valid same.
+    breaks rest a may valid (append_cancel_left (reply_preface op) (answer_frames a) (read ++ rest) (same ∙ append_assoc (reply_preface op) read rest))
+breaks_behind op BadLength read left breaks =
+    let framed = behind_version op read breaks.1 breaks.0 breaks.2 in
+    (framed.0 ++ breaks.0, breaks.1, framed.1, breaks.3)
+breaks_behind op WriteFault read left breaks = absurd breaks
+breaks_behind op Memory read left breaks = tt
+
+module _ (d : Name) (expect : Expect) (b : BundleValue) where
+  -- if the reply to the version was not read
+  pub version_breaks : (why : ClientError) (read : List ℕ) (left : Option (List ℕ)) → NoFrame why read left
+      → Breaks (SetIf d expect b) (reply_bytes (SetIf d expect b)) why read left
+  version_breaks Truncated read left none =
+      (λ a may valid same. none_at_end version_set (answer_frames a) read version_payload (sym same) (inl none.0), none.1)
+  version_breaks ReadFault read left none = λ a may valid same. none_at_end version_set (answer_frames a) read version_payload (sym same) (inl none)
+  version_breaks BadLength read left none = ([], read, record { whole = refl; each = tt; ends = inr none.0 }, none.0)
+  version_breaks BadReply read left none = absurd none
+  version_breaks WriteFault read left none = absurd none
+  version_breaks Memory read left none = absurd none
+
+  -- another reply
+  pub other_version : (payload : List ℕ) → IsPayload payload → payload ≢ 118 ∷ 2 ∷ []
+      → BeginsNoReply (SetIf d expect b) (reply_bytes (SetIf d expect b)) (frame payload)
+  other_version payload good other rest a may valid same =
+      other (sym (frame_first version_set payload (answer_frames a) rest version_payload good same).0)
+
+-- a request that was written, and what came of reading the reply
+pub exchanged : (op : Op) (r : Result Answer ClientError) (left_old left_new held_old held_new : Option (List ℕ)) (reads_old reads_new writes_old writes_new : ℕ)
+    → Appends held_old held_new (request_bytes op) → writes_new ≡ writes_old
+    → IfOk r (λ answer. MayAnswer op answer × IsValidAnswer answer × Consumes left_old left_new (reply_bytes op answer)) → OnOk r (reads_new ≡ reads_old)
+    → IfErr r (λ why. (read : List ℕ) × Consumes left_old left_new read × Breaks op (reply_bytes op) why read left_new)
+    → IfErr r (λ why. CountsFault why reads_old reads_new)
+    → Exchange op r (ends left_old held_old reads_old writes_old) (ends left_new held_new reads_new writes_new)
+exchanged op (Ok answer) l0 l1 h0 h1 r0 r1 w0 w1 written quiet ok quiet_reader err counted =
+    record { written = written; read = ok.2; may = ok.0; valid = ok.1; quiet_reader = quiet_reader; quiet_writer = quiet }
+exchanged op (Err WriteFault) l0 l1 h0 h1 r0 r1 w0 w1 written quiet ok quiet_reader err counted = absurd err.2
+exchanged op (Err Truncated) l0 l1 h0 h1 r0 r1 w0 w1 written quiet ok quiet_reader err counted =
+    record { read = err.0; written = written; consumes = err.1; breaks = err.2; counted = counted; quiet_writer = quiet }
+exchanged op (Err ReadFault) l0 l1 h0 h1 r0 r1 w0 w1 written quiet ok quiet_reader err counted =
+    record { read = err.0; written = written; consumes = err.1; breaks = err.2; counted = counted; quiet_writer = quiet }
+exchanged op (Err BadReply) l0 l1 h0 h1 r0 r1 w0 w1 written quiet ok quiet_reader err counted =
+    record { read = err.0; written = written; consumes = err.1; breaks = err.2; counted = counted; quiet_writer = quiet }
+exchanged op (Err BadLength) l0 l1 h0 h1 r0 r1 w0 w1 written quiet ok quiet_reader err counted =
+    record { read = err.0; written = written; consumes = err.1; breaks = err.2; counted = counted; quiet_writer = quiet }
+exchanged op (Err Memory) l0 l1 h0 h1 r0 r1 w0 w1 written quiet ok quiet_reader err counted =
+    record { read = err.0; written = written; consumes = err.1; breaks = err.2; counted = counted; quiet_writer = quiet }

@@ -1,0 +1,11 @@
+pub mod RequestLemmas
+pub mod ReadingLemmas
+pub mod AnswerLemmas
+pub mod ClientLemmas
+pub mod RequestLaws
+pub mod MapAnswers
+pub mod ListingLemmas
+pub mod Replies
+pub mod Requests
+pub mod OneLine
+pub mod ManyLines

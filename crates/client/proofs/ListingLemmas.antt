@@ -1,0 +1,245 @@
+-- Lemmas on the frames of all bundles.
+use Rattle.std.proofs.Common.{◌≡◌, ◌≢◌, ℕ, ◌+◌, ◌<◌, ◌^◌, List, [], ◌∷◌, ◌++◌, length, map, take, drop, append-nil, append_assoc, length-append, arith, refl, sym, ap, ◌∙◌, subst, inl, inr, Ok, Err, Some, None, true, false}
+use Rattle.std.specs.Prelude.{Option}
+use Rattle.std.specs.List.{flat_map, AllByRecursion}
+use Rattle.std.specs.Io.KnownBytes.{Consumes}
+use Rattle.std.proofs.KnownBytes.{Consumes-nil, Consumes-trans}
+use Rattle.std.specs.Int.{w64, to_be_bytes, from_be_bytes}
+use Rattle.std.proofs.lemmas.List.{take_at}
+use Rattle.std.proofs.Math.Seq.{drop-append_seam}
+use Rattle.std.proofs.lemmas.Nat.{from_be_bytes-to_be_bytes_8}
+use Rattle.spiffe_doc.specs.Authority.{BundleValue}
+use Rattle.spiffe_doc.specs.Bundle.{IsBundle}
+use Rattle.spiffe_doc.specs.Name.{IsName}
+use Rattle.map_core.specs.Name.{Name}
+use Rattle.map_core.specs.declared.op.Op.TheVariants.{FetchAll}
+use Rattle.map_core.specs.declared.reply.Reply.TheVariants.{Stored, Unchanged, Appended, Removed, Found, All, Refused}
+use Rattle.map_core.specs.declared.reply.MapRefusal.{MapRefusal}
+use Rattle.map_core.specs.declared.reply.MapRefusal.TheVariants.{NoDomain, Stale, KidTaken, TooMany, TooLong, SequenceFull, NotExpected}
+use Rattle.map_core.specs.declared.reply.AskError.{AskError}
+use Rattle.map_core.specs.declared.reply.AskError.TheVariants as error
+use Rattle.map_core.specs.Reply.{error_number}
+use Rattle.frame_front.specs.Frame.{IsPayload, IsUnfinished, frame}
+use Rattle.frame_front.specs.Reply.{answer_frames, code_of, item_frame, map_detail, error_detail}
+use Rattle.frame_front.specs.Dump.{Domains, AreValid, item_of, unless_refused}
+use Rattle.map_core.specs.Laws.{IsAfter, Ascends}
+use Rattle.client.specs.Reading.{NoFrame}
+use Rattle.client.specs.Answer.{Answer, MayAnswer, IsValidAnswer, is_code_for}
+use Rattle.client.specs.Private.Payloads.{number_of}
+use Rattle.client.specs.Client.{Breaks, BeginsNoReply}
+use Rattle.client.specs.Private.Listing.{NoListing, BreaksListing, head_of}
+use Rattle.client.specs.declared.client_error.ClientError.{ClientError}
+use Rattle.client.specs.declared.client_error.ClientError.TheVariants.{Memory, BadLength, BadReply, Truncated, ReadFault, WriteFault}
+use Rattle.frame_front.proofs.FrameLemmas.{frame_first, none_at_end}
+use Rattle.frame_front.proofs.ReplyLemmas.{not_both}
+use Rattle.frame_front.specs.Private.Refusals.{last_of}
+use Rattle.frame_front.proofs.DomainLists.{last_of-one, Ascends-one, cons_head, some_item, none_item}
+use Rattle.client.proofs.RequestLaws.{named_bundle-item}
+use Rattle.frame_front.proofs.DumpTexts.{item_payload, IsPayload-item, same_item}
+use Rattle.client.proofs.AnswerLemmas.{first_payload, frames_behind, coded_first, first_is_payload, error_payload, error_read, map_none, some_none}
+use Rattle.client.proofs.MapAnswers.{one_code, first_code}
+
+-- ---- domains that were read
+
+-- if more domains begin with the frames of fewer, the next one stands there
+items_front : (xs ys : Domains) (rest : List ℕ) → AreValid xs → AreValid ys → length xs < length ys → flat_map item_frame ys ≡ flat_map item_frame xs ++ rest
+    → (y : Name × BundleValue) × (more : Domains) × (ys ≡ xs ++ y ∷ more) × (rest ≡ frame (item_payload y) ++ flat_map item_frame more)
+items_front [] [] rest vx vy less same = absurd (omega (arith, less))
+items_front [] (y ∷ ys) rest vx vy less same = (y, ys, refl, sym same)
+items_front (x ∷ xs) [] rest vx vy less same = absurd (omega (arith, less))
+items_front (x ∷ xs) (y ∷ ys) rest vx vy less same =
+    let first = frame_first (item_payload y) (item_payload x) (flat_map item_frame ys) (flat_map item_frame xs ++ rest)
+    (IsPayload-item y vy.0.0 vy.0.1) (IsPayload-item x vx.0.0 vx.0.1) (same ∙ append_assoc (item_frame x) (flat_map item_frame xs) rest) in
+    let item : y ≡ x = same_item y x vy.0.1 vx.0.1 first.0 in
+    let others = items_front xs ys rest vx.1 vy.1 (omega (arith, less)) first.1 in
+    (others.0, others.1, λ i. item i ∷ others.2 i, others.3)
+
+valid_at : (xs : Domains) (y : Name × BundleValue) (more : Domains) → AreValid (xs ++ y ∷ more) → IsName y.0 × IsBundle y.1
+valid_at [] y more valid = valid.0
+valid_at (x ∷ xs) y more valid = valid_at xs y more valid.1
+
+ascends_at : (last : Option Name) (xs : Domains) (y : Name × BundleValue) (more : Domains) → Ascends last (xs ++ y ∷ more) → IsAfter (last_of last xs) y.0
+ascends_at last [] y more ascending = ascending.0
+ascends_at last (x ∷ xs) y more ascending = ascends_at (Some x.0) xs y more ascending.1
+
+flat_items : (xs : Domains) → flat_map item_frame xs ≡ flat_map frame (map item_payload xs)
+flat_items [] = refl
+flat_items (x ∷ xs) = ap (λ r. item_frame x ++ r) (flat_items xs)
+
+each_item : (xs : Domains) → AreValid xs → AllByRecursion IsPayload (map item_payload xs)
+each_item [] valid = tt
+each_item (x ∷ xs) valid = (IsPayload-item x valid.0.0 valid.0.1, each_item xs valid.1)
+
+module _ (count : ℕ) (items : Domains) (valid : AreValid items) (fewer : length items < count) where
+  listing_cut : (cut : List ℕ) → IsUnfinished cut → NoListing count (flat_map item_frame items ++ cut)
+  listing_cut cut unfinished others sound ascending size same =
+      let front = items_front items others cut valid sound (omega (arith, fewer, size)) same in
+      let next = valid_at items front.0 front.1 (subst AreValid front.2 sound) in
+      none_at_end (item_payload front.0) (flat_map item_frame front.1) cut (IsPayload-item front.0 next.0 next.1) front.3 (inl unfinished)
+
+  -- if no frame was read, the next domain was not
+  pub listing_breaks : (why : ClientError) (cut : List ℕ) (left : Option (List ℕ)) → NoFrame why cut left → BreaksListing why count (flat_map item_frame items ++ cut) left
+  listing_breaks Truncated cut left none = (listing_cut cut none.0, none.1)
+  listing_breaks ReadFault cut left none = listing_cut cut none
+  listing_breaks BadLength cut left none =
+      (map item_payload items, cut, record { whole = ap (λ f. f ++ cut) (flat_items items); each = each_item items valid; ends = inr none.0 }, none.0)
+  listing_breaks BadReply cut left none = absurd none
+  listing_breaks WriteFault cut left none = absurd none
+  listing_breaks Memory cut left none = absurd none
+
+  -- a payload of no next domain
+  pub listing_bad : (payload : List ℕ) → IsPayload payload
+      → ((item : Name × BundleValue) → IsName item.0 → IsBundle item.1 → IsAfter (last_of None items) item.0 → payload ≢ item_payload item)
+      → (rest : List ℕ) → NoListing count ((flat_map item_frame items ++ frame payload) ++ rest)
+  listing_bad payload good none rest others sound ascending size same =
+      let front = items_front items others (frame payload ++ rest) valid sound (omega (arith, fewer, size)) (same ∙ append_assoc (flat_map item_frame items) (frame payload) rest) in
+      let next = valid_at items front.0 front.1 (subst AreValid front.2 sound) in
+      let first = frame_first payload (item_payload front.0) rest (flat_map item_frame front.1) good (IsPayload-item front.0 next.0 next.1) front.3 in
+      none front.0 next.0 next.1 (ascends_at None items front.0 front.1 (subst (Ascends None) front.2 ascending)) first.0
+
+pub flat_more : (xs : Domains) (y : Name × BundleValue) → flat_map item_frame (xs ++ y ∷ []) ≡ flat_map item_frame xs ++ frame (item_payload y)
+flat_more [] y = append-nil (item_frame y)
+flat_more (x ∷ xs) y = ap (λ r. item_frame x ++ r) (flat_more xs y) ∙ sym (append_assoc (item_frame x) (flat_map item_frame xs) (item_frame y))
+
+pub valid_more : (xs : Domains) (y : Name × BundleValue) → AreValid xs → IsName y.0 → IsBundle y.1 → AreValid (xs ++ y ∷ [])
+valid_more [] y valid name sound = ((name, sound), tt)
+valid_more (x ∷ xs) y valid name sound = (valid.0, valid_more xs y valid.1 name sound)
+
+-- bytes that are two parts, cut where the first ends
+pub joined_parts : (bytes first others : List ℕ) → bytes ≡ first ++ others → (take (length first) bytes ≡ first) × (drop (length first) bytes ≡ others)
+joined_parts bytes first others same =
+    (ap (take (length first)) same ∙ take_at first others (length first) refl, ap (drop (length first)) same ∙ drop-append_seam first others)
+
+-- the payload of a valid domain is read as that domain
+item_of-payload : (y : Name × BundleValue) → IsName y.0 → IsBundle y.1 → item_of (item_payload y) ≡ Some y
+unfolding item_of
+item_of-payload y name sound = ap unless_refused (named_bundle-item y.0 y.1 name sound)
+
+-- if no domain is read, none stands
+pub no_item_read : (payload : List ℕ) → item_of payload ≡ None → (y : Name × BundleValue) → IsName y.0 → IsBundle y.1 → payload ≢ item_payload y
+no_item_read payload none y name sound same = none_item y (sym none ∙ ap item_of same ∙ item_of-payload y name sound)
+
+-- if another text of a domain is read, none stands
+pub same_read : (payload : List ℕ) (x : Name × BundleValue) → item_of payload ≡ Some x → (y : Name × BundleValue) → IsName y.0 → IsBundle y.1 → payload ≡ item_payload y → y ≡ x
+same_read payload x read y name sound same = some_item y x (sym (item_of-payload y name sound) ∙ sym (ap item_of same) ∙ read)
+
+-- What was read so far: the frames of valid domains, in order of their names, and the last name.
+pub record Listed (left_old left_new : Option (List ℕ)) (items : Domains) (last : Option Name) (place : ℕ) : Type 0 where
+  pub consumed : Consumes left_old left_new (flat_map item_frame items)
+  pub size : length items ≡ place
+  pub last_is : last ≡ last_of None items
+  pub valid : AreValid items
+  pub ascending : Ascends None items
+
+pub Listed-none : (left : Option (List ℕ)) → Listed left left [] None 0
+Listed-none left = record { consumed = Consumes-nil left; size = refl; last_is = refl; valid = tt; ascending = tt }
+
+-- one domain more
+pub Listed-one : (l0 l1 l2 : Option (List ℕ)) (items : Domains) (last : Option Name) (place : ℕ) (y : Name × BundleValue) (payload : List ℕ) → Listed l0 l1 items last place
+    → Consumes l1 l2 (frame payload) → frame payload ≡ item_frame y → IsAfter last y.0 → IsName y.0 → IsBundle y.1
+    → Listed l0 l2 (items ++ y ∷ []) (Some y.0) (place + 1)
+Listed-one l0 l1 l2 items last place y payload listed took same after name sound = record {
+  consumed = subst (Consumes l0 l2) (ap (λ f. flat_map item_frame items ++ f) same ∙ sym (flat_more items y)) (Consumes-trans l0 l1 l2 (flat_map item_frame items) (frame payload) listed.consumed took);
+  size = omega (arith, listed.size, length-append items (y ∷ []));
+  last_is = sym (last_of-one None items y);
+  valid = valid_more items y listed.valid name sound;
+  ascending = Ascends-one None items y listed.ascending (subst (λ (l : Option Name). IsAfter l y.0) listed.last_is after);
+}
+
+-- ---- the whole reply
+
+other_code : (code : ℕ) (rest : List ℕ) → is_code_for FetchAll code ≡ false → is_code_for FetchAll (code_of (frame (code ∷ rest))) ≡ true → ⊥
+other_code code rest other may = not_both _ may (ap (is_code_for FetchAll) (one_code code rest) ∙ other)
+
+not_refused : (why : MapRefusal) → MayAnswer FetchAll (Ok (Refused why)) → ⊥
+not_refused NoDomain may = other_code 30 [] refl may
+not_refused (Stale sequence) may = other_code 31 (map_detail (Stale sequence)) refl may
+not_refused KidTaken may = other_code 32 [] refl may
+not_refused TooMany may = other_code 33 [] refl may
+not_refused TooLong may = other_code 34 [] refl may
+not_refused SequenceFull may = other_code 35 [] refl may
+not_refused (NotExpected found) may = other_code 36 (map_detail (NotExpected found)) refl may
+
+not_97 : (e : AskError) → error_number e ≡ 97 → ⊥
+not_97 error.Memory same = absurd (omega (arith, same))
+not_97 (error.Worn shard) same = absurd (omega (arith, same))
+not_97 (error.Moved shard first second) same = absurd (omega (arith, same))
+not_97 (error.Held shard revision) same = absurd (omega (arith, same))
+not_97 error.GateShut same = absurd (omega (arith, same))
+
+pub may_error : (e : AskError) → MayAnswer FetchAll (Err e)
+may_error error.Memory = ap (is_code_for FetchAll) (one_code 22 [])
+may_error (error.Worn shard) = ap (is_code_for FetchAll) (one_code 40 (error_detail (error.Worn shard)))
+may_error (error.Moved shard first second) = ap (is_code_for FetchAll) (one_code 41 (error_detail (error.Moved shard first second)))
+may_error (error.Held shard revision) = ap (is_code_for FetchAll) (one_code 42 (error_detail (error.Held shard revision)))
+may_error error.GateShut = ap (is_code_for FetchAll) (one_code 56 [])
+
+pub may_all : (items : Domains) → MayAnswer FetchAll (Ok (All items))
+may_all items = ap (is_code_for FetchAll) (first_code 97 (to_be_bytes w64 (length items)) (flat_map item_frame items))
+
+head_read : (a : Answer) → MayAnswer FetchAll a → head_of (first_payload a) ≡ None → ⊥
+unfolding head_of number_of
+head_read (Ok Stored) may same = other_code 115 [] refl may
+head_read (Ok Unchanged) may same = other_code 117 [] refl may
+head_read (Ok (Appended sequence)) may same = other_code 112 _ refl may
+head_read (Ok Removed) may same = other_code 100 [] refl may
+head_read (Ok (Found bundle)) may same = other_code 102 _ refl may
+head_read (Ok (All items)) may same = some_none _ same
+head_read (Ok (Refused why)) may same = not_refused why may
+head_read (Err error.Memory) may same = error_read error.Memory (map_none Err _ same)
+head_read (Err (error.Worn shard)) may same = error_read (error.Worn shard) (map_none Err _ same)
+head_read (Err (error.Moved shard first second)) may same = error_read (error.Moved shard first second) (map_none Err _ same)
+head_read (Err (error.Held shard revision)) may same = error_read (error.Held shard revision) (map_none Err _ same)
+head_read (Err error.GateShut) may same = error_read error.GateShut (map_none Err _ same)
+
+-- a payload of which neither a number nor an error is read
+pub bad_head : (payload : List ℕ) → IsPayload payload → head_of payload ≡ None → BeginsNoReply FetchAll answer_frames (frame payload)
+bad_head payload good none rest a may sound same =
+    let first = frame_first (first_payload a) payload (frames_behind a) rest (first_is_payload a sound) good (sym (coded_first a) ∙ same) in
+    head_read a may (ap head_of first.0 ∙ none)
+
+module _ (count : ℕ) (fits : count < 2 ^ 64) where
+  abbrev head : List ℕ
+  head = 97 ∷ to_be_bytes w64 count
+
+  head_payload : IsPayload head
+  head_payload = (omega arith, omega arith)
+
+  -- an answer that begins with the number has so many domains
+  all_listing : (a : Answer) (read : List ℕ) → MayAnswer FetchAll a → IsValidAnswer a → answer_frames a ≡ frame head ++ read
+      → (items : Domains) × AreValid items × Ascends None items × (length items ≡ count) × (flat_map item_frame items ≡ read)
+  all_listing (Ok Stored) read may sound same = absurd (other_code 115 [] refl may)
+  all_listing (Ok Unchanged) read may sound same = absurd (other_code 117 [] refl may)
+  all_listing (Ok (Appended sequence)) read may sound same = absurd (other_code 112 _ refl may)
+  all_listing (Ok Removed) read may sound same = absurd (other_code 100 [] refl may)
+  all_listing (Ok (Found bundle)) read may sound same = absurd (other_code 102 _ refl may)
+  all_listing (Ok (Refused why)) read may sound same = absurd (not_refused why may)
+  all_listing (Ok (All items)) read may sound same =
+      let own = first_payload (Ok (All items)) in
+      let first = frame_first own head (flat_map item_frame items) read (first_is_payload (Ok (All items)) sound) head_payload same in
+      let size : length items ≡ count = sym (from_be_bytes-to_be_bytes_8 (length items) sound.2) ∙ ap (λ p. from_be_bytes w64 (drop 1 p)) first.0 ∙ from_be_bytes-to_be_bytes_8 count fits in
+      (items, sound.0, sound.1, size, first.1)
+  all_listing (Err e) read may sound same =
+      let own = first_payload (Err e) in
+      let first = frame_first own head [] read (error_payload e) head_payload (append-nil (frame own) ∙ same) in
+      absurd (not_97 e (cons_head (error_number e) 97 (error_detail e) (to_be_bytes w64 count) first.0))
+
+  pub all_breaks : (why : ClientError) (read : List ℕ) (left : Option (List ℕ)) → BreaksListing why count read left
+      → Breaks FetchAll answer_frames why (frame head ++ read) left
+  all_breaks Truncated read left breaks =
+      (λ a may sound same. let l = all_listing a read may sound same in breaks.0 l.0 l.1 l.2 l.3 l.4, breaks.1)
+  all_breaks ReadFault read left breaks = λ a may sound same. let l = all_listing a read may sound same in breaks l.0 l.1 l.2 l.3 l.4
+  all_breaks BadReply read left breaks = λ rest a may sound same.
+      let l = all_listing a (read ++ rest) may sound (same ∙ append_assoc (frame head) read rest) in breaks rest l.0 l.1 l.2 l.3 l.4
+  all_breaks BadLength read left breaks = (
+    head ∷ breaks.0,
+    breaks.1,
+    record {
+      whole = ap (λ r. frame head ++ r) breaks.2.whole ∙ sym (append_assoc (frame head) (flat_map frame breaks.0) breaks.1);
+      each = (head_payload, breaks.2.each);
+      ends = breaks.2.ends;
+    },
+    breaks.3,
+  )
+  all_breaks WriteFault read left breaks = absurd breaks
+  all_breaks Memory read left breaks = tt

@@ -1,0 +1,41 @@
+-- Lemmas on a frame that is read in two parts.
+use Rattle.std.proofs.Common.{◌≡◌, ℕ, ◌<◌, ◌≤◌, List, ◌++◌, length, take, sym, ap, ◌∙◌, arith, length-append}
+use Rattle.std.specs.Prelude.{Option}
+use Rattle.std.proofs.lemmas.List.{take_at, take_all}
+use Rattle.std.specs.Int.{w32, to_be_bytes, from_be_bytes}
+use Rattle.frame_front.specs.Frame.{IsUnfinished, frame, length_field, most_payload}
+use Rattle.client.specs.Private.Stops.{StopsShort}
+use Rattle.client.specs.Reading.{NoFrame}
+use Rattle.client.specs.declared.client_error.ClientError.{ClientError}
+use Rattle.client.specs.declared.client_error.ClientError.TheVariants.{Memory, BadLength, BadReply, Truncated, ReadFault, WriteFault}
+
+-- a length that spells the payload's makes its frame
+pub frame_whole : (field payload : List ℕ) (size : ℕ) → length field ≡ 4 → to_be_bytes w32 size ≡ take 4 field → length payload ≡ size
+    → field ++ payload ≡ frame payload
+unfolding frame
+frame_whole field payload size four bytes long =
+    sym (ap (λ f. f ++ payload) (ap (to_be_bytes w32) long ∙ bytes ∙ take_all 4 field (omega arith)))
+
+-- four bytes spell the same with others behind them
+length_field_before : (field rest : List ℕ) → length field ≡ 4 → length_field (field ++ rest) ≡ length_field field
+unfolding length_field
+length_field_before field rest four = ap (from_be_bytes w32) (take_at field rest 4 four ∙ sym (take_all 4 field (omega arith)))
+
+cut_payload : (field read : List ℕ) (size : ℕ) → length field ≡ 4 → size ≡ length_field field → 0 < size → size ≤ most_payload → length read < size
+    → IsUnfinished (field ++ read)
+cut_payload field read size four spelled some few short =
+    let same = length_field_before field read four in
+    record {
+      good = λ h. (omega (arith, same), omega (arith, same));
+      short = λ h. omega (arith, same, length-append field read);
+    }
+
+-- a payload that was not read whole
+pub NoFrame-payload : (why : ClientError) (left : Option (List ℕ)) (field read : List ℕ) (size : ℕ) → length field ≡ 4 → size ≡ length_field field
+    → 0 < size → size ≤ most_payload → length read < size → StopsShort why left → NoFrame why (field ++ read) left
+NoFrame-payload Truncated left field read size four spelled some few short stops = (cut_payload field read size four spelled some few short, stops)
+NoFrame-payload ReadFault left field read size four spelled some few short stops = cut_payload field read size four spelled some few short
+NoFrame-payload BadLength left field read size four spelled some few short stops = absurd stops
+NoFrame-payload BadReply left field read size four spelled some few short stops = absurd stops
+NoFrame-payload WriteFault left field read size four spelled some few short stops = absurd stops
+NoFrame-payload Memory left field read size four spelled some few short stops = absurd stops

@@ -1,0 +1,146 @@
+-- A request that is asked until it is told more than to wait.
+use Rattle.std.proofs.Common.{◌≡◌, ◌≢◌, ◌⊎◌, drop, ℕ, ◌-◌, ◌≤◌, List, [], ◌∷◌, ◌++◌, true, false, Option, refl, sym, ap, subst, ◌∙◌, arith, append-nil, length-append, inl, inr}
+use Rattle.std.specs.List.{flat_map}
+use Rattle.std.specs.Io.KnownBytes.{Appends, Consumes}
+use Rattle.std.proofs.KnownBytes.{Appends-nil, Appends-trans, Consumes-nil, Consumes-trans}
+use Rattle.std.proofs.lemmas.List.Concat.{flat_map-append}
+use Rattle.frame_front.specs.Frame.{IsPayload, frame}
+use Rattle.frame_front.specs.Outbox.{WritesFront}
+use Rattle.client.specs.Reading.{NoFrame}
+use Rattle.client.specs.declared.client_error.ClientError.{ClientError}
+use Rattle.client.specs.declared.client_error.ClientError.TheVariants as client
+use Rattle.frame_lines.specs.ReplyForm.{Reply, HasPayload, payload_of}
+use Rattle.client.specs.Asking.{IsTransient, NotGreeted, greeting}
+use Rattle.client.specs.declared.fault.AskFault.TheVariants.{Server}
+use Rattle.client.specs.Replies.{is_transient, reply_frames}
+use Rattle.client.specs.Private.Steps.{AsksUntilTold, TriesSoFar, FailsAsking, BreaksAsking, FailsOnce, IsWhole, NotGreetedBy}
+use Rattle.client.proofs.Replies.{each_append, frames_append, frames_one}
+
+pub asked_append : (request : List ℕ) (xs ys : List Reply) → flat_map (λ (reply : Reply). request) (xs ++ ys) ≡ flat_map (λ (reply : Reply). request) xs ++ flat_map (λ (reply : Reply). request) ys
+asked_append request xs ys = flat_map-append (λ (reply : Reply). request) xs ys
+
+-- ---- one try
+
+-- the request could not be sent
+pub not_sent : (request : List ℕ) (from to_old to_new : Option (List ℕ)) → WritesFront to_old to_new request → FailsAsking request client.WriteFault from from to_old to_new
+not_sent request from to_old to_new front = record {
+  sent = front.front;
+  unsent = front.missing;
+  torn = [];
+  split = front.split;
+  whole = tt;
+  asks = front.appends;
+  tells = Consumes-nil from;
+  why = refl;
+}
+
+no_reply : (error : ClientError) (torn : List ℕ) (left : Option (List ℕ)) → NoFrame error torn left → IsWhole error [] × FailsOnce error torn left
+no_reply client.Memory torn left none = (refl, none)
+no_reply client.BadLength torn left none = (refl, none)
+no_reply client.BadReply torn left none = (refl, none)
+no_reply client.Truncated torn left none = (refl, none)
+no_reply client.ReadFault torn left none = (refl, none)
+no_reply client.WriteFault torn left none = absurd none
+
+-- it was sent, and no reply came
+pub not_read : (error : ClientError) (request torn : List ℕ) (from_old from_new to_old to_new : Option (List ℕ)) → Appends to_old to_new request → Consumes from_old from_new torn → NoFrame error torn from_new → FailsAsking request error from_old from_new to_old to_new
+not_read error request torn from_old from_new to_old to_new asks tells none = record {
+  sent = request;
+  unsent = [];
+  torn = torn;
+  split = sym (append-nil request);
+  whole = (no_reply error torn from_new none).0;
+  asks = asks;
+  tells = tells;
+  why = (no_reply error torn from_new none).1;
+}
+
+-- ---- one try after the other
+
+pub begins : (retries : ℕ) (request : List ℕ) (from to : Option (List ℕ)) → TriesSoFar retries retries request from from to to
+begins retries request from to = record { transient = []; each = tt; count = omega arith; asks = Appends-nil to; tells = Consumes-nil from }
+
+module _ (retries left : ℕ) (request : List ℕ) (from_old from_mid to_old to_mid : Option (List ℕ)) (so : TriesSoFar retries left request from_old from_mid to_old to_mid) (from_new to_new : Option (List ℕ)) where
+  -- one try more, to which a reply came after which it is asked again
+  pub goes_on : (payload : List ℕ) → Appends to_mid to_new request → Consumes from_mid from_new (frame payload) → (reply : Reply) × HasPayload reply × (payload ≡ payload_of reply) × (is_transient reply ≡ true) → 1 ≤ left → TriesSoFar retries (left - 1) request from_old from_new to_old to_new
+  goes_on payload asks came again some = record {
+    transient = so.transient ++ again.0 ∷ [];
+    each = each_append IsTransient so.transient (again.0 ∷ []) so.each (again.3, tt);
+    count = omega (arith, so.count, some, length-append so.transient (again.0 ∷ []));
+    asks = subst (Appends to_old to_new) (ap (λ r. flat_map (λ (reply : Reply). request) so.transient ++ r) (sym (append-nil request)) ∙ sym (asked_append request so.transient (again.0 ∷ [])))
+        (Appends-trans to_old to_mid to_new (flat_map (λ (reply : Reply). request) so.transient) request so.asks asks);
+    tells = subst (Consumes from_old from_new) (ap (λ p. reply_frames so.transient ++ frame p) again.2 ∙ ap (λ f. reply_frames so.transient ++ f) (sym (frames_one again.0)) ∙ sym (frames_append so.transient (again.0 ∷ [])))
+        (Consumes-trans from_old from_mid from_new (reply_frames so.transient) (frame payload) so.tells came);
+  }
+
+  -- the last try
+  pub told_so : (payload : List ℕ) → Appends to_mid to_new request → Consumes from_mid from_new (frame payload) → ((reply : Reply) → HasPayload reply → payload ≡ payload_of reply → is_transient reply ≡ true → left ≡ 0) → AsksUntilTold retries request payload from_old from_new to_old to_new
+  told_so payload asks came last = record {
+    transient = so.transient;
+    each = so.each;
+    few = omega (arith, so.count);
+    last = λ reply has is again. omega (arith, so.count, last reply has is again);
+    asks = Appends-trans to_old to_mid to_new (flat_map (λ (reply : Reply). request) so.transient) request so.asks asks;
+    tells = Consumes-trans from_old from_mid from_new (reply_frames so.transient) (frame payload) so.tells came;
+  }
+
+  -- a try that failed
+  pub fails : (error : ClientError) → FailsAsking request error from_mid from_new to_mid to_new → BreaksAsking retries request error from_old from_new to_old to_new
+  fails error one = record {
+    transient = so.transient;
+    sent = one.sent;
+    unsent = one.unsent;
+    torn = one.torn;
+    each = so.each;
+    few = omega (arith, so.count);
+    split = one.split;
+    whole = one.whole;
+    asks = Appends-trans to_old to_mid to_new (flat_map (λ (reply : Reply). request) so.transient) one.sent so.asks one.asks;
+    tells = Consumes-trans from_old from_mid from_new (reply_frames so.transient) one.torn so.tells one.tells;
+    why = one.why;
+  }
+
+-- the retries are used up, or the payload is that of another reply
+pub is_last : (left : ℕ) (payload : List ℕ) → (left ≡ 0) ⊎ ((reply : Reply) → HasPayload reply → payload ≡ payload_of reply → is_transient reply ≡ false) → (reply : Reply) → HasPayload reply → payload ≡ payload_of reply → is_transient reply ≡ true → left ≡ 0
+is_last left payload (inl none) reply has is again = none
+is_last left payload (inr other) reply has is again = absurd (cc (again, other reply has is))
+
+-- ---- the greeting
+
+pub greeting_bytes : (0 ∷ 0 ∷ 0 ∷ 2 ∷ 86 ∷ 2 ∷ []) ≡ greeting
+unfolding frame
+greeting_bytes = refl
+
+frame_same : (a b : List ℕ) → frame a ≡ frame b → a ≡ b
+unfolding frame
+frame_same a b same = ap (drop 4) same
+
+why_not_greeted : (error : ClientError) (unsent torn : List ℕ) (left : Option (List ℕ)) → IsWhole error unsent → FailsOnce error torn left → NotGreeted (Server error) unsent torn left
+why_not_greeted client.Memory unsent torn left whole none = (whole, none)
+why_not_greeted client.BadLength unsent torn left whole none = (whole, none)
+why_not_greeted client.BadReply unsent torn left whole none = absurd none
+why_not_greeted client.Truncated unsent torn left whole none = (whole, none)
+why_not_greeted client.ReadFault unsent torn left whole none = (whole, none)
+why_not_greeted client.WriteFault unsent torn left whole none = none
+
+pub not_greeted : (error : ClientError) (request : List ℕ) (from_old from_new to_old to_new : Option (List ℕ)) → request ≡ 0 ∷ 0 ∷ 0 ∷ 2 ∷ 86 ∷ 2 ∷ [] → FailsAsking request error from_old from_new to_old to_new → NotGreetedBy (Server error) from_old from_new to_old to_new
+not_greeted error request from_old from_new to_old to_new is one = record {
+  sent = one.sent;
+  unsent = one.unsent;
+  torn = one.torn;
+  split = sym (is ∙ greeting_bytes) ∙ one.split;
+  asks = one.asks;
+  tells = one.tells;
+  why = why_not_greeted error one.unsent one.torn from_new one.whole one.why;
+}
+
+pub other_greeting : (payload : List ℕ) (from_old from_new to_old to_new : Option (List ℕ)) → Appends to_old to_new greeting → Consumes from_old from_new (frame payload) → IsPayload payload → payload ≢ 118 ∷ 2 ∷ [] → NotGreetedBy (Server client.BadReply) from_old from_new to_old to_new
+other_greeting payload from_old from_new to_old to_new asks tells good other = record {
+  sent = greeting;
+  unsent = [];
+  torn = frame payload;
+  split = sym (append-nil greeting);
+  asks = asks;
+  tells = tells;
+  why = (refl, payload, good, refl, λ same. other (frame_same payload (118 ∷ 2 ∷ []) same));
+}

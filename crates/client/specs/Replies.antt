@@ -1,0 +1,50 @@
+-- Replies as a client takes and shows them.
+use Rattle.std.specs.Prelude.{◌≡◌, ℕ, Bool, true, false, List, [], ◌∷◌, ◌++◌}
+use Rattle.std.specs.List.{flat_map}
+use Rattle.frame_front.specs.Frame.{frame}
+use Rattle.frame_lines.specs.ReplyForm.{Reply, All, Bundle, Refused, Moved, Held, Worn, Memory, Shut, HasPayload, IsLined, line_of, payload_of}
+use Rattle.client.specs.declared.asking.Form.{Form}
+use Rattle.client.specs.declared.asking.Form.TheVariants.{Lines, Frames}
+
+-- the request changed nothing and may do better if it is asked again: memory ran out, or other passes were in its way
+abbrev pub is_transient : Reply → Bool
+is_transient Memory = true
+is_transient (Moved shard first second) = true
+is_transient (Held shard revision) = true
+is_transient reply = false
+
+-- the request was not done
+abbrev pub is_refusal : Reply → Bool
+is_refusal (Refused number detail) = true
+is_refusal (Moved shard first second) = true
+is_refusal (Held shard revision) = true
+is_refusal (Worn shard) = true
+is_refusal Memory = true
+is_refusal Shut = true
+is_refusal reply = false
+
+-- how many bundles follow the reply
+abbrev pub bundles_after : Reply → ℕ
+bundles_after (All count) = count
+bundles_after reply = 0
+
+abbrev pub is_bundle : Reply → Bool
+is_bundle (Bundle name text) = true
+is_bundle reply = false
+
+-- replies as a session writes them
+abbrev pub reply_frames : List Reply → List ℕ
+reply_frames replies = flat_map (λ reply. frame (payload_of reply)) replies
+
+-- a reply is shown as its line, or as its frame
+abbrev pub shown : Form → Reply → List ℕ
+shown Lines reply = line_of reply ++ 10 ∷ []
+shown Frames reply = frame (payload_of reply)
+
+abbrev pub CanBeShown : Form → Reply → Type 0
+CanBeShown Lines reply = IsLined reply
+CanBeShown Frames reply = Unit {0}
+
+-- A reply that may come: a bundle behind the number of all, and there only.
+abbrev pub IsTold : Form → Bool → Reply → Type 0
+IsTold form later reply = HasPayload reply × (is_bundle reply ≡ later) × CanBeShown form reply

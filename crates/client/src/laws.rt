@@ -1,0 +1,36 @@
+//! Laws of what a client writes and reads, over the definitions.
+ghost use Rattle.std.specs.Prelude.{◌≡◌, [], ◌∷◌, Ok, true};
+ghost use Rattle.std.specs.List.{concat};
+ghost use Rattle.map_core.specs.PlainMap.{PlainMap, ask};
+ghost use Rattle.map_core.specs.declared.op.Op.{Op};
+ghost use Rattle.frame_front.specs.Frame.{stream_of};
+ghost use Rattle.frame_front.specs.declared.request.Version.{Version};
+ghost use Rattle.frame_front.specs.declared.request.Version.TheVariants.{One, Two};
+ghost use Rattle.frame_front.specs.declared.request.Request.TheVariants.{Ask, SetVersion};
+ghost use Rattle.frame_front.specs.Request.{request_of};
+ghost use Rattle.frame_front.specs.PlainSession.{answers_to, state_after};
+ghost use Rattle.client.specs.Request.{is_written, IsValidOp, request_payload, request_payloads, request_preface, request_bytes};
+ghost use Rattle.client.specs.Client.{reply_bytes};
+ghost use Rattle.client.specs.Answer.{MayAnswer};
+
+/// A request that is written is read as its operation: in version 2, and in version 1 unless the request
+/// for version 2 comes before it.
+pub fn requests_are_read_as_asked()
+    ensures second { (op : Op) → is_written op ≡ true → IsValidOp op → request_of Two (request_payload op) ≡ Ok (Ask op) }
+    ensures first { (op : Op) → is_written op ≡ true → IsValidOp op → request_preface op ≡ [] → request_of One (request_payload op) ≡ Ok (Ask op) }
+    ensures version { (version : Version) → request_of version (86 ∷ 2 ∷ []) ≡ Ok (SetVersion Two) }
+{}
+
+/// A session of any version answers what a client writes by what it reads as the map's own reply, and
+/// leaves the map that this reply leaves.
+pub fn sessions_answer_what_clients_read()
+    ensures { (version : Version) (m : PlainMap) (op : Op) → is_written op ≡ true → IsValidOp op →
+        (request_bytes op ≡ stream_of (request_payloads op) [])
+        × (concat (answers_to (version, m) (request_payloads op)) ≡ reply_bytes op (Ok (ask m op).reply))
+        × ((state_after (version, m) (request_payloads op)).1 ≡ (ask m op).map) }
+{}
+
+/// What a map answers to an operation, a client takes for an answer to it.
+pub fn maps_answer_as_clients_take()
+    ensures { (m : PlainMap) (op : Op) → MayAnswer op (Ok (ask m op).reply) }
+{}

@@ -1,0 +1,165 @@
+//! All bundles, as a client reads them: their number, and then a frame for each domain.
+ghost use Rattle.std.specs.Prelude.{◌≡◌, ◌≢◌, ◌<◌, ◌≤◌, ◌-◌, ◌^◌, ◌∷◌, ◌++◌, ℕ, List, None, true, false, length, take, OnOk, IfOk, IfErr, IfSome, IfNone, bytes_eq};
+ghost use Rattle.std.specs.List.{flat_map};
+ghost use Rattle.std.specs.Int.{w64, to_be_bytes};
+ghost use Rattle.std.specs.Io.KnownBytes.{Consumes};
+ghost use Rattle.spiffe_doc.specs.Authority.{BundleValue};
+ghost use Rattle.spiffe_doc.specs.Bundle.{IsBundle};
+ghost use Rattle.spiffe_doc.specs.Name.{IsName};
+ghost use Rattle.spiffe_doc.specs.Text.{text_of};
+ghost use Rattle.map_core.specs.Name.{Name};
+ghost use Rattle.map_core.specs.Reply.{error_number};
+ghost use Rattle.map_core.specs.declared.op.Op.TheVariants.{FetchAll};
+ghost use Rattle.frame_front.specs.Counted.{end_in, faults_in};
+ghost use Rattle.frame_front.specs.Frame.{frame};
+ghost use Rattle.client.specs.Reading.{CountsFault};
+ghost use Rattle.frame_front.specs.Reply.{answer_frames, error_detail, item_frame};
+ghost use Rattle.frame_front.specs.Dump.{AreValid};
+ghost use Rattle.map_core.specs.Laws.{IsAfter, Ascends};
+ghost use Rattle.client.specs.Answer.{MayAnswer, IsValidAnswer};
+ghost use Rattle.client.specs.Client.{Breaks};
+ghost use Rattle.client.specs.Private.Listing.{head_of, BreaksListing};
+
+use crate::ClientError;
+use crate::answer::{read_error, read_number};
+use crate::reading::read_frame;
+use arrayvec::ArrayVec;
+use frame_front::Counted;
+use frame_front::wire::{ITEM_HEAD_BYTES, canonical_text, is_after, read_item};
+use map_core::{AskError, Reply, Snapshot};
+use spiffe_doc::{Bundle, TrustDomain};
+use std::alloc::{AllocError, Global};
+use std::io::Read;
+
+/// The number of domains that a payload tells, or an error of whoever was asked.
+#[tactic(auto, unfolding(crate::specs::Private::Listing::head_of))]
+fn read_head(payload: &[u8]) -> Option<Result<u64, AskError>>
+    ensures value { result ≡ head_of payload.now }
+    ensures count { IfSome result (λ head. IfOk head (λ count. (payload.now ≡ 97 ∷ to_be_bytes w64 count) × (count < 2 ^ 64))) }
+    ensures error { IfSome result (λ head. IfErr head (λ error. payload.now ≡ error_number error ∷ error_detail error)) }
+{
+    let (code, bytes) = payload.split_first()?;
+    if *code == b'a' {
+        Some(Ok(read_number(bytes)?))
+    } else {
+        Some(Err(read_error(*code, bytes)?))
+    }
+}
+
+/// Whether the bytes are the first and then the others.
+fn is_joined(bytes: &[u8], first: &[u8], others: &[u8]) -> bool
+    requires few { length first.now ≤ 257 }
+    requires short { length others.now ≤ 1048576 }
+    ensures yes { result ≡ true → bytes.now ≡ first.now ++ others.now }
+    ensures no { result ≡ false → bytes.now ≢ first.now ++ others.now }
+{
+    if bytes.len() != first.len() + others.len() {
+        return false;
+    }
+    let (start, end) = bytes.split_at(first.len());
+    start == first && end == others
+}
+
+/// Whether the payload is that of a domain: its name and its canonical text.
+fn is_item(payload: &[u8], domain: &TrustDomain, bundle: &Bundle) -> bool
+    ensures yes { result ≡ true → payload.now ≡ 105 ∷ length domain.now ∷ domain.now ++ text_of bundle.now }
+    ensures no { result ≡ false → payload.now ≢ 105 ∷ length domain.now ∷ domain.now ++ text_of bundle.now }
+{
+    let name = domain.as_str().as_bytes();
+    let mut front = ArrayVec::<u8, ITEM_HEAD_BYTES>::new();
+    let _fits = front.try_extend_from_slice(&[b'i', name.len() as u8]);
+    let _fits = front.try_extend_from_slice(name);
+    is_joined(payload, front.as_slice(), canonical_text(bundle))
+}
+
+/// The next domain, if the payload is one by its canonical text, and its name comes after the last one.
+fn read_listed(
+    alloc: Global,
+    last: &Option<TrustDomain>,
+    payload: &[u8],
+) -> Result<Option<(TrustDomain, Bundle)>, AllocError>
+    ensures found { IfOk result (λ next. IfSome next (λ item. (frame payload.now ≡ item_frame item)
+        × IsAfter last.now item.0 × IsName item.0 × IsBundle item.1)) }
+    ensures none { IfOk result (λ next. IfNone next ((item : Name × BundleValue)
+        → IsName item.0 → IsBundle item.1 → IsAfter last.now item.0 → payload.now ≢ 105 ∷ length item.0 ∷ item.0 ++ text_of item.1)) }
+{
+    let Some((domain, bundle)) = read_item(alloc, payload)? else {
+        return Ok(None);
+    };
+    let _name = domain.as_str();
+    let _authorities = bundle.authorities();
+    if is_item(payload, &domain, &bundle) && is_after(last, &domain) {
+        Ok(Some((domain, bundle)))
+    } else {
+        Ok(None)
+    }
+}
+
+/// Reads so many domains.
+fn read_listing<R: Read>(
+    alloc: Global,
+    reader: &mut Counted<R>,
+    buffer: &mut [u8],
+    count: u64,
+) -> Result<Vec<(TrustDomain, Bundle)>, ClientError>
+    requires room { length buffer.old ≡ 1049000 }
+    requires count { faults_in reader.old < 2 ^ 64 - 1 }
+    ensures len { length buffer.new ≡ length buffer.old }
+    ensures valid { IfOk result (λ items. AreValid items.items × Ascends None items.items × (length items.items ≡ count)) }
+    ensures ok { IfOk result (λ items.
+        Consumes (R.remaining (end_in reader.old)) (R.remaining (end_in reader.new)) (flat_map item_frame items.items)) }
+    ensures quiet { OnOk result (faults_in reader.new ≡ faults_in reader.old) }
+    ensures err { IfErr result (λ why. (read : List ℕ)
+        × Consumes (R.remaining (end_in reader.old)) (R.remaining (end_in reader.new)) read
+        × BreaksListing why count read (R.remaining (end_in reader.new))) }
+    ensures counted { IfErr result (λ why. CountsFault why (faults_in reader.old) (faults_in reader.new)) }
+{
+    let mut items = Vec::new(alloc);
+    let mut last = None;
+    let mut place = 0;
+    while place < count {
+        let size = read_frame(reader, buffer)?;
+        let item = match read_listed(alloc, &last, &buffer[..size]) {
+            Ok(Some(item)) => item,
+            Ok(None) => return Err(ClientError::BadReply),
+            Err(_) => return Err(ClientError::Memory),
+        };
+        last = match item.0.copy() {
+            Ok(domain) => Some(domain),
+            Err(_) => return Err(ClientError::Memory),
+        };
+        if let Err(_) = items.push(item) {
+            return Err(ClientError::Memory);
+        }
+        place += 1;
+    }
+    Ok(items)
+}
+
+/// Reads the reply to a fetch-all.
+pub(crate) fn read_all<R: Read>(
+    alloc: Global,
+    reader: &mut Counted<R>,
+    buffer: &mut [u8],
+) -> Result<Result<Reply, AskError>, ClientError>
+    requires room { length buffer.old ≡ 1049000 }
+    requires count { faults_in reader.old < 2 ^ 64 - 1 }
+    ensures len { length buffer.new ≡ length buffer.old }
+    ensures ok { IfOk result (λ answer. MayAnswer FetchAll answer × IsValidAnswer answer
+        × Consumes (R.remaining (end_in reader.old)) (R.remaining (end_in reader.new)) (answer_frames answer)) }
+    ensures quiet { OnOk result (faults_in reader.new ≡ faults_in reader.old) }
+    ensures err { IfErr result (λ why. (read : List ℕ)
+        × Consumes (R.remaining (end_in reader.old)) (R.remaining (end_in reader.new)) read
+        × Breaks FetchAll answer_frames why read (R.remaining (end_in reader.new))) }
+    ensures counted { IfErr result (λ why. CountsFault why (faults_in reader.old) (faults_in reader.new)) }
+{
+    let size = read_frame(reader, buffer)?;
+    match read_head(&buffer[..size]) {
+        Some(Ok(count)) => {
+            let items = read_listing(alloc, reader, buffer, count)?;
+            Ok(Ok(Reply::All(Snapshot::from_pairs(items))))
+        }
+        Some(Err(error)) => Ok(Err(error)),
+        None => Err(ClientError::BadReply),
+    }
+}

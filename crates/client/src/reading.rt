@@ -1,0 +1,57 @@
+//! Reading one frame, and no byte beyond it.
+ghost use Rattle.std.specs.Prelude.{◌≡◌, ◌<◌, ◌-◌, ◌^◌, ℕ, List, length, take, OnOk, IfOk, IfErr};
+ghost use Rattle.std.specs.Io.KnownBytes.{Consumes};
+ghost use Rattle.frame_front.specs.Counted.{end_in, faults_in};
+ghost use Rattle.frame_front.specs.Frame.{IsPayload, frame};
+ghost use Rattle.client.specs.Reading.{CountsFault, NoFrame};
+ghost use Rattle.client.specs.Private.Stops.{StopsShort};
+
+use crate::ClientError;
+use frame_front::Counted;
+use frame_front::wire::{LENGTH_BYTES, MAX_PAYLOAD, length_field};
+use std::io::Read;
+
+/// Reads until the buffer is full.
+fn fill<R: Read>(reader: &mut Counted<R>, buffer: &mut [u8]) -> Result<(), ClientError>
+    requires count { faults_in reader.old < 2 ^ 64 - 1 }
+    ensures len { length buffer.new ≡ length buffer.old }
+    ensures ok { OnOk result (Consumes (R.remaining (end_in reader.old)) (R.remaining (end_in reader.new)) buffer.new) }
+    ensures quiet { OnOk result (faults_in reader.new ≡ faults_in reader.old) }
+    ensures err { IfErr result (λ why. (read : List ℕ)
+        × Consumes (R.remaining (end_in reader.old)) (R.remaining (end_in reader.new)) read
+        × (length read < length buffer.old) × StopsShort why (R.remaining (end_in reader.new))) }
+    ensures counted { IfErr result (λ why. CountsFault why (faults_in reader.old) (faults_in reader.new)) }
+{
+    let mut filled = 0;
+    while filled < buffer.len() {
+        match reader.read(&mut buffer[filled..]) {
+            Ok(0) => return Err(ClientError::Truncated),
+            Ok(count) => filled += count,
+            Err(_) => return Err(ClientError::ReadFault),
+        }
+    }
+    Ok(())
+}
+
+/// Reads one frame, and no byte beyond it, into the front of the buffer, and says how many bytes its payload has.
+pub fn read_frame<R: Read>(reader: &mut Counted<R>, buffer: &mut [u8]) -> Result<usize, ClientError>
+    requires room { length buffer.old ≡ 1049000 }
+    requires count { faults_in reader.old < 2 ^ 64 - 1 }
+    ensures len { length buffer.new ≡ length buffer.old }
+    ensures ok { IfOk result (λ size. (length (take size buffer.new) ≡ size) × IsPayload (take size buffer.new)
+        × Consumes (R.remaining (end_in reader.old)) (R.remaining (end_in reader.new)) (frame (take size buffer.new))) }
+    ensures quiet { OnOk result (faults_in reader.new ≡ faults_in reader.old) }
+    ensures err { IfErr result (λ why. (read : List ℕ)
+        × Consumes (R.remaining (end_in reader.old)) (R.remaining (end_in reader.new)) read
+        × NoFrame why read (R.remaining (end_in reader.new))) }
+    ensures counted { IfErr result (λ why. CountsFault why (faults_in reader.old) (faults_in reader.new)) }
+{
+    let mut field = [0; LENGTH_BYTES];
+    fill(reader, &mut field)?;
+    let size = length_field(&field);
+    if size == 0 || size > MAX_PAYLOAD {
+        return Err(ClientError::BadLength);
+    }
+    fill(reader, &mut buffer[..size])?;
+    Ok(size)
+}

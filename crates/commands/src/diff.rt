@@ -1,0 +1,130 @@
+//! The command `diff`: what changed from one dump to another.
+ghost use Rattle.std.specs.Prelude.{◌≡◌, ◌<◌, ◌-◌, ◌^◌, List, Err, IfOk, IfErr};
+ghost use Rattle.commands.specs.Streams.{end_of, source_of};
+ghost use Rattle.commands.specs.declared.fault.Fault.TheVariants.{Front};
+ghost use Rattle.commands.specs.Diff.{AreReadFew, Differ, DiffRun, NoDiff, WritesDiff};
+ghost use Rattle.dump_views.specs.ChangeLines.{lines_of};
+ghost use Rattle.dump_views.specs.Changes.{Change};
+ghost use Rattle.frame_front.specs.Counted.{end_in, faults_in};
+ghost use Rattle.frame_front.specs.declared.error.FrontError.TheVariants.{WriteFault};
+ghost use Rattle.map_core.specs.Name.{Name};
+
+use crate::reading::read_domains;
+use crate::{Fault, write_flushed};
+use dump_views::put_diff;
+use frame_front::{Counted, FrontError};
+use std::alloc::{AllocError, Global};
+use std::io::{Read, Write};
+
+/// Writes what changed from the dump of the old reader to that of the new one; answers the exit status: 0 if nothing changed,
+/// 3 if something did, 1 after a fault. The new one is read only if the old one is a dump.
+pub fn diff_over<R: Read, S: Read, W: Write, E: Write>(
+    alloc: Global,
+    old: &mut Counted<R>,
+    new: &mut Counted<S>,
+    out: &mut Counted<W>,
+    err: &mut Counted<E>,
+) -> u8
+    requires old_count { faults_in old.old < 2 ^ 64 - 1 }
+    requires new_count { faults_in new.old < 2 ^ 64 - 1 }
+    requires out_count { faults_in out.old < 2 ^ 64 - 1 }
+    requires err_count { faults_in err.old < 2 ^ 64 - 1 }
+    ensures { DiffRun
+        (record {
+          old_before = source_of R.remaining old.old;
+          old_after = source_of R.remaining old.new;
+          new_before = source_of S.remaining new.old;
+          new_after = source_of S.remaining new.new;
+        })
+        result (end_of W.contents out.old) (end_of W.contents out.new) (end_of E.contents err.old) (end_of E.contents err.new) }
+{
+    match diff_inputs(alloc, old, new, out) {
+        Ok(false) => 0,
+        Ok(true) => 3,
+        Err(fault) => fault.tell(err),
+    }
+}
+
+/// Writes what changed, and says whether something did.
+fn diff_inputs<R: Read, S: Read, W: Write>(
+    alloc: Global,
+    old: &mut Counted<R>,
+    new: &mut Counted<S>,
+    out: &mut Counted<W>,
+) -> Result<bool, Fault>
+    requires old_count { faults_in old.old < 2 ^ 64 - 1 }
+    requires new_count { faults_in new.old < 2 ^ 64 - 1 }
+    requires out_count { faults_in out.old < 2 ^ 64 - 1 }
+    ensures writes { WritesDiff
+        (record {
+          old_before = source_of R.remaining old.old;
+          old_after = source_of R.remaining old.new;
+          new_before = source_of S.remaining new.old;
+          new_after = source_of S.remaining new.new;
+        })
+        result (W.contents (end_in out.old)) (W.contents (end_in out.new)) }
+    ensures reads { AreReadFew
+        (record {
+          old_before = source_of R.remaining old.old;
+          old_after = source_of R.remaining old.new;
+          new_before = source_of S.remaining new.old;
+          new_after = source_of S.remaining new.new;
+        }) }
+    ensures write_fault { result ≡ Err (Front WriteFault) → faults_in out.old < faults_in out.new }
+{
+    let lines = match lines_between(alloc, old, new) {
+        Ok(lines) => lines,
+        Err(fault) => return Err(fault),
+    };
+    let text = lines.as_slice();
+    match write_flushed(out, text) {
+        Ok(()) => Ok(!text.is_empty()),
+        Err(fault) => Err(fault),
+    }
+}
+
+/// The lines of what changed.
+fn lines_between<R: Read, S: Read>(
+    alloc: Global,
+    old: &mut Counted<R>,
+    new: &mut Counted<S>,
+) -> Result<Vec<u8>, Fault>
+    requires old_count { faults_in old.old < 2 ^ 64 - 1 }
+    requires new_count { faults_in new.old < 2 ^ 64 - 1 }
+    ensures ok { IfOk result (λ lines. (changes : List (Name × Change)) × Differ
+        (record {
+          old_before = source_of R.remaining old.old;
+          old_after = source_of R.remaining old.new;
+          new_before = source_of S.remaining new.old;
+          new_after = source_of S.remaining new.new;
+        }) changes × (lines.items ≡ lines_of changes)) }
+    ensures err { IfErr result (λ fault. NoDiff
+        (record {
+          old_before = source_of R.remaining old.old;
+          old_after = source_of R.remaining old.new;
+          new_before = source_of S.remaining new.old;
+          new_after = source_of S.remaining new.new;
+        }) fault) }
+    ensures reads { AreReadFew
+        (record {
+          old_before = source_of R.remaining old.old;
+          old_after = source_of R.remaining old.new;
+          new_before = source_of S.remaining new.old;
+          new_after = source_of S.remaining new.new;
+        }) }
+    ensures no_write_fault { result ≡ Err (Front WriteFault) → ⊥ }
+{
+    let olds = match read_domains(alloc, old) {
+        Ok(domains) => domains,
+        Err(fault) => return Err(fault),
+    };
+    let news = match read_domains(alloc, new) {
+        Ok(domains) => domains,
+        Err(fault) => return Err(fault),
+    };
+    let mut lines = Vec::new(alloc);
+    match put_diff(olds.pairs(), news.pairs(), &mut lines) {
+        Ok(()) => Ok(lines),
+        Err(AllocError) => Err(Fault::Front(FrontError::Memory)),
+    }
+}

@@ -1,4 +1,0 @@
-pub mod Stream
-pub mod Reads
-pub mod Connection
-pub mod Private

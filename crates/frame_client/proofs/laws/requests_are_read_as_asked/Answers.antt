@@ -1,5 +1,0 @@
-use Rattle.frame_client.proofs.AskingLaws.{read_second, read_first, read_version}
-use Rattle.frame_client.proofs.laws.requests_are_read_as_asked.Goals as goal
-
-pub returns : goal.returns
-returns c = record { second = read_second; first = read_first; version = read_version }

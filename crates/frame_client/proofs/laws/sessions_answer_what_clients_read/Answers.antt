@@ -1,5 +1,0 @@
-use Rattle.frame_client.proofs.AskingLaws.{session_answers}
-use Rattle.frame_client.proofs.laws.sessions_answer_what_clients_read.Goals as goal
-
-pub returns : goal.returns
-returns c = session_answers

@@ -1,4 +1,0 @@
-pub mod Replies
-pub mod Requests
-pub mod OneLine
-pub mod ManyLines

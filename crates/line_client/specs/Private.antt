@@ -1,2 +1,0 @@
--- Definitions that no public contract rests on: private contracts and proofs use them.
-pub mod Steps

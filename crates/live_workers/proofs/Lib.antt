@@ -1,7 +1,0 @@
-pub mod WorkedLists
-mod ArrivalLemmas
-mod KeptAlong
-mod ServingLemmas
-mod Simulated
-mod StepLemmas
-mod WaitingLemmas

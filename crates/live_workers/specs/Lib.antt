@@ -1,5 +1,0 @@
-pub mod Arrivals
-pub mod AtPort
-pub mod Sessions
-pub mod Workers
-pub mod Private

@@ -1,0 +1,221 @@
+-- How turns and ends of connections are steps of a worker.
+use Rattle.std.proofs.Common.{◌≡◌, ◌≤◌, ℕ, List, [], ◌∷◌, ◌++◌, refl, sym, ap, ◌∙◌, subst, length, get_or, inl, inr, ◌<◌, ◌+◌, arith, Result, Ok, Err}
+use Rattle.std.specs.Prelude.{Option, Some, None, IsSome, Bool, OnOk, is_some, ◌⊎◌}
+use Rattle.std.specs.List.{AllByRecursion}
+use Rattle.std.proofs.lemmas.Bool.{cases_lt}
+use Rattle.std.proofs.lemmas.List.{get_or_past}
+use Rattle.slab.specs.Slab.{Slab, Updates, get, with_value}
+use Rattle.slab.proofs.SlabLemmas.{Updates-with_value}
+use Rattle.map_core.specs.declared.op.Op.{Op}
+use Rattle.map_core.specs.declared.reply.Reply.{Reply}
+use Rattle.map_core.specs.declared.reply.AskError.{AskError}
+use Rattle.frame_front.specs.declared.error.FrontError.{FrontError}
+use Rattle.workers.specs.Connection.{Owes, StopsFor, Turn, opened, told, turn_rounds}
+use Rattle.workers.specs.Stream.{May}
+use Rattle.workers.specs.declared.after.After.{After}
+use Rattle.workers.specs.declared.after.After.TheVariants.{Over}
+use Rattle.workers.specs.AtPort.{PortAnswer}
+use Rattle.workers.specs.Arrivals.{News, NewClient, IsReady, HasTicked, HasFailed}
+use Rattle.workers.specs.declared.limits.Limits.{Limits}
+use Rattle.workers.specs.Ended.{EndsView, Notes}
+use Rattle.workers.specs.Places.{Place, Places, Step, Opens, Turns, Misses, Ticks, Closes, GivesUp, Ends, Fails, AllStay, AllTick, Follows, IsGivenUp, IsLast, OthersStay, ServesFirst, TakesAll, told_by, closing_of, front_end, ticked, turn_steps, waiting_after, without}
+use Rattle.workers.specs.Private.Serving.{AreOpen, Asks, HadTurn, HadLastTurn, IsTurn, NobodyThere, Serves, Work}
+use Rattle.workers.proofs.StepLemmas.{all_stay, all_then, serves_as, serves_none, serves_one, serves_quietly, serves_then, stay_then}
+
+on_ok : {X E : Type 0} {P Q : Type 0} (r : Result X E) → OnOk r P → (P → Q) → OnOk r Q
+on_ok (Ok x) p f = f p
+on_ok (Err e) p f = p
+
+pub on_ok_both : {X E : Type 0} (P Q : Type 0) (r : Result X E) → OnOk r P → OnOk r Q → OnOk r (P × Q)
+on_ok_both P Q (Ok x) p q = (p, q)
+on_ok_both P Q (Err e) p q = tt
+
+pub on_ok_then : {X E : Type 0} {P Q : Type 0} (r : Result X E) → (P → Q) → OnOk r P → OnOk r Q
+on_ok_then r f p = on_ok r p f
+
+-- ---- one place of a slab
+
+pub put_back : (s : Slab Place) (place : ℕ) (p q : Place) → get s place ≡ Some p → Updates s (with_value s place q) place (Some q)
+put_back s place p q is = Updates-with_value s place q (ap is_some is)
+
+-- no value stands beyond the slots
+pub beyond : (s : Slab Place) (place : ℕ) → length s.slots ≤ place → get s place ≡ None
+beyond s place far = get_or_past s.slots place None far
+
+-- ---- turns and ends as steps
+
+-- these steps are a turn of the connection that is there
+is_turn : (place : ℕ) (ready : Option Bool) (after : After) (o : Option Place) (p : Place) (steps : List Step) → o ≡ Some p → steps ≡ turn_steps place ready after → IsTurn place ready o steps
+is_turn place ready after o p steps was is = subst (λ (q : Option Place). IsTurn place ready q steps) (sym was) (after, is)
+
+module _ {S : Type 0} (answers : S → Op → Result Reply AskError → S → Type 0) (limits : Limits) where
+  -- a last turn, and then the connection is left
+  pub last_ends : (place : ℕ) (end : Result ℕ FrontError) (old mid new : Work) (s t : S) → HadLastTurn answers place (Some end) old.places mid.places s t → mid.waiting ≡ old.waiting → mid.kept ≡ old.kept
+      → new.places place ≡ None → OthersStay place mid.places new.places → new.waiting ≡ without place mid.waiting → Notes (front_end end ∷ []) mid.kept new.kept
+      → Serves answers limits (AllByRecursion IsLast) old new s t
+  last_ends place end old mid new s t h waits kept left others leaves notes =
+      serves_one answers limits (AllByRecursion IsLast) (Ends place end) old new s t (tt, tt)
+      (h.before, h.behind, h.was, h.does, left, stay_then place old.places mid.places new.places h.others others) (leaves ∙ ap (without place) waits)
+      (subst (λ (n : EndsView). Notes (front_end end ∷ []) n new.kept) kept notes) tt
+
+  -- last turns, and then others
+  pub last_then : (a b c : Work) (s t u : S) → Serves answers limits (AllByRecursion IsLast) a b s t → Serves answers limits (AllByRecursion IsLast) b c t u → Serves answers limits (AllByRecursion IsLast) a c s u
+  last_then a b c s t u p q =
+      serves_then answers limits (AllByRecursion IsLast) (AllByRecursion IsLast) (AllByRecursion IsLast) a b c s t u (λ xs ys waits m n. all_then IsLast xs ys m n) p q
+
+  -- a turn is taken
+  had_turn : (place : ℕ) (is_closing : Bool) (ready : Option Bool) (found after : After) (old new : Work) (s t : S) → found ≡ after → closing_of ready ≡ is_closing
+      → HadTurn answers place is_closing (Some found) old.places new.places s t → new.waiting ≡ waiting_after old.waiting (Turns place ready after) → new.kept ≡ old.kept
+      → Serves answers limits (λ steps. steps ≡ Turns place ready after ∷ []) old new s t
+  had_turn place is_closing ready found after old new s t is closes h waits kept =
+      serves_quietly answers limits (λ steps. steps ≡ Turns place ready after ∷ []) (Turns place ready after) old new s t refl
+      (h.before, record { connection = h.behind; reads_only = h.before.reads_only; silent = 0 }, h.was, h.is, told_so, refl, refl, h.others) waits refl kept tt
+    where
+      told_so : Turn turn_rounds (PortAnswer answers h.before.reads_only) after (told (closing_of ready) h.before.connection) h.behind s t
+      told_so =
+          subst (λ a. Turn turn_rounds (PortAnswer answers h.before.reads_only) a (told (closing_of ready) h.before.connection) h.behind s t) is
+          (subst (λ b. Turn turn_rounds (PortAnswer answers h.before.reads_only) found (told b h.before.connection) h.behind s t) (sym closes) h.does)
+
+  -- a turn, after which the connection is not left
+  pub turn_serves : (place : ℕ) (is_closing : Bool) (ready : Option Bool) (found after : After) (old new : Work) (s t : S) → turn_steps place ready after ≡ Turns place ready after ∷ []
+      → found ≡ after → closing_of ready ≡ is_closing → HadTurn answers place is_closing (Some found) old.places new.places s t → new.waiting ≡ waiting_after old.waiting (Turns place ready after) → new.kept ≡ old.kept
+      → Serves answers limits (IsTurn place ready (old.places place)) old new s t
+  turn_serves place is_closing ready found after old new s t stays is closes h waits kept =
+      serves_as answers limits (λ steps. steps ≡ Turns place ready after ∷ []) (IsTurn place ready (old.places place))
+      (λ steps one. is_turn place ready after (old.places place) h.before steps h.was (one ∙ sym stays)) old new s t
+      (had_turn place is_closing ready found after old new s t is closes h waits kept)
+
+  -- a turn after which the session is over, and the connection is left
+  pub over_serves : (place : ℕ) (is_closing : Bool) (ready : Option Bool) (found : After) (end : Result ℕ FrontError) (old mid new : Work) (s t : S)
+      → found ≡ Over end → closing_of ready ≡ is_closing → HadTurn answers place is_closing (Some found) old.places mid.places s t → mid.waiting ≡ without place old.waiting → mid.kept ≡ old.kept
+      → new.places place ≡ None → OthersStay place mid.places new.places → new.waiting ≡ without place mid.waiting → Notes (front_end end ∷ []) mid.kept new.kept
+      → Serves answers limits (IsTurn place ready (old.places place)) old new s t
+  over_serves place is_closing ready found end old mid new s t is closes h waits kept left others leaves notes =
+      let turn : List Step = Turns place ready (Over end) ∷ [] in
+      let close : List Step = Closes place end ∷ [] in
+      serves_then answers limits (λ steps. steps ≡ turn) (λ steps. steps ≡ close) (IsTurn place ready (old.places place)) old mid new s t t
+      (λ xs ys line p q. is_turn place ready (Over end) (old.places place) h.before (xs ++ ys) h.was (ap (λ (l : List Step). l ++ ys) p ∙ ap (λ (l : List Step). turn ++ l) q))
+      (had_turn place is_closing ready found (Over end) old mid s t is closes h waits kept)
+      (serves_one answers limits (λ steps. steps ≡ close) (Closes place end) mid new t t refl
+      (record { connection = h.behind; reads_only = h.before.reads_only; silent = 0 }, h.is, ends, left, others, refl) leaves notes tt)
+    where
+      ends : StopsFor end h.behind
+      ends = (subst (λ a. Turn turn_rounds (PortAnswer answers h.before.reads_only) a (told is_closing h.before.connection) h.behind s t) is h.does).why
+
+  -- nobody had a turn
+  pub missed_serves : (place : ℕ) (ready : Option Bool) (old new : Work) (s t : S) → NobodyThere answers place old.places new.places s t → new.waiting ≡ old.waiting → new.kept ≡ old.kept
+      → Serves answers limits (IsTurn place ready (old.places place)) old new s t
+  missed_serves place None old new s t n waits kept =
+      serves_none answers limits (IsTurn place None (old.places place)) old new s t (subst (λ (o : Option Place). IsTurn place None o []) (sym n.0) refl) n.1 waits kept n.2
+  missed_serves place (Some b) old new s t n waits kept =
+      serves_quietly answers limits (IsTurn place (Some b) (old.places place)) (Misses place b) old new s t
+      (subst (λ (o : Option Place). IsTurn place (Some b) o (Misses place b ∷ [])) (sym n.0) refl) (n.0, n.1, n.2) waits refl kept tt
+
+  -- clients may be given up in any run
+  given_up_anywhere : (steps : List Step) (p q : Places) (s : S) → AllByRecursion IsGivenUp steps → TakesAll Asks steps (p, tt) (q, tt) → TakesAll answers steps (p, s) (q, s)
+  given_up_anywhere [] p q s all a = (a.0, refl)
+  given_up_anywhere (GivesUp place ticks error ∷ steps) p q s all a =
+      let one = a.1 in
+      ((a.0.0, s), (one.0, one.1, one.2, one.3, one.4, one.5, refl), given_up_anywhere steps a.0.0 q s all.1 a.2)
+  given_up_anywhere (Opens place start reads_only ∷ steps) p q s all a = absurd all.0
+  given_up_anywhere (Turns place ready after ∷ steps) p q s all a = absurd all.0
+  given_up_anywhere (Misses place is_closing ∷ steps) p q s all a = absurd all.0
+  given_up_anywhere (Ticks ∷ steps) p q s all a = absurd all.0
+  given_up_anywhere (Closes place result ∷ steps) p q s all a = absurd all.0
+  given_up_anywhere (Ends place result ∷ steps) p q s all a = absurd all.0
+  given_up_anywhere (Fails ∷ steps) p q s all a = absurd all.0
+
+  -- a tick is counted, and then clients are given up
+  pub tick_serves : (old mid new : Work) (s : S) → AllTick old.places mid.places → mid.waiting ≡ old.waiting → mid.kept ≡ old.kept → Serves Asks limits (AllByRecursion IsGivenUp) mid new tt tt
+      → Serves answers limits (Follows HasTicked) old new s s
+  tick_serves old mid new s ticks waits kept l =
+      serves_then answers limits (λ steps. steps ≡ Ticks ∷ []) (AllByRecursion IsGivenUp) (Follows HasTicked) old mid new s s s (λ xs ys line p q. (ys, ap (λ (l : List Step). l ++ ys) p, q))
+      (serves_quietly answers limits (λ steps. steps ≡ Ticks ∷ []) Ticks old mid s s refl (ticks, refl) waits refl kept tt)
+      (record { steps = l.steps; are = l.are; takes = given_up_anywhere l.steps mid.places new.places s l.are l.takes; waits = l.waits; notes = l.notes; limited = l.limited })
+
+  -- a free place is taken
+  pub take_serves : (place : ℕ) (may : May) (left held : Option (List ℕ)) (reads_only : Bool) (old new : Work) (s : S) → old.places place ≡ None
+      → new.places place ≡ Some (record { connection = opened limits.turns may left held; reads_only = reads_only; silent = 0 }) → OthersStay place old.places new.places
+      → new.waiting ≡ old.waiting ++ place ∷ [] → new.kept ≡ old.kept → Serves answers limits (Follows (NewClient place (opened limits.turns may left held) reads_only)) old new s s
+  take_serves place may left held reads_only old new s free taken others waits kept =
+      let start = opened limits.turns may left held in
+      serves_quietly answers limits (Follows (NewClient place start reads_only)) (Opens place start reads_only) old new s s refl (free, taken, others, refl) waits refl kept (may, left, held, refl)
+
+  pub by_news : (h k : News) (old new : Work) (s t : S) → k ≡ h → Serves answers limits (Follows h) old new s t → Serves answers limits (Follows k) old new s t
+  by_news h k old new s t same a = subst (λ (n : News). Serves answers limits (Follows n) old new s t) (sym same) a
+
+  pub fails_serves : (old new : Work) (s : S) → AllStay old.places new.places → new.waiting ≡ old.waiting → Notes (told_by Fails) old.kept new.kept → Serves answers limits (Follows HasFailed) old new s s
+  fails_serves old new s same waits notes = serves_one answers limits (Follows HasFailed) Fails old new s s refl (same, refl) waits notes tt
+
+-- a turn that follows its stream
+pub turn_follows : (place : ℕ) (is_closing : Bool) (o : Option Place) (steps : List Step) → IsTurn place (Some is_closing) o steps → Follows (IsReady place is_closing) steps
+turn_follows place is_closing (Some p) steps is = inr is
+turn_follows place is_closing None steps is = inl is
+
+-- who waits is there, and so has a turn
+pub first_served : (places : Places) (waiting : List ℕ) (place : ℕ) (steps : List Step) → AreOpen places waiting → 0 < length waiting → place ≡ get_or waiting 0 place
+    → IsTurn place None (places place) steps → ServesFirst waiting steps
+first_served places [] place steps are_there some is turn = absurd (omega (arith, some))
+first_served places (first ∷ others) place steps are_there some is turn =
+    there (places first) are_there.0 (subst (λ (n : ℕ). IsTurn n None (places n) steps) is turn)
+  where
+    there : (o : Option Place) → IsSome o → IsTurn first None o steps → ServesFirst (first ∷ others) steps
+    there (Some p) some_there t = t
+    there None some_there t = cc
+
+module _ (limits : Limits) where
+  pub leaves_none : (old : Work) → Serves Asks limits (AllByRecursion IsGivenUp) old old tt tt
+  leaves_none old = serves_none Asks limits (AllByRecursion IsGivenUp) old old tt tt tt (all_stay old.places) refl refl refl
+
+  pub leaves_then : (a b c : Work) → Serves Asks limits (AllByRecursion IsGivenUp) a b tt tt → Serves Asks limits (AllByRecursion IsGivenUp) b c tt tt → Serves Asks limits (AllByRecursion IsGivenUp) a c tt tt
+  leaves_then a b c p q =
+      serves_then Asks limits (AllByRecursion IsGivenUp) (AllByRecursion IsGivenUp) (AllByRecursion IsGivenUp) a b c tt tt tt (λ xs ys waits m n. all_then IsGivenUp xs ys m n) p q
+
+  -- a client is given up
+  pub leaves_one : (place : ℕ) (error : FrontError) (old new : Work) (p : Place) → old.places place ≡ Some p → Owes (Some error) p.connection → limits.most_silent ≤ p.silent
+      → new.places place ≡ None → OthersStay place old.places new.places → new.waiting ≡ without place old.waiting → Notes (front_end (Err error) ∷ []) old.kept new.kept
+      → Serves Asks limits (AllByRecursion IsGivenUp) old new tt tt
+  leaves_one place error old new p was owes long left others leaves notes =
+      serves_one Asks limits (AllByRecursion IsGivenUp) (GivesUp place p.silent error) old new tt tt (tt, tt) (p, was, owes, refl, left, others, refl) leaves notes long
+
+-- ---- places one after the other
+
+-- one place more is ticked
+pub ticked_below : (old now new : Places) (place : ℕ) → ((other : ℕ) → other < place → now other ≡ ticked (old other)) → ((other : ℕ) → place ≤ other → now other ≡ old other)
+    → new place ≡ ticked (now place) → OthersStay place now new → (other : ℕ) → other < place + 1 → new other ≡ ticked (old other)
+ticked_below old now new place before after here others other below = by (cases_lt other place)
+  where
+    by : (other < place) ⊎ (place ≤ other) → new other ≡ ticked (old other)
+    by (inl less) = others other (λ e. absurd (omega (arith, e, less))) ∙ before other less
+    by (inr far) =
+        let same : other ≡ place = omega (arith, below, far) in
+        subst (λ (n : ℕ). new n ≡ ticked (old n)) (sym same) (here ∙ ap ticked (after place (omega arith)))
+
+-- all places are ticked, if those below this one are, and nobody stands at it or beyond
+pub all_ticked : (old new : Places) (place places : ℕ) → places ≤ place → ((other : ℕ) → other < place → new other ≡ ticked (old other))
+    → ((other : ℕ) → place ≤ other → new other ≡ old other) → ((other : ℕ) → places ≤ other → old other ≡ None) → AllTick old new
+all_ticked old new place places done below beyond nobody_there other = by (cases_lt other place)
+  where
+    by : (other < place) ⊎ (place ≤ other) → new other ≡ ticked (old other)
+    by (inl less) = below other less
+    by (inr far) =
+        let none : old other ≡ None = nobody_there other (omega (arith, far, done)) in
+        beyond other far ∙ (none ∙ ap ticked (sym none))
+
+-- one place more is free
+pub free_below : (old new : Places) (place : ℕ) → ((other : ℕ) → other < place → old other ≡ None) → new place ≡ None → OthersStay place old new
+    → (other : ℕ) → other < place + 1 → new other ≡ None
+free_below old new place before now others other below = by (cases_lt other place)
+  where
+    by : (other < place) ⊎ (place ≤ other) → new other ≡ None
+    by (inl less) = others other (λ e. absurd (omega (arith, e, less))) ∙ before other less
+    by (inr far) = let same : other ≡ place = omega (arith, below, far) in subst (λ (n : ℕ). new n ≡ None) (sym same) now
+
+-- all places are free, if those below this one are, and those beyond the last
+pub all_free : (places_open : Places) (place places : ℕ) → places ≤ place → ((other : ℕ) → other < place → places_open other ≡ None) → ((other : ℕ) → places ≤ other → places_open other ≡ None)
+    → (other : ℕ) → places_open other ≡ None
+all_free places_open place places done below beyond other = by (cases_lt other place)
+  where
+    by : (other < place) ⊎ (place ≤ other) → places_open other ≡ None
+    by (inl less) = below other less
+    by (inr far) = beyond other (omega (arith, far, done))

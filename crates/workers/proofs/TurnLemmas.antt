@@ -1,0 +1,300 @@
+-- The parts of a turn, one after the other.
+use Rattle.std.proofs.Common.{◌≡◌, ℕ, ◌+◌, ◌*◌, ◌≤◌, List, [], ◌∷◌, ◌++◌, length, refl, sym, ap, ◌∙◌, arith, append_assoc, append-nil, length-append, subst, inl, inr, Result, Ok, Err}
+use Rattle.std.specs.Prelude.{◌<◌, ◌⊎◌, Option, Bool, true, false}
+use Rattle.std.specs.Io.KnownBytes.{Appends, Consumes}
+use Rattle.std.proofs.KnownBytes.{Appends-nil, Appends-trans, Consumes-nil, Consumes-trans}
+use Rattle.std.proofs.lemmas.Grind.{flat_map-append}
+use Rattle.map_core.specs.declared.op.Op.{Op}
+use Rattle.map_core.specs.declared.reply.Reply.{Reply}
+use Rattle.map_core.specs.declared.reply.AskError.{AskError}
+use Rattle.frame_front.specs.declared.error.FrontError.{FrontError}
+use Rattle.frame_front.specs.declared.error.FrontError.TheVariants.{BadLength, Truncated, ReadFault, WriteFault, TurnsUsed, Memory}
+use Rattle.frame_front.specs.Frame.{IsBadLength}
+use Rattle.frame_front.specs.Live.{LiveView, Sends, StopsAt, most_frames}
+use Rattle.frame_front.specs.LiveCalls.{LiveCall, DoesAll, piece_of, bytes_of, Feed, Send, fed, sent, frames_of}
+use Rattle.workers.specs.declared.after.After.{After}
+use Rattle.workers.specs.declared.ends.Broken.{Broken}
+use Rattle.workers.specs.declared.after.After.TheVariants.{Waits, Again, Over}
+use Rattle.workers.specs.Connection.{ConnectionView, EndsFor, EndsHere, EndsShort, HadShare, IsLost, LosesOnly, MakesReads, StopsFor, Turn, WaitsFor, room_bytes}
+use Rattle.workers.specs.Reads.{reads_for, reads_of}
+use Rattle.workers.specs.Private.Goes.{Goes, GoesOn, ReadsAs, Round, SendsAs, StaysShort, StaysSo, StopsIn}
+use Rattle.workers.proofs.ReadLemmas.{makes_then}
+
+pub frames_append : (xs ys : List LiveCall) → frames_of (xs ++ ys) ≡ frames_of xs + frames_of ys
+frames_append [] ys = omega arith
+frames_append (x ∷ xs) ys = omega (arith, frames_append xs ys)
+
+pub reads_append : (xs ys : List LiveCall) → reads_of (xs ++ ys) ≡ reads_of xs + reads_of ys
+reads_append [] ys = omega arith
+reads_append (x ∷ xs) ys = omega (arith, reads_append xs ys)
+
+sent_append : (xs ys : List LiveCall) → length (sent (xs ++ ys)) ≡ length (sent xs) + length (sent ys)
+sent_append xs ys = ap length (flat_map-append bytes_of xs ys) ∙ length-append (sent xs) (sent ys)
+
+-- a round more
+share_then : (rounds : ℕ) (xs ys : List LiveCall) → HadShare rounds xs → HadShare 1 ys → HadShare (rounds + 1) (xs ++ ys)
+share_then rounds xs ys h k = (
+  h.0 + k.0,
+  omega (arith, h.1, k.1, reads_append xs ys),
+  omega (arith, h.2, k.2, sent_append xs ys),
+)
+
+-- some calls, and then others, of which the last read was a short one
+short_after : (xs ys : List LiveCall) → EndsShort ys → EndsShort (xs ++ ys)
+short_after xs ys s = record {
+  before = xs ++ s.before;
+  piece = s.piece;
+  after = s.after;
+  parts = ap (λ (l : List LiveCall). xs ++ l) s.parts ∙ sym (append_assoc xs s.before (Feed s.piece ∷ s.after));
+  some = s.some;
+  short = s.short;
+  no_more = s.no_more;
+}
+
+-- or others that have no read
+short_before : (xs ys : List LiveCall) → EndsShort xs → reads_of ys ≡ 0 → EndsShort (xs ++ ys)
+short_before xs ys s none = record {
+  before = s.before;
+  piece = s.piece;
+  after = s.after ++ ys;
+  parts = ap (λ (l : List LiveCall). l ++ ys) s.parts ∙ append_assoc s.before (Feed s.piece ∷ s.after) ys;
+  some = s.some;
+  short = s.short;
+  no_more = omega (arith, reads_append s.after ys, s.no_more, none);
+}
+
+-- a connection that waits since it has read so, waits since it has read otherwise
+waits_by : (P Q : Type 0) (c : ConnectionView) → (P → Q) → WaitsFor P c → WaitsFor Q c
+waits_by P Q c f (inl writes) = inl writes
+waits_by P Q c f (inr reads) = inr (reads.0, reads.1, reads.2, reads.3, by reads.4)
+  where
+    by : (c.may.read_waits ≡ true) ⊎ ((c.may.leaves_room ≡ true) × (c.is_closing ≡ false) × P) → (c.may.read_waits ≡ true) ⊎ ((c.may.leaves_room ≡ true) × (c.is_closing ≡ false) × Q)
+    by (inl waits) = inl waits
+    by (inr short) = inr (short.0, short.1, f short.2)
+
+stops_by : (P Q : Type 0) (after : After) (c : ConnectionView) → (P → Q) → StopsIn P after c → StopsIn Q after c
+stops_by P Q Waits c f stops = waits_by P Q c f stops
+stops_by P Q Again c f stops = absurd stops
+stops_by P Q (Over result) c f stops = stops
+
+pub stays_then : (a b c : ConnectionView) → StaysSo a b → StaysSo b c → StaysSo a c
+stays_then a b c p q = (q.0 ∙ p.0, q.1 ∙ p.1)
+
+pub loses_then : (lost : List ℕ) (a b c : ConnectionView) → LosesOnly [] a b → LosesOnly lost b c → LosesOnly lost a c
+loses_then lost a b c p q e = now (q e)
+  where
+    before : (a.has_lost ≡ true) ⊎ (0 < length {A = ℕ} []) → (a.has_lost ≡ true) ⊎ (0 < length lost)
+    before (inl older) = inl older
+    before (inr none) = absurd (omega (arith, none))
+
+    now : (b.has_lost ≡ true) ⊎ (0 < length lost) → (a.has_lost ≡ true) ⊎ (0 < length lost)
+    now (inl earlier) = before (p earlier)
+    now (inr some) = inr some
+
+-- the input ends where it has not ended before
+pub ends_then : (a b c : ConnectionView) → b.has_ended ≡ a.has_ended → EndsHere b c → EndsHere a c
+ends_then a b c same (inl before) = inl (before ∙ same)
+ends_then a b c same (inr now) = inr now
+
+module _ {S : Type 0} (answers : S → Op → Result Reply AskError → S → Type 0) where
+  pub does_then : (xs ys : List LiveCall) (a b c : LiveView × S) → DoesAll answers xs a b → DoesAll answers ys b c → DoesAll answers (xs ++ ys) a c
+  does_then [] ys a b c p q = subst (λ s. DoesAll answers ys s c) p q
+  does_then (x ∷ xs) ys a b c p q = (p.0, p.1, does_then xs ys p.0 b c p.2 q)
+
+  module _ (most more total : ℕ) (lost : List ℕ) (a b c : ConnectionView) (m n o : S) (p : Goes answers most [] a b m n) (q : Goes answers more lost b c n o)
+      (enough : most + more ≤ total) (unended : b.has_ended ≡ a.has_ended) where
+    pub fed_both : (fed p.calls ++ []) ++ (fed q.calls ++ lost) ≡ fed (p.calls ++ q.calls) ++ lost
+    fed_both =
+        ap (λ (l : List ℕ). l ++ (fed q.calls ++ lost)) (append-nil (fed p.calls))
+        ∙ (sym (append_assoc (fed p.calls) (fed q.calls) lost) ∙ ap (λ (l : List ℕ). l ++ lost) (sym (flat_map-append piece_of p.calls q.calls)))
+
+    -- one part, and then another
+    abbrev pub goes_then : Goes answers total lost a c m o
+    goes_then = record {
+      calls = p.calls ++ q.calls;
+      does = does_then p.calls q.calls (a.live, m) (b.live, n) (c.live, o) p.does q.does;
+      consumes = subst (Consumes a.left c.left) fed_both
+          (Consumes-trans a.left b.left c.left (fed p.calls ++ []) (fed q.calls ++ lost) p.consumes q.consumes);
+      appends = subst (Appends a.held c.held) (sym (flat_map-append bytes_of p.calls q.calls))
+          (Appends-trans a.held b.held c.held (sent p.calls) (sent q.calls) p.appends q.appends);
+      makes = makes_then (reads_of p.calls + 0) (reads_of q.calls + reads_for lost) (reads_of (p.calls ++ q.calls) + reads_for lost) a b c p.makes q.makes
+          (omega (arith, reads_append p.calls q.calls));
+      answered = omega (arith, p.answered, q.answered, frames_append p.calls q.calls);
+      share = omega (arith, p.share, q.share, frames_append p.calls q.calls, enough);
+      stays = stays_then a b c p.stays q.stays;
+      quiet = λ e. sym fed_both ∙ (ap (λ (l : List ℕ). l ++ (fed q.calls ++ lost)) (p.quiet e) ∙ q.quiet (unended ∙ e));
+      loses_only = loses_then lost a b c p.loses_only q.loses_only;
+    }
+
+  -- What is known of a turn after some rounds and its next part.
+  abbrev Further : ℕ → Bool → List ℕ → List LiveCall → ConnectionView → ConnectionView → S → S → Type 0
+  Further rounds had_left lost calls a c m o = (goes : Goes answers ((rounds + 1) * most_frames) lost a c m o) × (HadShare 1 calls → HadShare (rounds + 1) goes.calls)
+      × (EndsShort calls ⊎ StaysShort had_left calls → EndsShort goes.calls)
+
+  -- a turn after some rounds, and the next part of it
+  pub goes_on : (rounds : ℕ) (had_left : Bool) (lost : List ℕ) (a b c : ConnectionView) (m n o : S) → GoesOn answers rounds had_left a b m n → (q : Goes answers most_frames lost b c n o)
+      → b.has_ended ≡ a.has_ended → Further rounds had_left lost q.calls a c m o
+  goes_on rounds had_left lost a b c m n o (inl none) q unended =
+      subst (λ s. Further rounds had_left lost q.calls s c m o) none.1 (subst (λ s. Further rounds had_left lost q.calls b c s o) none.2
+      (first, λ h. (h.0, omega (arith, none.0, h.1), h.2), short))
+    where
+      no : (b : Bool) → b ≡ false → b ≡ true → ⊥
+      no b is e = cc
+
+      short : EndsShort q.calls ⊎ StaysShort had_left q.calls → EndsShort q.calls
+      short (inl s) = s
+      short (inr s) = absurd (no had_left none.3 s.0)
+
+      first : Goes answers ((rounds + 1) * most_frames) lost b c n o
+      first = record {
+        calls = q.calls;
+        does = q.does;
+        consumes = q.consumes;
+        appends = q.appends;
+        makes = q.makes;
+        answered = q.answered;
+        share = omega (arith, q.share);
+        stays = q.stays;
+        quiet = q.quiet;
+        loses_only = q.loses_only;
+      }
+  goes_on rounds had_left lost a b c m n o (inr p) q unended = (
+    goes_then (rounds * most_frames) most_frames ((rounds + 1) * most_frames) lost a b c m n o p.0 q (omega arith) unended,
+    λ h. share_then rounds p.0.calls q.calls p.1 h,
+    short,
+  )
+    where
+      short : EndsShort q.calls ⊎ StaysShort had_left q.calls → EndsShort (p.0.calls ++ q.calls)
+      short (inl s) = short_after p.0.calls q.calls s
+      short (inr s) = short_before p.0.calls q.calls (p.2 s.0) s.1
+
+  -- frames are answered, and replies written
+  pub round_sent : (result : Result Bool Broken) (a b c : ConnectionView) (m n : S) → Goes answers most_frames [] a b m n → (q : SendsAs result b c)
+      → b.has_ended ≡ a.has_ended → b.turns ≡ a.turns → (goes : Goes answers most_frames [] a c m n) × (length q.bytes ≤ length (sent goes.calls)) × (reads_of goes.calls ≡ 0)
+  round_sent result a b c m n p q unended unread =
+      let sends : Goes answers 0 [] b c n n = record {
+        calls = Send q.bytes ∷ [];
+        does = ((c.live, n), (q.sends, refl), refl);
+        consumes = subst (λ (l : Option (List ℕ)). Consumes b.left l []) (sym q.left) (Consumes-nil b.left);
+        appends = subst (Appends b.held c.held) (sym (append-nil q.bytes)) q.appends;
+        makes = omega (arith, q.turns);
+        answered = omega (arith, p.answered, q.answered);
+        share = omega arith;
+        stays = q.stays;
+        quiet = λ e. refl;
+        loses_only = λ e. inl (sym q.has_lost ∙ e);
+      } in (
+        goes_then most_frames 0 most_frames [] a b c m n n p sends (omega arith) unended,
+        omega (arith, sent_append p.calls (Send q.bytes ∷ []), length-append q.bytes []),
+        omega (arith, reads_append p.calls (Send q.bytes ∷ []), p.makes, unread),
+      )
+
+  -- What is known of a round that has read this piece.
+  abbrev HasRead : List ℕ → List ℕ → ConnectionView → ConnectionView → S → S → Type 0
+  HasRead piece lost a c m n = (goes : Goes answers most_frames lost a c m n) × (reads_for piece ≤ reads_of goes.calls) × (0 < length piece → length piece < room_bytes → EndsShort goes.calls)
+
+  -- and then a piece is read
+  pub round_read : (had_left : Bool) (result : Result Bool After) (a b c : ConnectionView) (m n : S) → Goes answers most_frames [] a b m n → (q : ReadsAs had_left result b c)
+      → b.has_ended ≡ a.has_ended → HasRead q.piece q.lost a c m n
+  round_read had_left result a b c m n p q unended =
+      let reads : Goes answers 0 q.lost b c n n = record {
+        calls = Feed q.piece ∷ [];
+        does = ((c.live, n), (q.feeds, refl), refl);
+        consumes = subst (λ (l : List ℕ). Consumes b.left c.left (l ++ q.lost)) (sym (append-nil q.piece)) q.consumes;
+        appends = subst (λ (l : Option (List ℕ)). Appends b.held l []) (sym q.held) (Appends-nil b.held);
+        makes = subst (λ n. MakesReads n b c) (omega arith) q.makes;
+        answered = omega (arith, p.answered, q.answered);
+        share = omega arith;
+        stays = q.stays;
+        quiet = λ e. ap (λ (l : List ℕ). l ++ q.lost) (append-nil q.piece) ∙ q.quiet e;
+        loses_only = q.loses_only;
+      } in (
+        goes_then most_frames 0 most_frames q.lost a b c m n n p reads (omega arith) unended,
+        omega (arith, reads_append p.calls (Feed q.piece ∷ [])),
+        λ some short. record { before = p.calls; piece = q.piece; after = []; parts = refl; some = some; short = short; no_more = refl },
+      )
+
+  -- what ends the read ends the round
+  pub round_ends : (had_left : Bool) (result : Result Bool After) (a b c : ConnectionView) (m n : S) (q : ReadsAs had_left result b c)
+      → HasRead q.piece q.lost a c m n → b.has_ended ≡ a.has_ended → b.turns ≡ a.turns → Round answers had_left result a c m n
+  round_ends had_left (Err after) a b c m n q goes same unread =
+      let unmade : (had_left ≡ true) × (c.turns ≡ b.turns) → StaysShort had_left goes.0.calls = λ (h : (had_left ≡ true) × (c.turns ≡ b.turns)). (h.0, omega (arith, goes.0.makes, h.1, unread)) in
+      (q.lost, goes.0, q.until.0, ends_then a b c same q.until.1, stops_by ((had_left ≡ true) × (c.turns ≡ b.turns)) (StaysShort had_left goes.0.calls) after c unmade q.until.2)
+  round_ends had_left (Ok has_left) a b c m n q goes same unread =
+      subst (λ (lost : List ℕ). HasRead q.piece lost a c m n → Round answers had_left (Ok has_left) a c m n) (sym q.until.0)
+      (λ g. (g.0, q.until.1 ∙ same, (0, omega (arith, g.1, q.until.2), omega arith), q.until.3, λ e. inl (g.2 q.until.2 (q.until.4 e)))) goes
+
+  -- a turn ends with a round
+  pub turn_ends : (most rounds : ℕ) (had_left : Bool) (after : After) (a b c : ConnectionView) (m n o : S) → rounds < most → GoesOn answers rounds had_left a b m n → b.has_ended ≡ a.has_ended
+      → Round answers had_left (Err after) b c n o → Turn most answers after a c m o
+  turn_ends most rounds had_left after a b c m n o few before same e =
+      let further = goes_on rounds had_left e.0 a b c m n o before e.1 same in
+      let goes = further.0 in
+      record {
+        calls = goes.calls;
+        lost = e.0;
+        does = goes.does;
+        consumes = goes.consumes;
+        appends = goes.appends;
+        makes = goes.makes;
+        answered = goes.answered;
+        share = omega (arith, goes.share, few);
+        may = goes.stays.0;
+        closing = goes.stays.1;
+        loses = e.2;
+        ends = ends_then a b c same e.3;
+        quiet = goes.quiet;
+        loses_only = goes.loses_only;
+        why = why after goes.calls (λ s. further.2 (inr s)) e.4;
+      }
+    where
+      why : (after : After) (calls : List LiveCall) → (StaysShort had_left e.1.calls → EndsShort calls) → StopsIn (StaysShort had_left e.1.calls) after c → EndsFor most after calls c
+      why Waits calls short stops = waits_by (StaysShort had_left e.1.calls) (EndsShort calls) c short stops
+      why Again calls short stops = absurd stops
+      why (Over result) calls short stops = stops
+
+  -- or after all its rounds
+  pub turn_is_over : (most rounds : ℕ) (had_left : Bool) (a b : ConnectionView) (m n : S) → 0 < most → rounds ≡ most → GoesOn answers rounds had_left a b m n → b.has_ended ≡ a.has_ended
+      → Turn most answers Again a b m n
+  turn_is_over most rounds had_left a b m n some all (inl none) same = absurd (omega (arith, all, some, none.0))
+  turn_is_over most rounds had_left a b m n some all (inr p) same =
+      let goes = p.0 in
+      record {
+        calls = goes.calls;
+        lost = [];
+        does = goes.does;
+        consumes = goes.consumes;
+        appends = goes.appends;
+        makes = goes.makes;
+        answered = goes.answered;
+        share = subst (λ r. frames_of goes.calls ≤ r * most_frames) all goes.share;
+        may = goes.stays.0;
+        closing = goes.stays.1;
+        loses = refl;
+        ends = inl same;
+        quiet = goes.quiet;
+        loses_only = goes.loses_only;
+        why = subst (λ r. HadShare r goes.calls) all p.1;
+      }
+
+-- no byte is lost
+pub none_lost : (error : FrontError) → IsLost (Over (Err error)) []
+none_lost BadLength = refl
+none_lost Truncated = refl
+none_lost ReadFault = refl
+none_lost WriteFault = refl
+none_lost TurnsUsed = refl
+none_lost Memory = tt
+
+-- what ends a session ends its connection, once all is sent
+pub stops_for : (error : FrontError) (bytes : List ℕ) (b c : ConnectionView) → StopsAt (Err error) b.live → Sends bytes b.live c.live → c.live.ready ≡ []
+    → StopsFor (Err error) c
+stops_for BadLength bytes b c stops sends none = (
+  subst IsBadLength (sym sends.1) stops.0,
+  ap (λ (l : List ℕ). l ++ c.live.later) none ∙ (sends.3 ∙ stops.1),
+)
+stops_for Truncated bytes b c stops sends none = absurd stops
+stops_for ReadFault bytes b c stops sends none = absurd stops
+stops_for WriteFault bytes b c stops sends none = absurd stops
+stops_for TurnsUsed bytes b c stops sends none = absurd stops
+stops_for Memory bytes b c stops sends none = inl (λ empty. stops (sym sends.3 ∙ empty))

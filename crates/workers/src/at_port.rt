@@ -1,0 +1,61 @@
+//! A map that is asked at a port.
+ghost use Rattle.std.specs.Prelude.{◌≡◌};
+ghost use Rattle.workers.specs.ReadOnly.{is_read as reads};
+
+use map_core::{Ask, AskError, Op, Reply, Viewer};
+use spiffe_doc::TrustDomain;
+
+/// A map that is asked at a port. At a port for reads only, gets and fetch-alls are answered by the map behind it; to each
+/// other operation the answer is that the gate is shut (number 56), and the map behind it is not asked.
+#[derive(Drop)]
+pub struct AtPort<A> {
+    pub ask: A,
+    pub reads_only: bool,
+}
+
+impl<A> AtPort<A> {
+    /// The map behind it is this one.
+    pub fn new(ask: A, reads_only: bool) -> AtPort<A>
+        ensures ask { result.ask ≡ ask }
+        ensures reads_only { result.reads_only ≡ reads_only }
+    {
+        AtPort { ask, reads_only }
+    }
+}
+
+/// Whether the operation changes nothing, whatever it is answered.
+fn is_read(op: &Op) -> bool
+    ensures { result ≡ reads op.now }
+{
+    matches!(op, Op::Get(_) | Op::FetchAll)
+}
+
+impl<A: Ask> Ask for AtPort<A> {
+    ghost use Rattle.workers.specs.AtPort.{PortAnswer, port_answers_plainly};
+
+    ghost answers = { λ old op answer new. (new.reads_only ≡ old.reads_only) × PortAnswer A.answers old.reads_only old.ask op answer new.ask };
+
+    ghost shows = { λ port. A.shows port.ask };
+
+    ghost answers_plainly = { λ old op answer new m shown answered. port_answers_plainly A.answers A.shows A.answers_plainly old.reads_only old.ask op answer new.ask m shown answered.1 };
+
+    fn ask(&mut self, op: Op) -> Result<Reply, AskError> {
+        if self.reads_only && !is_read(&op) {
+            drop(op);
+            return Err(AskError::GateShut);
+        }
+        self.ask.ask(op)
+    }
+
+    fn ask_get(&mut self, domain: TrustDomain) -> Result<Reply, AskError> {
+        self.ask.ask_get(domain)
+    }
+
+    fn show_get<V: Viewer>(
+        &mut self,
+        domain: TrustDomain,
+        viewer: &mut V,
+    ) -> Result<Option<Reply>, AskError> {
+        self.ask.show_get(domain, viewer)
+    }
+}

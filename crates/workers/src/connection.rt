@@ -1,0 +1,252 @@
+//! A stream that never waits, and the session that it carries.
+ghost use Rattle.std.specs.Prelude.{◌≡◌, ◌<◌, [], true, IfOk};
+ghost use Rattle.frame_front.specs.Frame.{IsUnfinished};
+ghost use Rattle.frame_front.specs.Live.{waiting, StopsAt};
+ghost use Rattle.workers.specs.Connection.{IsLost, LastTurn, Owes, StopsFor, Turn, ended, opened, told, turn_rounds};
+ghost use Rattle.workers.specs.Private.Ends.{LeavesAs};
+ghost use Rattle.workers.specs.Private.Goes.{Answers, SendsAs, ReadsAs, Round};
+
+use crate::after::After;
+use crate::ends::{Broken, Came, ROOM_BYTES, read_piece, write_replies};
+use crate::limited::Limited;
+use crate::stream::Stream;
+use frame_front::{FrontError, LiveSession, Wants};
+use map_core::Ask;
+use spiffe_doc::DocumentReader;
+use std::alloc::{AllocError, Global};
+use std::marker::Model;
+
+/// How often a connection may read in one turn.
+const TURN_ROUNDS: u64 = 8;
+
+/// How often replies may be written in the last turn.
+const LAST_ROUNDS: u64 = 64;
+
+/// A stream whose reads and writes fail with `WouldBlock` where they would wait, and its session.
+#[derive(Drop)]
+pub struct Connection<E: Stream + Drop> {
+    end: Limited<E>,
+    live: LiveSession,
+    /// How many frames were answered. It stays at 2^64 - 1 once there.
+    answered: u64,
+    /// Whether no more input comes, or none is taken any more.
+    has_ended: bool,
+    /// Whether bytes that were read are lost, since memory for them was refused.
+    has_lost: bool,
+    /// Whether the client is known to have closed its side: then reads are to go on to the end.
+    is_closing: bool,
+}
+
+impl<E: Stream + Drop> Model for Connection<E> {
+    ghost use Rattle.workers.specs.Connection.{ConnectionView};
+    ghost use Rattle.workers.specs.Private.Limited.{stream_of, turns_of};
+
+    ghost Value = { ConnectionView };
+
+    ghost view = { λ c. record {
+      live = c.live;
+      answered = c.answered;
+      turns = turns_of c.end;
+      has_ended = c.has_ended;
+      has_lost = c.has_lost;
+      is_closing = c.is_closing;
+      may = E.may (stream_of c.end);
+      left = E.left (stream_of c.end);
+      held = E.held (stream_of c.end);
+    } };
+}
+
+impl<E: Stream + Drop> Connection<E> {
+    /// Nothing has come yet. The connection may make so many reads; `u64::MAX` is as good as no limit. A read counts if it
+    /// gives bytes: one that would have to wait does not count, since a stream may be told to be ready and have nothing.
+    pub fn new(alloc: Global, end: E, turns: u64) -> Result<Connection<E>, AllocError>
+        ensures { IfOk result (λ new. new ≡ opened turns (E.may end) (E.left end) (E.held end)) }
+    {
+        Ok(Connection {
+            end: Limited::new(end, turns),
+            live: LiveSession::new(alloc)?,
+            answered: 0,
+            has_ended: false,
+            has_lost: false,
+            is_closing: false,
+        })
+    }
+
+    /// What the client owes: the rest of a frame (`ReadFault`), or that it takes replies (`WriteFault`).
+    pub fn owes(&self) -> Option<FrontError>
+        ensures { Owes result self.now }
+    {
+        if !self.live.replies().is_empty() {
+            return Some(FrontError::WriteFault);
+        }
+        match self.live.finish() {
+            Ok(_) => None,
+            Err(_) => Some(FrontError::ReadFault),
+        }
+    }
+
+    /// Gives back the memory that no byte needs, as of a client that is quiet. Nothing else changes.
+    pub fn rest(&mut self)
+        ensures { self.new ≡ self.old }
+    {
+        self.live.rest();
+    }
+
+    /// Answers whole frames that have come.
+    fn answer<A: Ask>(
+        &mut self,
+        documents: &mut DocumentReader,
+        ask: &mut A,
+    ) -> Result<Wants, FrontError>
+        ensures answers { Answers A.answers self.old self.new ask.old ask.new }
+        ensures stops { StopsAt result self.new.live }
+    {
+        let answered = self.live.answer(documents, ask);
+        self.answered = self.answered.saturating_add(answered.frames);
+        answered.next
+    }
+
+    /// Writes the replies that are ready. The answer is whether all are written; if not, the stream takes no more now.
+    fn send(&mut self) -> Result<bool, Broken>
+        ensures { SendsAs result self.old self.new }
+    {
+        write_replies(&mut self.end, &mut self.live)
+    }
+
+    /// How the session ends, if its input ends here.
+    fn finish(&self) -> Result<u64, FrontError>
+        requires unfinished { IsUnfinished self.now.live.kept }
+        requires sent { waiting self.now.live ≡ [] }
+        requires ended { self.now.has_ended ≡ true }
+        ensures stops { StopsFor result self.now }
+        ensures none { IsLost (After.Over result) [] }
+    {
+        match self.live.finish() {
+            Ok(true) => Ok(self.answered),
+            Ok(false) => unreachable!(),
+            Err(error) => Err(error),
+        }
+    }
+
+    /// Reads once, if no whole frame is left and nothing waits. The turn ends with the answer, or goes on: then the answer
+    /// is whether the read has left some of its room. If the one before has, there is no more to read now.
+    fn read(&mut self, room: &mut [u8; ROOM_BYTES], has_left: bool) -> Result<bool, After>
+        requires unfinished { IsUnfinished self.old.live.kept }
+        requires sent { waiting self.old.live ≡ [] }
+        requires left { LeavesAs has_left self.old.may }
+        ensures { ReadsAs has_left result self.old self.new }
+    {
+        if self.has_ended {
+            return Err(After::Over(self.finish()));
+        }
+        if self.end.turns() == 0 {
+            return Err(After::Over(Err(FrontError::TurnsUsed)));
+        }
+        if has_left && !self.is_closing {
+            return Err(After::Waits);
+        }
+        match read_piece(&mut self.end, &mut self.live, room) {
+            Came::Piece(has_left) => Ok(has_left),
+            Came::Nothing => Err(After::Waits),
+            Came::End => {
+                self.has_ended = true;
+                Err(After::Over(self.finish()))
+            }
+            Came::NoMemory => {
+                self.has_lost = true;
+                Err(After::Over(Err(FrontError::Memory)))
+            }
+            Came::Broken => Err(After::Over(Err(FrontError::ReadFault))),
+        }
+    }
+
+    /// Answers what has come, writes the replies, and reads once. The turn ends with the answer, or goes on: then the
+    /// answer is whether the last read has left some of its room.
+    fn go_round<A: Ask>(
+        &mut self,
+        documents: &mut DocumentReader,
+        room: &mut [u8; ROOM_BYTES],
+        ask: &mut A,
+        has_left: bool,
+    ) -> Result<bool, After>
+        requires { LeavesAs has_left self.old.may }
+        ensures { Round A.answers has_left result self.old self.new ask.old ask.new }
+    {
+        let wants = self.answer(documents, ask);
+        match self.send() {
+            Ok(true) => {}
+            Ok(false) => return Err(After::Waits),
+            Err(Broken) => return Err(After::Over(Err(FrontError::WriteFault))),
+        }
+        let wants = match wants {
+            Ok(wants) => wants,
+            Err(error) => return Err(After::Over(Err(error))),
+        };
+        match wants {
+            Wants::Write => Ok(has_left),
+            Wants::Read => self.read(room, has_left),
+        }
+    }
+
+    /// A turn of so many rounds.
+    fn go<A: Ask>(
+        &mut self,
+        documents: &mut DocumentReader,
+        room: &mut [u8; ROOM_BYTES],
+        ask: &mut A,
+        most: u64,
+    ) -> After
+        requires { 0 < most }
+        ensures { Turn most A.answers result self.old self.new ask.old ask.new }
+    {
+        let mut rounds = 0;
+        let mut has_left = false;
+        while rounds < most {
+            match self.go_round(documents, room, ask, has_left) {
+                Ok(has) => has_left = has,
+                Err(after) => return after,
+            }
+            rounds += 1;
+        }
+        After::Again
+    }
+
+    /// Answers what has come and what comes now, in order, until the stream has no more or takes no more, the session is
+    /// over, or the connection has had its share: 8 reads. A short read is the last of the turn. One exception: the client
+    /// is closing (`is_closing`); then we read until the stream says so. Once the connection has made all reads that it
+    /// may, what they gave is answered, the replies are written, and the session ends with `TurnsUsed`. The connections of
+    /// one thread can share the room for reading, and the reader of documents.
+    pub fn turn<A: Ask>(
+        &mut self,
+        documents: &mut DocumentReader,
+        room: &mut [u8; ROOM_BYTES],
+        ask: &mut A,
+        is_closing: bool,
+    ) -> After
+        ensures { Turn turn_rounds A.answers result (told is_closing self.old) self.new ask.old ask.new }
+    {
+        if is_closing {
+            self.is_closing = true;
+        }
+        self.go(documents, room, ask, TURN_ROUNDS)
+    }
+
+    /// The last turn: nothing is read any more, and what has come is answered, as far as the stream takes it at once. If it
+    /// takes no more, the session ends with `WriteFault`; and after 64 rounds, in which at least 12,582,912 bytes of replies
+    /// were sent, with `TurnsUsed`.
+    pub fn last_turn<A: Ask>(
+        &mut self,
+        documents: &mut DocumentReader,
+        room: &mut [u8; ROOM_BYTES],
+        ask: &mut A,
+    ) -> Result<u64, FrontError>
+        ensures { LastTurn A.answers result self.old self.new ask.old ask.new }
+    {
+        self.has_ended = true;
+        match self.go(documents, room, ask, LAST_ROUNDS) {
+            After::Over(end) => end,
+            After::Waits => Err(FrontError::WriteFault),
+            After::Again => Err(FrontError::TurnsUsed),
+        }
+    }
+}

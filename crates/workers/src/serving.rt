@@ -1,0 +1,363 @@
+//! Serving many connections beside each other.
+ghost use Rattle.std.specs.Prelude.{◌≡◌, ◌≤◌, ◌++◌, ℕ, [], ◌∷◌, Bool, Option, None, Some, Err, IfOk, OnOk, IfSome};
+ghost use Rattle.std.specs.List.{AllByRecursion};
+ghost use Rattle.slab.specs.Slab.{get};
+ghost use Rattle.workers.specs.Ended.{kept_of, Notes};
+ghost use Rattle.workers.specs.Connection.{Owes, opened};
+ghost use Rattle.workers.specs.Arrivals.{Brings, IsStop, IsToStop, news_in};
+ghost use Rattle.workers.specs.Places.{Place, AllTick, Fails, Follows, IsGivenUp, IsLast, OthersStay, ServedAll, ServesFirst, closing_of, front_end, ticked, told_by, without};
+ghost use Rattle.workers.specs.Private.Serving.{AreOpen, Asks, HadLastTurn, HadTurn, IsTurn, Serves, work_of};
+
+use crate::arrivals::{Arrival, Arrivals};
+use crate::at_port::AtPort;
+use crate::worker::Worker;
+use crate::{After, Connection, Log, ROOM_BYTES, SessionEnds, SessionFault, Stream};
+use frame_front::FrontError;
+use map_core::Ask;
+use slab::Slab;
+use spiffe_doc::DocumentReader;
+use std::alloc::{AllocError, Global};
+use std::collections::VecDeque;
+use std::marker::Model;
+
+/// A connection at its place.
+#[derive(Drop)]
+struct Placed<E: Stream + Drop> {
+    connection: Connection<E>,
+    reads_only: bool,
+    /// How many ticks have passed since its last turn.
+    silent: u64,
+}
+
+/// The connections of a worker, and what they share.
+#[derive(Drop)]
+struct Served<E: Stream + Drop> {
+    open: Slab<Placed<E>>,
+    /// The places of connections that wait for a turn, in this order: those that are new, and those that have had their share
+    /// of one and may have more to do. Each stands there once.
+    waiting: VecDeque<usize>,
+    documents: DocumentReader,
+    /// What is read goes there first.
+    room: [u8; ROOM_BYTES],
+    ends: SessionEnds,
+}
+
+impl<E: Stream + Drop> Model for Placed<E> {
+    ghost use Rattle.workers.specs.Places.{Place};
+
+    ghost Value = { Place };
+
+    ghost view = { λ p. record { connection = p.connection; reads_only = p.reads_only; silent = p.silent } };
+}
+
+/// The connection at a place waits for no turn any more.
+fn wait_no_more(waiting: &mut VecDeque<usize>, place: usize)
+    ensures { waiting.new.items ≡ without place waiting.old.items }
+{
+    waiting.retain(|other| *other != place);
+}
+
+impl<E: Stream + Drop> Served<E> {
+    /// No client is connected yet.
+    fn new(alloc: Global) -> Served<E>
+        ensures open { result.open.slots ≡ [] }
+        ensures waiting { result.waiting.items ≡ [] }
+        ensures ends { result.ends ≡ kept_of [] }
+    {
+        Served {
+            open: Slab::new(alloc),
+            waiting: VecDeque::new(alloc),
+            documents: DocumentReader::new(alloc),
+            room: [0; ROOM_BYTES],
+            ends: SessionEnds::new(alloc),
+        }
+    }
+
+    /// Takes a client at the next free place. It waits for its first turn.
+    fn take<L: Log>(
+        &mut self,
+        end: E,
+        reads_only: bool,
+        worker: &Worker<'_, L>,
+    ) -> Result<(), AllocError>
+        ensures free { OnOk result (get self.old.open self.old.open.vacant_key ≡ None) }
+        ensures taken { OnOk result (get self.new.open self.old.open.vacant_key ≡ Some (record { connection = opened worker.now.limits.turns (E.may end) (E.left end) (E.held end); reads_only = reads_only; silent = 0 })) }
+        ensures others { OnOk result (OthersStay self.old.open.vacant_key (get self.old.open) (get self.new.open)) }
+        ensures waits { OnOk result (self.new.waiting.items ≡ self.old.waiting.items ++ self.old.open.vacant_key ∷ []) }
+        ensures ends { self.new.ends ≡ self.old.ends }
+    {
+        let placed = Placed {
+            connection: Connection::new(worker.alloc, end, worker.limits.turns)?,
+            reads_only,
+            silent: 0,
+        };
+        let place = self.open.insert(placed)?;
+        self.waiting.push_back(place)?;
+        Ok(())
+    }
+
+    /// Gives the connection at a place a turn, if one is there.
+    fn turn<A: Ask>(&mut self, place: usize, is_closing: bool, ask: &mut AtPort<A>) -> Option<After>
+        ensures turn { HadTurn A.answers place is_closing result (get self.old.open) (get self.new.open) ask.old.ask ask.new.ask }
+        ensures waiting { self.new.waiting ≡ self.old.waiting }
+        ensures ends { self.new.ends ≡ self.old.ends }
+    {
+        let placed = self.open.get_mut(place)?;
+        placed.silent = 0;
+        ask.reads_only = placed.reads_only;
+        let connection = &mut placed.connection;
+        Some(connection.turn(&mut self.documents, &mut self.room, ask, is_closing))
+    }
+
+    /// Gives the connection at a place its last turn, if one is there: nothing is read any more. The answer is how its
+    /// session ends.
+    fn last_turn<A: Ask>(
+        &mut self,
+        place: usize,
+        ask: &mut AtPort<A>,
+    ) -> Option<Result<u64, FrontError>>
+        ensures turn { HadLastTurn A.answers place result (get self.old.open) (get self.new.open) ask.old.ask ask.new.ask }
+        ensures waiting { self.new.waiting ≡ self.old.waiting }
+        ensures ends { self.new.ends ≡ self.old.ends }
+    {
+        let placed = self.open.get_mut(place)?;
+        ask.reads_only = placed.reads_only;
+        let connection = &mut placed.connection;
+        Some(connection.last_turn(&mut self.documents, &mut self.room, ask))
+    }
+
+    /// Takes the connection at a place out, if one is there. It waits for no turn any more.
+    fn remove(&mut self, place: usize)
+        ensures left { get self.new.open place ≡ None }
+        ensures others { OthersStay place (get self.old.open) (get self.new.open) }
+        ensures waits { self.new.waiting.items ≡ without place self.old.waiting.items }
+        ensures ends { self.new.ends ≡ self.old.ends }
+    {
+        drop(self.open.try_remove(place));
+        wait_no_more(&mut self.waiting, place);
+    }
+
+    /// Leaves the connection at a place, and notes how its session ended.
+    fn close<L: Log>(
+        &mut self,
+        place: usize,
+        end: Result<u64, FrontError>,
+        worker: &Worker<'_, L>,
+    ) -> Result<(), AllocError>
+        ensures left { get self.new.open place ≡ None }
+        ensures others { OthersStay place (get self.old.open) (get self.new.open) }
+        ensures waits { self.new.waiting.items ≡ without place self.old.waiting.items }
+        ensures noted { OnOk result (Notes (front_end end ∷ []) self.old.ends self.new.ends) }
+    {
+        let ended = match end {
+            Ok(count) => Ok(count),
+            Err(error) => Err(SessionFault::Front(error)),
+        };
+        worker.log.ended(worker.number, &ended);
+        self.remove(place);
+        self.ends.note(&ended)?;
+        Ok(())
+    }
+
+    /// Gives the connection at a place a turn, if one is there. If it has more to do then, it waits behind the others; if its
+    /// session is over, it is left.
+    fn serve<A: Ask, L: Log>(
+        &mut self,
+        place: usize,
+        is_closing: bool,
+        ask: &mut AtPort<A>,
+        worker: &Worker<'_, L>,
+    ) -> Result<(), AllocError>
+        ensures { OnOk result ((ready : Option Bool) → closing_of ready ≡ is_closing → Serves A.answers worker.now.limits (IsTurn place ready (get self.old.open place)) (work_of self.old) (work_of self.new) ask.old.ask ask.new.ask) }
+    {
+        let Some(after) = self.turn(place, is_closing, ask) else {
+            return Ok(());
+        };
+        wait_no_more(&mut self.waiting, place);
+        match after {
+            After::Waits => Ok(()),
+            After::Again => Ok(self.waiting.push_back(place)?),
+            After::Over(end) => self.close(place, end, worker),
+        }
+    }
+
+    /// A tick has passed at a place. The memory of its connection that no byte needs is given back.
+    fn tick_at(&mut self, place: usize)
+        ensures ticked { get self.new.open place ≡ ticked (get self.old.open place) }
+        ensures others { OthersStay place (get self.old.open) (get self.new.open) }
+        ensures waiting { self.new.waiting ≡ self.old.waiting }
+        ensures ends { self.new.ends ≡ self.old.ends }
+    {
+        if let Some(placed) = self.open.get_mut(place) {
+            placed.connection.rest();
+            placed.silent = placed.silent.saturating_add(1);
+        }
+    }
+
+    /// A tick has passed.
+    fn tick(&mut self)
+        ensures ticked { AllTick (get self.old.open) (get self.new.open) }
+        ensures waiting { self.new.waiting ≡ self.old.waiting }
+        ensures ends { self.new.ends ≡ self.old.ends }
+    {
+        let places = self.open.capacity();
+        let mut place = 0;
+        while place < places {
+            self.tick_at(place);
+            place += 1;
+        }
+    }
+
+    /// Why the client at a place is to be given up: it owes the rest of a frame, or that it takes replies, and had no turn for
+    /// so many ticks.
+    fn is_silent(&self, place: usize, most: u64) -> Option<FrontError>
+        ensures { IfSome result (λ error. (p : Place) × (get self.now.open place ≡ Some p) × Owes (Some error) p.connection × (most ≤ p.silent)) }
+    {
+        let placed = self.open.get(place)?;
+        let owed = placed.connection.owes()?;
+        if placed.silent < most {
+            return None;
+        }
+        Some(owed)
+    }
+
+    /// Leaves the connection at a place if its client has been silent for too long.
+    fn leave_if_silent<L: Log>(
+        &mut self,
+        place: usize,
+        worker: &Worker<'_, L>,
+    ) -> Result<(), AllocError>
+        ensures { OnOk result (Serves Asks worker.now.limits (AllByRecursion IsGivenUp) (work_of self.old) (work_of self.new) tt tt) }
+    {
+        match self.is_silent(place, worker.limits.most_silent) {
+            Some(error) => self.close(place, Err(error), worker),
+            None => Ok(()),
+        }
+    }
+
+    /// Leaves each connection whose client has been silent for too long.
+    fn leave_silent<L: Log>(&mut self, worker: &Worker<'_, L>) -> Result<(), AllocError>
+        ensures { OnOk result (Serves Asks worker.now.limits (AllByRecursion IsGivenUp) (work_of self.old) (work_of self.new) tt tt) }
+    {
+        let places = self.open.capacity();
+        let mut place = 0;
+        while place < places {
+            self.leave_if_silent(place, worker)?;
+            place += 1;
+        }
+        Ok(())
+    }
+
+    /// Ends the session at a place, if one is there: what has come is answered, as far as the client takes it.
+    fn end<A: Ask, L: Log>(
+        &mut self,
+        place: usize,
+        ask: &mut AtPort<A>,
+        worker: &Worker<'_, L>,
+    ) -> Result<(), AllocError>
+        ensures served { OnOk result (Serves A.answers worker.now.limits (AllByRecursion IsLast) (work_of self.old) (work_of self.new) ask.old.ask ask.new.ask) }
+        ensures left { OnOk result (get self.new.open place ≡ None) }
+        ensures others { OthersStay place (get self.old.open) (get self.new.open) }
+    {
+        match self.last_turn(place, ask) {
+            None => Ok(()),
+            Some(end) => self.close(place, end, worker),
+        }
+    }
+
+    /// Ends all sessions.
+    fn end_all<A: Ask, L: Log>(
+        &mut self,
+        ask: &mut AtPort<A>,
+        worker: &Worker<'_, L>,
+    ) -> Result<(), AllocError>
+        ensures served { OnOk result (Serves A.answers worker.now.limits (AllByRecursion IsLast) (work_of self.old) (work_of self.new) ask.old.ask ask.new.ask) }
+        ensures left { OnOk result ((place : ℕ) → get self.new.open place ≡ None) }
+    {
+        let places = self.open.capacity();
+        let mut place = 0;
+        while place < places {
+            self.end(place, ask, worker)?;
+            place += 1;
+        }
+        Ok(())
+    }
+
+    /// Notes that the listener failed.
+    fn note_failure<L: Log>(&mut self, worker: &Worker<'_, L>) -> Result<(), AllocError>
+        ensures open { self.new.open ≡ self.old.open }
+        ensures waiting { self.new.waiting ≡ self.old.waiting }
+        ensures noted { OnOk result (Notes (told_by Fails) self.old.ends self.new.ends) }
+    {
+        let none_came = Err(SessionFault::Listen);
+        worker.log.ended(worker.number, &none_came);
+        self.ends.note(&none_came)?;
+        Ok(())
+    }
+
+    /// Does what the arrival asks for.
+    fn follow<A: Ask, L: Log>(
+        &mut self,
+        arrival: Arrival<E>,
+        ask: &mut AtPort<A>,
+        worker: &Worker<'_, L>,
+    ) -> Result<(), AllocError>
+        requires { ¬ (IsStop arrival) }
+        ensures { OnOk result (Serves A.answers worker.now.limits (Follows (news_in (λ end. opened worker.now.limits.turns (E.may end) (E.left end) (E.held end)) self.old.open.vacant_key arrival)) (work_of self.old) (work_of self.new) ask.old.ask ask.new.ask) }
+    {
+        match arrival {
+            Arrival::Opens { end, reads_only } => self.take(end, reads_only, worker),
+            Arrival::Ready { place, is_closing } => { self.serve(place, is_closing, ask, worker) }
+            Arrival::Tick => {
+                self.tick();
+                self.leave_silent(worker)
+            }
+            Arrival::Fails => self.note_failure(worker),
+            Arrival::Nothing => Ok(()),
+            Arrival::Stops => unreachable!(),
+        }
+    }
+
+    /// Gives a turn to the connection that has waited longest for one.
+    fn serve_first<A: Ask, L: Log>(
+        &mut self,
+        ask: &mut AtPort<A>,
+        worker: &Worker<'_, L>,
+    ) -> Result<(), AllocError>
+        requires { AreOpen (get self.old.open) self.old.waiting.items }
+        ensures { OnOk result (Serves A.answers worker.now.limits (ServesFirst self.old.waiting.items) (work_of self.old) (work_of self.new) ask.old.ask ask.new.ask) }
+    {
+        match self.waiting.front() {
+            Some(&place) => self.serve(place, false, ask, worker),
+            None => Ok(()),
+        }
+    }
+}
+
+/// Serves connections beside each other until no more come. What comes is followed at once: a connection whose stream is ready
+/// has a turn. After each arrival the connection that has waited longest has one: those that are new wait, and those that
+/// have had their share and may have more to do. A session may make `limits.turns` reads. A client that owes the rest of a
+/// frame, or that it takes replies, is given up after `limits.most_silent` ticks without a turn. Once no more come, what was
+/// read is answered, as far as the clients take it at once. The answer is what is kept of how the sessions ended, in this
+/// order; the log is told of each end.
+pub fn serve_arrivals<V: Arrivals, A: Ask, L: Log>(
+    worker: &Worker<'_, L>,
+    arrivals: &mut V,
+    ask: &mut AtPort<A>,
+) -> Result<SessionEnds, AllocError>
+    ensures { IfOk result (λ ends. (served : ServedAll A.answers worker.now.limits.most_silent worker.now.limits.turns ends ask.old.ask ask.new.ask)
+        × Brings (λ end. opened worker.now.limits.turns (V.End.may end) (V.End.left end) (V.End.held end)) V.comes (served.news ++ IsToStop ∷ []) arrivals.old arrivals.new) }
+{
+    let mut served = Served::new(worker.alloc);
+    loop {
+        let free = served.open.vacant_key();
+        let is_busy = !served.waiting.is_empty();
+        match arrivals.next(free, served.open.len(), is_busy) {
+            Arrival::Stops => break,
+            arrival => served.follow(arrival, ask, worker)?,
+        }
+        served.serve_first(ask, worker)?;
+    }
+    served.end_all(ask, worker)?;
+    Ok(served.ends)
+}
