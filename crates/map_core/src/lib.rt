@@ -7,6 +7,7 @@
 mod ask;
 mod contents;
 mod held;
+pub mod home;
 pub mod laws;
 mod op;
 mod reply;

@@ -19,12 +19,12 @@ use crate::pass::{Pass, join_seats, split_off};
 use crate::recall::{ask_name, show_name};
 use crate::rule::{ShardTable, Slot};
 use atomic_table::Table;
+use map_core::home::{home, shard_of};
 use map_core::{AskError, Contents, Expect, Op, Reply, Viewer};
 use spiffe_doc::{Authority, Bundle, Memory, TrustDomain};
 use std::alloc::{AllocError, Global};
 use std::marker::{Brand, Model};
 use std::sync::Arc;
-use step_core::home::{home, shard_of};
 
 /// A map of trust bundles in shards, for threads that each have a pass.
 #[derive(Drop)]

@@ -1,7 +1,7 @@
 use Rattle.std.proofs.Common.{rules}
 use Rattle.map_core.specs.Table.{meaning}
 use Rattle.map_core.specs.PlainMap.{shard_of}
-use Rattle.step_core.proofs.home.shard_of.Goals as goal
+use Rattle.map_core.proofs.home.shard_of.Goals as goal
 
 pub returns-in-Set-clause-shard : goal.returns-in-Set-clause-shard
 unfolding shard_of meaning

@@ -1,7 +1,7 @@
 use Rattle.std.proofs.Common.{◌≡◌, ◌%◌, ◌≤◌, ℕ, List, length, sum, take, arith, ap, ◌∙◌}
 use Rattle.std.proofs.lemmas.Grind.{elements}
 use Rattle.map_core.specs.PlainMap.{home}
-use Rattle.step_core.proofs.home.home.Goals as goal
+use Rattle.map_core.proofs.home.home.Goals as goal
 
 all_taken : (bytes : List ℕ) (k : ℕ) → length bytes ≤ k → take k bytes ≡ bytes
 all_taken bytes k l = grind (arith, elements)
