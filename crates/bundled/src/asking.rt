@@ -1,5 +1,5 @@
 //! The command `ask`: a client of a server that listens on this machine.
-ghost use Rattle.std.specs.Prelude.{◌<◌, ◌-◌, ◌^◌, ◌≡◌};
+ghost use Rattle.std.specs.Prelude.{◌≡◌};
 ghost use Rattle.frame_front.specs.Counted.{faults_in};
 ghost use Rattle.bundled.specs.Ask.{AskRun, form};
 ghost use Rattle.commands.specs.Streams.{streams};
@@ -24,9 +24,6 @@ pub fn ask_server<H: Files + Net, R: Read, W: Write, E: Write>(
     err: &mut Counted<E>,
     wanted: &Inquiry<'_>,
 ) -> u8
-    requires reader_count { faults_in reader.old < 2 ^ 64 - 1 }
-    requires out_count { faults_in out.old < 2 ^ 64 - 1 }
-    requires err_count { faults_in err.old < 2 ^ 64 - 1 }
     ensures { AskRun wanted.now result
         (streams R.remaining W.contents E.contents reader.old out.old err.old)
         (streams R.remaining W.contents E.contents reader.new out.new err.new) }

@@ -49,7 +49,6 @@ pub fn command_over<
     err: &mut Counted<E>,
     notes: N,
 ) -> u8
-    requires reader_count { faults_in reader.old < 2 ^ 64 - 1 }
     requires out_count { faults_in out.old < 2 ^ 64 - 1 }
     requires err_count { faults_in err.old < 2 ^ 64 - 1 }
     ensures { Commands result
@@ -96,7 +95,6 @@ fn run_wanted<
     notes: N,
 ) -> u8
     requires settings { AreSettings wanted.now }
-    requires reader_count { faults_in reader.old < 2 ^ 64 - 1 }
     requires out_count { faults_in out.old < 2 ^ 64 - 1 }
     requires err_count { faults_in err.old < 2 ^ 64 - 1 }
     ensures { Does wanted.now result
@@ -172,8 +170,6 @@ fn diff_files<H: Files, W: Write, E: Write>(
     out: &mut Counted<W>,
     err: &mut Counted<E>,
 ) -> u8
-    requires out_count { faults_in out.old < 2 ^ 64 - 1 }
-    requires err_count { faults_in err.old < 2 ^ 64 - 1 }
     ensures { DiffFiles result (end_of W.contents out.old) (end_of W.contents out.new) (end_of E.contents err.old) (end_of E.contents err.new) }
 {
     let Ok(old) = File::open(host, old) else {
@@ -201,8 +197,6 @@ fn show<W: Write, E: Write>(
     out: &mut Counted<W>,
     err: &mut Counted<E>,
 ) -> u8
-    requires out_count { faults_in out.old < 2 ^ 64 - 1 }
-    requires err_count { faults_in err.old < 2 ^ 64 - 1 }
     ensures shows { (input : Source) → let old : Streams = record { input = input; output = end_of W.contents out.old; error = end_of E.contents err.old } in
         let new : Streams = record { input = input; output = end_of W.contents out.new; error = end_of E.contents err.new } in
         Shows result old new ⊎ Refuses result old new }
@@ -229,7 +223,6 @@ fn text_of(alloc: Global, error: &clap::Error) -> Result<String, AllocError> {
 
 /// Says on standard error why the arguments are refused.
 fn refuse<E: Write>(text: &[u8], err: &mut Counted<E>) -> u8
-    requires { faults_in err.old < 2 ^ 64 - 1 }
     ensures status { result ≡ 2 }
     ensures tells { Tells (end_of E.contents err.old) (end_of E.contents err.new) text.now }
 {

@@ -1,5 +1,5 @@
 //! The command `race`: readers beside writers that do not rest.
-ghost use Rattle.std.specs.Prelude.{◌≡◌, ◌<◌, ◌-◌, ◌^◌};
+ghost use Rattle.std.specs.Prelude.{◌≡◌};
 ghost use Rattle.frame_front.specs.Counted.{faults_in};
 ghost use Rattle.bundled.specs.Race.{RaceRun, Raced, race_status};
 ghost use Rattle.commands.specs.Streams.{Source, end_of};
@@ -21,8 +21,6 @@ pub fn race_over<H: Clock + Threads + Sync, W: Write, E: Write>(
     err: &mut Counted<E>,
     seconds: u64,
 ) -> u8
-    requires out_count { faults_in out.old < 2 ^ 64 - 1 }
-    requires err_count { faults_in err.old < 2 ^ 64 - 1 }
     ensures { (input : Source) → RaceRun result
         (record { input = input; output = end_of W.contents out.old; error = end_of E.contents err.old })
         (record { input = input; output = end_of W.contents out.new; error = end_of E.contents err.new }) }
@@ -45,7 +43,6 @@ fn race<H: Clock + Threads + Sync, W: Write>(
     out: &mut Counted<W>,
     seconds: u64,
 ) -> Result<Findings, Fault>
-    requires { faults_in out.old < 2 ^ 64 - 1 }
     ensures { Raced result (end_of W.contents out.old) (end_of W.contents out.new) }
 {
     let found = match run_race(host, alloc, seconds) {

@@ -28,7 +28,6 @@ pub fn snapshot_over<H: Files + Clock + Net, W: Write, E: Write>(
     err: &mut Counted<E>,
     wanted: &Snapshotting<'_>,
 ) -> u8
-    requires out_count { faults_in out.old < 2 ^ 64 - 1 }
     requires err_count { faults_in err.old < 2 ^ 64 - 1 }
     ensures { (input : Source) → SnapshotRun result
         (record { input = input; output = end_of W.contents out.old; error = end_of E.contents err.old })
@@ -52,7 +51,6 @@ fn repeat<H: Files + Clock + Net, W: Write, E: Write>(
     err: &mut Counted<E>,
     wanted: &Snapshotting<'_>,
 ) -> Result<(), Fault>
-    requires out_count { faults_in out.old < 2 ^ 64 - 1 }
     requires err_count { faults_in err.old < 2 ^ 64 - 1 }
     ensures { (lines : List ℕ) × Tells (end_of E.contents err.old) (end_of E.contents err.new) lines }
 {
@@ -74,7 +72,6 @@ fn pass_over<E: Write>(
     err: &mut Counted<E>,
     before: u64,
 ) -> Result<(), Fault>
-    requires { before < 2 ^ 64 - 1 }
     ensures { (line : List ℕ) × TellsUnlessFailed before (end_of E.contents err.old) (end_of E.contents err.new) line }
 {
     match taken {

@@ -1,6 +1,7 @@
 -- What a client writes and reads when it is asked.
-use Rattle.std.specs.Prelude.{◌≡◌, ◌≢◌, ◌⊎◌, ℕ, ◌<◌, List, ◌++◌, true, false, Option, Some, None, Result, Ok, Err, []}
+use Rattle.std.specs.Prelude.{◌≡◌, ◌≢◌, ◌⊎◌, ℕ, List, ◌++◌, true, false, Option, Some, None, Result, Ok, Err, []}
 use Rattle.std.specs.Io.KnownBytes.{Appends, Consumes, IsAtEnd}
+use Rattle.frame_front.specs.Counted.{next_count}
 use Rattle.map_core.specs.declared.op.Op.{Op}
 use Rattle.map_core.specs.declared.op.Op.TheVariants.{SetIf}
 use Rattle.map_core.specs.declared.reply.AskError.TheVariants as error
@@ -69,7 +70,7 @@ pub record IsUnsent (op : Op) (old new : Ends) : Type 0 where
   pub written : WritesFront old.held new.held (request_bytes op)
   pub unread : new.left ≡ old.left
   pub quiet_reader : new.read_faults ≡ old.read_faults
-  pub fault : old.write_faults < new.write_faults
+  pub fault : new.write_faults ≡ next_count old.write_faults
 
 -- The request is written, and what was read is not a reply.
 pub record IsBroken (op : Op) (why : ClientError) (old new : Ends) : Type 0 where

@@ -1,13 +1,14 @@
 -- Where the reading of a frame stops short.
-use Rattle.std.specs.Prelude.{◌≡◌, ℕ, ◌<◌, List, length, Option}
+use Rattle.std.specs.Prelude.{◌≡◌, ℕ, List, length, Option}
 use Rattle.std.specs.Io.KnownBytes.{IsAtEnd}
+use Rattle.frame_front.specs.Counted.{next_count}
 use Rattle.frame_front.specs.Frame.{IsUnfinished, IsBadLength}
 use Rattle.client.specs.declared.client_error.ClientError.{ClientError}
 use Rattle.client.specs.declared.client_error.ClientError.TheVariants.{BadLength, Truncated, ReadFault}
 
 -- The reader's faults are counted, and it has no others.
 abbrev pub CountsFault : ClientError → ℕ → ℕ → Type 0
-CountsFault ReadFault old new = old < new
+CountsFault ReadFault old new = new ≡ next_count old
 CountsFault error old new = new ≡ old
 
 -- Why no frame was read, what was read instead, and what the reader has left then.

@@ -1,5 +1,5 @@
 //! A client: asks whoever serves the other end of a stream.
-ghost use Rattle.std.specs.Prelude.{◌≡◌, ◌⊎◌, ◌<◌, ◌≤◌, ◌-◌, ◌^◌, ◌++◌, ◌∷◌, [], ◌≢◌, ℕ, List, true, false, None, length, Err, OnOk, IfOk, IfErr};
+ghost use Rattle.std.specs.Prelude.{◌≡◌, ◌⊎◌, ◌≤◌, ◌++◌, ◌∷◌, [], ◌≢◌, ℕ, List, true, false, None, length, Err, OnOk, IfOk, IfErr};
 ghost use Rattle.std.specs.Io.KnownBytes.{Consumes};
 ghost use Rattle.frame_front.specs.Counted.{end_in, faults_in};
 ghost use Rattle.frame_front.specs.Frame.{IsPayload, frame};
@@ -43,22 +43,18 @@ pub struct Client<R: Read, W: Write> {
 }
 
 impl<R: Read, W: Write> Model for Client<R, W> {
-    ghost use Rattle.std.specs.Prelude.{◌≡◌, ◌<◌, ◌-◌, ◌^◌, None};
+    ghost use Rattle.std.specs.Prelude.{◌≡◌, None};
     ghost use Rattle.frame_front.specs.Counted.{end_in, faults_in};
     ghost use Rattle.client.specs.Client.{ClientState, ends};
 
     ghost Value = { ClientState };
 
     ghost view = { λ c. record { ends = ends (R.remaining (end_in c.reader)) (W.contents (end_in c.writer)) (faults_in c.reader) (faults_in c.writer); ended = c.ended } };
-
-    ghost invariant = { λ c. c.ended ≡ None → (faults_in c.reader < 2 ^ 64 - 1) × (faults_in c.writer < 2 ^ 64 - 1) };
 }
 
 impl<R: Read, W: Write> Client<R, W> {
     /// Has asked nothing yet.
     pub fn new(alloc: Global, reader: Counted<R>, writer: Counted<W>) -> Client<R, W>
-        requires reader_count { faults_in reader < 2 ^ 64 - 1 }
-        requires writer_count { faults_in writer < 2 ^ 64 - 1 }
         ensures ends { result.ends ≡ ends (R.remaining (end_in reader)) (W.contents (end_in writer)) (faults_in reader) (faults_in writer) }
         ensures open { result.ended ≡ None }
     {
@@ -180,7 +176,6 @@ fn read_preface<R: Read>(
     op: &Op,
 ) -> Result<(), ClientError>
     requires room { length buffer.old ≡ 1049000 }
-    requires count { faults_in reader.old < 2 ^ 64 - 1 }
     ensures len { length buffer.new ≡ length buffer.old }
     ensures ok { OnOk result (Consumes (R.remaining (end_in reader.old)) (R.remaining (end_in reader.new)) (reply_preface op.now)) }
     ensures quiet { OnOk result (faults_in reader.new ≡ faults_in reader.old) }
@@ -209,7 +204,6 @@ fn read_one<R: Read>(
 ) -> Result<Result<Reply, AskError>, ClientError>
     requires of_one { has_one_frame op.now ≡ true }
     requires room { length buffer.old ≡ 1049000 }
-    requires count { faults_in reader.old < 2 ^ 64 - 1 }
     ensures len { length buffer.new ≡ length buffer.old }
     ensures ok { IfOk result (λ answer. MayAnswer op.now answer × IsValidAnswer answer
         × Consumes (R.remaining (end_in reader.old)) (R.remaining (end_in reader.new)) (answer_frames answer)) }
@@ -231,7 +225,6 @@ fn read_and_count<R: Read>(
     op: &Op,
 ) -> Result<Result<Reply, AskError>, ClientError>
     requires room { length buffer.old ≡ 1049000 }
-    requires count { faults_in reader.old < 2 ^ 64 - 1 }
     ensures len { length buffer.new ≡ length buffer.old }
     ensures ok { IfOk result (λ answer. MayAnswer op.now answer × IsValidAnswer answer
         × Consumes (R.remaining (end_in reader.old)) (R.remaining (end_in reader.new)) (answer_frames answer)) }
@@ -256,7 +249,6 @@ fn read_reply<R: Read>(
     op: &Op,
 ) -> Result<Result<Reply, AskError>, ClientError>
     requires room { length buffer.old ≡ 1049000 }
-    requires count { faults_in reader.old < 2 ^ 64 - 1 }
     ensures len { length buffer.new ≡ length buffer.old }
     ensures ok { IfOk result (λ answer. MayAnswer op.now answer × IsValidAnswer answer
         × Consumes (R.remaining (end_in reader.old)) (R.remaining (end_in reader.new)) (reply_bytes op.now answer)) }
@@ -282,8 +274,6 @@ fn exchange<R: Read, W: Write>(
     requires document { document.now ≡ document_part op.now }
     requires short { length document.now ≤ 1048576 }
     requires room { length buffer.old ≡ 1049000 }
-    requires reader_count { faults_in reader.old < 2 ^ 64 - 1 }
-    requires writer_count { faults_in writer.old < 2 ^ 64 - 1 }
     ensures len { length buffer.new ≡ length buffer.old }
     ensures exchanged { Exchange op.now result
         (ends (R.remaining (end_in reader.old)) (W.contents (end_in writer.old)) (faults_in reader.old) (faults_in writer.old))

@@ -1,8 +1,8 @@
 //! Asking one request.
-ghost use Rattle.std.specs.Prelude.{◌≡◌, ◌≢◌, ◌<◌, ◌-◌, ◌^◌, ◌∷◌, [], true, false, length, take, Err, OnOk, IfOk, IfErr};
+ghost use Rattle.std.specs.Prelude.{◌≡◌, ◌≢◌, ◌∷◌, [], true, false, length, take, Err, OnOk, IfOk, IfErr};
 ghost use Rattle.std.specs.List.{AllByRecursion, flat_map};
 ghost use Rattle.std.specs.Io.KnownBytes.{Appends, Consumes};
-ghost use Rattle.frame_front.specs.Counted.{end_in, faults_in};
+ghost use Rattle.frame_front.specs.Counted.{end_in, faults_in, next_count};
 ghost use Rattle.frame_front.specs.Frame.{IsPayload, frame as frame_of};
 ghost use Rattle.frame_front.specs.Outbox.{WritesFront};
 ghost use Rattle.client.specs.declared.client_error.ClientError.TheVariants.{ReadFault, WriteFault};
@@ -20,10 +20,9 @@ use std::io::{Read, Write};
 
 /// Sends all of the bytes.
 fn send<W: Write>(to: &mut Counted<W>, bytes: &[u8]) -> Result<(), ClientError>
-    requires { faults_in to.old < 2 ^ 64 - 1 }
     ensures ok { OnOk result (Appends (W.contents (end_in to.old)) (W.contents (end_in to.new)) bytes.now) }
     ensures quiet { OnOk result (faults_in to.new ≡ faults_in to.old) }
-    ensures fault { IfErr result (λ error. (error ≡ WriteFault) × (faults_in to.old < faults_in to.new)) }
+    ensures fault { IfErr result (λ error. (error ≡ WriteFault) × (faults_in to.new ≡ next_count (faults_in to.old))) }
     ensures front { WritesFront (W.contents (end_in to.old)) (W.contents (end_in to.new)) bytes.now }
 {
     if let Err(_) = write_both(to, bytes, &[]) {
@@ -42,8 +41,6 @@ fn ask_once<R: Read, W: Write>(
     room: &mut [u8],
 ) -> Result<usize, ClientError>
     requires room { length room.old ≡ 1049000 }
-    requires from_count { faults_in link.old.from < 2 ^ 64 - 1 }
-    requires to_count { faults_in link.old.to < 2 ^ 64 - 1 }
     ensures len { length room.new ≡ length room.old }
     ensures payload { IfOk result (λ size. (length (take size room.new) ≡ size) × IsPayload (take size room.new)) }
     ensures tells { IfOk result (λ size. Consumes (R.remaining (end_in link.old.from)) (R.remaining (end_in link.new.from)) (frame_of (take size room.new))) }
@@ -51,8 +48,8 @@ fn ask_once<R: Read, W: Write>(
     ensures quiet_from { OnOk result (faults_in link.new.from ≡ faults_in link.old.from) }
     ensures quiet_to { OnOk result (faults_in link.new.to ≡ faults_in link.old.to) }
     ensures err { IfErr result (λ error. FailsAsking request.now error (R.remaining (end_in link.old.from)) (R.remaining (end_in link.new.from)) (W.contents (end_in link.old.to)) (W.contents (end_in link.new.to))) }
-    ensures read_fault { result ≡ Err ReadFault → faults_in link.old.from < faults_in link.new.from }
-    ensures write_fault { result ≡ Err WriteFault → faults_in link.old.to < faults_in link.new.to }
+    ensures read_fault { result ≡ Err ReadFault → faults_in link.new.from ≡ next_count (faults_in link.old.from) }
+    ensures write_fault { result ≡ Err WriteFault → faults_in link.new.to ≡ next_count (faults_in link.old.to) }
 {
     send(&mut link.to, request)?;
     let size = read_frame(&mut link.from, room)?;
@@ -65,16 +62,14 @@ pub(crate) fn greet<R: Read, W: Write>(
     room: &mut [u8],
 ) -> Result<(), AskFault>
     requires room { length room.old ≡ 1049000 }
-    requires from_count { faults_in link.old.from < 2 ^ 64 - 1 }
-    requires to_count { faults_in link.old.to < 2 ^ 64 - 1 }
     ensures len { length room.new ≡ length room.old }
     ensures tells { OnOk result (Consumes (R.remaining (end_in link.old.from)) (R.remaining (end_in link.new.from)) greeted) }
     ensures asks { OnOk result (Appends (W.contents (end_in link.old.to)) (W.contents (end_in link.new.to)) greeting) }
     ensures quiet_from { OnOk result (faults_in link.new.from ≡ faults_in link.old.from) }
     ensures quiet_to { OnOk result (faults_in link.new.to ≡ faults_in link.old.to) }
     ensures err { IfErr result (λ fault. NotGreetedBy fault (R.remaining (end_in link.old.from)) (R.remaining (end_in link.new.from)) (W.contents (end_in link.old.to)) (W.contents (end_in link.new.to))) }
-    ensures read_fault { result ≡ Err (Server ReadFault) → faults_in link.old.from < faults_in link.new.from }
-    ensures write_fault { result ≡ Err (Server WriteFault) → faults_in link.old.to < faults_in link.new.to }
+    ensures read_fault { result ≡ Err (Server ReadFault) → faults_in link.new.from ≡ next_count (faults_in link.old.from) }
+    ensures write_fault { result ≡ Err (Server WriteFault) → faults_in link.new.to ≡ next_count (faults_in link.old.to) }
 {
     let size = ask_once(link, &[0, 0, 0, 2, b'V', 2], room)?;
     if is_greeted(&room[..size]) {
@@ -100,16 +95,14 @@ pub(crate) fn ask_until_told<R: Read, W: Write>(
     room: &mut [u8],
 ) -> Result<usize, ClientError>
     requires room { length room.old ≡ 1049000 }
-    requires from_count { faults_in link.old.from < 2 ^ 64 - 1 }
-    requires to_count { faults_in link.old.to < 2 ^ 64 - 1 }
     ensures len { length room.new ≡ length room.old }
     ensures payload { IfOk result (λ size. (length (take size room.new) ≡ size) × IsPayload (take size room.new)) }
     ensures ok { IfOk result (λ size. AsksUntilTold retries request.now (take size room.new) (R.remaining (end_in link.old.from)) (R.remaining (end_in link.new.from)) (W.contents (end_in link.old.to)) (W.contents (end_in link.new.to))) }
     ensures quiet_from { OnOk result (faults_in link.new.from ≡ faults_in link.old.from) }
     ensures quiet_to { OnOk result (faults_in link.new.to ≡ faults_in link.old.to) }
     ensures err { IfErr result (λ error. BreaksAsking retries request.now error (R.remaining (end_in link.old.from)) (R.remaining (end_in link.new.from)) (W.contents (end_in link.old.to)) (W.contents (end_in link.new.to))) }
-    ensures read_fault { result ≡ Err ReadFault → faults_in link.old.from < faults_in link.new.from }
-    ensures write_fault { result ≡ Err WriteFault → faults_in link.old.to < faults_in link.new.to }
+    ensures read_fault { result ≡ Err ReadFault → faults_in link.new.from ≡ next_count (faults_in link.old.from) }
+    ensures write_fault { result ≡ Err WriteFault → faults_in link.new.to ≡ next_count (faults_in link.old.to) }
 {
     let mut left = retries;
     loop {

@@ -1,6 +1,6 @@
 //! Asking one line.
-ghost use Rattle.std.specs.Prelude.{◌≡◌, ◌<◌, ◌-◌, ◌^◌, length, OnOk, IfOk, IfErr, Err};
-ghost use Rattle.frame_front.specs.Counted.{end_in, faults_in};
+ghost use Rattle.std.specs.Prelude.{◌≡◌, length, OnOk, IfOk, IfErr, Err};
+ghost use Rattle.frame_front.specs.Counted.{end_in, faults_in, next_count};
 ghost use Rattle.frame_front.specs.declared.error.FrontError.TheVariants.{WriteFault, ReadFault};
 ghost use Rattle.client.specs.declared.client_error.ClientError.TheVariants as server;
 ghost use Rattle.client.specs.Private.Steps.{AsksOne, BreaksOne};
@@ -23,9 +23,6 @@ pub(crate) fn ask_line<R: Read, W: Write, O: Write>(
     out: &mut Counted<O>,
 ) -> Result<bool, AskFault>
     requires room { length room.old ≡ 1049000 }
-    requires from_count { faults_in link.old.from < 2 ^ 64 - 1 }
-    requires to_count { faults_in link.old.to < 2 ^ 64 - 1 }
-    requires out_count { faults_in out.old < 2 ^ 64 - 1 }
     ensures len { length room.new ≡ length room.old }
     ensures ok { IfOk result (λ refused. AsksOne how request.now refused (R.remaining (end_in link.old.from)) (R.remaining (end_in link.new.from))
         (W.contents (end_in link.old.to)) (W.contents (end_in link.new.to)) (O.contents (end_in out.old)) (O.contents (end_in out.new))) }
@@ -34,10 +31,10 @@ pub(crate) fn ask_line<R: Read, W: Write, O: Write>(
     ensures quiet_out { OnOk result (faults_in out.new ≡ faults_in out.old) }
     ensures err { IfErr result (λ fault. BreaksOne how fault request.now (R.remaining (end_in link.old.from)) (R.remaining (end_in link.new.from))
         (W.contents (end_in link.old.to)) (W.contents (end_in link.new.to)) (O.contents (end_in out.old)) (O.contents (end_in out.new))) }
-    ensures write_fault { result ≡ Err (Front WriteFault) → faults_in out.old < faults_in out.new }
+    ensures write_fault { result ≡ Err (Front WriteFault) → faults_in out.new ≡ next_count (faults_in out.old) }
     ensures read_fault { result ≡ Err (Front ReadFault) → ⊥ }
-    ensures server_read_fault { result ≡ Err (Server server.ReadFault) → faults_in link.old.from < faults_in link.new.from }
-    ensures server_write_fault { result ≡ Err (Server server.WriteFault) → faults_in link.old.to < faults_in link.new.to }
+    ensures server_read_fault { result ≡ Err (Server server.ReadFault) → faults_in link.new.from ≡ next_count (faults_in link.old.from) }
+    ensures server_write_fault { result ≡ Err (Server server.WriteFault) → faults_in link.new.to ≡ next_count (faults_in link.old.to) }
 {
     if request.is_empty() {
         return Ok(false);

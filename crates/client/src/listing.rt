@@ -1,5 +1,5 @@
 //! All bundles, as a client reads them: their number, and then a frame for each domain.
-ghost use Rattle.std.specs.Prelude.{◌≡◌, ◌≢◌, ◌<◌, ◌≤◌, ◌-◌, ◌^◌, ◌∷◌, ◌++◌, ℕ, List, None, true, false, length, take, OnOk, IfOk, IfErr, IfSome, IfNone, bytes_eq};
+ghost use Rattle.std.specs.Prelude.{◌≡◌, ◌≢◌, ◌<◌, ◌≤◌, ◌^◌, ◌∷◌, ◌++◌, ℕ, List, None, true, false, length, take, OnOk, IfOk, IfErr, IfSome, IfNone, bytes_eq};
 ghost use Rattle.std.specs.List.{flat_map};
 ghost use Rattle.std.specs.Int.{w64, to_be_bytes};
 ghost use Rattle.std.specs.Io.KnownBytes.{Consumes};
@@ -103,7 +103,6 @@ fn read_listing<R: Read>(
     count: u64,
 ) -> Result<Vec<(TrustDomain, Bundle)>, ClientError>
     requires room { length buffer.old ≡ 1049000 }
-    requires count { faults_in reader.old < 2 ^ 64 - 1 }
     ensures len { length buffer.new ≡ length buffer.old }
     ensures valid { IfOk result (λ items. AreValid items.items × Ascends None items.items × (length items.items ≡ count)) }
     ensures ok { IfOk result (λ items.
@@ -143,7 +142,6 @@ pub(crate) fn read_all<R: Read>(
     buffer: &mut [u8],
 ) -> Result<Result<Reply, AskError>, ClientError>
     requires room { length buffer.old ≡ 1049000 }
-    requires count { faults_in reader.old < 2 ^ 64 - 1 }
     ensures len { length buffer.new ≡ length buffer.old }
     ensures ok { IfOk result (λ answer. MayAnswer FetchAll answer × IsValidAnswer answer
         × Consumes (R.remaining (end_in reader.old)) (R.remaining (end_in reader.new)) (answer_frames answer)) }

@@ -1,5 +1,5 @@
 //! Reading one frame, and no byte beyond it.
-ghost use Rattle.std.specs.Prelude.{◌≡◌, ◌<◌, ◌-◌, ◌^◌, ℕ, List, length, take, OnOk, IfOk, IfErr};
+ghost use Rattle.std.specs.Prelude.{◌≡◌, ◌<◌, ℕ, List, length, take, OnOk, IfOk, IfErr};
 ghost use Rattle.std.specs.Io.KnownBytes.{Consumes};
 ghost use Rattle.frame_front.specs.Counted.{end_in, faults_in};
 ghost use Rattle.frame_front.specs.Frame.{IsPayload, frame};
@@ -13,7 +13,6 @@ use std::io::Read;
 
 /// Reads until the buffer is full.
 fn fill<R: Read>(reader: &mut Counted<R>, buffer: &mut [u8]) -> Result<(), ClientError>
-    requires count { faults_in reader.old < 2 ^ 64 - 1 }
     ensures len { length buffer.new ≡ length buffer.old }
     ensures ok { OnOk result (Consumes (R.remaining (end_in reader.old)) (R.remaining (end_in reader.new)) buffer.new) }
     ensures quiet { OnOk result (faults_in reader.new ≡ faults_in reader.old) }
@@ -36,7 +35,6 @@ fn fill<R: Read>(reader: &mut Counted<R>, buffer: &mut [u8]) -> Result<(), Clien
 /// Reads one frame, and no byte beyond it, into the front of the buffer, and says how many bytes its payload has.
 pub fn read_frame<R: Read>(reader: &mut Counted<R>, buffer: &mut [u8]) -> Result<usize, ClientError>
     requires room { length buffer.old ≡ 1049000 }
-    requires count { faults_in reader.old < 2 ^ 64 - 1 }
     ensures len { length buffer.new ≡ length buffer.old }
     ensures ok { IfOk result (λ size. (length (take size buffer.new) ≡ size) × IsPayload (take size buffer.new)
         × Consumes (R.remaining (end_in reader.old)) (R.remaining (end_in reader.new)) (frame (take size buffer.new))) }

@@ -1,9 +1,9 @@
 //! Requests, as they are written.
-ghost use Rattle.std.specs.Prelude.{◌≡◌, ◌⊎◌, ◌≤◌, ◌<◌, ◌+◌, ◌-◌, ◌^◌, ◌∷◌, ◌++◌, true, false, length, Ok, None, OnOk, IfOk, IfErr, IfSome};
+ghost use Rattle.std.specs.Prelude.{◌≡◌, ◌⊎◌, ◌≤◌, ◌+◌, ◌∷◌, ◌++◌, true, false, length, Ok, None, OnOk, IfOk, IfErr, IfSome};
 ghost use Rattle.std.specs.Io.KnownBytes.{Appends};
 ghost use Rattle.std.specs.Cow.{cow_slice_items};
 ghost use Rattle.arrayvec.specs.ArrayVec.{array_vec_len};
-ghost use Rattle.frame_front.specs.Counted.{end_in, faults_in};
+ghost use Rattle.frame_front.specs.Counted.{end_in, faults_in, next_count};
 ghost use Rattle.frame_front.specs.Frame.{frame};
 ghost use Rattle.frame_front.specs.Outbox.{WritesFront};
 ghost use Rattle.client.specs.Request.{request_bytes, is_append, is_written as can_be_written, IsUnwritable};
@@ -47,12 +47,11 @@ pub fn write_request<W: Write>(
     writer: &mut Counted<W>,
     op: &Op,
 ) -> Result<(), RequestError>
-    requires count { faults_in writer.old < 2 ^ 64 - 1 }
     ensures ok { OnOk result (Appends (W.contents (end_in writer.old)) (W.contents (end_in writer.new)) (request_bytes op.now)) }
     ensures written { OnOk result (can_be_written op.now ≡ true) }
     ensures quiet { OnOk result (faults_in writer.new ≡ faults_in writer.old) }
     ensures why { IfErr result (λ why. (IsUnwritable op.now why × (writer.new ≡ writer.old))
-        ⊎ ((why ≡ RequestError.WriteFault) × (faults_in writer.old < faults_in writer.new))) }
+        ⊎ ((why ≡ RequestError.WriteFault) × (faults_in writer.new ≡ next_count (faults_in writer.old)))) }
     ensures front { WritesFront (W.contents (end_in writer.old)) (W.contents (end_in writer.new)) (request_bytes op.now) }
 {
     let document = match request_document(alloc, op) {
@@ -100,10 +99,9 @@ pub(crate) fn send_request<W: Write>(
 ) -> Result<(), FrontError>
     requires document { document.now ≡ document_part op.now }
     requires short { length document.now ≤ 1048576 }
-    requires count { faults_in writer.old < 2 ^ 64 - 1 }
     ensures ok { OnOk result (Appends (W.contents (end_in writer.old)) (W.contents (end_in writer.new)) (request_bytes op.now)) }
     ensures quiet { OnOk result (faults_in writer.new ≡ faults_in writer.old) }
-    ensures fault { IfErr result (λ fault. (fault ≡ FrontError.WriteFault) × (faults_in writer.old < faults_in writer.new)) }
+    ensures fault { IfErr result (λ fault. (fault ≡ FrontError.WriteFault) × (faults_in writer.new ≡ next_count (faults_in writer.old))) }
     ensures front { WritesFront (W.contents (end_in writer.old)) (W.contents (end_in writer.new)) (request_bytes op.now) }
 {
     let head = request_head(op, document);

@@ -1,8 +1,8 @@
 //! Showing replies.
-ghost use Rattle.std.specs.Prelude.{◌≡◌, ◌<◌, ◌≤◌, ◌-◌, ◌^◌, ◌++◌, ◌∷◌, [], ℕ, List, true, length, Err, OnOk, IfOk, IfErr};
+ghost use Rattle.std.specs.Prelude.{◌≡◌, ◌++◌, ◌∷◌, [], ℕ, List, true, length, Err, OnOk, IfOk, IfErr};
 ghost use Rattle.std.specs.List.{AllByRecursion, flat_map};
 ghost use Rattle.std.specs.Io.KnownBytes.{Appends, Consumes};
-ghost use Rattle.frame_front.specs.Counted.{end_in, faults_in};
+ghost use Rattle.frame_front.specs.Counted.{end_in, faults_in, next_count};
 ghost use Rattle.frame_front.specs.Frame.{IsPayload, frame as frame_of};
 ghost use Rattle.frame_front.specs.Outbox.{WritesFront};
 ghost use Rattle.frame_front.specs.declared.error.FrontError.TheVariants.{WriteFault};
@@ -37,11 +37,10 @@ pub(crate) fn show<O: Write>(
     out: &mut Counted<O>,
 ) -> Result<Shown, AskFault>
     requires payload { IsPayload payload.now }
-    requires count { faults_in out.old < 2 ^ 64 - 1 }
     ensures ok { IfOk result (λ told. Shows form later payload.now told.refused told.bundles (O.contents (end_in out.old)) (O.contents (end_in out.new))) }
     ensures quiet { OnOk result (faults_in out.new ≡ faults_in out.old) }
     ensures err { IfErr result (λ fault. NotShown form later payload.now fault (O.contents (end_in out.old)) (O.contents (end_in out.new))) }
-    ensures counted { result ≡ Err (Front WriteFault) → faults_in out.old < faults_in out.new }
+    ensures counted { result ≡ Err (Front WriteFault) → faults_in out.new ≡ next_count (faults_in out.old) }
 {
     let Some(reply) = reply_of_payload(payload) else {
         return Err(AskFault::Server(ClientError::BadReply));
@@ -65,11 +64,10 @@ fn write_reply<O: Write>(
 ) -> Result<(), AskFault>
     requires payload { payload.now ≡ payload_of (said reply.now) }
     requires good { IsPayload payload.now }
-    requires count { faults_in out.old < 2 ^ 64 - 1 }
     ensures ok { OnOk result (CanBeShown form (said reply.now) × Appends (O.contents (end_in out.old)) (O.contents (end_in out.new)) (shown form (said reply.now))) }
     ensures quiet { OnOk result (faults_in out.new ≡ faults_in out.old) }
     ensures err { IfErr result (λ fault. NotWritten form (said reply.now) fault (O.contents (end_in out.old)) (O.contents (end_in out.new))) }
-    ensures counted { result ≡ Err (Front WriteFault) → faults_in out.old < faults_in out.new }
+    ensures counted { result ≡ Err (Front WriteFault) → faults_in out.new ≡ next_count (faults_in out.old) }
 {
     match form {
         Form::Lines => match reply.line_head() {
@@ -83,10 +81,9 @@ fn write_reply<O: Write>(
 #[tactic(auto, unfolding(frame_front::specs::Frame::frame))]
 fn write_frame<O: Write>(payload: &[u8], out: &mut Counted<O>) -> Result<(), AskFault>
     requires good { IsPayload payload.now }
-    requires count { faults_in out.old < 2 ^ 64 - 1 }
     ensures ok { OnOk result (Appends (O.contents (end_in out.old)) (O.contents (end_in out.new)) (frame_of payload.now)) }
     ensures quiet { OnOk result (faults_in out.new ≡ faults_in out.old) }
-    ensures fault { IfErr result (λ fault. (fault ≡ Front WriteFault) × (faults_in out.old < faults_in out.new)) }
+    ensures fault { IfErr result (λ fault. (fault ≡ Front WriteFault) × (faults_in out.new ≡ next_count (faults_in out.old))) }
     ensures front { WritesFront (O.contents (end_in out.old)) (O.contents (end_in out.new)) (frame_of payload.now) }
 {
     let size = payload.len() as u32;
@@ -103,10 +100,9 @@ fn write_parts<O: Write>(
     end: &[u8],
     out: &mut Counted<O>,
 ) -> Result<(), AskFault>
-    requires { faults_in out.old < 2 ^ 64 - 1 }
     ensures ok { OnOk result (Appends (O.contents (end_in out.old)) (O.contents (end_in out.new)) ((head.now ++ text.now) ++ end.now)) }
     ensures quiet { OnOk result (faults_in out.new ≡ faults_in out.old) }
-    ensures fault { IfErr result (λ fault. (fault ≡ Front WriteFault) × (faults_in out.old < faults_in out.new)) }
+    ensures fault { IfErr result (λ fault. (fault ≡ Front WriteFault) × (faults_in out.new ≡ next_count (faults_in out.old))) }
     ensures front { WritesFront (O.contents (end_in out.old)) (O.contents (end_in out.new)) ((head.now ++ text.now) ++ end.now) }
 {
     if let Err(_) = write_both(out, head, text) {
@@ -127,8 +123,6 @@ pub(crate) fn show_others<R: Read, O: Write>(
     out: &mut Counted<O>,
 ) -> Result<(), AskFault>
     requires room { length room.old ≡ 1049000 }
-    requires from_count { faults_in from.old < 2 ^ 64 - 1 }
-    requires out_count { faults_in out.old < 2 ^ 64 - 1 }
     ensures len { length room.new ≡ length room.old }
     ensures ok { OnOk result ((others : List Reply) × (length others ≡ count) × AllByRecursion (IsTold form true) others
         × Consumes (R.remaining (end_in from.old)) (R.remaining (end_in from.new)) (reply_frames others)
@@ -136,8 +130,8 @@ pub(crate) fn show_others<R: Read, O: Write>(
     ensures quiet_from { OnOk result (faults_in from.new ≡ faults_in from.old) }
     ensures quiet_out { OnOk result (faults_in out.new ≡ faults_in out.old) }
     ensures err { IfErr result (λ fault. BreaksOthers form fault count (R.remaining (end_in from.old)) (R.remaining (end_in from.new)) (O.contents (end_in out.old)) (O.contents (end_in out.new))) }
-    ensures counted { result ≡ Err (Front WriteFault) → faults_in out.old < faults_in out.new }
-    ensures read_fault { result ≡ Err (Server ReadFault) → faults_in from.old < faults_in from.new }
+    ensures counted { result ≡ Err (Front WriteFault) → faults_in out.new ≡ next_count (faults_in out.old) }
+    ensures read_fault { result ≡ Err (Server ReadFault) → faults_in from.new ≡ next_count (faults_in from.old) }
 {
     for _place in 0..count {
         let size = read_frame(from, room)?;

@@ -1,7 +1,7 @@
 //! Asking a stream of lines.
-ghost use Rattle.std.specs.Prelude.{◌≡◌, ◌<◌, ◌≤◌, ◌-◌, ◌^◌, ◌++◌, [], ℕ, List, Bool, true, false, length, Err, OnOk, IfOk, IfErr};
+ghost use Rattle.std.specs.Prelude.{◌≡◌, ◌++◌, [], ℕ, List, Bool, true, false, length, Err, OnOk, IfOk, IfErr};
 ghost use Rattle.std.specs.Io.KnownBytes.{Consumes, IsAtEnd};
-ghost use Rattle.frame_front.specs.Counted.{end_in, faults_in};
+ghost use Rattle.frame_front.specs.Counted.{end_in, faults_in, next_count};
 ghost use Rattle.frame_front.specs.declared.error.FrontError.TheVariants.{ReadFault, WriteFault};
 ghost use Rattle.client.specs.declared.client_error.ClientError.{ClientError};
 ghost use Rattle.client.specs.declared.client_error.ClientError.TheVariants as server;
@@ -38,10 +38,6 @@ pub fn ask_stream<T: TextSource, L: Read, R: Read, W: Write, O: Write>(
     link: &mut Link<R, W>,
     out: &mut Counted<O>,
 ) -> Result<bool, AskFault>
-    requires lines_count { faults_in lines.old < 2 ^ 64 - 1 }
-    requires from_count { faults_in link.old.from < 2 ^ 64 - 1 }
-    requires to_count { faults_in link.old.to < 2 ^ 64 - 1 }
-    requires out_count { faults_in out.old < 2 ^ 64 - 1 }
     ensures asks { AsksStream (T.gives texts.now) how result
         (ends (L.remaining (end_in lines.old)) (R.remaining (end_in link.old.from)) (W.contents (end_in link.old.to)) (O.contents (end_in out.old)))
         (ends (L.remaining (end_in lines.new)) (R.remaining (end_in link.new.from)) (W.contents (end_in link.new.to)) (O.contents (end_in out.new))) }
@@ -49,10 +45,10 @@ pub fn ask_stream<T: TextSource, L: Read, R: Read, W: Write, O: Write>(
     ensures quiet_from { OnOk result (faults_in link.new.from ≡ faults_in link.old.from) }
     ensures quiet_to { OnOk result (faults_in link.new.to ≡ faults_in link.old.to) }
     ensures quiet_out { OnOk result (faults_in out.new ≡ faults_in out.old) }
-    ensures read_fault { result ≡ Err (Front ReadFault) → faults_in lines.old < faults_in lines.new }
-    ensures write_fault { result ≡ Err (Front WriteFault) → faults_in out.old < faults_in out.new }
-    ensures server_read_fault { result ≡ Err (Server server.ReadFault) → faults_in link.old.from < faults_in link.new.from }
-    ensures server_write_fault { result ≡ Err (Server server.WriteFault) → faults_in link.old.to < faults_in link.new.to }
+    ensures read_fault { result ≡ Err (Front ReadFault) → faults_in lines.new ≡ next_count (faults_in lines.old) }
+    ensures write_fault { result ≡ Err (Front WriteFault) → faults_in out.new ≡ next_count (faults_in out.old) }
+    ensures server_read_fault { result ≡ Err (Server server.ReadFault) → faults_in link.new.from ≡ next_count (faults_in link.old.from) }
+    ensures server_write_fault { result ≡ Err (Server server.WriteFault) → faults_in link.new.to ≡ next_count (faults_in link.old.to) }
 {
     let Ok(mut room) = room(alloc) else {
         return Err(AskFault::Front(FrontError::Memory));
@@ -84,10 +80,6 @@ fn ask_lines<T: TextSource, L: Read, R: Read, W: Write, O: Write>(
 ) -> Result<bool, AskFault>
     requires new { encoder ≡ record { kept = []; lines = 0 } }
     requires room { length room.old ≡ 1049000 }
-    requires lines_count { faults_in lines.old < 2 ^ 64 - 1 }
-    requires from_count { faults_in link.old.from < 2 ^ 64 - 1 }
-    requires to_count { faults_in link.old.to < 2 ^ 64 - 1 }
-    requires out_count { faults_in out.old < 2 ^ 64 - 1 }
     ensures asks { AsksLines (T.gives texts.now) how result
         (ends (L.remaining (end_in lines.old)) (R.remaining (end_in link.old.from)) (W.contents (end_in link.old.to)) (O.contents (end_in out.old)))
         (ends (L.remaining (end_in lines.new)) (R.remaining (end_in link.new.from)) (W.contents (end_in link.new.to)) (O.contents (end_in out.new))) }
@@ -95,10 +87,10 @@ fn ask_lines<T: TextSource, L: Read, R: Read, W: Write, O: Write>(
     ensures quiet_from { OnOk result (faults_in link.new.from ≡ faults_in link.old.from) }
     ensures quiet_to { OnOk result (faults_in link.new.to ≡ faults_in link.old.to) }
     ensures quiet_out { OnOk result (faults_in out.new ≡ faults_in out.old) }
-    ensures read_fault { result ≡ Err (Front ReadFault) → faults_in lines.old < faults_in lines.new }
-    ensures write_fault { result ≡ Err (Front WriteFault) → faults_in out.old < faults_in out.new }
-    ensures server_read_fault { result ≡ Err (Server server.ReadFault) → faults_in link.old.from < faults_in link.new.from }
-    ensures server_write_fault { result ≡ Err (Server server.WriteFault) → faults_in link.old.to < faults_in link.new.to }
+    ensures read_fault { result ≡ Err (Front ReadFault) → faults_in lines.new ≡ next_count (faults_in lines.old) }
+    ensures write_fault { result ≡ Err (Front WriteFault) → faults_in out.new ≡ next_count (faults_in out.old) }
+    ensures server_read_fault { result ≡ Err (Server server.ReadFault) → faults_in link.new.from ≡ next_count (faults_in link.old.from) }
+    ensures server_write_fault { result ≡ Err (Server server.WriteFault) → faults_in link.new.to ≡ next_count (faults_in link.old.to) }
 {
     let mut request = Vec::new(alloc);
     let mut refused = false;
@@ -124,10 +116,9 @@ fn ask_lines<T: TextSource, L: Read, R: Read, W: Write, O: Write>(
 
 /// Reads a piece of the lines. False if they are at their end.
 fn read_more<L: Read>(lines: &mut Counted<L>, encoder: &mut Encoder) -> Result<bool, AskFault>
-    requires { faults_in lines.old < 2 ^ 64 - 1 }
     ensures reads { ReadsMore result encoder.old encoder.new (L.remaining (end_in lines.old)) (L.remaining (end_in lines.new)) }
     ensures quiet { OnOk result (faults_in lines.new ≡ faults_in lines.old) }
-    ensures read_fault { result ≡ Err (Front ReadFault) → faults_in lines.old < faults_in lines.new }
+    ensures read_fault { result ≡ Err (Front ReadFault) → faults_in lines.new ≡ next_count (faults_in lines.old) }
     ensures write_fault { result ≡ Err (Front WriteFault) → ⊥ }
     ensures other_fault { (why : ClientError) → result ≡ Err (Server why) → ⊥ }
 {
@@ -157,18 +148,15 @@ fn ask_last<T: TextSource, R: Read, W: Write, O: Write>(
     out: &mut Counted<O>,
 ) -> Result<bool, AskFault>
     requires room { length room.old ≡ 1049000 }
-    requires from_count { faults_in link.old.from < 2 ^ 64 - 1 }
-    requires to_count { faults_in link.old.to < 2 ^ 64 - 1 }
-    requires out_count { faults_in out.old < 2 ^ 64 - 1 }
     ensures asks { AsksLast (T.gives texts.now) how encoder result (R.remaining (end_in link.old.from)) (R.remaining (end_in link.new.from))
         (W.contents (end_in link.old.to)) (W.contents (end_in link.new.to)) (O.contents (end_in out.old)) (O.contents (end_in out.new)) }
     ensures quiet_from { OnOk result (faults_in link.new.from ≡ faults_in link.old.from) }
     ensures quiet_to { OnOk result (faults_in link.new.to ≡ faults_in link.old.to) }
     ensures quiet_out { OnOk result (faults_in out.new ≡ faults_in out.old) }
-    ensures write_fault { result ≡ Err (Front WriteFault) → faults_in out.old < faults_in out.new }
+    ensures write_fault { result ≡ Err (Front WriteFault) → faults_in out.new ≡ next_count (faults_in out.old) }
     ensures read_fault { result ≡ Err (Front ReadFault) → ⊥ }
-    ensures server_read_fault { result ≡ Err (Server server.ReadFault) → faults_in link.old.from < faults_in link.new.from }
-    ensures server_write_fault { result ≡ Err (Server server.WriteFault) → faults_in link.old.to < faults_in link.new.to }
+    ensures server_read_fault { result ≡ Err (Server server.ReadFault) → faults_in link.new.from ≡ next_count (faults_in link.old.from) }
+    ensures server_write_fault { result ≡ Err (Server server.WriteFault) → faults_in link.new.to ≡ next_count (faults_in link.old.to) }
 {
     let mut request = Vec::new(alloc);
     match encoder.finish(alloc, texts, &mut request) {

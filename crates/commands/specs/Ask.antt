@@ -1,6 +1,7 @@
 -- What the command `ask` does to its streams, and to those of the server.
-use Rattle.std.specs.Prelude.{◌≡◌, ◌⊎◌, ℕ, ◌<◌, Bool, if◌then◌else◌, List, ◌∷◌, drop, Option, Some, Result, Ok, Err}
+use Rattle.std.specs.Prelude.{◌≡◌, ◌⊎◌, ℕ, Bool, if◌then◌else◌, List, ◌∷◌, drop, Option, Some, Result, Ok, Err}
 use Rattle.std.specs.List.{flat_map}
+use Rattle.frame_front.specs.Counted.{next_count}
 use Rattle.frame_lines.specs.Encoding.{Gives}
 use Rattle.frame_lines.specs.RequestForm.{IsOneLine}
 use Rattle.frame_front.specs.declared.error.FrontError.TheVariants.{Memory}
@@ -37,8 +38,8 @@ server left_of held_of link = record { from = end_of left_of link.from; to = end
 
 -- of a server, 53 is told only if a read of its output failed in the meantime, and 54 only if a write to its input did
 abbrev pub BlamesServer : Fault → ServerEnds → ServerEnds → Type 0
-BlamesServer (Server (Client ReadFault)) old new = old.from.faults < new.from.faults
-BlamesServer (Server (Client WriteFault)) old new = old.to.faults < new.to.faults
+BlamesServer (Server (Client ReadFault)) old new = new.from.faults ≡ next_count old.from.faults
+BlamesServer (Server (Client WriteFault)) old new = new.to.faults ≡ next_count old.to.faults
 BlamesServer fault old new = Unit {0}
 
 -- no read, write or flush failed in the meantime

@@ -1,7 +1,7 @@
 -- What the command `diff` writes.
-use Rattle.std.specs.Prelude.{◌≡◌, ◌⊎◌, ◌<◌, ◌≤◌, ℕ, List, [], ◌∷◌, Bool, true, false, Option, Result, Ok, Err}
+use Rattle.std.specs.Prelude.{◌≡◌, ◌⊎◌, ◌≤◌, ℕ, List, [], ◌∷◌, Bool, true, false, Option, Result, Ok, Err}
 use Rattle.std.specs.Io.KnownBytes.{Appends}
-use Rattle.frame_front.specs.Counted.{reads_since}
+use Rattle.frame_front.specs.Counted.{reads_since, next_count}
 use Rattle.frame_front.specs.Dump.{Domains}
 use Rattle.frame_front.specs.Outbox.{WritesFront}
 use Rattle.frame_front.specs.declared.error.FrontError.TheVariants.{ReadFault, WriteFault}
@@ -49,7 +49,7 @@ pub record Differ (inputs : Inputs) (changes : List (Name × Change)) : Type 0 w
 pub record NoDump (fault : Fault) (before after : Source) : Type 0 where
   pub unread : Unread fault before.bytes after.bytes
   pub reads : ReadsInput {T = Unit {0}} (Err fault) before.reads after.reads
-  pub failed : fault ≡ Front ReadFault → before.faults < after.faults
+  pub failed : fault ≡ Front ReadFault → after.faults ≡ next_count before.faults
 
 -- the old reader gives none, and the new one is not read; or the old one gives a dump, and the new one none
 abbrev pub NoDiff : Inputs → Fault → Type 0
@@ -73,7 +73,7 @@ WritesDiff inputs (Err fault) held_old held_new = NoDiff inputs fault × (held_n
 
 -- 54 is told only if the writer failed in the meantime
 abbrev pub BlamesWriter : Result Bool Fault → End → End → Type 0
-BlamesWriter ended old new = ended ≡ Err (Front WriteFault) → old.faults < new.faults
+BlamesWriter ended old new = ended ≡ Err (Front WriteFault) → new.faults ≡ next_count old.faults
 
 -- The whole command.
 pub record DiffRun (inputs : Inputs) (status : ℕ) (output_old output_new error_old error_new : End) : Type 0 where

@@ -1,7 +1,7 @@
 -- Standard input, output and error, or what stands in their place, and what a command that ends tells them.
-use Rattle.std.specs.Prelude.{◌≡◌, ◌≢◌, ◌⊎◌, ℕ, ◌<◌, List, Option, Result, Ok, Err}
+use Rattle.std.specs.Prelude.{◌≡◌, ◌≢◌, ◌⊎◌, ℕ, List, Option, Result, Ok, Err}
 use Rattle.std.specs.Io.KnownBytes.{Appends}
-use Rattle.frame_front.specs.Counted.{end_in, faults_in, reads_of}
+use Rattle.frame_front.specs.Counted.{end_in, faults_in, reads_of, next_count}
 use Rattle.frame_front.specs.declared.counted.Counted.{Counted}
 use Rattle.frame_front.specs.declared.error.FrontError.TheVariants.{ReadFault, WriteFault}
 use Rattle.frame_front.specs.Outbox.{WritesFront}
@@ -36,10 +36,10 @@ abbrev pub streams : {R W E : Type 0} → (R → Option (List ℕ)) → (W → O
 streams left_of held_of told_of reader out err =
     record { input = source_of left_of reader; output = end_of held_of out; error = end_of told_of err }
 
--- These bytes are written; only a front of them if a call of the writer failed.
-pub record Tells (old new : End) (bytes : List ℕ) : Type 0 where
-  pub front : WritesFront old.bytes new.bytes bytes
-  pub whole : new.faults ≡ old.faults → Appends old.bytes new.bytes bytes
+-- These bytes are written; or a front of them, and a call of the writer has failed.
+abbrev pub Tells : End → End → List ℕ → Type 0
+Tells old new bytes =
+    (Appends old.bytes new.bytes bytes × (new.faults ≡ old.faults)) ⊎ (WritesFront old.bytes new.bytes bytes × (new.faults ≡ next_count old.faults))
 
 -- A text follows, unless the writer has failed since it had failed so often.
 abbrev pub TellsUnlessFailed : ℕ → End → End → List ℕ → Type 0
@@ -47,8 +47,8 @@ TellsUnlessFailed before old new text = ((old.faults ≡ before) × Tells old ne
 
 -- 53 is told only if the reader failed in the meantime, and 54 only if the writer did
 abbrev pub Blames : Fault → Streams → Streams → Type 0
-Blames (Front ReadFault) old new = old.input.faults < new.input.faults
-Blames (Front WriteFault) old new = old.output.faults < new.output.faults
+Blames (Front ReadFault) old new = new.input.faults ≡ next_count old.input.faults
+Blames (Front WriteFault) old new = new.output.faults ≡ next_count old.output.faults
 Blames fault old new = Unit {0}
 
 -- A command ends so, with this exit status: 0 if all went well, and nothing is written to standard error; 1 after a

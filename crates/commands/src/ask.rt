@@ -1,7 +1,6 @@
 //! The command `ask`: requests are asked of a server, and its replies are shown.
-ghost use Rattle.std.specs.Prelude.{◌≡◌, ◌<◌, ◌-◌, ◌^◌, ◌==◌, drop, map, IfOk};
+ghost use Rattle.std.specs.Prelude.{◌≡◌, ◌==◌, drop, map, IfOk};
 ghost use Rattle.std.specs.List.{list_any};
-ghost use Rattle.frame_front.specs.Counted.{faults_in};
 ghost use Rattle.commands.specs.Ask.{Asks, AsksWords, ask_status, server, spaced as with_spaces};
 ghost use Rattle.commands.specs.Streams.{end_of, streams};
 
@@ -23,11 +22,6 @@ pub fn ask_over<T: TextSource, R: Read, F: Read, S: Write, W: Write, E: Write>(
     out: &mut Counted<W>,
     err: &mut Counted<E>,
 ) -> u8
-    requires reader_count { faults_in reader.old < 2 ^ 64 - 1 }
-    requires from_count { faults_in link.old.from < 2 ^ 64 - 1 }
-    requires to_count { faults_in link.old.to < 2 ^ 64 - 1 }
-    requires out_count { faults_in out.old < 2 ^ 64 - 1 }
-    requires err_count { faults_in err.old < 2 ^ 64 - 1 }
     ensures { Asks (T.gives texts.now) how result
         (streams R.remaining W.contents E.contents reader.old out.old err.old)
         (streams R.remaining W.contents E.contents reader.new out.new err.new)
@@ -60,10 +54,6 @@ pub fn ask_words_over<T: TextSource, F: Read, S: Write, W: Write, E: Write>(
     out: &mut Counted<W>,
     err: &mut Counted<E>,
 ) -> u8
-    requires from_count { faults_in link.old.from < 2 ^ 64 - 1 }
-    requires to_count { faults_in link.old.to < 2 ^ 64 - 1 }
-    requires out_count { faults_in out.old < 2 ^ 64 - 1 }
-    requires err_count { faults_in err.old < 2 ^ 64 - 1 }
     ensures { AsksWords (T.gives texts.now) how (map (λ word. word.now) words.now) result
         (end_of W.contents out.old) (end_of W.contents out.new) (end_of E.contents err.old) (end_of E.contents err.new)
         (server F.remaining S.contents link.old) (server F.remaining S.contents link.new) }

@@ -1,11 +1,11 @@
 //! The command `check`: what documents would give as bundles.
-ghost use Rattle.std.specs.Prelude.{◌≡◌, ◌≢◌, ◌<◌, ◌-◌, ◌^◌, map, Err, OnOk};
+ghost use Rattle.std.specs.Prelude.{◌≡◌, ◌≢◌, map, Err, OnOk};
 ghost use Rattle.commands.specs.Input.{ReadsInput};
 ghost use Rattle.commands.specs.Streams.{end_of, streams};
 ghost use Rattle.commands.specs.declared.fault.Fault.TheVariants.{Front};
 ghost use Rattle.commands.specs.Check.{Checks, status_of};
 ghost use Rattle.commands.specs.Private.Checking.{ChecksFiles, ChecksInput, ChecksOne, Told, given_by, joined};
-ghost use Rattle.frame_front.specs.Counted.{end_in, faults_in, reads_of};
+ghost use Rattle.frame_front.specs.Counted.{end_in, faults_in, next_count, reads_of};
 ghost use Rattle.frame_front.specs.declared.error.FrontError.TheVariants.{ReadFault, WriteFault};
 
 use crate::{Fault, read_input, write_flushed};
@@ -63,9 +63,6 @@ pub fn check_over<T: TextSource, R: Read, W: Write, E: Write>(
     out: &mut Counted<W>,
     err: &mut Counted<E>,
 ) -> u8
-    requires reader_count { faults_in reader.old < 2 ^ 64 - 1 }
-    requires out_count { faults_in out.old < 2 ^ 64 - 1 }
-    requires err_count { faults_in err.old < 2 ^ 64 - 1 }
     ensures checks { Checks (T.gives texts.now) (map (λ file. file.now) files.now) result
         (streams R.remaining W.contents E.contents reader.old out.old err.old)
         (streams R.remaining W.contents E.contents reader.new out.new err.new) }
@@ -79,7 +76,6 @@ pub fn check_over<T: TextSource, R: Read, W: Write, E: Write>(
 
 /// Tells a fault, and answers the exit status.
 fn tell<E: Write>(checked: Result<Findings, Fault>, err: &mut Counted<E>) -> u8
-    requires { faults_in err.old < 2 ^ 64 - 1 }
     ensures tells { Told checked result (end_of E.contents err.old) (end_of E.contents err.new) }
     ensures silent { result ≢ 1 → err.new ≡ err.old }
 {
@@ -95,13 +91,11 @@ fn check_input<R: Read, W: Write>(
     reader: &mut Counted<R>,
     out: &mut Counted<W>,
 ) -> Result<Findings, Fault>
-    requires reader_count { faults_in reader.old < 2 ^ 64 - 1 }
-    requires out_count { faults_in out.old < 2 ^ 64 - 1 }
     ensures checks { ChecksInput result
         (R.remaining (end_in reader.old)) (R.remaining (end_in reader.new)) (W.contents (end_in out.old)) (W.contents (end_in out.new)) }
     ensures reads { ReadsInput result (reads_of reader.old) (reads_of reader.new) }
-    ensures read_fault { result ≡ Err (Front ReadFault) → faults_in reader.old < faults_in reader.new }
-    ensures write_fault { result ≡ Err (Front WriteFault) → faults_in out.old < faults_in out.new }
+    ensures read_fault { result ≡ Err (Front ReadFault) → faults_in reader.new ≡ next_count (faults_in reader.old) }
+    ensures write_fault { result ≡ Err (Front WriteFault) → faults_in out.new ≡ next_count (faults_in out.old) }
 {
     let input = match read_input(alloc, reader) {
         Ok(input) => input,
@@ -117,10 +111,9 @@ fn check_files<T: TextSource, W: Write>(
     files: &[&str],
     out: &mut Counted<W>,
 ) -> Result<Findings, Fault>
-    requires { faults_in out.old < 2 ^ 64 - 1 }
     ensures checks { ChecksFiles (T.gives texts.now) (map (λ file. file.now) files.now) result
         (W.contents (end_in out.old)) (W.contents (end_in out.new)) }
-    ensures write_fault { result ≡ Err (Front WriteFault) → faults_in out.old < faults_in out.new }
+    ensures write_fault { result ≡ Err (Front WriteFault) → faults_in out.new ≡ next_count (faults_in out.old) }
     ensures no_read_fault { result ≡ Err (Front ReadFault) → ⊥ }
 {
     let mut findings = Findings {
@@ -148,10 +141,9 @@ fn check_document<W: Write>(
     document: &[u8],
     out: &mut Counted<W>,
 ) -> Result<Findings, Fault>
-    requires { faults_in out.old < 2 ^ 64 - 1 }
     ensures checks { ChecksOne result (record { name = name.now; text = document.now }) (W.contents (end_in out.old)) (W.contents (end_in out.new)) }
     ensures quiet { OnOk result (faults_in out.new ≡ faults_in out.old) }
-    ensures write_fault { result ≡ Err (Front WriteFault) → faults_in out.old < faults_in out.new }
+    ensures write_fault { result ≡ Err (Front WriteFault) → faults_in out.new ≡ next_count (faults_in out.old) }
 {
     let outcome = report_on(alloc, document);
     if let Err(

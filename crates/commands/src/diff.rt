@@ -1,11 +1,11 @@
 //! The command `diff`: what changed from one dump to another.
-ghost use Rattle.std.specs.Prelude.{◌≡◌, ◌<◌, ◌-◌, ◌^◌, List, Err, IfOk, IfErr};
+ghost use Rattle.std.specs.Prelude.{◌≡◌, List, Err, IfOk, IfErr};
 ghost use Rattle.commands.specs.Streams.{end_of, source_of};
 ghost use Rattle.commands.specs.declared.fault.Fault.TheVariants.{Front};
 ghost use Rattle.commands.specs.Diff.{AreReadFew, Differ, DiffRun, NoDiff, WritesDiff};
 ghost use Rattle.dump_views.specs.ChangeLines.{lines_of};
 ghost use Rattle.dump_views.specs.Changes.{Change};
-ghost use Rattle.frame_front.specs.Counted.{end_in, faults_in};
+ghost use Rattle.frame_front.specs.Counted.{end_in, faults_in, next_count};
 ghost use Rattle.frame_front.specs.declared.error.FrontError.TheVariants.{WriteFault};
 ghost use Rattle.map_core.specs.Name.{Name};
 
@@ -25,10 +25,6 @@ pub fn diff_over<R: Read, S: Read, W: Write, E: Write>(
     out: &mut Counted<W>,
     err: &mut Counted<E>,
 ) -> u8
-    requires old_count { faults_in old.old < 2 ^ 64 - 1 }
-    requires new_count { faults_in new.old < 2 ^ 64 - 1 }
-    requires out_count { faults_in out.old < 2 ^ 64 - 1 }
-    requires err_count { faults_in err.old < 2 ^ 64 - 1 }
     ensures { DiffRun
         (record {
           old_before = source_of R.remaining old.old;
@@ -52,9 +48,6 @@ fn diff_inputs<R: Read, S: Read, W: Write>(
     new: &mut Counted<S>,
     out: &mut Counted<W>,
 ) -> Result<bool, Fault>
-    requires old_count { faults_in old.old < 2 ^ 64 - 1 }
-    requires new_count { faults_in new.old < 2 ^ 64 - 1 }
-    requires out_count { faults_in out.old < 2 ^ 64 - 1 }
     ensures writes { WritesDiff
         (record {
           old_before = source_of R.remaining old.old;
@@ -70,7 +63,7 @@ fn diff_inputs<R: Read, S: Read, W: Write>(
           new_before = source_of S.remaining new.old;
           new_after = source_of S.remaining new.new;
         }) }
-    ensures write_fault { result ≡ Err (Front WriteFault) → faults_in out.old < faults_in out.new }
+    ensures write_fault { result ≡ Err (Front WriteFault) → faults_in out.new ≡ next_count (faults_in out.old) }
 {
     let lines = match lines_between(alloc, old, new) {
         Ok(lines) => lines,
@@ -89,8 +82,6 @@ fn lines_between<R: Read, S: Read>(
     old: &mut Counted<R>,
     new: &mut Counted<S>,
 ) -> Result<Vec<u8>, Fault>
-    requires old_count { faults_in old.old < 2 ^ 64 - 1 }
-    requires new_count { faults_in new.old < 2 ^ 64 - 1 }
     ensures ok { IfOk result (λ lines. (changes : List (Name × Change)) × Differ
         (record {
           old_before = source_of R.remaining old.old;

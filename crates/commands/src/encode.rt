@@ -1,6 +1,5 @@
 //! The commands `encode` and `decode`: lines become frames, and frames become lines.
-ghost use Rattle.std.specs.Prelude.{◌≡◌, ◌<◌, ◌-◌, ◌^◌};
-ghost use Rattle.frame_front.specs.Counted.{faults_in};
+ghost use Rattle.std.specs.Prelude.{◌≡◌};
 ghost use Rattle.commands.specs.Encode.{Decodes, Encodes};
 ghost use Rattle.commands.specs.Streams.{streams};
 
@@ -18,9 +17,6 @@ pub fn encode_over<T: TextSource, R: Read, W: Write, E: Write>(
     out: &mut Counted<W>,
     err: &mut Counted<E>,
 ) -> u8
-    requires reader_count { faults_in reader.old < 2 ^ 64 - 1 }
-    requires out_count { faults_in out.old < 2 ^ 64 - 1 }
-    requires err_count { faults_in err.old < 2 ^ 64 - 1 }
     ensures encodes { Encodes (T.gives texts.now) result
         (streams R.remaining W.contents E.contents reader.old out.old err.old)
         (streams R.remaining W.contents E.contents reader.new out.new err.new) }
@@ -41,9 +37,6 @@ pub fn decode_over<R: Read, W: Write, E: Write>(
     out: &mut Counted<W>,
     err: &mut Counted<E>,
 ) -> u8
-    requires reader_count { faults_in reader.old < 2 ^ 64 - 1 }
-    requires out_count { faults_in out.old < 2 ^ 64 - 1 }
-    requires err_count { faults_in err.old < 2 ^ 64 - 1 }
     ensures decodes { Decodes result
         (streams R.remaining W.contents E.contents reader.old out.old err.old)
         (streams R.remaining W.contents E.contents reader.new out.new err.new) }

@@ -1,6 +1,5 @@
 //! The command `explain`: writes a text that is known beforehand.
-ghost use Rattle.std.specs.Prelude.{◌≡◌, ◌<◌, ◌-◌, ◌^◌};
-ghost use Rattle.frame_front.specs.Counted.{faults_in};
+ghost use Rattle.std.specs.Prelude.{◌≡◌};
 ghost use Rattle.commands.specs.Explain.{Explains};
 ghost use Rattle.commands.specs.Streams.{Source, end_of};
 
@@ -14,8 +13,6 @@ pub fn explain_over<W: Write, E: Write>(
     out: &mut Counted<W>,
     err: &mut Counted<E>,
 ) -> u8
-    requires out_count { faults_in out.old < 2 ^ 64 - 1 }
-    requires err_count { faults_in err.old < 2 ^ 64 - 1 }
     ensures explains { (input : Source) → Explains text.now result
         (record { input = input; output = end_of W.contents out.old; error = end_of E.contents err.old })
         (record { input = input; output = end_of W.contents out.new; error = end_of E.contents err.new }) }

@@ -1,5 +1,5 @@
 //! Faults of commands.
-ghost use Rattle.std.specs.Prelude.{◌≡◌, ◌<◌, ◌≤◌, ◌+◌, ◌-◌, ◌^◌, ◌++◌, length};
+ghost use Rattle.std.specs.Prelude.{◌≡◌, ◌≤◌, ◌+◌, ◌++◌, length};
 ghost use Rattle.frame_front.specs.Counted.{faults_in};
 ghost use Rattle.commands.specs.Fault.{asking_numbers, fault_number, fault_numbers, fault_line, number_text, numbers_text, refresh_number, refresh_numbers, server_number, snapshot_number, snapshot_numbers};
 ghost use Rattle.commands.specs.Streams.{Tells, TellsUnlessFailed, end_of};
@@ -221,7 +221,6 @@ impl Fault {
     /// Writes the line of the fault, and answers the exit status that goes with it. A line that standard error does not
     /// take is dropped.
     pub fn tell<E: Write>(&self, err: &mut Counted<E>) -> u8
-        requires { faults_in err.old < 2 ^ 64 - 1 }
         ensures status { result ≡ 1 }
         ensures tells { Tells (end_of E.contents err.old) (end_of E.contents err.new) (fault_line self.now) }
     {
@@ -232,7 +231,6 @@ impl Fault {
 
     /// Writes the line of the fault; but nothing if a call of the writer has failed since `before` of them had failed.
     pub fn tell_unless_failed<E: Write>(&self, err: &mut Counted<E>, before: u64)
-        requires { before < 2 ^ 64 - 1 }
         ensures { TellsUnlessFailed before (end_of E.contents err.old) (end_of E.contents err.new) (fault_line self.now) }
     {
         if err.faults() == before {

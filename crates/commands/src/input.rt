@@ -1,6 +1,6 @@
 //! Input that is read whole before it is judged.
-ghost use Rattle.std.specs.Prelude.{◌≡◌, ◌<◌, ◌-◌, ◌^◌, Err, IfOk, IfErr};
-ghost use Rattle.frame_front.specs.Counted.{end_in, faults_in, reads_of};
+ghost use Rattle.std.specs.Prelude.{◌≡◌, Err, IfOk, IfErr};
+ghost use Rattle.frame_front.specs.Counted.{end_in, faults_in, next_count, reads_of};
 ghost use Rattle.frame_front.specs.declared.error.FrontError.TheVariants.{ReadFault};
 ghost use Rattle.commands.specs.Input.{IsInput, InputFault, ReadsInput};
 ghost use Rattle.commands.specs.declared.fault.Fault.TheVariants.{Front};
@@ -21,12 +21,11 @@ const PIECE_BYTES: usize = 4096;
 
 /// All of the input.
 pub fn read_input<R: Read>(alloc: Global, reader: &mut Counted<R>) -> Result<Vec<u8>, Fault>
-    requires { faults_in reader.old < 2 ^ 64 - 1 }
     ensures ok { IfOk result (λ input. IsInput input.items (R.remaining (end_in reader.old)) (R.remaining (end_in reader.new))) }
     ensures err { IfErr result (λ fault. InputFault fault (R.remaining (end_in reader.old)) (R.remaining (end_in reader.new))) }
     // A turn is one call of `read`.
     ensures reads { ReadsInput result (reads_of reader.old) (reads_of reader.new) }
-    ensures read_fault { result ≡ Err (Front ReadFault) → faults_in reader.old < faults_in reader.new }
+    ensures read_fault { result ≡ Err (Front ReadFault) → faults_in reader.new ≡ next_count (faults_in reader.old) }
 {
     let _begun = reader.reads();
     let mut input = Vec::new(alloc);

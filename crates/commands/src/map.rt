@@ -1,5 +1,5 @@
 //! The command `map`: a dump becomes one bundle map.
-ghost use Rattle.std.specs.Prelude.{◌≡◌, ◌<◌, ◌-◌, ◌^◌, ◌++◌, ◌∷◌, [], ℕ, map, Err, IfOk, IfErr};
+ghost use Rattle.std.specs.Prelude.{◌≡◌, ◌++◌, ◌∷◌, [], ℕ, map, Err, IfOk, IfErr};
 ghost use Rattle.dump_views.specs.Choice.{AreThere, IsFirstMissing};
 ghost use Rattle.dump_views.specs.Map.{map_text, shown};
 ghost use Rattle.commands.specs.Input.{ReadsInput};
@@ -8,7 +8,7 @@ ghost use Rattle.commands.specs.declared.fault.Fault.TheVariants.{Front, NotInDu
 ghost use Rattle.commands.specs.Map.{MapOf, NoMap, wanted as wanted_of};
 ghost use Rattle.commands.specs.Private.Choosing.{NotWanted};
 ghost use Rattle.commands.specs.Reading.{Filters, Writes};
-ghost use Rattle.frame_front.specs.Counted.{end_in, faults_in, reads_of};
+ghost use Rattle.frame_front.specs.Counted.{end_in, faults_in, next_count, reads_of};
 ghost use Rattle.frame_front.specs.declared.error.FrontError.TheVariants.{Memory, ReadFault, WriteFault};
 
 use crate::reading::read_domains;
@@ -29,9 +29,6 @@ pub fn map_over<R: Read, W: Write, E: Write>(
     out: &mut Counted<W>,
     err: &mut Counted<E>,
 ) -> u8
-    requires reader_count { faults_in reader.old < 2 ^ 64 - 1 }
-    requires out_count { faults_in out.old < 2 ^ 64 - 1 }
-    requires err_count { faults_in err.old < 2 ^ 64 - 1 }
     ensures maps { Filters (MapOf names.now profile) (NoMap names.now) result
         (streams R.remaining W.contents E.contents reader.old out.old err.old)
         (streams R.remaining W.contents E.contents reader.new out.new err.new) }
@@ -50,13 +47,11 @@ fn map_input<R: Read, W: Write>(
     reader: &mut Counted<R>,
     out: &mut Counted<W>,
 ) -> Result<(), Fault>
-    requires reader_count { faults_in reader.old < 2 ^ 64 - 1 }
-    requires out_count { faults_in out.old < 2 ^ 64 - 1 }
     ensures maps { Writes (MapOf names.now profile) (NoMap names.now) result
         (R.remaining (end_in reader.old)) (R.remaining (end_in reader.new)) (W.contents (end_in out.old)) (W.contents (end_in out.new)) }
     ensures reads { ReadsInput result (reads_of reader.old) (reads_of reader.new) }
-    ensures read_fault { result ≡ Err (Front ReadFault) → faults_in reader.old < faults_in reader.new }
-    ensures write_fault { result ≡ Err (Front WriteFault) → faults_in out.old < faults_in out.new }
+    ensures read_fault { result ≡ Err (Front ReadFault) → faults_in reader.new ≡ next_count (faults_in reader.old) }
+    ensures write_fault { result ≡ Err (Front WriteFault) → faults_in out.new ≡ next_count (faults_in out.old) }
 {
     let text = match map_of(alloc, names, profile, reader) {
         Ok(text) => text,
@@ -72,11 +67,10 @@ fn map_of<R: Read>(
     profile: Profile,
     reader: &mut Counted<R>,
 ) -> Result<Vec<u8>, Fault>
-    requires reader_count { faults_in reader.old < 2 ^ 64 - 1 }
     ensures ok { IfOk result (λ text. MapOf names.now profile text.items (R.remaining (end_in reader.old)) (R.remaining (end_in reader.new))) }
     ensures err { IfErr result (λ fault. NoMap names.now fault (R.remaining (end_in reader.old)) (R.remaining (end_in reader.new))) }
     ensures reads { ReadsInput result (reads_of reader.old) (reads_of reader.new) }
-    ensures read_fault { result ≡ Err (Front ReadFault) → faults_in reader.old < faults_in reader.new }
+    ensures read_fault { result ≡ Err (Front ReadFault) → faults_in reader.new ≡ next_count (faults_in reader.old) }
     ensures no_write_fault { result ≡ Err (Front WriteFault) → ⊥ }
 {
     let domains = match read_domains(alloc, reader) {

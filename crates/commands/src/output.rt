@@ -1,5 +1,5 @@
 //! Output that is written whole.
-ghost use Rattle.std.specs.Prelude.{◌≡◌, ◌<◌, ◌-◌, ◌^◌, OnOk, IfErr, OnErr};
+ghost use Rattle.std.specs.Prelude.{◌≡◌, OnOk, IfErr, OnErr};
 ghost use Rattle.std.specs.Io.KnownBytes.{Appends};
 ghost use Rattle.frame_front.specs.Counted.{end_in, faults_in, next_count};
 ghost use Rattle.frame_front.specs.Outbox.{WritesFront};
@@ -52,7 +52,6 @@ pub fn write_flushed<W: Write>(writer: &mut Counted<W>, bytes: &[u8]) -> Result<
 
 /// Writes a text. What the writer does not take of it is dropped.
 pub fn tell<E: Write>(err: &mut Counted<E>, text: &[u8])
-    requires { faults_in err.old < 2 ^ 64 - 1 }
     ensures { Tells (end_of E.contents err.old) (end_of E.contents err.new) text.now }
 {
     let _ = write_whole(err, text);
@@ -60,7 +59,6 @@ pub fn tell<E: Write>(err: &mut Counted<E>, text: &[u8])
 
 /// Writes a text, and sees that the writer keeps nothing back. What the writer does not take of it is dropped.
 pub fn tell_flushed<E: Write>(end: &mut Counted<E>, text: &[u8])
-    requires { faults_in end.old < 2 ^ 64 - 1 }
     ensures { Tells (end_of E.contents end.old) (end_of E.contents end.new) text.now }
 {
     let _ = write_flushed(end, text);

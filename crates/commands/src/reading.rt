@@ -1,9 +1,9 @@
 //! Dumps that are read whole.
-ghost use Rattle.std.specs.Prelude.{◌≡◌, ◌<◌, ◌-◌, ◌^◌, Err, IfOk, IfErr};
+ghost use Rattle.std.specs.Prelude.{◌≡◌, Err, IfOk, IfErr};
 ghost use Rattle.commands.specs.Input.{ReadsInput};
 ghost use Rattle.commands.specs.declared.fault.Fault.TheVariants.{Front};
 ghost use Rattle.commands.specs.Reading.{IsRead, Unread};
-ghost use Rattle.frame_front.specs.Counted.{end_in, faults_in, reads_of};
+ghost use Rattle.frame_front.specs.Counted.{end_in, faults_in, next_count, reads_of};
 ghost use Rattle.frame_front.specs.declared.error.FrontError.TheVariants.{ReadFault, WriteFault};
 
 use crate::{Fault, read_input};
@@ -17,11 +17,10 @@ pub(crate) fn read_domains<R: Read>(
     alloc: Global,
     reader: &mut Counted<R>,
 ) -> Result<Snapshot, Fault>
-    requires { faults_in reader.old < 2 ^ 64 - 1 }
     ensures ok { IfOk result (λ items. IsRead items (R.remaining (end_in reader.old)) (R.remaining (end_in reader.new))) }
     ensures err { IfErr result (λ fault. Unread fault (R.remaining (end_in reader.old)) (R.remaining (end_in reader.new))) }
     ensures reads { ReadsInput result (reads_of reader.old) (reads_of reader.new) }
-    ensures read_fault { result ≡ Err (Front ReadFault) → faults_in reader.old < faults_in reader.new }
+    ensures read_fault { result ≡ Err (Front ReadFault) → faults_in reader.new ≡ next_count (faults_in reader.old) }
     ensures no_write_fault { result ≡ Err (Front WriteFault) → ⊥ }
 {
     let input = match read_input(alloc, reader) {

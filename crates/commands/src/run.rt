@@ -1,7 +1,7 @@
 //! The command `run`: one session over an empty store.
-ghost use Rattle.std.specs.Prelude.{◌≡◌, ◌≤◌, ◌<◌, ◌-◌, ◌^◌, Err};
+ghost use Rattle.std.specs.Prelude.{◌≡◌, ◌≤◌, ◌<◌, Err};
 ghost use Rattle.std.specs.FinMap as finite;
-ghost use Rattle.frame_front.specs.Counted.{end_in, faults_in, MakesReads, reads_of};
+ghost use Rattle.frame_front.specs.Counted.{MakesReads, end_in, faults_in, next_count, reads_of};
 ghost use Rattle.frame_front.specs.PlainSession.{PlainTranscript};
 ghost use Rattle.frame_front.specs.declared.error.FrontError.TheVariants.{ReadFault, WriteFault, TurnsUsed};
 ghost use Rattle.map_core.specs.PlainMap.{PlainMap};
@@ -27,9 +27,6 @@ pub fn run_over<R: Read, W: Write, E: Write>(
 ) -> u8
     requires some { 0 < shards }
     requires few { turns ≤ 1000000000 }
-    requires reader_count { faults_in reader.old < 2 ^ 64 - 1 }
-    requires out_count { faults_in out.old < 2 ^ 64 - 1 }
-    requires err_count { faults_in err.old < 2 ^ 64 - 1 }
     ensures runs { Runs turns result
         (streams R.remaining W.contents E.contents reader.old out.old err.old)
         (streams R.remaining W.contents E.contents reader.new out.new err.new) }
@@ -50,13 +47,11 @@ fn serve_store<R: Read, W: Write>(
 ) -> Result<u64, FrontError>
     requires some { 0 < shards }
     requires few { turns ≤ 1000000000 }
-    requires reader_count { faults_in reader.old < 2 ^ 64 - 1 }
-    requires out_count { faults_in out.old < 2 ^ 64 - 1 }
     ensures session { (left : PlainMap) × PlainTranscript ShardsAnswer result turns (R.remaining (end_in reader.old))
         (R.remaining (end_in reader.new)) (W.contents (end_in out.old)) (W.contents (end_in out.new)) finite.empty left }
     ensures reads { MakesReads turns (result ≡ Err TurnsUsed) (reads_of reader.old) (reads_of reader.new) }
-    ensures read_fault { result ≡ Err ReadFault → faults_in reader.old < faults_in reader.new }
-    ensures write_fault { result ≡ Err WriteFault → faults_in out.old < faults_in out.new }
+    ensures read_fault { result ≡ Err ReadFault → faults_in reader.new ≡ next_count (faults_in reader.old) }
+    ensures write_fault { result ≡ Err WriteFault → faults_in out.new ≡ next_count (faults_in out.old) }
 {
     let Ok(mut store) = Shards::new(alloc, shards) else {
         return Err(FrontError::Memory);

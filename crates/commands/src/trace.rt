@@ -1,7 +1,7 @@
 //! The command `trace`: a run of the machine over a list of events.
-ghost use Rattle.std.specs.Prelude.{◌≡◌, ◌<◌, ◌-◌, ◌^◌, List, ℕ, Bool, true, false, Option, Err, length, OnOk, IfOk, IfErr};
+ghost use Rattle.std.specs.Prelude.{◌≡◌, ◌<◌, List, ℕ, Bool, true, false, Option, Err, length, OnOk, IfOk, IfErr};
 ghost use Rattle.std.specs.Io.KnownBytes.{Appends};
-ghost use Rattle.frame_front.specs.Counted.{end_in, faults_in, reads_of};
+ghost use Rattle.frame_front.specs.Counted.{end_in, faults_in, next_count, reads_of};
 ghost use Rattle.frame_front.specs.Outbox.{WritesFront};
 ghost use Rattle.frame_front.specs.declared.error.FrontError.TheVariants.{ReadFault, WriteFault};
 ghost use Rattle.step_core.specs.declared.event.Event.{Event};
@@ -32,9 +32,6 @@ pub fn trace_over<R: Read, W: Write, E: Write>(
 ) -> u8
     requires shards { 0 < shards }
     requires rounds { 0 < rounds }
-    requires reader_count { faults_in reader.old < 2 ^ 64 - 1 }
-    requires out_count { faults_in out.old < 2 ^ 64 - 1 }
-    requires err_count { faults_in err.old < 2 ^ 64 - 1 }
     ensures traces { Tracing shards rounds false result
         (streams R.remaining W.contents E.contents reader.old out.old err.old)
         (streams R.remaining W.contents E.contents reader.new out.new err.new) }
@@ -54,9 +51,6 @@ pub fn picture_over<R: Read, W: Write, E: Write>(
 ) -> u8
     requires shards { 0 < shards }
     requires rounds { 0 < rounds }
-    requires reader_count { faults_in reader.old < 2 ^ 64 - 1 }
-    requires out_count { faults_in out.old < 2 ^ 64 - 1 }
-    requires err_count { faults_in err.old < 2 ^ 64 - 1 }
     ensures traces { Tracing shards rounds true result
         (streams R.remaining W.contents E.contents reader.old out.old err.old)
         (streams R.remaining W.contents E.contents reader.new out.new err.new) }
@@ -77,9 +71,6 @@ fn show_over<R: Read, W: Write, E: Write>(
 ) -> u8
     requires shards { 0 < shards }
     requires rounds { 0 < rounds }
-    requires reader_count { faults_in reader.old < 2 ^ 64 - 1 }
-    requires out_count { faults_in out.old < 2 ^ 64 - 1 }
-    requires err_count { faults_in err.old < 2 ^ 64 - 1 }
     ensures traces { Tracing shards rounds picture result
         (streams R.remaining W.contents E.contents reader.old out.old err.old)
         (streams R.remaining W.contents E.contents reader.new out.new err.new) }
@@ -101,12 +92,10 @@ fn trace_input<R: Read, W: Write>(
 ) -> Result<(), Fault>
     requires shards { 0 < shards }
     requires rounds { 0 < rounds }
-    requires reader_count { faults_in reader.old < 2 ^ 64 - 1 }
-    requires out_count { faults_in out.old < 2 ^ 64 - 1 }
     ensures traces { Traces shards rounds picture result (R.remaining (end_in reader.old)) (R.remaining (end_in reader.new)) (W.contents (end_in out.old)) (W.contents (end_in out.new)) }
     ensures reads { ReadsInput result (reads_of reader.old) (reads_of reader.new) }
-    ensures read_fault { result ≡ Err (Front ReadFault) → faults_in reader.old < faults_in reader.new }
-    ensures write_fault { result ≡ Err (Front WriteFault) → faults_in out.old < faults_in out.new }
+    ensures read_fault { result ≡ Err (Front ReadFault) → faults_in reader.new ≡ next_count (faults_in reader.old) }
+    ensures write_fault { result ≡ Err (Front WriteFault) → faults_in out.new ≡ next_count (faults_in out.old) }
 {
     let (events, trace) = match traced(alloc, reader, shards, rounds) {
         Ok(traced) => traced,
@@ -125,9 +114,8 @@ fn print<W: Write>(
     events: usize,
     trace: &Trace,
 ) -> Result<(), FrontError>
-    requires { faults_in out.old < 2 ^ 64 - 1 }
     ensures ok { OnOk result (Appends (W.contents (end_in out.old)) (W.contents (end_in out.new)) (printed picture events trace.now.ops.items trace.now.order.items)) }
-    ensures fault { IfErr result (λ fault. (fault ≡ FrontError.WriteFault) × (faults_in out.old < faults_in out.new)) }
+    ensures fault { IfErr result (λ fault. (fault ≡ FrontError.WriteFault) × (faults_in out.new ≡ next_count (faults_in out.old))) }
     ensures front { WritesFront (W.contents (end_in out.old)) (W.contents (end_in out.new)) (printed picture events trace.now.ops.items trace.now.order.items) }
 {
     if picture {
@@ -146,12 +134,11 @@ fn traced<R: Read>(
 ) -> Result<(usize, Trace), Fault>
     requires shards { 0 < shards }
     requires rounds { 0 < rounds }
-    requires reader_count { faults_in reader.old < 2 ^ 64 - 1 }
     ensures ok { IfOk result (λ traced. (input : List ℕ) × (events : List Event) × IsInput input (R.remaining (end_in reader.old)) (R.remaining (end_in reader.new))
         × AreEvents (lines_in input) events × IsTraceOf shards rounds events traced.1.ops.items traced.1.order.items × (traced.0 ≡ length events)) }
     ensures err { IfErr result (λ fault. (picture : Bool) (held : Option (List ℕ)) → Traces shards rounds picture (Err fault) (R.remaining (end_in reader.old)) (R.remaining (end_in reader.new)) held held) }
     ensures reads { ReadsInput result (reads_of reader.old) (reads_of reader.new) }
-    ensures read_fault { result ≡ Err (Front ReadFault) → faults_in reader.old < faults_in reader.new }
+    ensures read_fault { result ≡ Err (Front ReadFault) → faults_in reader.new ≡ next_count (faults_in reader.old) }
     ensures no_write_fault { result ≡ Err (Front WriteFault) → ⊥ }
 {
     let input = read_input(alloc, reader)?;

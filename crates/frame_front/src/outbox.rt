@@ -1,7 +1,7 @@
 //! Replies gathered for one write.
-ghost use Rattle.std.specs.Prelude.{◌≡◌, ◌++◌, ◌<◌, ◌-◌, ◌^◌, [], flat_map, true, false, OnOk, IfOk, IfErr};
+ghost use Rattle.std.specs.Prelude.{◌≡◌, ◌++◌, [], flat_map, true, false, OnOk, IfOk, IfErr};
 ghost use Rattle.std.specs.Io.KnownBytes.{Appends};
-ghost use Rattle.frame_front.specs.Counted.{end_in, faults_in};
+ghost use Rattle.frame_front.specs.Counted.{end_in, faults_in, next_count};
 ghost use Rattle.frame_front.specs.Reply.{item_frame};
 ghost use Rattle.frame_front.specs.Outbox.{WritesFront};
 ghost use Rattle.frame_front.specs.Private.Gathered.{Puts, Takes};
@@ -68,10 +68,9 @@ impl Outbox {
         writer: &mut Counted<W>,
         reply: &ReplyBytes,
     ) -> Result<(), FrontError>
-        requires { faults_in writer.old < 2 ^ 64 - 1 }
         ensures ok { OnOk result (Puts (W.contents (end_in writer.old)) (W.contents (end_in writer.new)) self.old reply.now self.new) }
         ensures quiet { OnOk result (faults_in writer.new ≡ faults_in writer.old) }
-        ensures fault { IfErr result (λ fault. (fault ≡ FrontError.WriteFault) × (faults_in writer.old < faults_in writer.new)) }
+        ensures fault { IfErr result (λ fault. (fault ≡ FrontError.WriteFault) × (faults_in writer.new ≡ next_count (faults_in writer.old))) }
         ensures front { WritesFront (W.contents (end_in writer.old)) (W.contents (end_in writer.new)) (self.old ++ reply.now) }
     {
         let (head, text, items) = reply.parts();
@@ -92,10 +91,9 @@ impl Outbox {
         first: &[u8],
         others: &[u8],
     ) -> Result<(), FrontError>
-        requires { faults_in writer.old < 2 ^ 64 - 1 }
         ensures ok { OnOk result (Takes (W.contents (end_in writer.old)) (W.contents (end_in writer.new)) self.old (first.now ++ others.now) self.new) }
         ensures quiet { OnOk result (faults_in writer.new ≡ faults_in writer.old) }
-        ensures fault { IfErr result (λ fault. (fault ≡ FrontError.WriteFault) × (faults_in writer.old < faults_in writer.new)) }
+        ensures fault { IfErr result (λ fault. (fault ≡ FrontError.WriteFault) × (faults_in writer.new ≡ next_count (faults_in writer.old))) }
         ensures front { WritesFront (W.contents (end_in writer.old)) (W.contents (end_in writer.new)) (self.old ++ (first.now ++ others.now)) }
     {
         if self.gather(first, others) {
@@ -112,10 +110,9 @@ impl Outbox {
         first: &[u8],
         others: &[u8],
     ) -> Result<(), FrontError>
-        requires { faults_in writer.old < 2 ^ 64 - 1 }
         ensures ok { OnOk result (Takes (W.contents (end_in writer.old)) (W.contents (end_in writer.new)) self.old (first.now ++ others.now) self.new) }
         ensures quiet { OnOk result (faults_in writer.new ≡ faults_in writer.old) }
-        ensures fault { IfErr result (λ fault. (fault ≡ FrontError.WriteFault) × (faults_in writer.old < faults_in writer.new)) }
+        ensures fault { IfErr result (λ fault. (fault ≡ FrontError.WriteFault) × (faults_in writer.new ≡ next_count (faults_in writer.old))) }
         ensures front { WritesFront (W.contents (end_in writer.old)) (W.contents (end_in writer.new)) (self.old ++ (first.now ++ others.now)) }
     {
         self.send(writer)?;
@@ -132,10 +129,9 @@ impl Outbox {
         writer: &mut Counted<W>,
         items: &[(TrustDomain, Bundle)],
     ) -> Result<(), FrontError>
-        requires { faults_in writer.old < 2 ^ 64 - 1 }
         ensures ok { OnOk result (Takes (W.contents (end_in writer.old)) (W.contents (end_in writer.new)) self.old (flat_map item_frame items.now) self.new) }
         ensures quiet { OnOk result (faults_in writer.new ≡ faults_in writer.old) }
-        ensures fault { IfErr result (λ fault. (fault ≡ FrontError.WriteFault) × (faults_in writer.old < faults_in writer.new)) }
+        ensures fault { IfErr result (λ fault. (fault ≡ FrontError.WriteFault) × (faults_in writer.new ≡ next_count (faults_in writer.old))) }
         ensures front { WritesFront (W.contents (end_in writer.old)) (W.contents (end_in writer.new)) (self.old ++ flat_map item_frame items.now) }
     {
         for item in items {
@@ -151,10 +147,9 @@ impl Outbox {
         writer: &mut Counted<W>,
         item: &(TrustDomain, Bundle),
     ) -> Result<(), FrontError>
-        requires { faults_in writer.old < 2 ^ 64 - 1 }
         ensures ok { OnOk result (Takes (W.contents (end_in writer.old)) (W.contents (end_in writer.new)) self.old (item_frame item.now) self.new) }
         ensures quiet { OnOk result (faults_in writer.new ≡ faults_in writer.old) }
-        ensures fault { IfErr result (λ fault. (fault ≡ FrontError.WriteFault) × (faults_in writer.old < faults_in writer.new)) }
+        ensures fault { IfErr result (λ fault. (fault ≡ FrontError.WriteFault) × (faults_in writer.new ≡ next_count (faults_in writer.old))) }
         ensures front { WritesFront (W.contents (end_in writer.old)) (W.contents (end_in writer.new)) (self.old ++ item_frame item.now) }
     {
         let (domain, bundle) = item;
@@ -164,11 +159,10 @@ impl Outbox {
 
     /// Writes what is gathered.
     fn send<W: Write>(&mut self, writer: &mut Counted<W>) -> Result<(), FrontError>
-        requires { faults_in writer.old < 2 ^ 64 - 1 }
         ensures ok { OnOk result (Appends (W.contents (end_in writer.old)) (W.contents (end_in writer.new)) self.old) }
         ensures empty { OnOk result (self.new ≡ []) }
         ensures quiet { OnOk result (faults_in writer.new ≡ faults_in writer.old) }
-        ensures fault { IfErr result (λ fault. (fault ≡ FrontError.WriteFault) × (faults_in writer.old < faults_in writer.new)) }
+        ensures fault { IfErr result (λ fault. (fault ≡ FrontError.WriteFault) × (faults_in writer.new ≡ next_count (faults_in writer.old))) }
         ensures front { WritesFront (W.contents (end_in writer.old)) (W.contents (end_in writer.new)) self.old }
     {
         write_whole(writer, self.gathered.as_slice())?;
@@ -178,11 +172,10 @@ impl Outbox {
 
     /// Ends a round: writes what is gathered, and sees that the writer keeps nothing back.
     pub(crate) fn flush<W: Write>(&mut self, writer: &mut Counted<W>) -> Result<(), FrontError>
-        requires { faults_in writer.old < 2 ^ 64 - 1 }
         ensures ok { OnOk result (Appends (W.contents (end_in writer.old)) (W.contents (end_in writer.new)) self.old) }
         ensures empty { OnOk result (self.new ≡ []) }
         ensures quiet { OnOk result (faults_in writer.new ≡ faults_in writer.old) }
-        ensures fault { IfErr result (λ fault. (fault ≡ FrontError.WriteFault) × (faults_in writer.old < faults_in writer.new)) }
+        ensures fault { IfErr result (λ fault. (fault ≡ FrontError.WriteFault) × (faults_in writer.new ≡ next_count (faults_in writer.old))) }
         ensures front { WritesFront (W.contents (end_in writer.old)) (W.contents (end_in writer.new)) self.old }
     {
         self.send(writer)?;
@@ -199,10 +192,9 @@ pub fn write_both<W: Write>(
     first: &[u8],
     others: &[u8],
 ) -> Result<(), FrontError>
-    requires { faults_in writer.old < 2 ^ 64 - 1 }
     ensures ok { OnOk result (Appends (W.contents (end_in writer.old)) (W.contents (end_in writer.new)) (first.now ++ others.now)) }
     ensures quiet { OnOk result (faults_in writer.new ≡ faults_in writer.old) }
-    ensures fault { IfErr result (λ fault. (fault ≡ FrontError.WriteFault) × (faults_in writer.old < faults_in writer.new)) }
+    ensures fault { IfErr result (λ fault. (fault ≡ FrontError.WriteFault) × (faults_in writer.new ≡ next_count (faults_in writer.old))) }
     ensures front { WritesFront (W.contents (end_in writer.old)) (W.contents (end_in writer.new)) (first.now ++ others.now) }
 {
     write_whole(writer, first)?;
@@ -211,10 +203,9 @@ pub fn write_both<W: Write>(
 
 /// Writes all of the bytes.
 fn write_whole<W: Write>(writer: &mut Counted<W>, bytes: &[u8]) -> Result<(), FrontError>
-    requires { faults_in writer.old < 2 ^ 64 - 1 }
     ensures ok { OnOk result (Appends (W.contents (end_in writer.old)) (W.contents (end_in writer.new)) bytes.now) }
     ensures quiet { OnOk result (faults_in writer.new ≡ faults_in writer.old) }
-    ensures fault { IfErr result (λ fault. (fault ≡ FrontError.WriteFault) × (faults_in writer.old < faults_in writer.new)) }
+    ensures fault { IfErr result (λ fault. (fault ≡ FrontError.WriteFault) × (faults_in writer.new ≡ next_count (faults_in writer.old))) }
     ensures front { WritesFront (W.contents (end_in writer.old)) (W.contents (end_in writer.new)) bytes.now }
 {
     let mut rest = bytes;

@@ -1,7 +1,7 @@
 //! Sessions: requests come in, replies go out.
-ghost use Rattle.std.specs.Prelude.{◌≡◌, ◌≤◌, ◌-◌, ◌^◌, ◌<◌, ◌∷◌, ℕ, List, [], length, Err, Some, true, OnOk, IfErr};
+ghost use Rattle.std.specs.Prelude.{◌≡◌, ◌≤◌, ◌^◌, ◌<◌, ◌∷◌, ℕ, List, [], length, Err, Some, true, OnOk, IfErr};
 ghost use Rattle.std.specs.Io.KnownBytes.{Appends, Consumes, IsAtEnd};
-ghost use Rattle.frame_front.specs.Counted.{end_in, faults_in, MakesReads, reads_of};
+ghost use Rattle.frame_front.specs.Counted.{MakesReads, end_in, faults_in, next_count, reads_of};
 ghost use Rattle.frame_front.specs.Session.{Answers, Session};
 ghost use Rattle.frame_front.specs.Private.Round.{Round};
 ghost use Rattle.frame_front.specs.Transcript.{Transcript};
@@ -86,12 +86,11 @@ fn answer_frames<W: Write, A: Ask>(
 ) -> Result<u64, FrontError>
     requires nothing_gathered { outbox.old ≡ [] }
     requires room { length decoder.old < 2 ^ 63 }
-    requires count { faults_in writer.old < 2 ^ 64 - 1 }
     ensures round { (written : List ℕ) × Appends (W.contents (end_in writer.old)) (W.contents (end_in writer.new)) written
         × Round A.answers result decoder.old decoder.new (version.old, ask.old) (version.new, ask.new) written }
     ensures all_sent { OnOk result (outbox.new ≡ []) }
     ensures quiet { OnOk result (faults_in writer.new ≡ faults_in writer.old) }
-    ensures fault { result ≡ Err FrontError.WriteFault → faults_in writer.old < faults_in writer.new }
+    ensures fault { result ≡ Err FrontError.WriteFault → faults_in writer.new ≡ next_count (faults_in writer.old) }
 {
     let mut count = 0;
     loop {
@@ -124,14 +123,12 @@ fn take_turns<R: Read, W: Write, A: Ask>(
     turns: u64,
 ) -> Result<u64, FrontError>
     requires few { turns ≤ 1000000000 }
-    requires reader_count { faults_in reader.old < 2 ^ 64 - 1 }
-    requires writer_count { faults_in writer.old < 2 ^ 64 - 1 }
     ensures transcript { Transcript A.answers result turns
         (R.remaining (end_in reader.old)) (R.remaining (end_in reader.new))
         (W.contents (end_in writer.old)) (W.contents (end_in writer.new)) ask.old ask.new }
     ensures reads { MakesReads turns (result ≡ Err FrontError.TurnsUsed) (reads_of reader.old) (reads_of reader.new) }
-    ensures read_fault { result ≡ Err FrontError.ReadFault → faults_in reader.old < faults_in reader.new }
-    ensures write_fault { result ≡ Err FrontError.WriteFault → faults_in writer.old < faults_in writer.new }
+    ensures read_fault { result ≡ Err FrontError.ReadFault → faults_in reader.new ≡ next_count (faults_in reader.old) }
+    ensures write_fault { result ≡ Err FrontError.WriteFault → faults_in writer.new ≡ next_count (faults_in writer.old) }
 {
     let _begun = reader.reads();
     let Ok(mut decoder) = Decoder::new(alloc) else {
@@ -181,8 +178,6 @@ pub fn serve<R: Read, W: Write, A: Ask>(
     turns: u64,
 ) -> Result<u64, FrontError>
     requires few { turns ≤ 1000000000 }
-    requires reader_count { faults_in reader.old < 2 ^ 64 - 1 }
-    requires writer_count { faults_in writer.old < 2 ^ 64 - 1 }
 
     // Over any map that can be asked.
     ensures transcript { Transcript A.answers result turns
@@ -197,8 +192,8 @@ pub fn serve<R: Read, W: Write, A: Ask>(
 
     // A turn is one call of `read`.
     ensures reads { MakesReads turns (result ≡ Err FrontError.TurnsUsed) (reads_of reader.old) (reads_of reader.new) }
-    ensures read_fault { result ≡ Err FrontError.ReadFault → faults_in reader.old < faults_in reader.new }
-    ensures write_fault { result ≡ Err FrontError.WriteFault → faults_in writer.old < faults_in writer.new }
+    ensures read_fault { result ≡ Err FrontError.ReadFault → faults_in reader.new ≡ next_count (faults_in reader.old) }
+    ensures write_fault { result ≡ Err FrontError.WriteFault → faults_in writer.new ≡ next_count (faults_in writer.old) }
 {
     take_turns(alloc, reader, writer, ask, turns)
 }

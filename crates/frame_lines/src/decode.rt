@@ -1,6 +1,6 @@
 //! A stream of frames becomes a stream of lines.
-ghost use Rattle.std.specs.Prelude.{◌≡◌, ◌-◌, ◌^◌, ◌<◌, ◌++◌, List, ℕ, [], Err};
-ghost use Rattle.frame_front.specs.Counted.{end_in, faults_in};
+ghost use Rattle.std.specs.Prelude.{◌≡◌, ◌++◌, List, ℕ, [], Err};
+ghost use Rattle.frame_front.specs.Counted.{end_in, faults_in, next_count};
 ghost use Rattle.frame_front.specs.declared.error.FrontError.TheVariants.{ReadFault, WriteFault};
 ghost use Rattle.frame_lines.specs.DecodedStream.{DecodesStream};
 ghost use Rattle.frame_lines.specs.Private.Decoders.{DecodesKept};
@@ -31,11 +31,9 @@ pub fn decode_stream<R: Read, W: Write>(
     reader: &mut Counted<R>,
     writer: &mut Counted<W>,
 ) -> Result<(), DecodeError>
-    requires reader_count { faults_in reader.old < 2 ^ 64 - 1 }
-    requires writer_count { faults_in writer.old < 2 ^ 64 - 1 }
     ensures decodes { DecodesStream result (R.remaining (end_in reader.old)) (R.remaining (end_in reader.new)) (W.contents (end_in writer.old)) (W.contents (end_in writer.new)) }
-    ensures read_fault { result ≡ Err (Front ReadFault) → faults_in reader.old < faults_in reader.new }
-    ensures write_fault { result ≡ Err (Front WriteFault) → faults_in writer.old < faults_in writer.new }
+    ensures read_fault { result ≡ Err (Front ReadFault) → faults_in reader.new ≡ next_count (faults_in reader.old) }
+    ensures write_fault { result ≡ Err (Front WriteFault) → faults_in writer.new ≡ next_count (faults_in writer.old) }
 {
     let Ok(mut decoder) = Decoder::new(alloc) else {
         return Err(DecodeError::Front(FrontError::Memory));

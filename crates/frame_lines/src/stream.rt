@@ -1,7 +1,7 @@
 //! A stream of lines becomes a stream of frames.
-ghost use Rattle.std.specs.Prelude.{◌≡◌, ◌-◌, ◌^◌, ◌<◌, ◌++◌, ℕ, List, [], Err, OnOk, OnErr, IfErr};
+ghost use Rattle.std.specs.Prelude.{◌≡◌, ◌++◌, ℕ, List, [], Err, OnOk, OnErr, IfErr};
 ghost use Rattle.std.specs.Io.KnownBytes.{Appends};
-ghost use Rattle.frame_front.specs.Counted.{end_in, faults_in};
+ghost use Rattle.frame_front.specs.Counted.{end_in, faults_in, next_count};
 ghost use Rattle.frame_front.specs.Outbox.{WritesFront};
 ghost use Rattle.frame_front.specs.declared.error.FrontError.TheVariants.{ReadFault, WriteFault};
 ghost use Rattle.frame_lines.specs.EncodedStream.{EncodesStream};
@@ -55,11 +55,9 @@ pub fn encode_stream<T: TextSource, R: Read, W: Write>(
     reader: &mut Counted<R>,
     writer: &mut Counted<W>,
 ) -> Result<(), StreamError>
-    requires reader_count { faults_in reader.old < 2 ^ 64 - 1 }
-    requires writer_count { faults_in writer.old < 2 ^ 64 - 1 }
     ensures encodes { EncodesStream (T.gives texts.now) result (R.remaining (end_in reader.old)) (R.remaining (end_in reader.new)) (W.contents (end_in writer.old)) (W.contents (end_in writer.new)) }
-    ensures read_fault { result ≡ Err (Front ReadFault) → faults_in reader.old < faults_in reader.new }
-    ensures write_fault { result ≡ Err (Front WriteFault) → faults_in writer.old < faults_in writer.new }
+    ensures read_fault { result ≡ Err (Front ReadFault) → faults_in reader.new ≡ next_count (faults_in reader.old) }
+    ensures write_fault { result ≡ Err (Front WriteFault) → faults_in writer.new ≡ next_count (faults_in writer.old) }
 {
     let Ok(mut encoder) = Encoder::new(alloc) else {
         return Err(StreamError::Front(FrontError::Memory));
@@ -91,13 +89,12 @@ fn encode_kept<T: TextSource, W: Write>(
     out: &mut Vec<u8>,
     writer: &mut Counted<W>,
 ) -> Result<(), StreamError>
-    requires count { faults_in writer.old < 2 ^ 64 - 1 }
     requires empty { out.old.items ≡ [] }
     ensures encodes { EncodesKept (T.gives texts.now) result encoder.old encoder.new (W.contents (end_in writer.old)) (W.contents (end_in writer.new)) }
     ensures cleared { OnOk result (out.new.items ≡ []) }
     ensures quiet { OnOk result (faults_in writer.new ≡ faults_in writer.old) }
     ensures read_fault { result ≡ Err (Front ReadFault) → ⊥ }
-    ensures write_fault { result ≡ Err (Front WriteFault) → faults_in writer.old < faults_in writer.new }
+    ensures write_fault { result ≡ Err (Front WriteFault) → faults_in writer.new ≡ next_count (faults_in writer.old) }
 {
     loop {
         match encoder.encode_next(alloc, texts, out) {
@@ -121,10 +118,9 @@ fn encode_last<T: TextSource, W: Write>(
     texts: &T,
     writer: &mut Counted<W>,
 ) -> Result<(), StreamError>
-    requires count { faults_in writer.old < 2 ^ 64 - 1 }
     ensures encodes { EncodesLast (T.gives texts.now) result encoder (W.contents (end_in writer.old)) (W.contents (end_in writer.new)) }
     ensures read_fault { result ≡ Err (Front ReadFault) → ⊥ }
-    ensures write_fault { result ≡ Err (Front WriteFault) → faults_in writer.old < faults_in writer.new }
+    ensures write_fault { result ≡ Err (Front WriteFault) → faults_in writer.new ≡ next_count (faults_in writer.old) }
 {
     let mut out = Vec::new(alloc);
     if let Err(error) = encoder.finish(alloc, texts, &mut out) {
@@ -136,10 +132,9 @@ fn encode_last<T: TextSource, W: Write>(
 
 /// Sends what waits, if it is much.
 fn send_much<W: Write>(writer: &mut Counted<W>, out: &mut Vec<u8>) -> Result<(), FrontError>
-    requires { faults_in writer.old < 2 ^ 64 - 1 }
     ensures ok { OnOk result ((sent : List ℕ) × (out.old.items ≡ sent ++ out.new.items) × Appends (W.contents (end_in writer.old)) (W.contents (end_in writer.new)) sent) }
     ensures quiet { OnOk result (faults_in writer.new ≡ faults_in writer.old) }
-    ensures fault { IfErr result (λ error. (error ≡ WriteFault) × (faults_in writer.old < faults_in writer.new)) }
+    ensures fault { IfErr result (λ error. (error ≡ WriteFault) × (faults_in writer.new ≡ next_count (faults_in writer.old))) }
     ensures front { OnErr result (WritesFront (W.contents (end_in writer.old)) (W.contents (end_in writer.new)) out.old.items) }
 {
     if out.len() < SEND_BYTES {
@@ -150,11 +145,10 @@ fn send_much<W: Write>(writer: &mut Counted<W>, out: &mut Vec<u8>) -> Result<(),
 
 /// Sends all that waits.
 fn send_out<W: Write>(writer: &mut Counted<W>, out: &mut Vec<u8>) -> Result<(), FrontError>
-    requires { faults_in writer.old < 2 ^ 64 - 1 }
     ensures cleared { OnOk result (out.new.items ≡ []) }
     ensures ok { OnOk result (Appends (W.contents (end_in writer.old)) (W.contents (end_in writer.new)) out.old.items) }
     ensures quiet { OnOk result (faults_in writer.new ≡ faults_in writer.old) }
-    ensures fault { IfErr result (λ error. (error ≡ WriteFault) × (faults_in writer.old < faults_in writer.new)) }
+    ensures fault { IfErr result (λ error. (error ≡ WriteFault) × (faults_in writer.new ≡ next_count (faults_in writer.old))) }
     ensures front { OnErr result (WritesFront (W.contents (end_in writer.old)) (W.contents (end_in writer.new)) out.old.items) }
 {
     send(writer, out.as_slice())?;
@@ -164,10 +158,9 @@ fn send_out<W: Write>(writer: &mut Counted<W>, out: &mut Vec<u8>) -> Result<(), 
 
 /// Writes all of the bytes, and sees that the writer keeps nothing back.
 pub(crate) fn send<W: Write>(writer: &mut Counted<W>, bytes: &[u8]) -> Result<(), FrontError>
-    requires { faults_in writer.old < 2 ^ 64 - 1 }
     ensures ok { OnOk result (Appends (W.contents (end_in writer.old)) (W.contents (end_in writer.new)) bytes.now) }
     ensures quiet { OnOk result (faults_in writer.new ≡ faults_in writer.old) }
-    ensures fault { IfErr result (λ error. (error ≡ WriteFault) × (faults_in writer.old < faults_in writer.new)) }
+    ensures fault { IfErr result (λ error. (error ≡ WriteFault) × (faults_in writer.new ≡ next_count (faults_in writer.old))) }
     ensures front { WritesFront (W.contents (end_in writer.old)) (W.contents (end_in writer.new)) bytes.now }
 {
     if let Err(_) = write_both(writer, bytes, &[]) {

@@ -2,8 +2,7 @@
 //!
 //! A map is dropped by a call of `drop`, before anything may fail: where a scope drops it, the prover follows all its parts on
 //! each way out.
-ghost use Rattle.std.specs.Prelude.{◌<◌, ◌≤◌, ◌-◌, ◌^◌};
-ghost use Rattle.frame_front.specs.Counted.{faults_in};
+ghost use Rattle.std.specs.Prelude.{◌≤◌};
 
 mod conversations;
 mod decoders;
@@ -50,8 +49,6 @@ fn ended_of<R: Read, W: Write>(
     turns: u64,
 ) -> Result<u64, FrontError>
     requires few { turns ≤ 1000000000 }
-    requires reader_count { faults_in reader.old < 2 ^ 64 - 1 }
-    requires writer_count { faults_in writer.old < 2 ^ 64 - 1 }
 {
     let mut contents = Contents::new(alloc);
     let ended = serve(alloc, reader, writer, &mut contents, turns);

@@ -1,5 +1,5 @@
 //! Lists of relationships: what the command `refresh` reads.
-ghost use Rattle.std.specs.Prelude.{◌≡◌, ◌⊎◌, ◌<◌, ◌-◌, ◌^◌, ℕ, List, Option, true, IfOk, IfErr, OnOk};
+ghost use Rattle.std.specs.Prelude.{◌≡◌, ◌⊎◌, ℕ, List, Option, true, IfOk, IfErr, OnOk};
 ghost use Rattle.frame_front.specs.Counted.{end_in, faults_in};
 ghost use Rattle.refresher.specs.List.{has_domain, lines_of, list_fault, listed_behind, AreListed, IsListFault, NoSchedule, Schedules};
 ghost use Rattle.refresher.specs.Private.Listing.{Adds, AreDomainsOf, Follows, IsLineFault};
@@ -116,7 +116,6 @@ pub fn read_schedule<H: Files>(alloc: Global, host: &H, list: &str) -> Result<Sc
 
 /// The relationships of the list that is the input, each due at 0.
 fn schedule_of<R: Read>(alloc: Global, reader: &mut Counted<R>) -> Result<Schedule, Fault>
-    requires { faults_in reader.old < 2 ^ 64 - 1 }
     ensures ok { IfOk result (λ schedule. Schedules schedule (R.remaining (end_in reader.old)) (R.remaining (end_in reader.new))) }
     ensures err { IfErr result (λ fault. NoSchedule fault (R.remaining (end_in reader.old)) (R.remaining (end_in reader.new))) }
 {

@@ -1,5 +1,5 @@
 //! Lines of refreshes, as they are written.
-ghost use Rattle.std.specs.Prelude.{◌≡◌, ◌==◌, ◌<◌, ◌-◌, ◌^◌};
+ghost use Rattle.std.specs.Prelude.{◌≡◌, ◌==◌};
 ghost use Rattle.frame_front.specs.Counted.{faults_in};
 ghost use Rattle.commands.specs.Streams.{TellsUnlessFailed, end_of};
 ghost use Rattle.refresher.specs.OutcomeLine.{outcome_line as line_of_outcome, telling};
@@ -13,7 +13,6 @@ use std::io::Write;
 /// Writes the line of an outcome, and sees that the writer keeps nothing back; but nothing if a call of the writer has
 /// failed since `before` of them had failed. Answers whether none has failed since.
 pub fn write_line<W: Write>(end: &mut Counted<W>, before: u64, what: &What, told: &Told<'_>) -> bool
-    requires { before < 2 ^ 64 - 1 }
     ensures tells { TellsUnlessFailed before (end_of W.contents end.old) (end_of W.contents end.new) (line_of_outcome (telling told.now) what.now) }
     ensures taken { result ≡ (faults_in end.new == before) }
 {

@@ -1,5 +1,5 @@
 //! Where the bundles that were read go: to a server, or as frames to standard output.
-ghost use Rattle.std.specs.Prelude.{◌≡◌, ◌<◌, ◌-◌, ◌^◌, false, option_copied};
+ghost use Rattle.std.specs.Prelude.{◌≡◌, false, option_copied};
 ghost use Rattle.frame_front.specs.Counted.{end_in, faults_in};
 ghost use Rattle.refresher.specs.Target.{Looks, SenderState, Sends, ServerState, emptied_by, has_authorities as reply_has_authorities};
 
@@ -76,7 +76,6 @@ pub struct Sender<'a, W: Write> {
 
 impl<'a, W: Write> Sender<'a, W> {
     pub fn new(alloc: Global, out: &'a mut Counted<W>) -> Sender<'a, W>
-        requires { faults_in out.old < 2 ^ 64 - 1 }
         ensures { result ≡ record { held = W.contents (end_in out.old); has_failed = false; has_emptied = false } }
     {
         Sender {
@@ -110,15 +109,13 @@ impl<'a, W: Write> Sender<'a, W> {
 }
 
 impl<'a, W: Write> Model for Sender<'a, W> {
-    ghost use Rattle.std.specs.Prelude.{◌≡◌, ◌<◌, ◌-◌, ◌^◌, false};
+    ghost use Rattle.std.specs.Prelude.{◌≡◌, false};
     ghost use Rattle.frame_front.specs.Counted.{end_in, faults_in};
     ghost use Rattle.refresher.specs.Target.{SenderState};
 
     ghost Value = { SenderState };
 
     ghost view = { λ s. record { held = W.contents (end_in s.out.now); has_failed = s.has_failed; has_emptied = s.has_emptied } };
-
-    ghost invariant = { λ s. s.has_failed ≡ false → faults_in s.out.now < 2 ^ 64 - 1 };
 }
 
 impl<W: Write> Ask for Sender<'_, W> {

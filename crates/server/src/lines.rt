@@ -88,7 +88,6 @@ pub fn say<W: Write, E: Write>(
     before: u64,
     said: Said,
 ) -> bool
-    requires { before < 2 ^ 64 - 1 }
     ensures offered { IsOffered result (said_line said) (end_of W.contents out.old) (end_of W.contents out.new) }
     ensures tells { TellsUnlessFailed before (end_of E.contents err.old) (end_of E.contents err.new) (write_fault result) }
 {
@@ -140,7 +139,6 @@ fn tell_each<E: Write>(faults: &[SessionFault], err: &mut Counted<E>, before: u6
 
 /// And one fault.
 fn tell_fault<E: Write>(fault: &SessionFault, err: &mut Counted<E>, before: u64)
-    requires { before < 2 ^ 64 - 1 }
     ensures { TellsUnlessFailed before (end_of E.contents err.old) (end_of E.contents err.new) (session_lines (fault.now ∷ [])) }
 {
     match fault {

@@ -1,9 +1,10 @@
 -- Bytes that are put, one after another.
-use Rattle.std.proofs.Common.{◌≡◌, ℕ, ◌<◌, List, [], ◌++◌, Option, Result, Ok, Err, refl, sym, ap, subst, ◌∙◌, append_assoc, append-nil}
+use Rattle.std.proofs.Common.{◌≡◌, ℕ, List, [], ◌++◌, Option, Result, Ok, Err, refl, sym, ap, subst, ◌∙◌, append_assoc, append-nil}
 use Rattle.std.specs.Prelude.{OnOk, IfErr}
 use Rattle.std.specs.Result.{IsErr, IsErrAnd}
 use Rattle.std.specs.Io.KnownBytes.{Appends}
 use Rattle.std.proofs.KnownBytes.{Appends-nil, Appends-trans}
+use Rattle.frame_front.specs.Counted.{next_count}
 use Rattle.frame_front.specs.Outbox.{WritesFront}
 use Rattle.frame_front.specs.declared.error.FrontError.{FrontError}
 use Rattle.frame_front.specs.declared.error.FrontError.TheVariants.{WriteFault}
@@ -30,7 +31,7 @@ module _ (old mid new : Out) (bytes more whole : List ℕ) (before : PutsAll old
   pub front_then : (error : FrontError) → PutsFront error mid new more → PutsFront error old new whole
   front_then error cut = record {
     fault = cut.fault;
-    counted = subst (λ (n : ℕ). n < new.faults) before.quiet cut.counted;
+    counted = cut.counted ∙ ap next_count before.quiet;
     front = Takes-cut old.held mid.held old.waits bytes mid.waits before.takes more whole is new.held cut.front;
   }
 
@@ -62,14 +63,14 @@ comes_to_end start new so_far whole left put split none = subst (PutsAll start n
 -- ---- a write of all that waits, and of more
 
 module _ (old mid new : Out) (bytes : List ℕ) (sent : Appends old.held mid.held old.waits) (same : mid.faults ≡ old.faults) (none : new.waits ≡ []) (front : WritesFront mid.held new.held bytes) where
-  pub wrote_more : (r : Result (Unit {0}) FrontError) → OnOk r (Appends mid.held new.held bytes) → OnOk r (new.faults ≡ mid.faults) → IfErr r (λ fault. (fault ≡ WriteFault) × (mid.faults < new.faults)) → Puts r old new bytes
+  pub wrote_more : (r : Result (Unit {0}) FrontError) → OnOk r (Appends mid.held new.held bytes) → OnOk r (new.faults ≡ mid.faults) → IfErr r (λ fault. (fault ≡ WriteFault) × (new.faults ≡ next_count mid.faults)) → Puts r old new bytes
   wrote_more (Ok done) wrote quiet fault = record {
     takes = Takes-whole old.held new.held old.waits bytes new.waits (Appends-trans old.held mid.held new.held old.waits bytes sent wrote) none;
     quiet = quiet ∙ same;
   }
   wrote_more (Err error) wrote quiet fault = record {
     fault = fault.0;
-    counted = subst (λ (n : ℕ). n < new.faults) same fault.1;
+    counted = fault.1 ∙ ap next_count same;
     front = WritesFront-then old.held mid.held new.held old.waits bytes sent front;
   }
 

@@ -1,7 +1,7 @@
 //! Bytes gathered for few writes.
-ghost use Rattle.std.specs.Prelude.{◌≡◌, ◌++◌, ◌<◌, ◌-◌, ◌^◌, [], true, false, OnOk, IfErr};
+ghost use Rattle.std.specs.Prelude.{◌≡◌, ◌++◌, [], true, false, OnOk, IfErr};
 ghost use Rattle.std.specs.Io.KnownBytes.{Appends};
-ghost use Rattle.frame_front.specs.Counted.{end_in, faults_in};
+ghost use Rattle.frame_front.specs.Counted.{end_in, faults_in, next_count};
 ghost use Rattle.frame_front.specs.Outbox.{WritesFront};
 ghost use Rattle.trace_lines.specs.Private.Puts.{Puts, out_of};
 
@@ -44,7 +44,6 @@ impl Gathered {
         first: &[u8],
         others: &[u8],
     ) -> Result<(), FrontError>
-        requires { faults_in out.old < 2 ^ 64 - 1 }
         ensures { Puts result (out_of W.contents out.old self.old) (out_of W.contents out.new self.new) (first.now ++ others.now) }
     {
         if self.gather(first, others) {
@@ -60,7 +59,6 @@ impl Gathered {
         first: &[u8],
         others: &[u8],
     ) -> Result<(), FrontError>
-        requires { faults_in out.old < 2 ^ 64 - 1 }
         ensures { Puts result (out_of W.contents out.old self.old) (out_of W.contents out.new self.new) (first.now ++ others.now) }
     {
         self.send(out)?;
@@ -86,11 +84,10 @@ impl Gathered {
 
     /// Writes what waits.
     fn send<W: Write>(&mut self, out: &mut Counted<W>) -> Result<(), FrontError>
-        requires { faults_in out.old < 2 ^ 64 - 1 }
         ensures ok { OnOk result (Appends (W.contents (end_in out.old)) (W.contents (end_in out.new)) self.old) }
         ensures empty { OnOk result (self.new ≡ []) }
         ensures quiet { OnOk result (faults_in out.new ≡ faults_in out.old) }
-        ensures fault { IfErr result (λ fault. (fault ≡ FrontError.WriteFault) × (faults_in out.old < faults_in out.new)) }
+        ensures fault { IfErr result (λ fault. (fault ≡ FrontError.WriteFault) × (faults_in out.new ≡ next_count (faults_in out.old))) }
         ensures front { WritesFront (W.contents (end_in out.old)) (W.contents (end_in out.new)) self.old }
     {
         write_both(out, self.bytes.as_slice(), &[])?;
@@ -100,10 +97,9 @@ impl Gathered {
 
     /// Writes what waits, and sees that the writer keeps nothing back.
     pub(crate) fn flush<W: Write>(&mut self, out: &mut Counted<W>) -> Result<(), FrontError>
-        requires { faults_in out.old < 2 ^ 64 - 1 }
         ensures ok { OnOk result (Appends (W.contents (end_in out.old)) (W.contents (end_in out.new)) self.old) }
         ensures quiet { OnOk result (faults_in out.new ≡ faults_in out.old) }
-        ensures fault { IfErr result (λ fault. (fault ≡ FrontError.WriteFault) × (faults_in out.old < faults_in out.new)) }
+        ensures fault { IfErr result (λ fault. (fault ≡ FrontError.WriteFault) × (faults_in out.new ≡ next_count (faults_in out.old))) }
         ensures front { WritesFront (W.contents (end_in out.old)) (W.contents (end_in out.new)) self.old }
     {
         self.send(out)?;

@@ -1,8 +1,8 @@
 //! What is printed of a run as a picture: a row for each caller, a column for each event.
-ghost use Rattle.std.specs.Prelude.{◌≡◌, ◌≤◌, ◌<◌, ◌-◌, ◌^◌, ◌*◌, ◌++◌, [], ◌∷◌, take, codes, OnOk, IfErr};
+ghost use Rattle.std.specs.Prelude.{◌≡◌, ◌≤◌, ◌<◌, ◌*◌, ◌++◌, [], ◌∷◌, take, codes, OnOk, IfErr};
 ghost use Rattle.std.specs.Io.KnownBytes.{Appends};
 ghost use Rattle.std.specs.List.{flat_map};
-ghost use Rattle.frame_front.specs.Counted.{end_in, faults_in};
+ghost use Rattle.frame_front.specs.Counted.{end_in, faults_in, next_count};
 ghost use Rattle.frame_front.specs.Outbox.{WritesFront};
 ghost use Rattle.trace_lines.specs.TraceText.{ended};
 ghost use Rattle.trace_lines.specs.Picture.{callers_of, with_caller, caller_line as line_of_caller, event_line as line_of_events, order_row as row_of_order, numbered_band, bands_text, legend, picture_text};
@@ -45,10 +45,9 @@ pub fn put_picture<W: Write>(
     events: usize,
     trace: &Trace,
 ) -> Result<(), FrontError>
-    requires { faults_in out.old < 2 ^ 64 - 1 }
     ensures ok { OnOk result (Appends (W.contents (end_in out.old)) (W.contents (end_in out.new)) (picture_text events trace.now.ops.items trace.now.order.items)) }
     ensures quiet { OnOk result (faults_in out.new ≡ faults_in out.old) }
-    ensures fault { IfErr result (λ fault. (fault ≡ FrontError.WriteFault) × (faults_in out.old < faults_in out.new)) }
+    ensures fault { IfErr result (λ fault. (fault ≡ FrontError.WriteFault) × (faults_in out.new ≡ next_count (faults_in out.old))) }
     ensures front { WritesFront (W.contents (end_in out.old)) (W.contents (end_in out.new)) (picture_text events trace.now.ops.items trace.now.order.items) }
 {
     let mut gathered = Gathered::new();
@@ -62,7 +61,6 @@ fn put_page<W: Write>(
     events: usize,
     trace: &Trace,
 ) -> Result<(), FrontError>
-    requires { faults_in out.old < 2 ^ 64 - 1 }
     ensures { Puts result (out_of W.contents out.old gathered.old) (out_of W.contents out.new gathered.new) (picture_text events trace.now.ops.items trace.now.order.items) }
 {
     put_legend(gathered, out)?;
@@ -72,7 +70,6 @@ fn put_page<W: Write>(
 
 #[tactic(auto, unfolding(crate::specs::Picture::legend))]
 fn put_legend<W: Write>(gathered: &mut Gathered, out: &mut Counted<W>) -> Result<(), FrontError>
-    requires { faults_in out.old < 2 ^ 64 - 1 }
     ensures { Puts result (out_of W.contents out.old gathered.old) (out_of W.contents out.new gathered.new) legend }
 {
     gathered.put(out, LEGEND, &[])
@@ -84,7 +81,6 @@ fn put_drawn<W: Write>(
     events: usize,
     trace: &Trace,
 ) -> Result<(), FrontError>
-    requires count { faults_in out.old < 2 ^ 64 - 1 }
     requires few { events ≤ 960 }
     ensures { Puts result (out_of W.contents out.old gathered.old) (out_of W.contents out.new gathered.new)
         (bands_text trace.now.ops.items trace.now.order.items (callers_of [] (take 960 trace.now.ops.items)) events) }
@@ -100,7 +96,6 @@ fn put_bands<W: Write>(
     trace: &Trace,
     callers: &[u32],
 ) -> Result<(), FrontError>
-    requires count { faults_in out.old < 2 ^ 64 - 1 }
     requires few { events ≤ 960 }
     ensures { Puts result (out_of W.contents out.old gathered.old) (out_of W.contents out.new gathered.new)
         (bands_text trace.now.ops.items trace.now.order.items callers.now events) }
@@ -149,7 +144,6 @@ fn put_band<W: Write>(
     events: usize,
     band: usize,
 ) -> Result<(), FrontError>
-    requires count { faults_in out.old < 2 ^ 64 - 1 }
     requires few { events ≤ 960 }
     requires inside { 60 * band < events }
     ensures { Puts result (out_of W.contents out.old gathered.old) (out_of W.contents out.new gathered.new)
@@ -170,7 +164,6 @@ fn put_rows<W: Write>(
     from: usize,
     width: usize,
 ) -> Result<(), FrontError>
-    requires count { faults_in out.old < 2 ^ 64 - 1 }
     requires few { from ≤ 960 }
     requires narrow { width ≤ 60 }
     ensures { Puts result (out_of W.contents out.old gathered.old) (out_of W.contents out.new gathered.new)
@@ -190,7 +183,6 @@ fn put_row<W: Write>(
     from: usize,
     width: usize,
 ) -> Result<(), FrontError>
-    requires count { faults_in out.old < 2 ^ 64 - 1 }
     requires few { from ≤ 960 }
     requires narrow { width ≤ 60 }
     ensures { Puts result (out_of W.contents out.old gathered.old) (out_of W.contents out.new gathered.new) (ended (line_of_caller trace.now.ops.items from width caller)) }
@@ -205,7 +197,6 @@ fn put_events<W: Write>(
     from: usize,
     width: usize,
 ) -> Result<(), FrontError>
-    requires count { faults_in out.old < 2 ^ 64 - 1 }
     requires few { from ≤ 960 }
     requires narrow { width ≤ 60 }
     ensures { Puts result (out_of W.contents out.old gathered.old) (out_of W.contents out.new gathered.new) (ended (line_of_events from width)) }
@@ -221,7 +212,6 @@ fn put_last_row<W: Write>(
     from: usize,
     width: usize,
 ) -> Result<(), FrontError>
-    requires count { faults_in out.old < 2 ^ 64 - 1 }
     requires few { from ≤ 960 }
     requires narrow { width ≤ 60 }
     ensures { Puts result (out_of W.contents out.old gathered.old) (out_of W.contents out.new gathered.new)

@@ -1,8 +1,8 @@
 //! What is printed of a run: a line for each operation, and one for their order.
-ghost use Rattle.std.specs.Prelude.{◌≡◌, ◌<◌, ◌-◌, ◌^◌, ◌++◌, OnOk, IfErr};
+ghost use Rattle.std.specs.Prelude.{◌≡◌, ◌++◌, OnOk, IfErr};
 ghost use Rattle.std.specs.Io.KnownBytes.{Appends};
 ghost use Rattle.std.specs.List.{flat_map};
-ghost use Rattle.frame_front.specs.Counted.{end_in, faults_in};
+ghost use Rattle.frame_front.specs.Counted.{end_in, faults_in, next_count};
 ghost use Rattle.frame_front.specs.Outbox.{WritesFront};
 ghost use Rattle.frame_lines.specs.Answers.{bundles_of};
 ghost use Rattle.frame_lines.specs.ReplyForm.{reply as said, line_of, IsLined};
@@ -22,10 +22,9 @@ use step_core::{OpRecord, Trace};
 /// Writes a line for each operation of a run, and one for the order that explains their replies. It takes no memory. If the
 /// writer fails, a front of these lines is written.
 pub fn put_trace<W: Write>(out: &mut Counted<W>, trace: &Trace) -> Result<(), FrontError>
-    requires { faults_in out.old < 2 ^ 64 - 1 }
     ensures ok { OnOk result (Appends (W.contents (end_in out.old)) (W.contents (end_in out.new)) (trace_text trace.now.ops.items trace.now.order.items)) }
     ensures quiet { OnOk result (faults_in out.new ≡ faults_in out.old) }
-    ensures fault { IfErr result (λ fault. (fault ≡ FrontError.WriteFault) × (faults_in out.old < faults_in out.new)) }
+    ensures fault { IfErr result (λ fault. (fault ≡ FrontError.WriteFault) × (faults_in out.new ≡ next_count (faults_in out.old))) }
     ensures front { WritesFront (W.contents (end_in out.old)) (W.contents (end_in out.new)) (trace_text trace.now.ops.items trace.now.order.items) }
 {
     let mut gathered = Gathered::new();
@@ -38,7 +37,6 @@ pub(crate) fn put_text<W: Write>(
     out: &mut Counted<W>,
     trace: &Trace,
 ) -> Result<(), FrontError>
-    requires { faults_in out.old < 2 ^ 64 - 1 }
     ensures { Puts result (out_of W.contents out.old gathered.old) (out_of W.contents out.new gathered.new) (trace_text trace.now.ops.items trace.now.order.items) }
 {
     put_records(gathered, out, trace.ops.as_slice())?;
@@ -50,7 +48,6 @@ fn put_records<W: Write>(
     out: &mut Counted<W>,
     records: &[OpRecord],
 ) -> Result<(), FrontError>
-    requires { faults_in out.old < 2 ^ 64 - 1 }
     ensures { Puts result (out_of W.contents out.old gathered.old) (out_of W.contents out.new gathered.new) (records_text 0 records.now) }
 {
     for (number, entry) in records.iter().enumerate() {
@@ -65,7 +62,6 @@ fn put_record<W: Write>(
     number: usize,
     entry: &OpRecord,
 ) -> Result<(), FrontError>
-    requires { faults_in out.old < 2 ^ 64 - 1 }
     ensures { Puts result (out_of W.contents out.old gathered.old) (out_of W.contents out.new gathered.new) (ended (record_line number entry.now)) }
 {
     let head = record_head(number, entry);
@@ -80,7 +76,6 @@ fn put_reply<W: Write>(
     out: &mut Counted<W>,
     reply: &Option<Result<Reply, AskError>>,
 ) -> Result<(), FrontError>
-    requires { faults_in out.old < 2 ^ 64 - 1 }
     ensures { Puts result (out_of W.contents out.old gathered.old) (out_of W.contents out.new gathered.new) (reply_words reply.now) }
 {
     match reply {
@@ -95,7 +90,6 @@ fn put_answer<W: Write>(
     out: &mut Counted<W>,
     answer: &Result<Reply, AskError>,
 ) -> Result<(), FrontError>
-    requires { faults_in out.old < 2 ^ 64 - 1 }
     ensures { Puts result (out_of W.contents out.old gathered.old) (out_of W.contents out.new gathered.new) (answer_words answer.now) }
 {
     let form = ReplyForm::of_answer(answer);
@@ -118,7 +112,6 @@ fn put_form<W: Write>(
     out: &mut Counted<W>,
     form: &ReplyForm<'_>,
 ) -> Result<(), FrontError>
-    requires few { faults_in out.old < 2 ^ 64 - 1 }
     requires lined { IsLined (said form.now) }
     ensures { Puts result (out_of W.contents out.old gathered.old) (out_of W.contents out.new gathered.new) (line_of (said form.now)) }
 {
@@ -133,7 +126,6 @@ fn put_bundles<W: Write>(
     out: &mut Counted<W>,
     items: &[(TrustDomain, Bundle)],
 ) -> Result<(), FrontError>
-    requires { faults_in out.old < 2 ^ 64 - 1 }
     ensures { Puts result (out_of W.contents out.old gathered.old) (out_of W.contents out.new gathered.new) (flat_map bundle_words items.now) }
 {
     for item in items {
@@ -147,7 +139,6 @@ fn put_bundle<W: Write>(
     out: &mut Counted<W>,
     item: &(TrustDomain, Bundle),
 ) -> Result<(), FrontError>
-    requires { faults_in out.old < 2 ^ 64 - 1 }
     ensures { Puts result (out_of W.contents out.old gathered.old) (out_of W.contents out.new gathered.new) (bundle_words item.now) }
 {
     let (domain, bundle) = item;
@@ -162,7 +153,6 @@ fn put_order<W: Write>(
     out: &mut Counted<W>,
     order: &[usize],
 ) -> Result<(), FrontError>
-    requires { faults_in out.old < 2 ^ 64 - 1 }
     ensures { Puts result (out_of W.contents out.old gathered.old) (out_of W.contents out.new gathered.new) (ended (order_line order.now)) }
 {
     gathered.put(out, b"order", &[])?;
@@ -175,7 +165,6 @@ fn put_numbers<W: Write>(
     out: &mut Counted<W>,
     numbers: &[usize],
 ) -> Result<(), FrontError>
-    requires { faults_in out.old < 2 ^ 64 - 1 }
     ensures { Puts result (out_of W.contents out.old gathered.old) (out_of W.contents out.new gathered.new) (flat_map number_word numbers.now) }
 {
     for number in numbers {
@@ -190,7 +179,6 @@ fn put_next<W: Write>(
     out: &mut Counted<W>,
     number: usize,
 ) -> Result<(), FrontError>
-    requires { faults_in out.old < 2 ^ 64 - 1 }
     ensures { Puts result (out_of W.contents out.old gathered.old) (out_of W.contents out.new gathered.new) (number_word number) }
 {
     let mut word = head_of(b" ");

@@ -1,5 +1,5 @@
 -- One session more.
-use Rattle.std.proofs.Common.{◌≡◌, ◌<◌, List, [], ◌∷◌, ◌++◌, map, subst, sym, ap, ◌∙◌, refl}
+use Rattle.std.proofs.Common.{◌≡◌, List, [], ◌∷◌, ◌++◌, map, subst, sym, ap, ◌∙◌, refl}
 use Rattle.std.specs.Prelude.{ℕ, Option, Result, Ok, Err, Some}
 use Rattle.std.proofs.lemmas.List.{map_push}
 use Rattle.map_core.specs.declared.op.Op.{Op}
@@ -8,7 +8,7 @@ use Rattle.map_core.specs.declared.reply.AskError.{AskError}
 use Rattle.frame_front.specs.declared.counted.Counted.{Counted}
 use Rattle.frame_front.specs.declared.error.FrontError.{FrontError}
 use Rattle.frame_front.specs.declared.error.FrontError.TheVariants.{ReadFault, WriteFault, TurnsUsed}
-use Rattle.frame_front.specs.Counted.{end_in, faults_in, MakesReads, reads_of}
+use Rattle.frame_front.specs.Counted.{end_in, faults_in, next_count, MakesReads, reads_of}
 use Rattle.frame_front.specs.Transcript.{Transcript}
 use Rattle.workers.specs.declared.ended.SessionFault.{SessionFault}
 use Rattle.workers.specs.declared.sessions.ListenFault.{ListenFault}
@@ -22,7 +22,7 @@ module _ {S : Type 0} (answers : S → Op → Result Reply AskError → S → Ty
       → end_in reader_old ≡ session.reader → faults_in reader_old ≡ 0 → reads_of reader_old ≡ 0 → end_in writer_old ≡ session.writer → faults_in writer_old ≡ 0
       → Transcript answers result session.turns (remaining (end_in reader_old)) (remaining (end_in reader)) (contents (end_in writer_old)) (contents (end_in writer)) old.1 new.1
       → MakesReads session.turns (result ≡ Err TurnsUsed) (reads_of reader_old) (reads_of reader)
-      → (result ≡ Err ReadFault → faults_in reader_old < faults_in reader) → (result ≡ Err WriteFault → faults_in writer_old < faults_in writer)
+      → (result ≡ Err ReadFault → faults_in reader ≡ next_count (faults_in reader_old)) → (result ≡ Err WriteFault → faults_in writer ≡ next_count (faults_in writer_old))
       → takes_back old.0 reader writer new.0 → Runs answers remaining contents takes_back session result old new
   runs_over session result old new reader_old reader writer_old writer reads_it no_read_fault unread writes_it no_write_fault transcript reads read_fault write_fault taken = record {
     reader = reader;
@@ -31,8 +31,8 @@ module _ {S : Type 0} (answers : S → Op → Result Reply AskError → S → Ty
         subst (λ (r : R). Transcript answers result session.turns (remaining r) (remaining (end_in reader)) (contents session.writer) (contents (end_in writer)) old.1 new.1) reads_it
         (subst (λ (w : W). Transcript answers result session.turns (remaining (end_in reader_old)) (remaining (end_in reader)) (contents w) (contents (end_in writer)) old.1 new.1) writes_it transcript);
     reads = subst (λ (n : ℕ). MakesReads session.turns (result ≡ Err TurnsUsed) n (reads_of reader)) unread reads;
-    read_fault = λ failed. subst (λ (n : ℕ). n < faults_in reader) no_read_fault (read_fault failed);
-    write_fault = λ failed. subst (λ (n : ℕ). n < faults_in writer) no_write_fault (write_fault failed);
+    read_fault = λ failed. read_fault failed ∙ ap next_count no_read_fault;
+    write_fault = λ failed. write_fault failed ∙ ap next_count no_write_fault;
     taken = taken;
   }
 

@@ -1,5 +1,5 @@
 -- What becomes of sessions that are served one after the other.
-use Rattle.std.specs.Prelude.{◌≡◌, ◌<◌, ℕ, List, [], ◌∷◌, ◌++◌, map, Option, Some, None, Result, Ok, Err}
+use Rattle.std.specs.Prelude.{◌≡◌, ℕ, List, [], ◌∷◌, ◌++◌, map, Option, Some, None, Result, Ok, Err}
 use Rattle.std.specs.declared.vec.IntoIter.{IntoIter}
 use Rattle.std.specs.Vec.Iter.{into_iter_steps}
 use Rattle.map_core.specs.declared.op.Op.{Op}
@@ -34,8 +34,8 @@ module _ {S : Type 0} (answers : S → Op → Result Reply AskError → S → Ty
     pub writer : Counted W
     pub transcript : Transcript answers result session.turns (remaining session.reader) (remaining (end_in reader)) (contents session.writer) (contents (end_in writer)) old.1 new.1
     pub reads : MakesReads session.turns (result ≡ Err TurnsUsed) 0 (reads_of reader)
-    pub read_fault : result ≡ Err ReadFault → 0 < faults_in reader
-    pub write_fault : result ≡ Err WriteFault → 0 < faults_in writer
+    pub read_fault : result ≡ Err ReadFault → faults_in reader ≡ 1
+    pub write_fault : result ≡ Err WriteFault → faults_in writer ≡ 1
     pub taken : takes_back old.0 reader writer new.0
 
   module _ (comes : V → Result (Option (Session R W)) ListenFault → V → Type 0) where

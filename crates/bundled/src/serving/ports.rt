@@ -1,5 +1,5 @@
 //! The ports of a server that lasts.
-ghost use Rattle.std.specs.Prelude.{◌≡◌, ◌<◌, ◌-◌, ◌^◌, IfErr, OnOk, OnErr};
+ghost use Rattle.std.specs.Prelude.{◌≡◌, IfErr, OnOk, OnErr};
 ghost use Rattle.frame_front.specs.Counted.{faults_in};
 ghost use Rattle.commands.specs.Fault.{fault_line};
 ghost use Rattle.commands.specs.Streams.{Tells, end_of};
@@ -33,7 +33,6 @@ pub fn ports_or_told<H: Net<Listener = TcpListener, Stream = TcpStream>, E: Writ
     read_port: Option<u16>,
     err: &mut Counted<E>,
 ) -> Result<Ports, u8>
-    requires { faults_in err.old < 2 ^ 64 - 1 }
     ensures ok { OnOk result (err.new ≡ err.old) }
     ensures status { IfErr result (λ status. status ≡ 1) }
     ensures tells { OnErr result (Tells (end_of E.contents err.old) (end_of E.contents err.new) (fault_line Listen)) }

@@ -218,7 +218,6 @@ pub fn serve_at<H: Threads + Clock + Sync, I: Read, W: Write, E: Write, L: Log +
 
 /// Tells why there is no listener: memory ran out, or the system has none.
 pub fn tell_early<E: Write>(fault: Fault, err: &mut Counted<E>) -> u8
-    requires { faults_in err.old < 2 ^ 64 - 1 }
     ensures status { result ≡ 1 }
     ensures tells { Tells (end_of E.contents err.old) (end_of E.contents err.new) (fault_line Listen)
         ⊎ Tells (end_of E.contents err.old) (end_of E.contents err.new) (fault_line (Front Memory)) }

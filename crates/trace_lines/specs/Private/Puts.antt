@@ -1,6 +1,6 @@
 -- What becomes of bytes that are put, one after another.
-use Rattle.std.specs.Prelude.{◌≡◌, ℕ, ◌<◌, List, ◌++◌, codes, decimal, Option, Result, Ok, Err}
-use Rattle.frame_front.specs.Counted.{end_in, faults_in}
+use Rattle.std.specs.Prelude.{◌≡◌, ℕ, List, ◌++◌, codes, decimal, Option, Result, Ok, Err}
+use Rattle.frame_front.specs.Counted.{end_in, faults_in, next_count}
 use Rattle.frame_front.specs.declared.counted.Counted.{Counted}
 use Rattle.frame_front.specs.declared.error.FrontError.{FrontError}
 use Rattle.frame_front.specs.declared.error.FrontError.TheVariants.{WriteFault}
@@ -27,7 +27,7 @@ pub record PutsAll (old new : Out) (bytes : List ℕ) : Type 0 where
 -- the writer failed, and only a front is written
 pub record PutsFront (error : FrontError) (old new : Out) (bytes : List ℕ) : Type 0 where
   pub fault : error ≡ WriteFault
-  pub counted : old.faults < new.faults
+  pub counted : new.faults ≡ next_count old.faults
   pub front : WritesFront old.held new.held (old.waits ++ bytes)
 
 abbrev pub Puts : Result (Unit {0}) FrontError → Out → Out → List ℕ → Type 0

@@ -17,5 +17,5 @@ returns-in-Err g c =
       ended = Err c.in-Err.fault;
       has_status = refl;
       lines = c.in-Err.ensures.0;
-      tells = tells_more old mid new c.in-Err.ensures.0 line c.in-Err.ensures.1 follows;
+      tells = tells_more old mid new c.in-Err.ensures.0 line c.requires.err_count c.in-Err.ensures.1 follows;
     }

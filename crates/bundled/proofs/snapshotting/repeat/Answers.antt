@@ -10,7 +10,7 @@ returns-in_err-pass_over g c =
     let new = end_of g.E.Write.contents c.pass_over.new.err in
     let so = c.loop.invariant.0 in
     let line = c.in_err-pass_over.ensures in
-    (so.0 ++ line.0, tells_more start old new so.0 line.0 so.1 (subst (λ (before : ℕ). TellsUnlessFailed before old new line.0) c.loop.invariant.1 line.1))
+    (so.0 ++ line.0, tells_more start old new so.0 line.0 c.requires.err_count so.1 (subst (λ (before : ℕ). TellsUnlessFailed before old new line.0) c.loop.invariant.1 line.1))
 
 pub loop-preserved : goal.loop-preserved
 loop-preserved g c =
@@ -19,4 +19,4 @@ loop-preserved g c =
     let new = end_of g.E.Write.contents c.pass_over.new.err in
     let so = c.loop.invariant.0 in
     let line = c.in_ok-pass_over.ensures in
-    ((so.0 ++ line.0, tells_more start old new so.0 line.0 so.1 (subst (λ (before : ℕ). TellsUnlessFailed before old new line.0) c.loop.invariant.1 line.1)), c.loop.invariant.1)
+    ((so.0 ++ line.0, tells_more start old new so.0 line.0 c.requires.err_count so.1 (subst (λ (before : ℕ). TellsUnlessFailed before old new line.0) c.loop.invariant.1 line.1)), c.loop.invariant.1)

@@ -1,4 +1,5 @@
-use Rattle.std.proofs.Common.{◌≡◌, ◌<◌, Err, refl, ap, ◌∙◌}
+use Rattle.std.proofs.Common.{◌≡◌, Err, refl, ap, ◌∙◌}
+use Rattle.frame_front.specs.Counted.{next_count}
 use Rattle.frame_front.specs.declared.error.FrontError.{FrontError}
 use Rattle.frame_front.specs.declared.error.FrontError.TheVariants.{Memory, BadLength, Truncated, ReadFault, WriteFault, TurnsUsed}
 use Rattle.client.specs.declared.client_error.ClientError.{ClientError}
@@ -10,7 +11,7 @@ use Rattle.commands.specs.Ask.{ServerEnds, BlamesServer}
 use Rattle.commands.specs.Streams.{Streams, Blames}
 use Rattle.commands.proofs.ask.ask_over.Goals as goal
 
-blames : (error : FrontError) (old new : Streams) → (asking.Front error ≡ asking.Front ReadFault → old.input.faults < new.input.faults) → (asking.Front error ≡ asking.Front WriteFault → old.output.faults < new.output.faults) → Blames (Front error) old new
+blames : (error : FrontError) (old new : Streams) → (asking.Front error ≡ asking.Front ReadFault → new.input.faults ≡ next_count old.input.faults) → (asking.Front error ≡ asking.Front WriteFault → new.output.faults ≡ next_count old.output.faults) → Blames (Front error) old new
 blames ReadFault old new read write = read refl
 blames WriteFault old new read write = write refl
 blames Memory old new read write = tt
@@ -19,7 +20,7 @@ blames Truncated old new read write = tt
 blames TurnsUsed old new read write = tt
 
 -- an end of the server is blamed only if it failed
-blames_server : (error : ClientError) (old new : ServerEnds) → (asking.Server error ≡ asking.Server client.ReadFault → old.from.faults < new.from.faults) → (asking.Server error ≡ asking.Server client.WriteFault → old.to.faults < new.to.faults)
+blames_server : (error : ClientError) (old new : ServerEnds) → (asking.Server error ≡ asking.Server client.ReadFault → new.from.faults ≡ next_count old.from.faults) → (asking.Server error ≡ asking.Server client.WriteFault → new.to.faults ≡ next_count old.to.faults)
     → BlamesServer (Server (Client error)) old new
 blames_server client.ReadFault old new read write = read refl
 blames_server client.WriteFault old new read write = write refl

@@ -71,7 +71,7 @@ returns-then-not-is_taken-clause-tells g c =
     let line = outcome_line telling c.in-Ok.outcome.what in
     let follows : TellsUnlessFailed (faults_in c.args.lines.now) old new line =
     subst (λ (before : ℕ). TellsUnlessFailed before old new line) c.faults-before.ensures c.write_line-is_taken.ensures.tells in
-    (c.loop-place.invariant.6.0 ++ line, tells_more _ old new c.loop-place.invariant.6.0 line c.loop-place.invariant.6.1 follows)
+    (c.loop-place.invariant.6.0 ++ line, tells_more _ old new c.loop-place.invariant.6.0 line c.requires c.loop-place.invariant.6.1 follows)
 
 pub returns-then-not-is_taken-clause-each : goal.returns-then-not-is_taken-clause-each
 returns-then-not-is_taken-clause-each g c =
@@ -168,5 +168,5 @@ loop-place-preserved g c =
         | else-is_output-via-else-is_output w ↦ (cc)
       ],
       ap length moved ∙ so_far.5,
-      (so_far.6.0 ++ line, tells_more _ old left so_far.6.0 line so_far.6.1 follows),
+      (so_far.6.0 ++ line, tells_more _ old left so_far.6.0 line c.requires so_far.6.1 follows),
     )

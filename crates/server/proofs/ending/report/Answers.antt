@@ -28,8 +28,8 @@ returns-in-Ok g c =
       closes = c.in-Ok.ensures;
       domains_taken = said;
       domains = subst (λ (n : ℕ). IsOffered said (said_line (Domains n)) between (end_of g.W.Write.contents c.say-domains_taken.new.out)) c.len.ensures c.say-domains_taken.ensures.offered;
-      tells = told_more c.args.before _ _ _ (write_fault taken) (session_lines (faults_by worked) ++ write_fault said) c.say-served_taken.ensures.tells
-          (told_more c.args.before _ _ _ (session_lines (faults_by worked)) (write_fault said) tells c.say-domains_taken.ensures.tells);
+      tells = told_more c.args.before _ _ _ (write_fault taken) (session_lines (faults_by worked) ++ write_fault said) c.requires.count c.say-served_taken.ensures.tells
+          (told_more c.args.before _ _ _ (session_lines (faults_by worked)) (write_fault said) c.requires.count tells c.say-domains_taken.ensures.tells);
       has_status = c.status_of.ensures
           ∙ ap (λ (b : Bool). if (taken && b) && said then 0 else 1) came
           ∙ ap (λ (b : Bool). if b then 0 else 1) (all_three taken (have_all_come worked) said);
@@ -53,7 +53,7 @@ returns-in-Err g c =
       closes = c.in-Err.ensures;
       domains_taken = false;
       domains = (refl, refl);
-      tells = told_more c.args.before _ _ _ (write_fault taken) _ c.say-served_taken.ensures.tells
-          (told_more c.args.before _ _ _ (session_lines (faults_by worked)) _ tells c.tell_unless_failed.ensures);
+      tells = told_more c.args.before _ _ _ (write_fault taken) _ c.requires.count c.say-served_taken.ensures.tells
+          (told_more c.args.before _ _ _ (session_lines (faults_by worked)) _ c.requires.count tells c.tell_unless_failed.ensures);
       has_status = not_all taken (have_all_come worked);
     }

@@ -8,4 +8,4 @@ pub loop-fault-preserved : goal.loop-fault-preserved
 loop-fault-preserved g c =
     subst (λ (t : List ℕ). TellsUnlessFailed c.args.before (end_of g.E.Write.contents c.args.err.now) (end_of g.E.Write.contents c.tell_fault.new.err) t)
     (sym (lines_step c.args.faults.now c.loop-fault.fault-index _ c.loop-fault-test.true))
-    (told_more c.args.before _ _ _ _ _ c.loop-fault.invariant c.tell_fault.ensures)
+    (told_more c.args.before _ _ _ _ _ c.requires c.loop-fault.invariant c.tell_fault.ensures)

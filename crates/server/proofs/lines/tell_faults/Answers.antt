@@ -14,6 +14,6 @@ loop-worker-preserved g c =
     let came = all_come_step worked i w c.loop-worker-test.true c.worker-item.is in
     let tells = subst (λ faults. TellsUnlessFailed c.args.before (end_of g.E.Write.contents c.loop-worker.err) (end_of g.E.Write.contents c.tell_each.new.err) (session_lines faults)) c.faults.ensures c.tell_each.ensures in (
       subst (λ (t : List ℕ). TellsUnlessFailed c.args.before (end_of g.E.Write.contents c.args.err.now) (end_of g.E.Write.contents c.tell_each.new.err) t) (sym lines)
-          (told_more c.args.before _ _ _ _ _ c.loop-worker.invariant.0 tells),
+          (told_more c.args.before _ _ _ _ _ c.requires c.loop-worker.invariant.0 tells),
       ap (λ b. b && c.have_come-have_come.result) c.loop-worker.invariant.1 ∙ ap (λ b. have_all_come (take i worked) && b) c.have_come-have_come.ensures ∙ sym came,
     )
