@@ -14,8 +14,8 @@ use Rattle.commands.specs.Streams.{Streams, End, EndsWith, Tells}
 use Rattle.commands.specs.Run.{Runs}
 use Rattle.commands.specs.Encode.{Encodes, Decodes, of_files}
 use Rattle.commands.specs.Explain.{Explains}
-use Rattle.commands.specs.Trace.{Tracing}
-use Rattle.commands.specs.Migrate.{Migration}
+use Rattle.commands.specs.Trace.{RunOf, NoRun}
+use Rattle.commands.specs.Migrate.{MigrationOf}
 use Rattle.dump_views.specs.declared.profile.Profile.{Profile}
 use Rattle.dump_views.specs.declared.profile.Profile.TheVariants.{Whole, X509}
 use Rattle.commands.specs.Reading.{Filters, Unread}
@@ -56,8 +56,8 @@ Does (Pem name) status old new = Filters (PemOf name) (NoPem name) status old ne
 Does (Diff old_file new_file) status old new =
     (new.input ≡ old.input) × DiffFiles status old.output new.output old.error new.error
 Does Digest status old new = Filters DigestOf Unread status old new
-Does (Trace shards rounds picture) status old new = Tracing shards rounds picture status old new
-Does Migrate status old new = Migration status old new
+Does (Trace shards rounds picture) status old new = Filters (RunOf shards rounds picture) NoRun status old new
+Does Migrate status old new = Filters MigrationOf Unread status old new
 Does (Race seconds) status old new = RaceRun status old new
 Does (Refresh wanted) status old new = RefreshRun status old new
 Does (Snapshot wanted) status old new = SnapshotRun status old new

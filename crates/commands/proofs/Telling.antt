@@ -1,11 +1,13 @@
 -- What is told if no call failed, and whose fault is told.
 use Rattle.std.proofs.Common.{◌≡◌, ℕ, ◌<◌, ◌-◌, ◌^◌, List, [], ◌++◌, refl, sym, ap, subst, ◌∙◌, inl, inr, arith}
-use Rattle.std.specs.Prelude.{◌≢◌, nat_eq}
+use Rattle.std.specs.Prelude.{◌≢◌, ◌⊎◌, nat_eq}
 use Rattle.std.proofs.lemmas.Bool.{cases_Bool}
 use Rattle.std.proofs.lemmas.Bool.Decides.{nat_tests}
+use Rattle.std.specs.Io.KnownBytes.{Appends}
 use Rattle.std.proofs.KnownBytes.{Appends-nil, Appends-trans}
 use Rattle.frame_front.proofs.SessionLemmas.{WritesFront-none, WritesFront-longer, WritesFront-then}
 use Rattle.frame_front.specs.Counted.{next_count}
+use Rattle.frame_front.specs.Outbox.{WritesFront}
 use Rattle.frame_front.specs.declared.error.FrontError.{FrontError}
 use Rattle.frame_front.specs.declared.error.FrontError.TheVariants.{BadLength, Truncated, ReadFault, WriteFault, TurnsUsed, Memory}
 use Rattle.commands.specs.declared.fault.Fault.TheVariants.{Front}
@@ -23,7 +25,7 @@ blames_a_session Memory old new reads writes = tt
 
 -- nothing is told, and nothing has changed
 pub tells_nothing : (e : End) → Tells e e []
-tells_nothing e = inl (Appends-nil e.bytes, refl)
+tells_nothing e = record { told = inl (Appends-nil e.bytes, refl) }
 
 pub told_nothing : (before : ℕ) (e : End) → TellsUnlessFailed before e e []
 told_nothing before e = elim (cases_Bool (nat_eq e.faults before)) [
@@ -36,16 +38,26 @@ has_risen : (old new : ℕ) → old < 2 ^ 64 - 1 → new ≡ next_count old → 
 has_risen old new few failed same = absurd (omega (arith, few, failed, same))
 
 -- what was told, and the text that follows it
-pub tells_more : (start old new : End) (lines text : List ℕ) → start.faults < 2 ^ 64 - 1 → Tells start old lines → TellsUnlessFailed start.faults old new text
-    → Tells start new (lines ++ text)
-tells_more start old new lines text few (inl told) (inl (same, inl more)) =
-    inl (Appends-trans start.bytes old.bytes new.bytes lines text told.0 more.0, more.1 ∙ told.1)
-tells_more start old new lines text few (inl told) (inl (same, inr cut)) =
-    inr (WritesFront-then start.bytes old.bytes new.bytes lines text told.0 cut.0, cut.1 ∙ ap next_count told.1)
-tells_more start old new lines text few (inl told) (inr failed) = absurd (failed.0 told.1)
-tells_more start old new lines text few (inr cut) (inl (same, more)) = absurd (has_risen start.faults old.faults few cut.1 same)
-tells_more start old new lines text few (inr cut) (inr failed) =
-    subst (λ (e : End). Tells start e (lines ++ text)) (sym failed.1) (inr (WritesFront-longer start.bytes old.bytes lines text cut.0, cut.1))
+module _ (start old new : End) (lines text : List ℕ) where
+  both_told : start.faults < 2 ^ 64 - 1 → old.faults ≡ start.faults
+      → (Appends start.bytes old.bytes lines × (old.faults ≡ start.faults)) ⊎ (WritesFront start.bytes old.bytes lines × (old.faults ≡ next_count start.faults))
+      → (Appends old.bytes new.bytes text × (new.faults ≡ old.faults)) ⊎ (WritesFront old.bytes new.bytes text × (new.faults ≡ next_count old.faults))
+      → Tells start new (lines ++ text)
+  both_told few same (inl told) (inl more) = record { told = inl (Appends-trans start.bytes old.bytes new.bytes lines text told.0 more.0, more.1 ∙ told.1) }
+  both_told few same (inl told) (inr cut) =
+      record { told = inr (WritesFront-then start.bytes old.bytes new.bytes lines text told.0 cut.0, cut.1 ∙ ap next_count told.1) }
+  both_told few same (inr cut) more = absurd (has_risen start.faults old.faults few cut.1 same)
+
+  none_told : old.faults ≢ start.faults → new ≡ old
+      → (Appends start.bytes old.bytes lines × (old.faults ≡ start.faults)) ⊎ (WritesFront start.bytes old.bytes lines × (old.faults ≡ next_count start.faults))
+      → Tells start new (lines ++ text)
+  none_told other is (inl told) = absurd (other told.1)
+  none_told other is (inr cut) =
+      subst (λ (e : End). Tells start e (lines ++ text)) (sym is) record { told = inr (WritesFront-longer start.bytes old.bytes lines text cut.0, cut.1) }
+
+  pub tells_more : start.faults < 2 ^ 64 - 1 → Tells start old lines → TellsUnlessFailed start.faults old new text → Tells start new (lines ++ text)
+  tells_more few tells (inl follows) = both_told few follows.0 tells.told follows.1.told
+  tells_more few tells (inr failed) = none_told failed.0 failed.1 tells.told
 
 -- and the same if the writer may have failed before
 pub told_more : (before : ℕ) (start old new : End) (lines text : List ℕ) → before < 2 ^ 64 - 1 → TellsUnlessFailed before start old lines

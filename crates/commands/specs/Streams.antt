@@ -37,9 +37,8 @@ streams left_of held_of told_of reader out err =
     record { input = source_of left_of reader; output = end_of held_of out; error = end_of told_of err }
 
 -- These bytes are written; or a front of them, and a call of the writer has failed.
-abbrev pub Tells : End → End → List ℕ → Type 0
-Tells old new bytes =
-    (Appends old.bytes new.bytes bytes × (new.faults ≡ old.faults)) ⊎ (WritesFront old.bytes new.bytes bytes × (new.faults ≡ next_count old.faults))
+pub record Tells (old new : End) (bytes : List ℕ) : Type 0 where
+  pub told : (Appends old.bytes new.bytes bytes × (new.faults ≡ old.faults)) ⊎ (WritesFront old.bytes new.bytes bytes × (new.faults ≡ next_count old.faults))
 
 -- A text follows, unless the writer has failed since it had failed so often.
 abbrev pub TellsUnlessFailed : ℕ → End → End → List ℕ → Type 0

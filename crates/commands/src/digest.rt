@@ -43,10 +43,7 @@ fn digest_input<R: Read, W: Write>(
     ensures read_fault { result ≡ Err (Front ReadFault) → faults_in reader.new ≡ next_count (faults_in reader.old) }
     ensures write_fault { result ≡ Err (Front WriteFault) → faults_in out.new ≡ next_count (faults_in out.old) }
 {
-    let input = match read_input(alloc, reader) {
-        Ok(input) => input,
-        Err(fault) => return Err(fault),
-    };
+    let input = read_input(alloc, reader)?;
     match dump_digest_line(alloc, input.as_slice()) {
         Ok(line) => write_flushed(out, &line),
         Err(error) => Err(Fault::Dump(error)),

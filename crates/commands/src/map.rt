@@ -53,10 +53,7 @@ fn map_input<R: Read, W: Write>(
     ensures read_fault { result ≡ Err (Front ReadFault) → faults_in reader.new ≡ next_count (faults_in reader.old) }
     ensures write_fault { result ≡ Err (Front WriteFault) → faults_in out.new ≡ next_count (faults_in out.old) }
 {
-    let text = match map_of(alloc, names, profile, reader) {
-        Ok(text) => text,
-        Err(fault) => return Err(fault),
-    };
+    let text = map_of(alloc, names, profile, reader)?;
     write_flushed(out, text.as_slice())
 }
 
@@ -73,14 +70,8 @@ fn map_of<R: Read>(
     ensures read_fault { result ≡ Err (Front ReadFault) → faults_in reader.new ≡ next_count (faults_in reader.old) }
     ensures no_write_fault { result ≡ Err (Front WriteFault) → ⊥ }
 {
-    let domains = match read_domains(alloc, reader) {
-        Ok(domains) => domains,
-        Err(fault) => return Err(fault),
-    };
-    let domains = match wanted(alloc, domains, names) {
-        Ok(domains) => domains,
-        Err(fault) => return Err(fault),
-    };
+    let domains = read_domains(alloc, reader)?;
+    let domains = wanted(alloc, domains, names)?;
     match map_line(alloc, domains.pairs(), profile) {
         Ok(text) => Ok(text),
         Err(AllocError) => Err(Fault::Front(FrontError::Memory)),

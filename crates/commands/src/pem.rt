@@ -46,10 +46,7 @@ fn pem_input<R: Read, W: Write>(
     ensures read_fault { result ≡ Err (Front ReadFault) → faults_in reader.new ≡ next_count (faults_in reader.old) }
     ensures write_fault { result ≡ Err (Front WriteFault) → faults_in out.new ≡ next_count (faults_in out.old) }
 {
-    let input = match read_input(alloc, reader) {
-        Ok(input) => input,
-        Err(fault) => return Err(fault),
-    };
+    let input = read_input(alloc, reader)?;
     let mut text = Vec::new(alloc);
     match put_dump_pem(alloc, input.as_slice(), name, &mut text) {
         Ok(()) => {}

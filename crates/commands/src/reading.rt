@@ -23,10 +23,7 @@ pub(crate) fn read_domains<R: Read>(
     ensures read_fault { result ≡ Err (Front ReadFault) → faults_in reader.new ≡ next_count (faults_in reader.old) }
     ensures no_write_fault { result ≡ Err (Front WriteFault) → ⊥ }
 {
-    let input = match read_input(alloc, reader) {
-        Ok(input) => input,
-        Err(fault) => return Err(fault),
-    };
+    let input = read_input(alloc, reader)?;
     match read_dump(alloc, input.as_slice()) {
         Ok(domains) => Ok(domains),
         Err(error) => Err(Fault::Dump(error)),

@@ -1,5 +1,5 @@
 //! The command `trace`: a run of the machine over a list of events.
-ghost use Rattle.std.specs.Prelude.{◌≡◌, ◌<◌, List, ℕ, Bool, true, false, Option, Err, length, OnOk, IfOk, IfErr};
+ghost use Rattle.std.specs.Prelude.{◌≡◌, ◌<◌, List, ℕ, true, false, Err, length, OnOk, IfOk, IfErr};
 ghost use Rattle.std.specs.Io.KnownBytes.{Appends};
 ghost use Rattle.frame_front.specs.Counted.{end_in, faults_in, next_count, reads_of};
 ghost use Rattle.frame_front.specs.Outbox.{WritesFront};
@@ -8,7 +8,8 @@ ghost use Rattle.step_core.specs.declared.event.Event.{Event};
 ghost use Rattle.trace_lines.specs.Events.{lines_in, AreEvents};
 ghost use Rattle.commands.specs.Input.{IsInput, ReadsInput};
 ghost use Rattle.commands.specs.Streams.{streams};
-ghost use Rattle.commands.specs.Trace.{IsTraceOf, Traces, Tracing, printed};
+ghost use Rattle.commands.specs.Reading.{Filters, Writes};
+ghost use Rattle.commands.specs.Trace.{IsTraceOf, NoRun, RunOf, printed};
 ghost use Rattle.commands.specs.declared.fault.Fault.TheVariants.{Front};
 
 use crate::fault::Fault;
@@ -32,7 +33,7 @@ pub fn trace_over<R: Read, W: Write, E: Write>(
 ) -> u8
     requires shards { 0 < shards }
     requires rounds { 0 < rounds }
-    ensures traces { Tracing shards rounds false result
+    ensures traces { Filters (RunOf shards rounds false) NoRun result
         (streams R.remaining W.contents E.contents reader.old out.old err.old)
         (streams R.remaining W.contents E.contents reader.new out.new err.new) }
     ensures silent { result ≡ 0 → err.new ≡ err.old }
@@ -51,7 +52,7 @@ pub fn picture_over<R: Read, W: Write, E: Write>(
 ) -> u8
     requires shards { 0 < shards }
     requires rounds { 0 < rounds }
-    ensures traces { Tracing shards rounds true result
+    ensures traces { Filters (RunOf shards rounds true) NoRun result
         (streams R.remaining W.contents E.contents reader.old out.old err.old)
         (streams R.remaining W.contents E.contents reader.new out.new err.new) }
     ensures silent { result ≡ 0 → err.new ≡ err.old }
@@ -71,7 +72,7 @@ fn show_over<R: Read, W: Write, E: Write>(
 ) -> u8
     requires shards { 0 < shards }
     requires rounds { 0 < rounds }
-    ensures traces { Tracing shards rounds picture result
+    ensures traces { Filters (RunOf shards rounds picture) NoRun result
         (streams R.remaining W.contents E.contents reader.old out.old err.old)
         (streams R.remaining W.contents E.contents reader.new out.new err.new) }
     ensures silent { result ≡ 0 → err.new ≡ err.old }
@@ -92,15 +93,13 @@ fn trace_input<R: Read, W: Write>(
 ) -> Result<(), Fault>
     requires shards { 0 < shards }
     requires rounds { 0 < rounds }
-    ensures traces { Traces shards rounds picture result (R.remaining (end_in reader.old)) (R.remaining (end_in reader.new)) (W.contents (end_in out.old)) (W.contents (end_in out.new)) }
+    ensures traces { Writes (RunOf shards rounds picture) NoRun result
+        (R.remaining (end_in reader.old)) (R.remaining (end_in reader.new)) (W.contents (end_in out.old)) (W.contents (end_in out.new)) }
     ensures reads { ReadsInput result (reads_of reader.old) (reads_of reader.new) }
     ensures read_fault { result ≡ Err (Front ReadFault) → faults_in reader.new ≡ next_count (faults_in reader.old) }
     ensures write_fault { result ≡ Err (Front WriteFault) → faults_in out.new ≡ next_count (faults_in out.old) }
 {
-    let (events, trace) = match traced(alloc, reader, shards, rounds) {
-        Ok(traced) => traced,
-        Err(fault) => return Err(fault),
-    };
+    let (events, trace) = traced(alloc, reader, shards, rounds)?;
     match print(out, picture, events, &trace) {
         Ok(()) => Ok(()),
         Err(_) => Err(Fault::Front(FrontError::WriteFault)),
@@ -136,7 +135,7 @@ fn traced<R: Read>(
     requires rounds { 0 < rounds }
     ensures ok { IfOk result (λ traced. (input : List ℕ) × (events : List Event) × IsInput input (R.remaining (end_in reader.old)) (R.remaining (end_in reader.new))
         × AreEvents (lines_in input) events × IsTraceOf shards rounds events traced.1.ops.items traced.1.order.items × (traced.0 ≡ length events)) }
-    ensures err { IfErr result (λ fault. (picture : Bool) (held : Option (List ℕ)) → Traces shards rounds picture (Err fault) (R.remaining (end_in reader.old)) (R.remaining (end_in reader.new)) held held) }
+    ensures err { IfErr result (λ fault. NoRun fault (R.remaining (end_in reader.old)) (R.remaining (end_in reader.new))) }
     ensures reads { ReadsInput result (reads_of reader.old) (reads_of reader.new) }
     ensures read_fault { result ≡ Err (Front ReadFault) → faults_in reader.new ≡ next_count (faults_in reader.old) }
     ensures no_write_fault { result ≡ Err (Front WriteFault) → ⊥ }

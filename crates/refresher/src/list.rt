@@ -119,10 +119,7 @@ fn schedule_of<R: Read>(alloc: Global, reader: &mut Counted<R>) -> Result<Schedu
     ensures ok { IfOk result (λ schedule. Schedules schedule (R.remaining (end_in reader.old)) (R.remaining (end_in reader.new))) }
     ensures err { IfErr result (λ fault. NoSchedule fault (R.remaining (end_in reader.old)) (R.remaining (end_in reader.new))) }
 {
-    let list = match read_input(alloc, reader) {
-        Ok(list) => list,
-        Err(fault) => return Err(fault),
-    };
+    let list = read_input(alloc, reader)?;
     let relationships = match read_list(alloc, list.as_slice()) {
         Ok(listed) => listed,
         Err(error) => return Err(fault_of(error)),

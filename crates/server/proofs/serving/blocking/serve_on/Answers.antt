@@ -1,4 +1,4 @@
-use Rattle.std.proofs.Common.{◌≡◌, ℕ, List, [], true, All, subst, sym, ap, ◌∙◌, arith, inl, inr}
+use Rattle.std.proofs.Common.{◌≡◌, ℕ, List, [], true, false, All, refl, subst, sym, ap, ◌∙◌, arith, inl, inr}
 use Rattle.std.specs.Prelude.{None, length}
 use Rattle.std.specs.List.{flat_map}
 use Rattle.std.proofs.lemmas.List.{length-map}
@@ -7,8 +7,11 @@ use Rattle.workers.specs.Closing.{AreAll}
 use Rattle.workers.specs.Run.{kept}
 use Rattle.workers.specs.declared.ended.Worked.{Worked}
 use Rattle.workers.proofs.FinishedLists.{all_long, all_own, kept_own, kept_ranges, ranges_same}
-use Rattle.server.specs.Serve.{always_open, Reports}
+use Rattle.server.specs.Serve.{always_open, write_fault, Reports}
+use Rattle.commands.specs.Fault.{fault_line}
+use Rattle.commands.specs.declared.fault.Fault.TheVariants.{Front}
 use Rattle.commands.specs.Streams.{TellsUnlessFailed, end_of}
+use Rattle.frame_front.specs.declared.error.FrontError.TheVariants.{Memory}
 use Rattle.server.specs.Serving.{ClientComes, EndsClient, unknown}
 use Rattle.server.proofs.serving.blocking.serve_on.Goals as goal
 
@@ -55,6 +58,54 @@ returns-in-Ok-run_in_turn g c =
             (c.in-Ok-clients_of.clients.items, ran.0, c.in-Ok-clients_of.ensures.may, ran.1, ran.2),
             subst (λ (b : ℕ). Reports worked b c.report.result (end_of g.W.Write.contents c.say.new.out) (end_of g.W.Write.contents c.report.new.out)
                 (end_of g.E.Write.contents c.say.new.err) (end_of g.E.Write.contents c.report.new.err)) before c.report.ensures,
+          );
+        },
+      ),
+    )
+
+pub returns-then-not-say : goal.returns-then-not-say
+returns-then-not-say g c =
+    let before = c.faults-before.ensures in
+    inr (
+      c.in-Ok.set_up.store,
+      c.in-Ok.set_up.passes.items,
+      c.in-Ok.ensures.set_up,
+      inr (
+        c.port.result,
+        record {
+          read_port = None;
+          taken = false;
+          out = end_of g.W.Write.contents c.say.new.out;
+          error = end_of g.E.Write.contents c.say.new.err;
+          listening = c.if-not-say.ensures.offered;
+          tells = subst (λ (b : ℕ). TellsUnlessFailed b (end_of g.E.Write.contents c.args.err.now) (end_of g.E.Write.contents c.say.new.err) (write_fault false)) before
+              c.if-not-say.ensures.tells;
+          serves = (refl, refl, refl);
+        },
+      ),
+    )
+
+pub returns-in-Err-run_in_turn : goal.returns-in-Err-run_in_turn
+returns-in-Err-run_in_turn g c =
+    let before = c.faults-before.ensures in
+    inr (
+      c.in-Ok.set_up.store,
+      c.in-Ok.set_up.passes.items,
+      c.in-Ok.ensures.set_up,
+      inr (
+        c.port.result,
+        record {
+          read_port = None;
+          taken = true;
+          out = end_of g.W.Write.contents c.say.new.out;
+          error = end_of g.E.Write.contents c.say.new.err;
+          listening = c.if-not-say.ensures.offered;
+          tells = subst (λ (b : ℕ). TellsUnlessFailed b (end_of g.E.Write.contents c.args.err.now) (end_of g.E.Write.contents c.say.new.err) []) before c.if-not-say.ensures.tells;
+          serves = inl (
+            refl,
+            refl,
+            subst (λ (b : ℕ). TellsUnlessFailed b (end_of g.E.Write.contents c.say.new.err) (end_of g.E.Write.contents c.tell_unless_failed.new.err) (fault_line (Front Memory)))
+                before c.tell_unless_failed.ensures,
           );
         },
       ),

@@ -1,7 +1,10 @@
-use Rattle.std.proofs.Common.{ℕ, [], true, subst, sym, arith, inr}
+use Rattle.std.proofs.Common.{ℕ, [], true, refl, subst, sym, arith, inl, inr}
 use Rattle.workers.specs.Closing.{AreAll}
 use Rattle.server.specs.Serve.{always_open, Reports}
+use Rattle.commands.specs.Fault.{fault_line}
+use Rattle.commands.specs.declared.fault.Fault.TheVariants.{Front}
 use Rattle.commands.specs.Streams.{TellsUnlessFailed, end_of}
+use Rattle.frame_front.specs.declared.error.FrontError.TheVariants.{Memory}
 use Rattle.workers.proofs.WorkedLists.{all_own, all_long, ranges_same}
 use Rattle.server.specs.Serving.{most_silent}
 use Rattle.server.proofs.serving.lasting.serve_at.Goals as goal
@@ -34,6 +37,27 @@ returns-in-Ok-run_all-clause-run g c =
           c.in-Ok-run_all.ensures.served,
           subst (λ (b : ℕ). Reports c.in-Ok-run_all.worked.items b c.report.result (end_of g.W.Write.contents c.say.new.out) (end_of g.W.Write.contents c.report.new.out)
               (end_of g.E.Write.contents c.say.new.err) (end_of g.E.Write.contents c.report.new.err)) before c.report.ensures,
+        );
+      },
+    ))
+
+pub returns-in-Err-clause-run : goal.returns-in-Err-clause-run
+returns-in-Err-clause-run g c =
+    let before = c.faults-before.ensures in
+    inr (inr (
+      c.numbers-port.result.0,
+      record {
+        read_port = c.numbers-port.result.1;
+        taken = true;
+        out = end_of g.W.Write.contents c.say.new.out;
+        error = end_of g.E.Write.contents c.say.new.err;
+        listening = c.if-not-say.ensures.offered;
+        tells = subst (λ (b : ℕ). TellsUnlessFailed b (end_of g.E.Write.contents c.args.err.now) (end_of g.E.Write.contents c.say.new.err) []) before c.if-not-say.ensures.tells;
+        serves = inl (
+          refl,
+          refl,
+          subst (λ (b : ℕ). TellsUnlessFailed b (end_of g.E.Write.contents c.say.new.err) (end_of g.E.Write.contents c.tell_unless_failed.new.err) (fault_line (Front Memory)))
+              before c.tell_unless_failed.ensures,
         );
       },
     ))
