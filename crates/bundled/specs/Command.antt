@@ -1,7 +1,7 @@
 -- What the program does: one of its commands, or a text in place of one.
 use Rattle.std.specs.Prelude.{◌≡◌, ℕ, Bool, true, false, List, map, Result, Ok, Err, ◌⊎◌}
 use Rattle.std.specs.Io.KnownBytes.{Appends}
-use Rattle.frame_front.specs.Outbox.{WritesFront}
+use Rattle.frame_front.specs.Output.{WritesFront, End, Tells}
 use Rattle.frame_front.specs.declared.error.FrontError.TheVariants.{Memory, ReadFault, WriteFault}
 use Rattle.command_line.specs.declared.wanted.Wanted.{Wanted}
 use Rattle.command_line.specs.declared.wanted.Wanted.TheVariants.{Run, Ask, Encode, Decode, Explain, Check, Map, Import, Pem, Diff, Digest, Trace, Migrate, Race, Refresh, Snapshot, Serve}
@@ -10,7 +10,7 @@ use Rattle.commands.specs.declared.fault.Fault.TheVariants.{Front}
 use Rattle.commands.specs.Fault.{fault_line}
 use Rattle.command_line.specs.Serving.{stops_at_end}
 use Rattle.command_line.specs.Settings.{AreSettings}
-use Rattle.commands.specs.Streams.{Streams, End, EndsWith, Tells}
+use Rattle.commands.specs.Streams.{Streams, EndsWith}
 use Rattle.commands.specs.Run.{Runs}
 use Rattle.commands.specs.Encode.{Encodes, Decodes, of_files}
 use Rattle.commands.specs.Explain.{Explains}

@@ -1,12 +1,12 @@
 -- What the command `race` does to its streams.
 use Rattle.std.specs.Prelude.{◌≡◌, ℕ, ◌==◌, if◌then◌else◌, Result, Ok, Err}
 use Rattle.std.specs.Io.KnownBytes.{Appends}
-use Rattle.frame_front.specs.Outbox.{WritesFront}
+use Rattle.frame_front.specs.Output.{WritesFront, End, Tells}
 use Rattle.frame_front.specs.declared.error.FrontError.TheVariants.{WriteFault}
 use Rattle.commands.specs.declared.fault.Fault.{Fault}
 use Rattle.commands.specs.declared.fault.Fault.TheVariants.{Front}
 use Rattle.commands.specs.Fault.{fault_line}
-use Rattle.commands.specs.Streams.{Streams, End, Tells}
+use Rattle.commands.specs.Streams.{Streams}
 use Rattle.race_demo.specs.declared.report.Findings.{Findings}
 use Rattle.race_demo.specs.Report.{IsHonest, report}
 

@@ -1,7 +1,8 @@
 -- What the command `snapshot` does to its streams; what is in its folder is not defined here.
 use Rattle.std.specs.Prelude.{◌≡◌, ℕ, List, [], ◌++◌, Result, Ok, Err}
 use Rattle.commands.specs.declared.fault.Fault.{Fault}
-use Rattle.commands.specs.Streams.{Streams, Tells}
+use Rattle.frame_front.specs.Output.{Tells}
+use Rattle.commands.specs.Streams.{Streams}
 use Rattle.commands.specs.Fault.{fault_line}
 
 -- 0 if all went well, 1 after a fault

@@ -3,7 +3,8 @@ ghost use Rattle.std.specs.Prelude.{◌≡◌, ◌<◌, ◌-◌, ◌^◌, ◌⊎
 ghost use Rattle.frame_front.specs.Counted.{faults_in};
 ghost use Rattle.bundled.specs.Command.{Commands, DiffFiles, Does, Refuses, Shows, profile};
 ghost use Rattle.command_line.specs.Settings.{AreSettings};
-ghost use Rattle.commands.specs.Streams.{Source, Streams, Tells, end_of, streams};
+ghost use Rattle.frame_front.specs.Output.{Tells, end_of};
+ghost use Rattle.commands.specs.Streams.{Source, Streams, streams};
 
 use crate::asking::ask_server;
 use crate::racing::race_over;
@@ -14,10 +15,10 @@ use clap::error::ErrorKind;
 use command_line::{Wanted, wanted_by};
 use commands::{
     Fault, FileTexts, check_over, decode_over, diff_over, digest_over, encode_over, explain_over,
-    import_over, map_over, migrate_over, pem_over, picture_over, run_over, tell, trace_over,
-    write_flushed,
+    import_over, map_over, migrate_over, pem_over, picture_over, run_over, trace_over, write_flushed,
 };
 use dump_views::Profile;
+use frame_front::wire::tell;
 use frame_front::{Counted, FrontError};
 use server::LineLog;
 use std::alloc::{AllocError, Global};

@@ -2,7 +2,8 @@
 ghost use Rattle.std.specs.Prelude.{◌≡◌};
 ghost use Rattle.frame_front.specs.Counted.{faults_in};
 ghost use Rattle.bundled.specs.Race.{RaceRun, Raced, race_status};
-ghost use Rattle.commands.specs.Streams.{Source, end_of};
+ghost use Rattle.frame_front.specs.Output.{end_of};
+ghost use Rattle.commands.specs.Streams.{Source};
 
 use commands::{Fault, RefreshFault, write_flushed};
 use frame_front::{Counted, FrontError};

@@ -2,7 +2,8 @@
 ghost use Rattle.std.specs.Prelude.{◌<◌, ◌-◌, ◌^◌, List, ℕ};
 ghost use Rattle.frame_front.specs.Counted.{faults_in};
 ghost use Rattle.bundled.specs.Refresh.{RefreshRun};
-ghost use Rattle.commands.specs.Streams.{Source, Tells, end_of};
+ghost use Rattle.frame_front.specs.Output.{Tells, end_of};
+ghost use Rattle.commands.specs.Streams.{Source};
 
 use client::Client;
 use command_line::Refreshing;

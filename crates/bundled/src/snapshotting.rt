@@ -2,7 +2,8 @@
 ghost use Rattle.std.specs.Prelude.{◌≡◌, ◌<◌, ◌-◌, ◌^◌, ◌++◌, List, ℕ};
 ghost use Rattle.frame_front.specs.Counted.{faults_in};
 ghost use Rattle.bundled.specs.Snapshot.{SnapshotRun};
-ghost use Rattle.commands.specs.Streams.{Source, Tells, TellsUnlessFailed, end_of};
+ghost use Rattle.frame_front.specs.Output.{Tells, TellsUnlessFailed, end_of};
+ghost use Rattle.commands.specs.Streams.{Source};
 ghost use Rattle.commands.specs.Fault.{fault_line};
 
 use crate::refreshing::streams;

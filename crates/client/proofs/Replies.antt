@@ -5,8 +5,6 @@ use Rattle.std.specs.Io.KnownBytes.{Appends, Consumes, Keeps}
 use Rattle.std.proofs.KnownBytes.{Appends-nil, Appends-trans, Consumes-nil, Consumes-trans}
 use Rattle.std.proofs.lemmas.List.Concat.{flat_map-append}
 use Rattle.frame_front.specs.Frame.{IsPayload, frame}
-use Rattle.frame_front.specs.Outbox.{WritesFront}
-use Rattle.frame_front.proofs.SessionLemmas.{WritesFront-then}
 use Rattle.frame_front.specs.declared.error.FrontError.TheVariants as front
 use Rattle.client.specs.Reading.{NoFrame}
 use Rattle.client.specs.declared.client_error.ClientError.{ClientError}
@@ -46,9 +44,6 @@ adds_nothing (Some xs) (Some ys) keeps = keeps ∙ sym (append-nil xs)
 
 pub then_kept : (old mid new : Option (List ℕ)) (bytes : List ℕ) → Appends old mid bytes → Keeps mid new → Appends old new bytes
 then_kept old mid new bytes appends keeps = subst (Appends old new) (append-nil bytes) (Appends-trans old mid new bytes [] appends (adds_nothing mid new keeps))
-
-pub then_front : (old mid new : Option (List ℕ)) (bytes more : List ℕ) → Appends old mid bytes → WritesFront mid new (more ++ []) → WritesFront old new (bytes ++ more)
-then_front old mid new bytes more appends front = WritesFront-then old mid new bytes more appends (subst (WritesFront mid new) (append-nil more) front)
 
 -- ---- bundles
 

@@ -5,7 +5,7 @@ use Rattle.std.specs.Io.KnownBytes.{Appends, Consumes}
 use Rattle.std.proofs.KnownBytes.{Appends-nil, Appends-trans, Consumes-nil, Consumes-trans}
 use Rattle.std.proofs.lemmas.List.Concat.{flat_map-append}
 use Rattle.frame_front.specs.Frame.{IsPayload, frame}
-use Rattle.frame_front.specs.Outbox.{WritesFront}
+use Rattle.frame_front.specs.Output.{WritesFront}
 use Rattle.client.specs.Reading.{NoFrame}
 use Rattle.client.specs.declared.client_error.ClientError.{ClientError}
 use Rattle.client.specs.declared.client_error.ClientError.TheVariants as client

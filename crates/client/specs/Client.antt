@@ -10,7 +10,7 @@ use Rattle.client.specs.declared.client_error.ClientError.{ClientError}
 use Rattle.client.specs.declared.client_error.ClientError.TheVariants.{Memory, BadLength, BadReply, Truncated, ReadFault, WriteFault}
 use Rattle.frame_front.specs.Frame.{HasFrames, IsBadLength}
 use Rattle.frame_front.specs.Reply.{answer_frames, version_frame}
-use Rattle.frame_front.specs.Outbox.{WritesFront}
+use Rattle.frame_front.specs.Output.{WritesFront}
 use Rattle.client.specs.Request.{request_bytes, is_written}
 use Rattle.client.specs.Reading.{CountsFault}
 use Rattle.client.specs.Answer.{Answer, MayAnswer, IsValidAnswer}

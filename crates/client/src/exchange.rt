@@ -4,7 +4,7 @@ ghost use Rattle.std.specs.List.{AllByRecursion, flat_map};
 ghost use Rattle.std.specs.Io.KnownBytes.{Appends, Consumes};
 ghost use Rattle.frame_front.specs.Counted.{end_in, faults_in, next_count};
 ghost use Rattle.frame_front.specs.Frame.{IsPayload, frame as frame_of};
-ghost use Rattle.frame_front.specs.Outbox.{WritesFront};
+ghost use Rattle.frame_front.specs.Output.{WritesFront};
 ghost use Rattle.client.specs.declared.client_error.ClientError.TheVariants.{ReadFault, WriteFault};
 ghost use Rattle.client.specs.Asking.{greeting, greeted};
 ghost use Rattle.client.specs.declared.fault.AskFault.TheVariants.{Server};
@@ -15,20 +15,17 @@ use crate::link::Link;
 use crate::reply::is_transient_payload;
 use crate::{ClientError, read_frame};
 use frame_front::Counted;
-use frame_front::wire::write_both;
+use frame_front::wire::write_flushed;
 use std::io::{Read, Write};
 
-/// Sends all of the bytes.
+/// Sends all of the bytes, and sees that the writer keeps nothing back.
 fn send<W: Write>(to: &mut Counted<W>, bytes: &[u8]) -> Result<(), ClientError>
     ensures ok { OnOk result (Appends (W.contents (end_in to.old)) (W.contents (end_in to.new)) bytes.now) }
     ensures quiet { OnOk result (faults_in to.new ≡ faults_in to.old) }
     ensures fault { IfErr result (λ error. (error ≡ WriteFault) × (faults_in to.new ≡ next_count (faults_in to.old))) }
     ensures front { WritesFront (W.contents (end_in to.old)) (W.contents (end_in to.new)) bytes.now }
 {
-    if let Err(_) = write_both(to, bytes, &[]) {
-        return Err(ClientError::WriteFault);
-    }
-    match to.flush() {
+    match write_flushed(to, bytes) {
         Ok(()) => Ok(()),
         Err(_) => Err(ClientError::WriteFault),
     }

@@ -4,7 +4,7 @@ ghost use Rattle.std.specs.List.{AllByRecursion, flat_map};
 ghost use Rattle.std.specs.Io.KnownBytes.{Appends, Consumes};
 ghost use Rattle.frame_front.specs.Counted.{end_in, faults_in, next_count};
 ghost use Rattle.frame_front.specs.Frame.{IsPayload, frame as frame_of};
-ghost use Rattle.frame_front.specs.Outbox.{WritesFront};
+ghost use Rattle.frame_front.specs.Output.{WritesFront};
 ghost use Rattle.frame_front.specs.declared.error.FrontError.TheVariants.{WriteFault};
 ghost use Rattle.client.specs.declared.client_error.ClientError.TheVariants.{ReadFault};
 ghost use Rattle.frame_lines.specs.ReplyForm.{Reply, payload_of, reply as said};
@@ -16,7 +16,7 @@ use crate::asking::Form;
 use crate::fault::AskFault;
 use crate::reply::{bundles_after, is_bundle, is_refusal};
 use crate::{ClientError, read_frame};
-use frame_front::wire::write_both;
+use frame_front::wire::{write_both, write_whole};
 use frame_front::{Counted, FrontError};
 use frame_lines::{ReplyForm, reply_of_payload};
 use std::io::{Read, Write};
@@ -108,7 +108,7 @@ fn write_parts<O: Write>(
     if let Err(_) = write_both(out, head, text) {
         return Err(AskFault::Front(FrontError::WriteFault));
     }
-    if let Err(_) = write_both(out, end, &[]) {
+    if let Err(_) = write_whole(out, end) {
         return Err(AskFault::Front(FrontError::WriteFault));
     }
     Ok(())

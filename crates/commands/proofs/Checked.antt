@@ -6,8 +6,8 @@ use Rattle.std.proofs.KnownBytes.{Appends-nil, Appends-trans}
 use Rattle.std.proofs.lemmas.List.{take_more, get_or-map, length-map, take-append-drop}
 use Rattle.std.proofs.lemmas.List.Concat.{flat_map-append}
 use Rattle.std.proofs.lemmas.List.Folds.{list_any-append}
-use Rattle.frame_front.specs.Outbox.{WritesFront}
-use Rattle.frame_front.proofs.SessionLemmas.{WritesFront-then}
+use Rattle.frame_front.specs.Output.{WritesFront}
+use Rattle.frame_front.proofs.OutputLemmas.{WritesFront-then}
 use Rattle.frame_front.specs.declared.error.FrontError.TheVariants.{Memory}
 use Rattle.frame_lines.specs.Encoding.{Gives}
 use Rattle.commands.specs.declared.fault.Fault.{Fault}

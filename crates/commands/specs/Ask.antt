@@ -15,7 +15,8 @@ use Rattle.commands.specs.declared.fault.Fault.{Fault}
 use Rattle.commands.specs.declared.fault.Fault.TheVariants.{Front, BadLine, UnreadText, Server}
 use Rattle.commands.specs.declared.fault.ServerFault.TheVariants.{Client}
 use Rattle.commands.specs.Fault.{fault_line}
-use Rattle.commands.specs.Streams.{Streams, End, Source, Blames, Tells, end_of}
+use Rattle.frame_front.specs.Output.{End, Tells, end_of}
+use Rattle.commands.specs.Streams.{Streams, Source, Blames}
 
 -- the fault of a command whose asking ended so
 abbrev pub asking_fault : AskFault → Fault

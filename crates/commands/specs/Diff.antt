@@ -3,14 +3,14 @@ use Rattle.std.specs.Prelude.{◌≡◌, ◌⊎◌, ◌≤◌, ℕ, List, [], �
 use Rattle.std.specs.Io.KnownBytes.{Appends}
 use Rattle.frame_front.specs.Counted.{reads_since, next_count}
 use Rattle.frame_front.specs.Dump.{Domains}
-use Rattle.frame_front.specs.Outbox.{WritesFront}
+use Rattle.frame_front.specs.Output.{WritesFront, End, Tells}
 use Rattle.frame_front.specs.declared.error.FrontError.TheVariants.{ReadFault, WriteFault}
 use Rattle.map_core.specs.Name.{Name}
 use Rattle.commands.specs.declared.fault.Fault.{Fault}
 use Rattle.commands.specs.declared.fault.Fault.TheVariants.{Front}
 use Rattle.commands.specs.Fault.{fault_line}
 use Rattle.commands.specs.Input.{ReadsInput, most_reads}
-use Rattle.commands.specs.Streams.{End, Source, Tells}
+use Rattle.commands.specs.Streams.{Source}
 use Rattle.dump_views.specs.Changes.{Change, AreChanges}
 use Rattle.dump_views.specs.ChangeLines.{lines_of}
 use Rattle.commands.specs.Reading.{IsRead, Unread}

@@ -1,11 +1,11 @@
 -- What the command `explain` does to its output.
 use Rattle.std.specs.Prelude.{◌≡◌, ℕ, List, Result, Ok, Err}
 use Rattle.std.specs.Io.KnownBytes.{Appends}
-use Rattle.frame_front.specs.Outbox.{WritesFront}
+use Rattle.frame_front.specs.Output.{WritesFront, End}
 use Rattle.frame_front.specs.declared.error.FrontError.TheVariants.{WriteFault}
 use Rattle.commands.specs.declared.fault.Fault.{Fault}
 use Rattle.commands.specs.declared.fault.Fault.TheVariants.{Front}
-use Rattle.commands.specs.Streams.{Streams, End, EndsWith}
+use Rattle.commands.specs.Streams.{Streams, EndsWith}
 
 -- the text is written; a front of it if the writer failed
 abbrev pub WritesAll : Result (Unit {0}) Fault → List ℕ → End → End → Type 0

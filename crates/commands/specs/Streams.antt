@@ -4,7 +4,7 @@ use Rattle.std.specs.Io.KnownBytes.{Appends}
 use Rattle.frame_front.specs.Counted.{end_in, faults_in, reads_of, next_count}
 use Rattle.frame_front.specs.declared.counted.Counted.{Counted}
 use Rattle.frame_front.specs.declared.error.FrontError.TheVariants.{ReadFault, WriteFault}
-use Rattle.frame_front.specs.Outbox.{WritesFront}
+use Rattle.frame_front.specs.Output.{WritesFront}
 use Rattle.commands.specs.declared.fault.Fault.{Fault}
 use Rattle.commands.specs.declared.fault.Fault.TheVariants.{Front}
 use Rattle.commands.specs.Fault.{fault_line}

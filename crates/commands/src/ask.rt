@@ -2,7 +2,8 @@
 ghost use Rattle.std.specs.Prelude.{◌≡◌, ◌==◌, drop, map, IfOk};
 ghost use Rattle.std.specs.List.{list_any};
 ghost use Rattle.commands.specs.Ask.{Asks, AsksWords, ask_status, server, spaced as with_spaces};
-ghost use Rattle.commands.specs.Streams.{end_of, streams};
+ghost use Rattle.frame_front.specs.Output.{end_of};
+ghost use Rattle.commands.specs.Streams.{streams};
 
 use crate::fault::{Fault, ServerFault};
 use client::{AskFault, Asking, Link, ask_stream};

@@ -1,7 +1,8 @@
 //! The command `check`: what documents would give as bundles.
 ghost use Rattle.std.specs.Prelude.{◌≡◌, ◌≢◌, map, Err, OnOk};
 ghost use Rattle.commands.specs.Input.{ReadsInput};
-ghost use Rattle.commands.specs.Streams.{end_of, streams};
+ghost use Rattle.frame_front.specs.Output.{end_of};
+ghost use Rattle.commands.specs.Streams.{streams};
 ghost use Rattle.commands.specs.declared.fault.Fault.TheVariants.{Front};
 ghost use Rattle.commands.specs.Check.{Checks, status_of};
 ghost use Rattle.commands.specs.Private.Checking.{ChecksFiles, ChecksInput, ChecksOne, Told, given_by, joined};

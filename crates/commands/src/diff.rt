@@ -1,6 +1,7 @@
 //! The command `diff`: what changed from one dump to another.
 ghost use Rattle.std.specs.Prelude.{◌≡◌, List, Err, IfOk, IfErr};
-ghost use Rattle.commands.specs.Streams.{end_of, source_of};
+ghost use Rattle.frame_front.specs.Output.{end_of};
+ghost use Rattle.commands.specs.Streams.{source_of};
 ghost use Rattle.commands.specs.declared.fault.Fault.TheVariants.{Front};
 ghost use Rattle.commands.specs.Diff.{AreReadFew, Differ, DiffRun, NoDiff, WritesDiff};
 ghost use Rattle.dump_views.specs.ChangeLines.{lines_of};

@@ -1,7 +1,8 @@
 //! The command `explain`: writes a text that is known beforehand.
 ghost use Rattle.std.specs.Prelude.{◌≡◌};
 ghost use Rattle.commands.specs.Explain.{Explains};
-ghost use Rattle.commands.specs.Streams.{Source, end_of};
+ghost use Rattle.frame_front.specs.Output.{end_of};
+ghost use Rattle.commands.specs.Streams.{Source};
 
 use crate::output::write_flushed;
 use frame_front::Counted;

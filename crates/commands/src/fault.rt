@@ -2,11 +2,11 @@
 ghost use Rattle.std.specs.Prelude.{◌≡◌, ◌≤◌, ◌+◌, ◌++◌, length};
 ghost use Rattle.frame_front.specs.Counted.{faults_in};
 ghost use Rattle.commands.specs.Fault.{asking_numbers, fault_number, fault_numbers, fault_line, number_text, numbers_text, refresh_number, refresh_numbers, server_number, snapshot_number, snapshot_numbers};
-ghost use Rattle.commands.specs.Streams.{Tells, TellsUnlessFailed, end_of};
+ghost use Rattle.frame_front.specs.Output.{Tells, TellsUnlessFailed, end_of};
 
-use crate::output::tell;
 use arrayvec::ArrayVec;
 use client::ClientError;
+use frame_front::wire::tell;
 use frame_front::{Counted, DumpError, FrontError};
 use itoa::Buffer;
 use map_core::AskError;

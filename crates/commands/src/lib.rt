@@ -37,7 +37,7 @@ pub use import::import_over;
 pub use input::read_input;
 pub use map::map_over;
 pub use migrate::migrate_over;
-pub use output::{tell, tell_flushed, write_flushed, write_whole};
+pub use output::write_flushed;
 pub use pem::pem_over;
 pub use run::run_over;
 pub use trace::{picture_over, trace_over};

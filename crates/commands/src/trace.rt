@@ -2,7 +2,7 @@
 ghost use Rattle.std.specs.Prelude.{◌≡◌, ◌<◌, List, ℕ, true, false, Err, length, OnOk, IfOk, IfErr};
 ghost use Rattle.std.specs.Io.KnownBytes.{Appends};
 ghost use Rattle.frame_front.specs.Counted.{end_in, faults_in, next_count, reads_of};
-ghost use Rattle.frame_front.specs.Outbox.{WritesFront};
+ghost use Rattle.frame_front.specs.Output.{WritesFront};
 ghost use Rattle.frame_front.specs.declared.error.FrontError.TheVariants.{ReadFault, WriteFault};
 ghost use Rattle.step_core.specs.declared.event.Event.{Event};
 ghost use Rattle.trace_lines.specs.Events.{lines_in, AreEvents};

@@ -1,4 +1,5 @@
 pub mod FrameLemmas
+pub mod OutputLemmas
 pub mod SessionLemmas
 pub mod ReadLemmas
 pub mod TranscriptLemmas

@@ -13,7 +13,7 @@ use Rattle.frame_front.specs.Frame.{IsPayload, frame, stream_of}
 use Rattle.frame_front.specs.Reply.{is_error_reply}
 use Rattle.frame_front.specs.Session.{SessionState, Answers, AnswersAll, Serves, Writes}
 use Rattle.frame_front.specs.Private.Round.{Round, RoundEndsAt}
-use Rattle.frame_front.specs.Outbox.{WritesFront}
+use Rattle.frame_front.specs.Output.{WritesFront}
 use Rattle.frame_front.specs.Private.Gathered.{Puts, Takes}
 use Rattle.frame_front.specs.declared.error.FrontError.{FrontError}
 use Rattle.frame_front.specs.declared.error.FrontError.TheVariants.{WriteFault}
@@ -76,29 +76,6 @@ module _ {S : Type 0} (answers : S → Op → Result Reply AskError → S → Ty
 -- the texts with one more at the end
 pub concat-one : (ts : List (List ℕ)) (text : List ℕ) → concat (ts ++ text ∷ []) ≡ concat ts ++ text
 concat-one ts text = concat-append ts (text ∷ []) ∙ ap (λ t. concat ts ++ t) (append-nil text)
-
-pub WritesFront-none : (held : Option (List ℕ)) (bytes : List ℕ) → WritesFront held held bytes
-WritesFront-none held bytes = record { front = []; missing = bytes; split = refl; appends = Appends-nil held }
-
-pub WritesFront-longer : (held held_new : Option (List ℕ)) (bytes more : List ℕ) → WritesFront held held_new bytes → WritesFront held held_new (bytes ++ more)
-WritesFront-longer held held_new bytes more wrote = record {
-  front = wrote.front;
-  missing = wrote.missing ++ more;
-  split = ap (λ b. b ++ more) wrote.split ∙ append_assoc wrote.front wrote.missing more;
-  appends = wrote.appends;
-}
-
-pub WritesFront-whole : (held held_new : Option (List ℕ)) (bytes more : List ℕ) → Appends held held_new bytes → WritesFront held held_new (bytes ++ more)
-WritesFront-whole held held_new bytes more wrote = record { front = bytes; missing = more; split = refl; appends = wrote }
-
-pub WritesFront-then : (held held_mid held_new : Option (List ℕ)) (bytes more : List ℕ) → Appends held held_mid bytes → WritesFront held_mid held_new more
-    → WritesFront held held_new (bytes ++ more)
-WritesFront-then held held_mid held_new bytes more sent wrote = record {
-  front = bytes ++ wrote.front;
-  missing = wrote.missing;
-  split = ap (λ m. bytes ++ m) wrote.split ∙ sym (append_assoc bytes wrote.front wrote.missing);
-  appends = Appends-trans held held_mid held_new bytes wrote.front sent wrote.appends;
-}
 
 -- what waited is cut again, with more bytes and the rest after it
 pub cut_again : (sent outbox bytes rest more outbox_new : List ℕ) → outbox ++ bytes ≡ more ++ outbox_new

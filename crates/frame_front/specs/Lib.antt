@@ -5,7 +5,7 @@ pub mod Decoder
 pub mod Refusal
 pub mod Request
 pub mod Reply
-pub mod Outbox
+pub mod Output
 pub mod Session
 pub mod Transcript
 pub mod Live

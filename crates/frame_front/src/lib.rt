@@ -19,6 +19,7 @@ mod late;
 pub mod laws;
 mod live;
 mod outbox;
+mod output;
 mod refusal;
 mod reply;
 mod request;

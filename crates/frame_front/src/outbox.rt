@@ -3,9 +3,10 @@ ghost use Rattle.std.specs.Prelude.{◌≡◌, ◌++◌, [], flat_map, true, fal
 ghost use Rattle.std.specs.Io.KnownBytes.{Appends};
 ghost use Rattle.frame_front.specs.Counted.{end_in, faults_in, next_count};
 ghost use Rattle.frame_front.specs.Reply.{item_frame};
-ghost use Rattle.frame_front.specs.Outbox.{WritesFront};
+ghost use Rattle.frame_front.specs.Output.{WritesFront};
 ghost use Rattle.frame_front.specs.Private.Gathered.{Puts, Takes};
 
+use crate::output::{write_both, write_whole};
 use crate::reply::{ReplyBytes, canonical_text, item_front};
 use crate::{Counted, FrontError};
 use spiffe_doc::{Bundle, TrustDomain};
@@ -184,40 +185,4 @@ impl Outbox {
             Err(_) => Err(FrontError::WriteFault),
         }
     }
-}
-
-/// Writes all of the first bytes, and then all of the others.
-pub fn write_both<W: Write>(
-    writer: &mut Counted<W>,
-    first: &[u8],
-    others: &[u8],
-) -> Result<(), FrontError>
-    ensures ok { OnOk result (Appends (W.contents (end_in writer.old)) (W.contents (end_in writer.new)) (first.now ++ others.now)) }
-    ensures quiet { OnOk result (faults_in writer.new ≡ faults_in writer.old) }
-    ensures fault { IfErr result (λ fault. (fault ≡ FrontError.WriteFault) × (faults_in writer.new ≡ next_count (faults_in writer.old))) }
-    ensures front { WritesFront (W.contents (end_in writer.old)) (W.contents (end_in writer.new)) (first.now ++ others.now) }
-{
-    write_whole(writer, first)?;
-    write_whole(writer, others)
-}
-
-/// Writes all of the bytes.
-fn write_whole<W: Write>(writer: &mut Counted<W>, bytes: &[u8]) -> Result<(), FrontError>
-    ensures ok { OnOk result (Appends (W.contents (end_in writer.old)) (W.contents (end_in writer.new)) bytes.now) }
-    ensures quiet { OnOk result (faults_in writer.new ≡ faults_in writer.old) }
-    ensures fault { IfErr result (λ fault. (fault ≡ FrontError.WriteFault) × (faults_in writer.new ≡ next_count (faults_in writer.old))) }
-    ensures front { WritesFront (W.contents (end_in writer.old)) (W.contents (end_in writer.new)) bytes.now }
-{
-    let mut rest = bytes;
-    while !rest.is_empty() {
-        match writer.write(rest) {
-            Ok(0) => return Err(FrontError::WriteFault),
-            Ok(taken) => {
-                let (_, after) = rest.split_at(taken);
-                rest = after;
-            }
-            Err(_) => return Err(FrontError::WriteFault),
-        }
-    }
-    Ok(())
 }

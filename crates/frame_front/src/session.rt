@@ -8,7 +8,7 @@ ghost use Rattle.frame_front.specs.Transcript.{Transcript};
 ghost use Rattle.frame_front.specs.PlainSession.{PlainTranscript};
 ghost use Rattle.frame_front.specs.Reply.{is_error_reply};
 ghost use Rattle.frame_front.specs.declared.request.Version.{Version as Spoken};
-ghost use Rattle.frame_front.specs.Outbox.{WritesFront};
+ghost use Rattle.frame_front.specs.Output.{WritesFront};
 ghost use Rattle.map_core.specs.PlainMap.{PlainMap};
 
 use crate::outbox::Outbox;

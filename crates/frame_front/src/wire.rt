@@ -2,5 +2,5 @@
 //! written.
 pub use crate::dump::{is_after, put_request, read_item};
 pub use crate::frame::{LENGTH_BYTES, MAX_PAYLOAD, length_field};
-pub use crate::outbox::write_both;
+pub use crate::output::{tell, tell_flushed, write_both, write_flushed, write_whole};
 pub use crate::reply::{ITEM_HEAD_BYTES, canonical_text, expect_bytes, is_error_code};

@@ -5,8 +5,8 @@ use Rattle.std.specs.List.{AllByRecursion}
 use Rattle.std.proofs.lemmas.List.Concat.{flat_map-append}
 use Rattle.std.proofs.KnownBytes.{Appends-nil, Appends-trans, Consumes-nil, Consumes-trans}
 use Rattle.frame_front.specs.Frame.{frame, IsPayload, IsUnfinished}
-use Rattle.frame_front.specs.Outbox.{WritesFront}
-use Rattle.frame_front.proofs.SessionLemmas.{WritesFront-then}
+use Rattle.frame_front.specs.Output.{WritesFront}
+use Rattle.frame_front.proofs.OutputLemmas.{WritesFront-then}
 use Rattle.frame_lines.specs.Decoding.{IsLineOf}
 use Rattle.frame_lines.specs.DecodedStream.{DecodesStream, IsWritten, frames_in, lines_out}
 use Rattle.frame_lines.specs.Encoding.{count_after}

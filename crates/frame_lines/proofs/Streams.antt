@@ -4,8 +4,8 @@ use Rattle.std.specs.Io.KnownBytes.{Appends, Consumes, IsAtEnd}
 use Rattle.std.specs.List.{AllByRecursion}
 use Rattle.std.proofs.lemmas.List.Concat.{flat_map-append}
 use Rattle.std.proofs.KnownBytes.{Appends-nil, Appends-trans, Consumes-nil, Consumes-trans}
-use Rattle.frame_front.specs.Outbox.{WritesFront}
-use Rattle.frame_front.proofs.SessionLemmas.{WritesFront-then}
+use Rattle.frame_front.specs.Output.{WritesFront}
+use Rattle.frame_front.proofs.OutputLemmas.{WritesFront-then}
 use Rattle.frame_front.specs.Counted.{next_count}
 use Rattle.frame_front.specs.declared.error.FrontError.TheVariants.{Memory, ReadFault, TurnsUsed, WriteFault, BadLength, Truncated}
 use Rattle.frame_lines.specs.Encoding.{EncoderState, Gives, EncodesLine, EncodesNext, Finishes, lines_of, frames_of, count_after}

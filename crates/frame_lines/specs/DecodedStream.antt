@@ -3,7 +3,7 @@ use Rattle.std.specs.Prelude.{length, ◌≡◌, ◌≢◌, ℕ, ◌-◌, ◌^�
 use Rattle.std.specs.List.{flat_map, AllByRecursion}
 use Rattle.std.specs.Io.KnownBytes.{Appends, Consumes, IsAtEnd}
 use Rattle.frame_front.specs.Frame.{frame, IsPayload, IsUnfinished, IsBadLength}
-use Rattle.frame_front.specs.Outbox.{WritesFront}
+use Rattle.frame_front.specs.Output.{WritesFront}
 use Rattle.frame_front.specs.declared.error.FrontError.TheVariants.{BadLength, Truncated, ReadFault, WriteFault, TurnsUsed}
 use Rattle.frame_lines.specs.Encoding.{count_after}
 use Rattle.frame_lines.specs.Decoding.{IsLineOf}

@@ -2,7 +2,7 @@
 use Rattle.std.specs.Prelude.{◌≡◌, ◌⊎◌, ℕ, ◌-◌, ◌^◌, ◌≤◌, List, [], ◌++◌, length, Option, Result, Ok, Err}
 use Rattle.std.specs.List.{AllByRecursion}
 use Rattle.std.specs.Io.KnownBytes.{Appends, Consumes, IsAtEnd}
-use Rattle.frame_front.specs.Outbox.{WritesFront}
+use Rattle.frame_front.specs.Output.{WritesFront}
 use Rattle.frame_front.specs.Counted.{next_count}
 use Rattle.frame_front.specs.declared.error.FrontError.TheVariants.{Memory, ReadFault, WriteFault, TurnsUsed}
 use Rattle.frame_lines.specs.Encoding.{Gives, EncodesLine, IsBadLine, NamesUnreadable, BeginsWith, BeginsLong, lines_of, frames_of, count_after}

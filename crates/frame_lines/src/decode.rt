@@ -7,7 +7,8 @@ ghost use Rattle.frame_lines.specs.Private.Decoders.{DecodesKept};
 ghost use Rattle.frame_lines.specs.declared.decode.DecodeError.TheVariants.{Front};
 
 use crate::payload_line::{PayloadError, put_line_of};
-use crate::stream::{PIECE_BYTES, send};
+use crate::stream::PIECE_BYTES;
+use frame_front::wire::write_flushed;
 use frame_front::{Counted, Decoder, FrontError};
 use std::alloc::Global;
 use std::io::{Read, Write};
@@ -57,7 +58,7 @@ pub fn decode_stream<R: Read, W: Write>(
             return Err(DecodeError::Front(FrontError::Memory));
         }
         let ended = decode_kept(&mut decoder, &mut frames, &mut out);
-        if let Err(_) = send(writer, out.as_slice()) {
+        if let Err(_) = write_flushed(writer, out.as_slice()) {
             return Err(DecodeError::Front(FrontError::WriteFault));
         }
         out.clear();

@@ -2,7 +2,7 @@
 ghost use Rattle.std.specs.Prelude.{◌≡◌, ◌++◌, ℕ, List, [], Err, OnOk, OnErr, IfErr};
 ghost use Rattle.std.specs.Io.KnownBytes.{Appends};
 ghost use Rattle.frame_front.specs.Counted.{end_in, faults_in, next_count};
-ghost use Rattle.frame_front.specs.Outbox.{WritesFront};
+ghost use Rattle.frame_front.specs.Output.{WritesFront};
 ghost use Rattle.frame_front.specs.declared.error.FrontError.TheVariants.{ReadFault, WriteFault};
 ghost use Rattle.frame_lines.specs.EncodedStream.{EncodesStream};
 ghost use Rattle.frame_lines.specs.declared.stream.StreamError.TheVariants.{Front};
@@ -10,7 +10,7 @@ ghost use Rattle.frame_lines.specs.Private.Encoders.{EncodesKept, EncodesLast, s
 
 use crate::encoder::{EncodeError, Encoder};
 use crate::text_source::TextSource;
-use frame_front::wire::write_both;
+use frame_front::wire::write_flushed;
 use frame_front::{Counted, FrontError};
 use std::alloc::Global;
 use std::io::{Read, Write};
@@ -126,7 +126,7 @@ fn encode_last<T: TextSource, W: Write>(
     if let Err(error) = encoder.finish(alloc, texts, &mut out) {
         return Err(stream_error(error));
     }
-    send(writer, out.as_slice())?;
+    write_flushed(writer, out.as_slice())?;
     Ok(())
 }
 
@@ -151,25 +151,9 @@ fn send_out<W: Write>(writer: &mut Counted<W>, out: &mut Vec<u8>) -> Result<(), 
     ensures fault { IfErr result (λ error. (error ≡ WriteFault) × (faults_in writer.new ≡ next_count (faults_in writer.old))) }
     ensures front { OnErr result (WritesFront (W.contents (end_in writer.old)) (W.contents (end_in writer.new)) out.old.items) }
 {
-    send(writer, out.as_slice())?;
+    write_flushed(writer, out.as_slice())?;
     out.clear();
     Ok(())
-}
-
-/// Writes all of the bytes, and sees that the writer keeps nothing back.
-pub(crate) fn send<W: Write>(writer: &mut Counted<W>, bytes: &[u8]) -> Result<(), FrontError>
-    ensures ok { OnOk result (Appends (W.contents (end_in writer.old)) (W.contents (end_in writer.new)) bytes.now) }
-    ensures quiet { OnOk result (faults_in writer.new ≡ faults_in writer.old) }
-    ensures fault { IfErr result (λ error. (error ≡ WriteFault) × (faults_in writer.new ≡ next_count (faults_in writer.old))) }
-    ensures front { WritesFront (W.contents (end_in writer.old)) (W.contents (end_in writer.new)) bytes.now }
-{
-    if let Err(_) = write_both(writer, bytes, &[]) {
-        return Err(FrontError::WriteFault);
-    }
-    match writer.flush() {
-        Ok(()) => Ok(()),
-        Err(_) => Err(FrontError::WriteFault),
-    }
 }
 
 /// The same error of the stream.

@@ -8,7 +8,7 @@ use Rattle.map_core.specs.declared.op.Op.{Op}
 use Rattle.map_core.specs.declared.reply.Reply.{Reply}
 use Rattle.map_core.specs.declared.reply.AskError.{AskError}
 use Rattle.commands.specs.declared.fault.Fault.{Fault}
-use Rattle.commands.specs.Streams.{TellsUnlessFailed}
+use Rattle.frame_front.specs.Output.{TellsUnlessFailed}
 use Rattle.refresh.specs.declared.outcome.Outcome.{Outcome}
 use Rattle.refresh.specs.Refresh.{Refreshes}
 use Rattle.refresh.specs.Relationship.{RelationshipValue}

@@ -9,7 +9,7 @@ use Rattle.map_core.specs.declared.reply.AskError.{AskError}
 use Rattle.frame_front.specs.declared.error.FrontError.TheVariants.{Memory, WriteFault}
 use Rattle.commands.specs.declared.fault.Fault.{Fault}
 use Rattle.commands.specs.declared.fault.Fault.TheVariants.{Front}
-use Rattle.commands.specs.Streams.{End, TellsUnlessFailed}
+use Rattle.frame_front.specs.Output.{End, TellsUnlessFailed}
 use Rattle.refresh.specs.declared.outcome.Outcome.{Outcome}
 use Rattle.refresh.specs.declared.outcome.What.{What}
 use Rattle.refresh.specs.declared.outcome.What.TheVariants.{Taken}

@@ -16,7 +16,7 @@ use Rattle.commands.specs.declared.fault.ServerFault.TheVariants.{Client}
 use Rattle.client.specs.Request.{request_bytes}
 use Rattle.client.specs.Client.{ClientState, Asks}
 use Rattle.client.specs.declared.client_error.ClientError.{ClientError}
-use Rattle.frame_front.specs.Outbox.{WritesFront}
+use Rattle.frame_front.specs.Output.{WritesFront}
 use Rattle.frame_front.specs.declared.error.FrontError.TheVariants.{WriteFault}
 
 pub shows_none : (m : PlainMap) → None ≡ Some m → ⊥

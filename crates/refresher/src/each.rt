@@ -4,7 +4,7 @@ ghost use Rattle.frame_front.specs.Counted.{faults_in};
 ghost use Rattle.refresher.specs.Due.{due_not_before};
 ghost use Rattle.refresher.specs.Each.{RefreshesEach, is_good as good};
 ghost use Rattle.refresher.specs.Folder.{FetchesFile};
-ghost use Rattle.commands.specs.Streams.{Tells, end_of};
+ghost use Rattle.frame_front.specs.Output.{Tells, end_of};
 
 use crate::folder::Folder;
 use crate::outcome_lines::Told;

@@ -1,12 +1,12 @@
 //! Lines of refreshes, as they are written.
 ghost use Rattle.std.specs.Prelude.{◌≡◌, ◌==◌};
 ghost use Rattle.frame_front.specs.Counted.{faults_in};
-ghost use Rattle.commands.specs.Streams.{TellsUnlessFailed, end_of};
+ghost use Rattle.frame_front.specs.Output.{TellsUnlessFailed, end_of};
 ghost use Rattle.refresher.specs.OutcomeLine.{outcome_line as line_of_outcome, telling};
 
 use crate::outcome_lines::{Told, outcome_line};
-use commands::tell_flushed;
 use frame_front::Counted;
+use frame_front::wire::tell_flushed;
 use refresh::What;
 use std::io::Write;
 

@@ -3,7 +3,7 @@ use Rattle.std.specs.Prelude.{◌≡◌, ◌⊎◌, ℕ, ◌+◌, ◌&&◌, min,
 use Rattle.std.specs.List.{All, flat_map}
 use Rattle.std.specs.Io.KnownBytes.{Appends}
 use Rattle.frame_front.specs.Counted.{next_count}
-use Rattle.frame_front.specs.Outbox.{WritesFront}
+use Rattle.frame_front.specs.Output.{WritesFront, End, Tells, TellsUnlessFailed}
 use Rattle.frame_front.specs.Dump.{Domains as AllDomains, IsDump, HaveValidBundles, FaultOfDump, requests_for}
 use Rattle.frame_front.specs.Frame.{stream_of}
 use Rattle.frame_front.specs.declared.dump.DumpError.{DumpError}
@@ -22,7 +22,6 @@ use Rattle.workers.specs.declared.ended.SessionFault.TheVariants as session
 use Rattle.workers.specs.declared.ended.Worked.{Worked}
 use Rattle.commands.specs.Fault.{fault_line}
 use Rattle.commands.specs.Input.{InputFault}
-use Rattle.commands.specs.Streams.{End, Tells, TellsUnlessFailed}
 use Rattle.command_line.specs.declared.settings.Settings.{Settings}
 use Rattle.workers.specs.Filling.{Fills, NotFills}
 use Rattle.workers.specs.declared.filling.FillError.TheVariants as fill

@@ -4,7 +4,7 @@ ghost use Rattle.std.specs.List.{All, flat_map};
 ghost use Rattle.shard_store.specs.Pass.{IsOf};
 ghost use Rattle.workers.specs.Closing.{AreAll};
 ghost use Rattle.server.specs.Serve.{Reports};
-ghost use Rattle.commands.specs.Streams.{end_of};
+ghost use Rattle.frame_front.specs.Output.{end_of};
 
 use crate::lines::{Said, count_begun, say, tell_faults};
 use commands::Fault;

@@ -2,7 +2,7 @@
 ghost use Rattle.std.specs.Prelude.{◌≡◌, ◌<◌, ◌≤◌, ◌-◌, ◌+◌, ◌^◌, ◌++◌, ◌∷◌, [], min, length, decimal, Some};
 ghost use Rattle.server.specs.declared.lines.Said.TheVariants.{Listening};
 ghost use Rattle.server.specs.Serve.{IsOffered, said_line, write_fault, begun_by, have_all_come, session_lines, faults_by};
-ghost use Rattle.commands.specs.Streams.{TellsUnlessFailed, end_of};
+ghost use Rattle.frame_front.specs.Output.{TellsUnlessFailed, end_of};
 
 use arrayvec::ArrayVec;
 use commands::{Fault, write_flushed};

@@ -3,7 +3,7 @@ ghost use Rattle.std.specs.Prelude.{◌≡◌, ◌≤◌, ◌<◌, ◌*◌, ◌+
 ghost use Rattle.std.specs.Io.KnownBytes.{Appends};
 ghost use Rattle.std.specs.List.{flat_map};
 ghost use Rattle.frame_front.specs.Counted.{end_in, faults_in, next_count};
-ghost use Rattle.frame_front.specs.Outbox.{WritesFront};
+ghost use Rattle.frame_front.specs.Output.{WritesFront};
 ghost use Rattle.trace_lines.specs.TraceText.{ended};
 ghost use Rattle.trace_lines.specs.Picture.{callers_of, with_caller, caller_line as line_of_caller, event_line as line_of_events, order_row as row_of_order, numbered_band, bands_text, legend, picture_text};
 ghost use Rattle.trace_lines.specs.Private.Puts.{Puts, out_of};

@@ -3,7 +3,7 @@ ghost use Rattle.std.specs.Prelude.{◌≡◌, ◌++◌, OnOk, IfErr};
 ghost use Rattle.std.specs.Io.KnownBytes.{Appends};
 ghost use Rattle.std.specs.List.{flat_map};
 ghost use Rattle.frame_front.specs.Counted.{end_in, faults_in, next_count};
-ghost use Rattle.frame_front.specs.Outbox.{WritesFront};
+ghost use Rattle.frame_front.specs.Output.{WritesFront};
 ghost use Rattle.frame_lines.specs.Answers.{bundles_of};
 ghost use Rattle.frame_lines.specs.ReplyForm.{reply as said, line_of, IsLined};
 ghost use Rattle.trace_lines.specs.TraceText.{trace_text, records_text, record_line, reply_words, answer_words, bundle_words, order_line, number_word, ended};

@@ -1,7 +1,7 @@
 //! A server that lasts: each worker serves many clients beside each other.
 ghost use Rattle.std.specs.Prelude.{◌≡◌, false, ◌<◌, ◌-◌, ◌^◌, ◌⊎◌};
 ghost use Rattle.frame_front.specs.Counted.{faults_in};
-ghost use Rattle.commands.specs.Streams.{end_of};
+ghost use Rattle.frame_front.specs.Output.{end_of};
 ghost use Rattle.commands.specs.declared.fault.Fault.TheVariants.{Listen};
 ghost use Rattle.server.specs.Serve.{EndsEarly, SetUpRun};
 ghost use Rattle.server.specs.Serving.{ServedBeside};

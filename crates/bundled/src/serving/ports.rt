@@ -2,7 +2,7 @@
 ghost use Rattle.std.specs.Prelude.{◌≡◌, IfErr, OnOk, OnErr};
 ghost use Rattle.frame_front.specs.Counted.{faults_in};
 ghost use Rattle.commands.specs.Fault.{fault_line};
-ghost use Rattle.commands.specs.Streams.{Tells, end_of};
+ghost use Rattle.frame_front.specs.Output.{Tells, end_of};
 ghost use Rattle.commands.specs.declared.fault.Fault.TheVariants.{Listen};
 
 use commands::Fault;

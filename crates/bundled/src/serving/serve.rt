@@ -3,7 +3,7 @@ ghost use Rattle.std.specs.Prelude.{◌≡◌, ◌<◌, ◌-◌, ◌^◌, ◌⊎
 ghost use Rattle.frame_front.specs.Counted.{faults_in};
 ghost use Rattle.command_line.specs.Serving.{stops_at_end};
 ghost use Rattle.commands.specs.Fault.{fault_line};
-ghost use Rattle.commands.specs.Streams.{Tells, end_of};
+ghost use Rattle.frame_front.specs.Output.{Tells, end_of};
 ghost use Rattle.commands.specs.declared.fault.Fault.TheVariants.{Listen};
 ghost use Rattle.server.specs.Serve.{EndsEarly, ServeCommand, SetUpRun};
 ghost use Rattle.server.specs.Serving.{ServedInTurn, most_taken, most_turns};

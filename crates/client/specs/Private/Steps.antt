@@ -4,7 +4,7 @@ use Rattle.std.specs.List.{AllByRecursion, flat_map, list_any}
 use Rattle.std.specs.Io.KnownBytes.{Appends, Consumes, IsAtEnd}
 use Rattle.frame_front.specs.Counted.{next_count}
 use Rattle.frame_front.specs.Frame.{frame}
-use Rattle.frame_front.specs.Outbox.{WritesFront}
+use Rattle.frame_front.specs.Output.{WritesFront}
 use Rattle.frame_front.specs.declared.error.FrontError.TheVariants as front
 use Rattle.client.specs.Reading.{NoFrame}
 use Rattle.client.specs.declared.client_error.ClientError.{ClientError}

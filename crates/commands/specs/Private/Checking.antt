@@ -2,7 +2,7 @@
 use Rattle.std.specs.Prelude.{◌≡◌, ◌⊎◌, ℕ, List, [], ◌∷◌, ◌==◌, length, take, not, true, false, ◌||◌, Option, Result, Ok, Err, IfOk}
 use Rattle.std.specs.List.{list_any}
 use Rattle.std.specs.Io.KnownBytes.{Appends}
-use Rattle.frame_front.specs.Outbox.{WritesFront}
+use Rattle.frame_front.specs.Output.{WritesFront, End, Tells}
 use Rattle.frame_front.specs.declared.error.FrontError.TheVariants.{Memory, WriteFault}
 use Rattle.frame_lines.specs.Encoding.{Gives}
 use Rattle.doc_report.specs.declared.fault.DocFault.{DocFault}
@@ -10,7 +10,6 @@ use Rattle.doc_report.specs.declared.report.Report.{Report}
 use Rattle.commands.specs.declared.fault.Fault.{Fault}
 use Rattle.commands.specs.declared.fault.Fault.TheVariants.{Front}
 use Rattle.commands.specs.Fault.{fault_line}
-use Rattle.commands.specs.Streams.{End, Tells}
 use Rattle.commands.specs.declared.check.Findings.{Findings}
 use Rattle.commands.specs.Check.{Document, lines_of, lines_of_all, gives_no_bundle, gives_part, names_of, AreGiven, JudgesFiles, JudgesInput, WritesLines, status_of}
 

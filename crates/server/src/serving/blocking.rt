@@ -5,7 +5,7 @@ ghost use Rattle.shard_store.specs.Pass.{IsOf};
 ghost use Rattle.frame_front.specs.Counted.{faults_in};
 ghost use Rattle.workers.specs.Run.{AllWorked, kept};
 ghost use Rattle.workers.specs.declared.run.Finished.{Finished};
-ghost use Rattle.commands.specs.Streams.{end_of};
+ghost use Rattle.frame_front.specs.Output.{end_of};
 ghost use Rattle.server.specs.Serve.{SetUpRun, always_open};
 ghost use Rattle.server.specs.Serving.{ClientComes, EndsClient, MayTake, ServedInTurn, most_taken as taken_by, most_turns as turns_of, unknown};
 

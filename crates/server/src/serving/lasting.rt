@@ -5,7 +5,7 @@ ghost use Rattle.shard_store.specs.Pass.{IsOf};
 ghost use Rattle.workers.specs.Closing.{AreAll, ranges_of};
 ghost use Rattle.server.specs.Serve.{EndsEarly, ServeRun};
 ghost use Rattle.commands.specs.Fault.{fault_line};
-ghost use Rattle.commands.specs.Streams.{Tells, end_of};
+ghost use Rattle.frame_front.specs.Output.{Tells, end_of};
 ghost use Rattle.commands.specs.declared.fault.Fault.TheVariants.{Front, Listen};
 ghost use Rattle.frame_front.specs.Counted.{faults_in};
 ghost use Rattle.frame_front.specs.declared.error.FrontError.TheVariants.{Memory};

@@ -1,7 +1,7 @@
 use Rattle.std.proofs.Common.{ℕ, Err, refl, subst}
 use Rattle.commands.specs.Fault.{fault_line}
-use Rattle.commands.specs.Streams.{TellsUnlessFailed, end_of}
-use Rattle.commands.proofs.Telling.{tells_more}
+use Rattle.frame_front.specs.Output.{TellsUnlessFailed, end_of}
+use Rattle.frame_front.proofs.OutputLemmas.{tells_more}
 use Rattle.bundled.proofs.snapshotting.snapshot_over.Goals as goal
 
 pub returns-in-Err : goal.returns-in-Err

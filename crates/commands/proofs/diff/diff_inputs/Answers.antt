@@ -2,7 +2,7 @@ use Rattle.std.proofs.Common.{◌≡◌, arith, ℕ, List, [], ◌∷◌, drop, 
 use Rattle.std.proofs.lemmas.Bool.Decides.{nat_tests}
 use Rattle.std.specs.Io.KnownBytes.{Appends}
 use Rattle.frame_front.specs.Counted.{end_in}
-use Rattle.frame_front.specs.Outbox.{WritesFront}
+use Rattle.frame_front.specs.Output.{WritesFront}
 use Rattle.map_core.specs.Name.{Name}
 use Rattle.dump_views.specs.Changes.{Change, Added, Removed, Changed}
 use Rattle.dump_views.specs.ChangeLines.{line_of, lines_of}

@@ -1,8 +1,9 @@
 use Rattle.std.proofs.Common.{◌≡◌, true, false, Bool, Ok, Err, refl, subst}
 use Rattle.frame_front.specs.Counted.{end_in}
 use Rattle.commands.specs.declared.fault.Fault.{Fault}
-use Rattle.commands.specs.Streams.{end_of, source_of}
-use Rattle.commands.proofs.Telling.{tells_nothing}
+use Rattle.frame_front.specs.Output.{end_of}
+use Rattle.commands.specs.Streams.{source_of}
+use Rattle.frame_front.proofs.OutputLemmas.{tells_nothing}
 use Rattle.commands.specs.Diff.{Inputs, WritesDiff}
 use Rattle.commands.proofs.diff.diff_over.Goals as goal
 

@@ -1,7 +1,7 @@
 use Rattle.std.proofs.Common.{◌<◌, length, rules, ◌≡◌, ℕ, List, ◌++◌, Err, sym, ap, subst, ◌∙◌}
 use Rattle.std.specs.Io.KnownBytes.{Appends, Consumes}
 use Rattle.frame_front.specs.Counted.{end_in}
-use Rattle.frame_front.specs.Outbox.{WritesFront}
+use Rattle.frame_front.specs.Output.{WritesFront}
 use Rattle.frame_lines.specs.Private.Decoders.{DecodesKept}
 use Rattle.frame_lines.proofs.Decodes.{nothing, not_fed, not_sent, goes_on_stream, stopped}
 use Rattle.frame_lines.proofs.decode.decode_stream.Goals as goal
@@ -19,20 +19,20 @@ returns-in-Err-feed-clause-decodes g c =
     let came = subst (Consumes mid new) (sym c.split_at.ensures.front) c.in-Ok-read.ensures.bytes.0 in
     not_fed left mid new held sent c.loop-turn.decoder c.loop-turn.frames c.loop-turn._turn c.loop-turn.invariant.0 c.split_at.result.0.now came
 
-pub returns-in-Err-send-clause-decodes : goal.returns-in-Err-send-clause-decodes
-returns-in-Err-send-clause-decodes g c =
+pub returns-in-Err-write_flushed-clause-decodes : goal.returns-in-Err-write_flushed-clause-decodes
+returns-in-Err-write_flushed-clause-decodes g c =
     let left = g.R.Read.remaining (end_in c.args.reader.now) in
     let mid = g.R.Read.remaining (end_in c.loop-turn.reader) in
     let new = g.R.Read.remaining (end_in c.read.new.self) in
     let held = g.W.Write.contents (end_in c.args.writer.now) in
     let sent = g.W.Write.contents (end_in c.loop-turn.writer) in
-    let cut = g.W.Write.contents (end_in c.send.new.writer) in
+    let cut = g.W.Write.contents (end_in c.write_flushed.new.writer) in
     let came = subst (Consumes mid new) (sym c.split_at.ensures.front) c.in-Ok-read.ensures.bytes.0 in
     let took = c.decode_kept-ended.ensures in
     let fed : c.feed.new.self ≡ c.loop-turn.decoder ++ c.split_at.result.0.now = search rules in
     let decodes = subst (λ (k : List ℕ). DecodesKept c.decode_kept-ended.result k c.loop-turn.frames c.decode_kept-ended.new.decoder c.decode_kept-ended.new.frames took.0) fed took.2 in
     let bytes = c.as_slice.ensures.value ∙ took.1 ∙ ap (λ o. o ++ took.0) c.loop-turn.invariant.3 in
-    not_sent left mid new held sent c.loop-turn.decoder c.loop-turn.frames c.loop-turn._turn c.loop-turn.invariant.0 c.split_at.result.0.now came c.decode_kept-ended.result c.decode_kept-ended.new.decoder c.decode_kept-ended.new.frames took.0 decodes cut (subst (WritesFront sent cut) bytes c.send.ensures.front)
+    not_sent left mid new held sent c.loop-turn.decoder c.loop-turn.frames c.loop-turn._turn c.loop-turn.invariant.0 c.split_at.result.0.now came c.decode_kept-ended.result c.decode_kept-ended.new.decoder c.decode_kept-ended.new.frames took.0 decodes cut (subst (WritesFront sent cut) bytes c.write_flushed.ensures.front)
 
 pub returns-in_err-ended-clause-decodes : goal.returns-in_err-ended-clause-decodes
 returns-in_err-ended-clause-decodes g c =
@@ -41,7 +41,7 @@ returns-in_err-ended-clause-decodes g c =
     let new = g.R.Read.remaining (end_in c.read.new.self) in
     let held = g.W.Write.contents (end_in c.args.writer.now) in
     let sent = g.W.Write.contents (end_in c.loop-turn.writer) in
-    let whole = g.W.Write.contents (end_in c.send.new.writer) in
+    let whole = g.W.Write.contents (end_in c.write_flushed.new.writer) in
     let came = subst (Consumes mid new) (sym c.split_at.ensures.front) c.in-Ok-read.ensures.bytes.0 in
     let took = c.decode_kept-ended.ensures in
     let fed : c.feed.new.self ≡ c.loop-turn.decoder ++ c.split_at.result.0.now = search rules in
@@ -59,7 +59,7 @@ loop-turn-preserved g c =
     let new = g.R.Read.remaining (end_in c.read.new.self) in
     let held = g.W.Write.contents (end_in c.args.writer.now) in
     let sent = g.W.Write.contents (end_in c.loop-turn.writer) in
-    let whole = g.W.Write.contents (end_in c.send.new.writer) in
+    let whole = g.W.Write.contents (end_in c.write_flushed.new.writer) in
     let came = subst (Consumes mid new) (sym c.split_at.ensures.front) c.in-Ok-read.ensures.bytes.0 in
     let took = c.decode_kept-ended.ensures in
     let fed : c.feed.new.self ≡ c.loop-turn.decoder ++ c.split_at.result.0.now = search rules in

@@ -1,6 +1,6 @@
 use Rattle.std.proofs.Common.{◌≡◌, ℕ, List, length, true}
 use Rattle.frame_front.specs.Counted.{faults_in}
-use Rattle.commands.specs.Streams.{Tells, end_of}
+use Rattle.frame_front.specs.Output.{Tells, end_of}
 use Rattle.refresh.specs.declared.outcome.Outcome.{Outcome}
 use Rattle.refresher.specs.Each.{TellsFrom, all_are_good}
 use Rattle.refresher.specs.Folder.{FetchesFile}

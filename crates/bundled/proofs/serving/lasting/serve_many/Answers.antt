@@ -2,7 +2,7 @@ use Rattle.std.proofs.Common.{◌≡◌, ℕ, List, inl, inr, refl, ap, subst}
 use Rattle.std.specs.Prelude.{◌⊎◌}
 use Rattle.command_line.specs.declared.settings.Settings.{Settings}
 use Rattle.commands.specs.Fault.{fault_line}
-use Rattle.commands.specs.Streams.{End, Tells, end_of}
+use Rattle.frame_front.specs.Output.{End, Tells, end_of}
 use Rattle.commands.specs.declared.fault.Fault.TheVariants.{Front, Listen}
 use Rattle.frame_front.specs.declared.error.FrontError.TheVariants.{Memory}
 use Rattle.shard_store.specs.Pass.{StoreView, PassView}

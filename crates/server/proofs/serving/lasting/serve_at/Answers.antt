@@ -3,7 +3,7 @@ use Rattle.workers.specs.Closing.{AreAll}
 use Rattle.server.specs.Serve.{always_open, Reports}
 use Rattle.commands.specs.Fault.{fault_line}
 use Rattle.commands.specs.declared.fault.Fault.TheVariants.{Front}
-use Rattle.commands.specs.Streams.{TellsUnlessFailed, end_of}
+use Rattle.frame_front.specs.Output.{TellsUnlessFailed, end_of}
 use Rattle.frame_front.specs.declared.error.FrontError.TheVariants.{Memory}
 use Rattle.workers.proofs.WorkedLists.{all_own, all_long, ranges_same}
 use Rattle.server.specs.Serving.{most_silent}

@@ -1,5 +1,5 @@
 use Rattle.frame_front.proofs.SessionLemmas.{WritesFront-longer, WritesFront-then}
-use Rattle.frame_front.proofs.outbox.write_both.Goals as goal
+use Rattle.frame_front.proofs.output.write_both.Goals as goal
 
 pub returns-in_err-write_whole-clause-front : goal.returns-in_err-write_whole-clause-front
 returns-in_err-write_whole-clause-front g c =

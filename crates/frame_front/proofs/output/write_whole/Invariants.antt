@@ -1,7 +1,7 @@
 use Rattle.std.proofs.Common.{◌≡◌, ℕ, List, ◌++◌, length}
 use Rattle.std.specs.Io.KnownBytes.{Appends}
 use Rattle.frame_front.specs.Counted.{end_in, faults_in}
-use Rattle.commands.proofs.output.write_whole.Given as goal
+use Rattle.frame_front.proofs.output.write_whole.Given as goal
 
 -- a front of the bytes is written, and the rest follows it
 abbrev pub invariant-loop-rest : goal.invariant-loop-rest
