@@ -15,7 +15,8 @@ use clap::error::ErrorKind;
 use command_line::{Wanted, wanted_by};
 use commands::{
     Fault, FileTexts, check_over, decode_over, diff_over, digest_over, encode_over, explain_over,
-    import_over, map_over, migrate_over, pem_over, picture_over, run_over, trace_over, write_flushed,
+    import_over, map_over, migrate_over, pem_over, picture_over, run_over, trace_over,
+    write_flushed,
 };
 use dump_views::Profile;
 use frame_front::wire::tell;

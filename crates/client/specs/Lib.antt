@@ -3,7 +3,6 @@ pub mod Request
 pub mod Reading
 pub mod Answer
 pub mod Client
-pub mod ClientLaws
 pub mod Replies
 pub mod Asking
 pub mod Private

@@ -110,13 +110,13 @@ impl<R: Read, W: Write> Client<R, W> {
 impl<R: Read, W: Write> Ask for Client<R, W> {
     ghost use Rattle.std.specs.Prelude.{None};
     ghost use Rattle.client.specs.Client.{Asks};
-    ghost use Rattle.client.specs.ClientLaws.{client_shows_nothing};
+    ghost use Rattle.map_core.specs.AskLaws.{shows_nothing};
 
     ghost answers = { Asks };
 
     ghost shows = { λ _. None };
 
-    ghost answers_plainly = { client_shows_nothing };
+    ghost answers_plainly = { shows_nothing Asks };
 
     fn ask(&mut self, op: Op) -> Result<Reply, AskError> {
         let answer = self.ask_lent(&op);

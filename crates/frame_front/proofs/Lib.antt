@@ -1,10 +1,10 @@
 pub mod FrameLemmas
 pub mod OutputLemmas
+pub mod BegunTexts
 pub mod SessionLemmas
 pub mod ReadLemmas
 pub mod TranscriptLemmas
 pub mod ReplyLemmas
-pub mod BegunTexts
 pub mod PlainLemmas
 pub mod FramesExist
 pub mod DomainLists

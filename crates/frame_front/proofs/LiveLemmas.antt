@@ -1,19 +1,23 @@
 -- Lemmas on sessions without ends.
-use Rattle.std.proofs.Common.{◌≡◌, ◌≢◌, ◌⊎◌, ℕ, zero, suc, ◌+◌, ◌<◌, ◌≤◌, List, [], ◌∷◌, ◌++◌, length, refl, sym, ap, ◌∙◌, inl, inr, arith, append_assoc, append-nil, length-append, Result, Ok, Err, OnErr}
+use Rattle.std.proofs.Common.{◌≡◌, ◌≢◌, ◌⊎◌, ℕ, zero, suc, ◌+◌, ◌*◌, ◌<◌, ◌≤◌, List, [], ◌∷◌, ◌++◌, length, refl, sym, ap, ◌∙◌, inl, inr, arith, append_assoc, append-nil, length-append, Result, Ok, Err, OnErr, Bool}
+use Rattle.std.specs.Prelude.{min, take}
 use Rattle.std.specs.List.{concat, flat_map}
+use Rattle.std.proofs.lemmas.List.{take_all}
 use Rattle.spiffe_doc.specs.Authority.{BundleValue}
 use Rattle.spiffe_doc.specs.Text.{text_of}
 use Rattle.map_core.specs.Name.{Name}
 use Rattle.map_core.specs.declared.op.Op.{Op}
 use Rattle.map_core.specs.declared.reply.Reply.{Reply}
 use Rattle.map_core.specs.declared.reply.AskError.{AskError}
-use Rattle.frame_front.specs.Frame.{IsPayload, frame}
+use Rattle.frame_front.specs.Frame.{IsUnfinished, frame}
+use Rattle.frame_front.specs.Live.{LiveView, LiveAnswers, ComeBelowLimit, Feeds, StopsAt, live_view, reply_limit, room_of, waiting}
 use Rattle.frame_front.specs.Reply.{item_frame}
-use Rattle.frame_front.specs.Session.{SessionState, Answers, Serves}
-use Rattle.frame_front.specs.Live.{ComeBelowLimit, reply_limit}
-use Rattle.frame_front.specs.Private.Late.{items_left}
+use Rattle.frame_front.specs.Session.{Serves}
+use Rattle.frame_front.specs.declared.answered.Answered.{Answered}
+use Rattle.frame_front.specs.Private.Pending.{items_left}
+use Rattle.frame_front.specs.Private.Steps.{AnswersFrame, Stays}
 use Rattle.frame_front.proofs.FrameLemmas.{longer_by_frame}
-use Rattle.frame_front.proofs.SessionLemmas.{Serves-none, Serves-one, Serves-then, concat-one, fewer_than_bytes}
+use Rattle.frame_front.proofs.SessionLemmas.{Serves-none, Serves-one, Serves-then, concat-one}
 
 -- if not all domains are stored, some bytes are left
 pub items_left-some : (items : List (Name × BundleValue)) (stored : ℕ) → stored < length items → items_left items stored ≢ []
@@ -27,6 +31,16 @@ pub items_left-err : {A E : Type 0} (result : Result A E) (items : List (Name ×
 items_left-err (Ok value) items stored few = tt
 items_left-err (Err error) items stored few = items_left-some items stored few
 
+-- what holds anyhow, holds after an error
+pub on_err : {A E P : Type 0} (result : Result A E) → P → OnErr result P
+on_err (Ok value) holds = tt
+on_err (Err error) holds = holds
+
+-- with some bytes that are to be stored, something is left
+pub some_left : (head text more body : List ℕ) → body ≡ text ++ more → 0 < length (head ++ text) → head ++ body ≢ []
+some_left head text more body is some = λ none.
+    omega (arith, some, ap length none, ap length is, length-append head body, length-append head text, length-append text more)
+
 -- with room left, all is stored
 pub stored_whole : {n : ℕ} (left : List ℕ) → (left ≡ []) ⊎ (reply_limit ≤ n) → n < reply_limit → left ≡ []
 stored_whole left (inl none) few = none
@@ -34,44 +48,70 @@ stored_whole left (inr full) few = absurd (omega (arith, full, few))
 
 -- Of what was kept these payloads were answered, and their texts wait after what waited.
 pub record Answering {S : Type 0} (answers : S → Op → Result Reply AskError → S → Type 0)
-    (kept_old kept : List ℕ) (old now : SessionState S) (waited waits : List ℕ) (count : ℕ) : Type 0 where
+    (start now : LiveView) (map_start map_now : S) (count : ℕ) : Type 0 where
   pub payloads : List (List ℕ)
   pub texts : List (List ℕ)
-  pub serves : Serves answers kept_old payloads texts kept old now
-  pub grew : waits ≡ waited ++ concat texts
-  pub few : ComeBelowLimit waited texts
+  pub serves : Serves answers start.kept payloads texts now.kept (start.version, map_start) (now.version, map_now)
+  pub grew : waiting now ≡ waiting start ++ concat texts
+  pub few : ComeBelowLimit (waiting start) texts
   pub counted : count ≡ length payloads
+  pub long : 5 * count ≤ length (waiting now)
 
-module _ {S : Type 0} (answers : S → Op → Result Reply AskError → S → Type 0) where
-  pub Answering-none : (kept : List ℕ) (state : SessionState S) (waited : List ℕ) → Answering answers kept kept state state waited waited 0
-  Answering-none kept state waited = record {
+module _ {S : Type 0} (answers : S → Op → Result Reply AskError → S → Type 0) (start : LiveView) (map_start : S) where
+  pub Answering-none : Answering answers start start map_start map_start 0
+  Answering-none = record {
     payloads = [];
     texts = [];
-    serves = Serves-none answers kept state;
-    grew = sym (append-nil waited);
+    serves = Serves-none answers start.kept (start.version, map_start);
+    grew = sym (append-nil (waiting start));
     few = inl refl;
     counted = refl;
+    long = omega arith;
   }
 
-  module _ (kept_old kept : List ℕ) (old now : SessionState S) (waited waits : List ℕ) (count : ℕ)
-      (so_far : Answering answers kept_old kept old now waited waits count) where
-    -- if nothing is left to store, what is ready is all that waits
-    waits_ready : (ready left : List ℕ) → ready ++ left ≡ waits → left ≡ [] → ready ≡ waited ++ concat so_far.texts
-    waits_ready ready left stored none = sym (append-nil ready) ∙ ap (λ l. ready ++ l) (sym none) ∙ stored ∙ so_far.grew
-
+  module _ (now new : LiveView) (map_now map_new : S) (count : ℕ) (so_far : Answering answers start now map_start map_now count) where
     -- one more frame is answered, and its text waits after what waits
-    pub Answering-then : (payload text rest ready left : List ℕ) (new : SessionState S) → kept ≡ frame payload ++ rest → IsPayload payload
-        → Answers answers now payload text new → ready ++ left ≡ waits → left ≡ [] → length ready < reply_limit → Answering answers kept_old rest old new waited (ready ++ text) (count + 1)
-    Answering-then payload text rest ready left new stands good answered stored none below = record {
-      payloads = so_far.payloads ++ payload ∷ [];
-      texts = so_far.texts ++ text ∷ [];
-      serves = Serves-then answers kept_old kept rest so_far.payloads (payload ∷ []) so_far.texts (text ∷ []) old now new so_far.serves
-          (Serves-one answers kept rest payload text now new stands good answered);
-      few = inr (so_far.texts, text, refl, omega (arith, below, ap length (waits_ready ready left stored none)));
-      grew = ap (λ r. r ++ text) (waits_ready ready left stored none) ∙ append_assoc waited (concat so_far.texts) text ∙ ap (λ t. waited ++ t) (sym (concat-one so_far.texts text));
-      counted = omega (arith, so_far.counted, length-append so_far.payloads (payload ∷ []));
+    pub Answering-then : (is_error : Bool) → AnswersFrame answers is_error now new map_now map_new → Answering answers start new map_start map_new (count + 1)
+    Answering-then is_error step = record {
+      payloads = so_far.payloads ++ step.payload ∷ [];
+      texts = so_far.texts ++ step.text ∷ [];
+      serves = Serves-then answers start.kept now.kept new.kept so_far.payloads (step.payload ∷ []) so_far.texts (step.text ∷ [])
+          (start.version, map_start) (now.version, map_now) (new.version, map_new) so_far.serves
+          (Serves-one answers now.kept new.kept step.payload step.text (now.version, map_now) (new.version, map_new) step.stands step.good step.answered);
+      grew = step.waits ∙ ap (λ w. w ++ step.text) so_far.grew ∙ append_assoc (waiting start) (concat so_far.texts) step.text
+          ∙ ap (λ t. waiting start ++ t) (sym (concat-one so_far.texts step.text));
+      few = inr (so_far.texts, step.text, refl, omega (arith, step.below, ap length so_far.grew));
+      counted = omega (arith, so_far.counted, length-append so_far.payloads (step.payload ∷ []));
+      long = omega (arith, so_far.long, step.long, ap length step.waits, length-append (waiting now) step.text);
     }
 
-    -- no more is kept than before, and no more frames are answered than bytes are gone
-    pub Answering-few : count + length kept ≤ length kept_old
-    Answering-few = omega (arith, so_far.counted, fewer_than_bytes so_far.payloads kept, ap length so_far.serves.whole)
+    -- no more is answered
+    pub Answering-ends : (result : Answered) → result.frames ≡ count → Stays answers now new map_now map_new → StopsAt result.next new
+        → LiveAnswers answers result start new map_start map_new
+    Answering-ends result counted stays stops = record {
+      payloads = so_far.payloads;
+      texts = so_far.texts;
+      serves = rw (stays.0, stays.1, stays.3) so_far.serves;
+      waits = stays.2 ∙ so_far.grew;
+      few = so_far.few;
+      counted = counted ∙ so_far.counted;
+      stops = stops;
+    }
+
+-- a session that wants to read has room
+pub wants_room : (live : LiveView) → IsUnfinished live.kept → 4096 ≤ room_of live
+wants_room live unfinished = grind (arith, unfinished.good, unfinished.short)
+
+-- so a piece of at most 4096 bytes is fed whole
+pub fed_whole : (live new : LiveView) (piece : List ℕ) (count : ℕ) → IsUnfinished live.kept → length piece ≤ 4096 → count ≡ min (length piece) (room_of live)
+    → Feeds (take count piece) live new → new ≡ live_view (live.kept ++ piece) live.version live.ready live.later
+fed_whole live new piece count unfinished few is feeds =
+    let room : 4096 ≤ room_of live = wants_room live unfinished in
+    let all : length piece ≤ count = grind (arith, is, few, room) in
+    feeds ∙ ap (λ p. live_view (live.kept ++ p) live.version live.ready live.later) (take_all count piece all)
+
+-- a step that answers a frame leaves fewer bytes
+pub AnswersFrame-smaller : {S : Type 0} (answers : S → Op → Result Reply AskError → S → Type 0) (is_error : Bool) (old new : LiveView) (map_old map_new : S)
+    → AnswersFrame answers is_error old new map_old map_new → length new.kept < length old.kept
+AnswersFrame-smaller answers is_error old new map_old map_new step =
+    omega (arith, ap length step.stands, longer_by_frame step.payload new.kept)

@@ -7,15 +7,14 @@ use Rattle.map_core.specs.declared.op.Op.{Op}
 use Rattle.map_core.specs.declared.reply.Reply.{Reply}
 use Rattle.map_core.specs.declared.reply.AskError.{AskError}
 use Rattle.map_core.specs.PlainMap.{PlainMap}
-use Rattle.map_core.specs.Ask.{PlainAnswer}
+use Rattle.map_core.specs.Ask.{AnswersPlainly}
 use Rattle.frame_front.specs.declared.error.FrontError.{FrontError}
 use Rattle.frame_front.specs.declared.error.FrontError.TheVariants.{BadLength, Truncated, ReadFault, WriteFault, TurnsUsed, Memory}
 use Rattle.frame_front.specs.declared.request.Version.TheVariants.{One}
 use Rattle.frame_front.specs.declared.answered.Answered.{Answered}
-use Rattle.frame_front.specs.Frame.{IsUnfinished}
 use Rattle.frame_front.specs.Session.{SessionState, AnswersAll, Session, EndsAt, Writes}
 use Rattle.frame_front.specs.PlainSession.{TellsError}
-use Rattle.frame_front.specs.Live.{LiveView, LiveAnswers, Feeds, Sends, live_start, room_of, waiting}
+use Rattle.frame_front.specs.Live.{LiveView, LiveAnswers, Feeds, Sends, live_start, waiting}
 use Rattle.frame_front.specs.LiveCalls.{LiveCall, LivePlainTable, LiveTable, Does, DoesAll, Feed, Answer, Send, piece_of, bytes_of, frames_in, fed, sent, frames_of}
 use Rattle.frame_front.proofs.SessionLemmas.{Serves-none, Serves-read, Serves-then}
 use Rattle.frame_front.proofs.BegunTexts.{NoErrors}
@@ -42,10 +41,6 @@ all_written (Err WriteFault) texts written h = record {
   no_errors = tt;
   one = omega arith;
 }
-
--- a session that wants to read has room
-pub wants_room : (live : LiveView) → IsUnfinished live.kept → 4096 ≤ room_of live
-wants_room live unfinished = grind (arith, unfinished.good, unfinished.short)
 
 module _ {S : Type 0} (answers : S → Op → Result Reply AskError → S → Type 0) where
   same_table : (read more sent_bytes sent_more : List ℕ) (count count_more : ℕ) (start : S) (now : LiveView × S) → read ≡ more → sent_bytes ≡ sent_more
@@ -149,7 +144,7 @@ module _ {S : Type 0} (answers : S → Op → Result Reply AskError → S → Ty
       (one_answers answers payload old answered.0 text answered.1 none.0, all_answer payloads texts answered.0 new answered.2 none.1)
 
   module _ (shows : S → Option PlainMap)
-      (plainly : (old : S) (op : Op) (result : Result Reply AskError) (new : S) (m : PlainMap) → shows old ≡ Some m → answers old op result new → PlainAnswer m op result (shows new)) where
+      (plainly : AnswersPlainly answers shows) where
     pub calls_keep_plain_table : (calls : List LiveCall) (start : S) (now : LiveView × S) (m : PlainMap) → shows start ≡ Some m → DoesAll answers calls (live_start, start) now
         → (n : PlainMap) × (shows now.1 ≡ Some n) × LivePlainTable answers (fed calls) (sent calls) (frames_of calls) now.0 m n
     calls_keep_plain_table calls start now m shown does =

@@ -1,12 +1,13 @@
 -- Lemmas on what is written: fronts, and texts that are told one after the other.
-use Rattle.std.proofs.Common.{◌≡◌, ℕ, ◌<◌, ◌-◌, ◌^◌, List, [], ◌++◌, refl, sym, ap, subst, ◌∙◌, inl, inr, arith, append_assoc}
-use Rattle.std.specs.Prelude.{◌≢◌, ◌⊎◌, Option, nat_eq}
+use Rattle.std.proofs.Common.{◌≡◌, ℕ, ◌<◌, ◌-◌, ◌^◌, List, [], ◌++◌, refl, sym, ap, subst, ◌∙◌, inl, inr, arith, append_assoc, append-nil}
+use Rattle.std.specs.Prelude.{◌≢◌, ◌⊎◌, Option, Result, Ok, Err, OnOk, nat_eq}
 use Rattle.std.specs.Io.KnownBytes.{Appends}
 use Rattle.std.proofs.KnownBytes.{Appends-nil, Appends-trans}
 use Rattle.std.proofs.lemmas.Bool.{cases_Bool}
 use Rattle.std.proofs.lemmas.Bool.Decides.{nat_tests}
 use Rattle.frame_front.specs.Counted.{next_count}
 use Rattle.frame_front.specs.Output.{WritesFront, End, Tells, TellsUnlessFailed}
+use Rattle.frame_front.specs.Private.Gathered.{Takes}
 
 pub WritesFront-none : (held : Option (List ℕ)) (bytes : List ℕ) → WritesFront held held bytes
 WritesFront-none held bytes = record { front = []; missing = bytes; split = refl; appends = Appends-nil held }
@@ -30,6 +31,69 @@ WritesFront-then held held_mid held_new bytes more sent wrote = record {
   split = ap (λ m. bytes ++ m) wrote.split ∙ sym (append_assoc bytes wrote.front wrote.missing);
   appends = Appends-trans held held_mid held_new bytes wrote.front sent wrote.appends;
 }
+
+-- what waited is cut again, with more bytes and the rest after it
+pub cut_again : (sent ready bytes rest more ready_new : List ℕ) → ready ++ bytes ≡ more ++ ready_new
+    → sent ++ (ready ++ (bytes ++ rest)) ≡ (sent ++ more) ++ (ready_new ++ rest)
+cut_again sent ready bytes rest more ready_new split =
+    ap (λ o. sent ++ o) (sym (append_assoc ready bytes rest) ∙ ap (λ o. o ++ rest) split ∙ append_assoc more ready_new rest)
+    ∙ sym (append_assoc sent more (ready_new ++ rest))
+
+module _ (held held_mid : Option (List ℕ)) (ready bytes mid : List ℕ) (takes : Takes held held_mid ready bytes mid) where
+  pub Takes-front : WritesFront held held_mid (ready ++ bytes)
+  Takes-front = record { front = takes.sent; missing = mid; split = takes.split; appends = takes.appends }
+
+  -- what waits is written
+  pub Takes-sent : (held_new : Option (List ℕ)) (ready_new : List ℕ) → Appends held_mid held_new mid → ready_new ≡ [] → Takes held held_new ready bytes ready_new
+  Takes-sent held_new ready_new wrote none = record {
+    sent = takes.sent ++ mid;
+    appends = Appends-trans held held_mid held_new takes.sent mid takes.appends wrote;
+    split = takes.split ∙ sym (ap (λ n. (takes.sent ++ mid) ++ n) none ∙ append-nil (takes.sent ++ mid));
+  }
+
+  -- the writer fails as what waits is written
+  pub Takes-unsent : (held_new : Option (List ℕ)) → WritesFront held_mid held_new mid → WritesFront held held_new (ready ++ bytes)
+  Takes-unsent held_new wrote = record {
+    front = takes.sent ++ wrote.front;
+    missing = wrote.missing;
+    split = takes.split ∙ ap (λ m. takes.sent ++ m) wrote.split ∙ sym (append_assoc takes.sent wrote.front wrote.missing);
+    appends = Appends-trans held held_mid held_new takes.sent wrote.front takes.appends wrote.appends;
+  }
+
+  module _ (more text : List ℕ) (whole : bytes ++ more ≡ text) where
+    parts_split : ready ++ text ≡ takes.sent ++ (mid ++ more)
+    parts_split = ap (λ t. ready ++ t) (sym whole) ∙ sym (append_assoc ready bytes more) ∙ ap (λ o. o ++ more) takes.split ∙ append_assoc takes.sent mid more
+
+    -- more is taken
+    pub Takes-then : (held_new : Option (List ℕ)) (ready_new : List ℕ) → Takes held_mid held_new mid more ready_new → Takes held held_new ready text ready_new
+    Takes-then held_new ready_new next = record {
+      sent = takes.sent ++ next.sent;
+      appends = Appends-trans held held_mid held_new takes.sent next.sent takes.appends next.appends;
+      split = parts_split ∙ ap (λ o. takes.sent ++ o) next.split ∙ sym (append_assoc takes.sent next.sent ready_new);
+    }
+
+    -- the writer fails as more is taken
+    pub Takes-cut : (held_new : Option (List ℕ)) → WritesFront held_mid held_new (mid ++ more) → WritesFront held held_new (ready ++ text)
+    Takes-cut held_new wrote = record {
+      front = takes.sent ++ wrote.front;
+      missing = wrote.missing;
+      split = parts_split ∙ ap (λ o. takes.sent ++ o) wrote.split ∙ sym (append_assoc takes.sent wrote.front wrote.missing);
+      appends = Appends-trans held held_mid held_new takes.sent wrote.front takes.appends wrote.appends;
+    }
+
+-- all is written, and nothing waits
+pub Takes-whole : (held held_new : Option (List ℕ)) (ready bytes ready_new : List ℕ) → Appends held held_new (ready ++ bytes) → ready_new ≡ []
+    → Takes held held_new ready bytes ready_new
+Takes-whole held held_new ready bytes ready_new wrote none = record {
+  sent = ready ++ bytes;
+  appends = wrote;
+  split = sym (ap (λ n. (ready ++ bytes) ++ n) none ∙ append-nil (ready ++ bytes));
+}
+
+-- what holds if all went well says more
+pub on_ok : {A E P Q : Type 0} (result : Result A E) → (P → Q) → OnOk result P → OnOk result Q
+on_ok (Ok value) more holds = more holds
+on_ok (Err error) more holds = tt
 
 -- nothing is told, and nothing has changed
 pub tells_nothing : (e : End) → Tells e e []

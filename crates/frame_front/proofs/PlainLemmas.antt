@@ -10,7 +10,7 @@ use Rattle.map_core.specs.declared.op.Op.{Op}
 use Rattle.map_core.specs.declared.reply.Reply.{Reply}
 use Rattle.map_core.specs.declared.reply.AskError.{AskError}
 use Rattle.map_core.specs.PlainMap.{PlainMap}
-use Rattle.map_core.specs.Ask.{PlainAnswer}
+use Rattle.map_core.specs.Ask.{AnswersPlainly}
 use Rattle.frame_front.specs.Frame.{IsPayload, frame, stream_of}
 use Rattle.frame_front.specs.declared.error.FrontError.{FrontError}
 use Rattle.frame_front.specs.declared.error.FrontError.TheVariants.{BadLength, Truncated, ReadFault, WriteFault, TurnsUsed, Memory}
@@ -33,7 +33,7 @@ pub record PlainStep (state : SessionState PlainMap) (read : Result Request Refu
   pub new_is : new ≡ state_for state read
 
 module _ {S : Type 0} (answers : S → Op → Result Reply AskError → S → Type 0) (shows : S → Option PlainMap)
-    (plainly : (old : S) (op : Op) (result : Result Reply AskError) (new : S) (m : PlainMap) → shows old ≡ Some m → answers old op result new → PlainAnswer m op result (shows new)) where
+    (plainly : AnswersPlainly answers shows) where
   -- one payload that is read
   plain_request : (read : Result Request Refusal) (old new : SessionState S) (text : List ℕ) (m : PlainMap) → shows old.1 ≡ Some m
       → AnswersRequest answers read old text new

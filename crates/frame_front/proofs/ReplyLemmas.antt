@@ -55,7 +55,7 @@ refused_answers SequenceFull = one_frame_tells 35 _
 refused_answers (NotExpected found) = one_frame_tells 36 _
 
 -- a reply of the map tells no error
-reply_answers : (reply : Reply) → is_error_reply (reply_frames reply) ≡ false
+pub reply_answers : (reply : Reply) → is_error_reply (reply_frames reply) ≡ false
 reply_answers Stored = one_frame_tells 115 _
 reply_answers Unchanged = one_frame_tells 117 _
 reply_answers (Appended sequence) = one_frame_tells 112 _

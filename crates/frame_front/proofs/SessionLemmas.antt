@@ -1,6 +1,6 @@
 -- Lemmas on sessions: what was read, answered and written, put together.
 use Rattle.std.proofs.Common.{◌≡◌, ℕ, ◌+◌, ◌≤◌, List, [], ◌∷◌, ◌++◌, length, refl, sym, ap, ◌∙◌, inl, inr, arith, append_assoc, append-nil, length-append, subst, Result, Err, false}
-use Rattle.std.specs.Prelude.{Option}
+use Rattle.std.specs.Prelude.{Bool, Option}
 use Rattle.std.specs.List.{AllByRecursion, concat, flat_map}
 use Rattle.std.specs.Io.KnownBytes.{Appends}
 use Rattle.std.proofs.KnownBytes.{Appends-nil, Appends-trans}
@@ -10,13 +10,14 @@ use Rattle.map_core.specs.declared.op.Op.{Op}
 use Rattle.map_core.specs.declared.reply.Reply.{Reply}
 use Rattle.map_core.specs.declared.reply.AskError.{AskError}
 use Rattle.frame_front.specs.Frame.{IsPayload, frame, stream_of}
-use Rattle.frame_front.specs.Reply.{is_error_reply}
+use Rattle.frame_front.specs.Live.{LiveView, StopsAt, live_view, waiting}
+use Rattle.frame_front.specs.Output.{WritesFront}
 use Rattle.frame_front.specs.Session.{SessionState, Answers, AnswersAll, Serves, Writes}
 use Rattle.frame_front.specs.Private.Round.{Round, RoundEndsAt}
-use Rattle.frame_front.specs.Output.{WritesFront}
-use Rattle.frame_front.specs.Private.Gathered.{Puts, Takes}
+use Rattle.frame_front.specs.Private.Steps.{AnswersFrame, Stays}
 use Rattle.frame_front.specs.declared.error.FrontError.{FrontError}
-use Rattle.frame_front.specs.declared.error.FrontError.TheVariants.{WriteFault}
+use Rattle.frame_front.specs.declared.error.FrontError.TheVariants.{BadLength, Truncated, ReadFault, WriteFault, TurnsUsed, Memory}
+use Rattle.frame_front.proofs.BegunTexts.{NoErrors, no_errors-append}
 use Rattle.frame_front.proofs.FrameLemmas.{longer_by_frame}
 
 pub each-append : (ps qs : List (List ℕ)) → AllByRecursion IsPayload ps → AllByRecursion IsPayload qs → AllByRecursion IsPayload (ps ++ qs)
@@ -77,247 +78,179 @@ module _ {S : Type 0} (answers : S → Op → Result Reply AskError → S → Ty
 pub concat-one : (ts : List (List ℕ)) (text : List ℕ) → concat (ts ++ text ∷ []) ≡ concat ts ++ text
 concat-one ts text = concat-append ts (text ∷ []) ∙ ap (λ t. concat ts ++ t) (append-nil text)
 
--- what waited is cut again, with more bytes and the rest after it
-pub cut_again : (sent outbox bytes rest more outbox_new : List ℕ) → outbox ++ bytes ≡ more ++ outbox_new
-    → sent ++ (outbox ++ (bytes ++ rest)) ≡ (sent ++ more) ++ (outbox_new ++ rest)
-cut_again sent outbox bytes rest more outbox_new split =
-    ap (λ o. sent ++ o) (sym (append_assoc outbox bytes rest) ∙ ap (λ o. o ++ rest) split ∙ append_assoc more outbox_new rest)
-    ∙ sym (append_assoc sent more (outbox_new ++ rest))
-
-module _ (held held_mid : Option (List ℕ)) (outbox bytes mid : List ℕ) (takes : Takes held held_mid outbox bytes mid) where
-  pub Takes-front : WritesFront held held_mid (outbox ++ bytes)
-  Takes-front = record { front = takes.sent; missing = mid; split = takes.split; appends = takes.appends }
-
-  -- what waits is written
-  pub Takes-sent : (held_new : Option (List ℕ)) (outbox_new : List ℕ) → Appends held_mid held_new mid → outbox_new ≡ [] → Takes held held_new outbox bytes outbox_new
-  Takes-sent held_new outbox_new wrote none = record {
-    sent = takes.sent ++ mid;
-    appends = Appends-trans held held_mid held_new takes.sent mid takes.appends wrote;
-    split = takes.split ∙ sym (ap (λ n. (takes.sent ++ mid) ++ n) none ∙ append-nil (takes.sent ++ mid));
-  }
-
-  -- the writer fails as what waits is written
-  pub Takes-unsent : (held_new : Option (List ℕ)) → WritesFront held_mid held_new mid → WritesFront held held_new (outbox ++ bytes)
-  Takes-unsent held_new wrote = record {
-    front = takes.sent ++ wrote.front;
-    missing = wrote.missing;
-    split = takes.split ∙ ap (λ m. takes.sent ++ m) wrote.split ∙ sym (append_assoc takes.sent wrote.front wrote.missing);
-    appends = Appends-trans held held_mid held_new takes.sent wrote.front takes.appends wrote.appends;
-  }
-
-  module _ (more text : List ℕ) (whole : bytes ++ more ≡ text) where
-    parts_split : outbox ++ text ≡ takes.sent ++ (mid ++ more)
-    parts_split = ap (λ t. outbox ++ t) (sym whole) ∙ sym (append_assoc outbox bytes more) ∙ ap (λ o. o ++ more) takes.split ∙ append_assoc takes.sent mid more
-
-    -- more is taken
-    pub Takes-then : (held_new : Option (List ℕ)) (outbox_new : List ℕ) → Takes held_mid held_new mid more outbox_new → Takes held held_new outbox text outbox_new
-    Takes-then held_new outbox_new next = record {
-      sent = takes.sent ++ next.sent;
-      appends = Appends-trans held held_mid held_new takes.sent next.sent takes.appends next.appends;
-      split = parts_split ∙ ap (λ o. takes.sent ++ o) next.split ∙ sym (append_assoc takes.sent next.sent outbox_new);
-    }
-
-    -- the writer fails as more is taken
-    pub Takes-cut : (held_new : Option (List ℕ)) → WritesFront held_mid held_new (mid ++ more) → WritesFront held held_new (outbox ++ text)
-    Takes-cut held_new wrote = record {
-      front = takes.sent ++ wrote.front;
-      missing = wrote.missing;
-      split = parts_split ∙ ap (λ o. takes.sent ++ o) wrote.split ∙ sym (append_assoc takes.sent wrote.front wrote.missing);
-      appends = Appends-trans held held_mid held_new takes.sent wrote.front takes.appends wrote.appends;
-    }
-
--- all is written, and nothing waits
-pub Takes-whole : (held held_new : Option (List ℕ)) (outbox bytes outbox_new : List ℕ) → Appends held held_new (outbox ++ bytes) → outbox_new ≡ []
-    → Takes held held_new outbox bytes outbox_new
-Takes-whole held held_new outbox bytes outbox_new wrote none = record {
-  sent = outbox ++ bytes;
-  appends = wrote;
-  split = sym (ap (λ n. (outbox ++ bytes) ++ n) none ∙ append-nil (outbox ++ bytes));
-}
-
--- Within a round these payloads were answered: the texts before are written, and of those gathered what is begun; the rest
--- waits.
+-- Within a round these payloads were answered: the texts before are written, and those gathered wait.
 pub record Gathering {S : Type 0} (answers : S → Op → Result Reply AskError → S → Type 0)
-    (held_old held : Option (List ℕ)) (kept_old kept : List ℕ) (old now : SessionState S) (outbox : List ℕ) (count : ℕ) : Type 0 where
+    (held_old held : Option (List ℕ)) (start now : LiveView) (map_start map_now : S) (count : ℕ) : Type 0 where
   pub payloads : List (List ℕ)
   pub before : List (List ℕ)
   pub gathered : List (List ℕ)
-  pub begun : List ℕ
-  pub serves : Serves answers kept_old payloads (before ++ gathered) kept old now
-  pub appends : Appends held_old held (concat before ++ begun)
-  pub outbox_is : concat gathered ≡ begun ++ outbox
-  pub no_errors : AllByRecursion (λ text. is_error_reply text ≡ false) gathered
+  pub serves : Serves answers start.kept payloads (before ++ gathered) now.kept (start.version, map_start) (now.version, map_now)
+  pub appends : Appends held_old held (concat before)
+  pub waits : waiting now ≡ concat gathered
+  pub no_errors : NoErrors gathered
   pub counted : count ≡ length payloads
 
-no_errors-one : (ts : List (List ℕ)) (text : List ℕ) → AllByRecursion (λ text. is_error_reply text ≡ false) ts → is_error_reply text ≡ false
-    → AllByRecursion (λ text. is_error_reply text ≡ false) (ts ++ text ∷ [])
-no_errors-one [] text no_errors one = (one, tt)
-no_errors-one (t ∷ ts) text no_errors one = (no_errors.0, no_errors-one ts text no_errors.1 one)
+-- The same when all that waits is to be written: maybe with one more text, which may tell an error.
+pub record Due {S : Type 0} (answers : S → Op → Result Reply AskError → S → Type 0)
+    (held_old held : Option (List ℕ)) (start now : LiveView) (map_start map_now : S) (count : ℕ) : Type 0 where
+  pub payloads : List (List ℕ)
+  pub before : List (List ℕ)
+  pub gathered : List (List ℕ)
+  pub alone : List (List ℕ)
+  pub serves : Serves answers start.kept payloads ((before ++ gathered) ++ alone) now.kept (start.version, map_start) (now.version, map_now)
+  pub appends : Appends held_old held (concat before)
+  pub waits : waiting now ≡ concat (gathered ++ alone)
+  pub no_errors : NoErrors gathered
+  pub one : length alone ≤ 1
+  pub counted : count ≡ length payloads
 
-module _ {S : Type 0} (answers : S → Op → Result Reply AskError → S → Type 0) where
-  pub Gathering-none : (held : Option (List ℕ)) (kept : List ℕ) (state : SessionState S) (outbox : List ℕ) → outbox ≡ []
-      → Gathering answers held held kept kept state state outbox 0
-  Gathering-none held kept state outbox none = record {
+module _ {S : Type 0} (answers : S → Op → Result Reply AskError → S → Type 0) (held_old : Option (List ℕ)) (start : LiveView) (map_start : S) where
+  pub Gathering-none : waiting start ≡ [] → Gathering answers held_old held_old start start map_start map_start 0
+  Gathering-none none = record {
     payloads = [];
     before = [];
     gathered = [];
-    begun = [];
-    serves = Serves-none answers kept state;
-    appends = Appends-nil held;
-    outbox_is = sym none;
+    serves = Serves-none answers start.kept (start.version, map_start);
+    appends = Appends-nil held_old;
+    waits = none;
     no_errors = tt;
     counted = refl;
   }
 
-  module _ (held_old held : Option (List ℕ)) (kept_old kept : List ℕ) (old now : SessionState S) (outbox : List ℕ) (count : ℕ)
-      (so_far : Gathering answers held_old held kept_old kept old now outbox count) where
-    -- all that is gathered is written
-    pub all_written : (held_new : Option (List ℕ)) → Appends held held_new outbox → Appends held_old held_new (concat (so_far.before ++ so_far.gathered))
-    all_written held_new wrote =
+  module _ (held : Option (List ℕ)) (now new : LiveView) (map_now map_new : S) (count : ℕ) (so_far : Gathering answers held_old held start now map_start map_now count) where
+    -- one more frame is answered
+    module _ (is_error : Bool) (step : AnswersFrame answers is_error now new map_now map_new) where
+      one_more : Serves answers start.kept (so_far.payloads ++ step.payload ∷ []) ((so_far.before ++ so_far.gathered) ++ step.text ∷ []) new.kept (start.version, map_start) (new.version, map_new)
+      one_more =
+          Serves-then answers start.kept now.kept new.kept so_far.payloads (step.payload ∷ []) (so_far.before ++ so_far.gathered) (step.text ∷ [])
+          (start.version, map_start) (now.version, map_now) (new.version, map_new) so_far.serves
+          (Serves-one answers now.kept new.kept step.payload step.text (now.version, map_now) (new.version, map_new) step.stands step.good step.answered)
+
+      one_waits : waiting new ≡ concat (so_far.gathered ++ step.text ∷ [])
+      one_waits = step.waits ∙ ap (λ w. w ++ step.text) so_far.waits ∙ sym (concat-one so_far.gathered step.text)
+
+      one_counted : count + 1 ≡ length (so_far.payloads ++ step.payload ∷ [])
+      one_counted = omega (arith, so_far.counted, length-append so_far.payloads (step.payload ∷ []))
+
+      -- its reply tells no error, and waits
+      pub Gathering-then : is_error ≡ false → Gathering answers held_old held start new map_start map_new (count + 1)
+      Gathering-then none = record {
+        payloads = so_far.payloads ++ step.payload ∷ [];
+        before = so_far.before;
+        gathered = so_far.gathered ++ step.text ∷ [];
+        serves = subst (λ ts. Serves answers start.kept (so_far.payloads ++ step.payload ∷ []) ts new.kept (start.version, map_start) (new.version, map_new))
+            (append_assoc so_far.before so_far.gathered (step.text ∷ [])) one_more;
+        appends = so_far.appends;
+        waits = one_waits;
+        no_errors = no_errors-append so_far.gathered (step.text ∷ []) so_far.no_errors (sym step.tells ∙ none, tt);
+        counted = one_counted;
+      }
+
+      -- its reply does not wait
+      pub Due-then : Due answers held_old held start new map_start map_new (count + 1)
+      Due-then = record {
+        payloads = so_far.payloads ++ step.payload ∷ [];
+        before = so_far.before;
+        gathered = so_far.gathered;
+        alone = step.text ∷ [];
+        serves = one_more;
+        appends = so_far.appends;
+        waits = one_waits;
+        no_errors = so_far.no_errors;
+        one = omega arith;
+        counted = one_counted;
+      }
+
+    -- no frame is answered
+    pub Due-still : Stays answers now new map_now map_new → Due answers held_old held start new map_start map_new count
+    Due-still stays = record {
+      payloads = so_far.payloads;
+      before = so_far.before;
+      gathered = so_far.gathered;
+      alone = [];
+      serves = rw (stays.0, stays.1, stays.3) (subst (λ ts. Serves answers start.kept so_far.payloads ts now.kept (start.version, map_start) (now.version, map_now))
+          (sym (append-nil (so_far.before ++ so_far.gathered))) so_far.serves);
+      appends = so_far.appends;
+      waits = stays.2 ∙ so_far.waits ∙ ap concat (sym (append-nil so_far.gathered));
+      no_errors = so_far.no_errors;
+      one = omega arith;
+      counted = so_far.counted;
+    }
+
+  module _ (held held_new : Option (List ℕ)) (now : LiveView) (map_now : S) (count : ℕ) (due : Due answers held_old held start now map_start map_now count) where
+    all_written : Appends held held_new (waiting now) → Appends held_old held_new (concat ((due.before ++ due.gathered) ++ due.alone))
+    all_written wrote =
         subst (Appends held_old held_new)
-        (append_assoc (concat so_far.before) so_far.begun outbox
-        ∙ ap (λ g. concat so_far.before ++ g) (sym so_far.outbox_is)
-        ∙ sym (concat-append so_far.before so_far.gathered))
-        (Appends-trans held_old held held_new (concat so_far.before ++ so_far.begun) outbox so_far.appends wrote)
+        (ap (λ w. concat due.before ++ w) due.waits ∙ sym (concat-append due.before (due.gathered ++ due.alone))
+        ∙ ap concat (sym (append_assoc due.before due.gathered due.alone)))
+        (Appends-trans held_old held held_new (concat due.before) (waiting now) due.appends wrote)
 
-    -- a front of what waits, and more, is written
-    more_written : (held_new : Option (List ℕ)) (front : List ℕ) → Appends held held_new front
-        → Appends held_old held_new (concat so_far.before ++ (so_far.begun ++ front))
-    more_written held_new front wrote =
-        subst (Appends held_old held_new) (append_assoc (concat so_far.before) so_far.begun front)
-        (Appends-trans held_old held held_new (concat so_far.before ++ so_far.begun) front so_far.appends wrote)
+    -- all that waits is written
+    pub Due-sent : (new : LiveView) → Appends held held_new (waiting now) → new ≡ live_view now.kept now.version [] []
+        → Gathering answers held_old held_new start new map_start map_now count
+    Due-sent new wrote is = record {
+      payloads = due.payloads;
+      before = (due.before ++ due.gathered) ++ due.alone;
+      gathered = [];
+      serves = rw is (subst (λ ts. Serves answers start.kept due.payloads ts now.kept (start.version, map_start) (now.version, map_now))
+          (sym (append-nil ((due.before ++ due.gathered) ++ due.alone))) due.serves);
+      appends = all_written wrote;
+      waits = ap waiting is;
+      no_errors = tt;
+      counted = due.counted;
+    }
 
-    -- what was gathered and one more text, cut after what is written
-    cut_after : (text front missing : List ℕ) → outbox ++ text ≡ front ++ missing
-        → concat (so_far.gathered ++ text ∷ []) ≡ (so_far.begun ++ front) ++ missing
-    cut_after text front missing split =
-        concat-one so_far.gathered text ∙ ap (λ g. g ++ text) so_far.outbox_is ∙ append_assoc so_far.begun outbox text
-        ∙ ap (λ o. so_far.begun ++ o) split ∙ sym (append_assoc so_far.begun front missing)
-
-    -- the round ends with all that is gathered written
-    pub Round-sent : (result : Result ℕ FrontError) (held_new : Option (List ℕ)) (kept_new : List ℕ) → Appends held held_new outbox
-        → RoundEndsAt result (length so_far.payloads) kept kept_new → Writes result (so_far.before ++ so_far.gathered) (concat (so_far.before ++ so_far.gathered))
-        → (written : List ℕ) × Appends held_old held_new written × Round answers result kept_old kept_new old now written
-    Round-sent result held_new kept_new wrote ends writes = (
-      concat (so_far.before ++ so_far.gathered),
-      all_written held_new wrote,
+    -- all is written, and the round ends
+    pub Round-sent : (result : Result ℕ FrontError) (new : LiveView) → Appends held held_new (waiting now) → new ≡ live_view now.kept now.version [] []
+        → RoundEndsAt result (length due.payloads) now.kept now.kept
+        → Writes result ((due.before ++ due.gathered) ++ due.alone) (concat ((due.before ++ due.gathered) ++ due.alone))
+        → (written : List ℕ) × Appends held_old held_new written × Round answers result start.kept new.kept (start.version, map_start) (new.version, map_now) written
+    Round-sent result new wrote is ends writes = rw is (
+      concat ((due.before ++ due.gathered) ++ due.alone),
+      all_written wrote,
       record {
-        payloads = so_far.payloads;
-        texts = so_far.before ++ so_far.gathered;
-        rest = kept;
-        serves = so_far.serves;
+        payloads = due.payloads;
+        texts = (due.before ++ due.gathered) ++ due.alone;
+        rest = now.kept;
+        serves = due.serves;
         ends = ends;
         writes = writes;
       },
     )
 
-    -- the writer fails as what is gathered is written
-    pub Round-unsent : (held_new : Option (List ℕ)) (kept_new : List ℕ) → WritesFront held held_new outbox
-        → (written : List ℕ) × Appends held_old held_new written × Round answers (Err WriteFault) kept_old kept_new old now written
-    Round-unsent held_new kept_new wrote = (
-      concat so_far.before ++ (so_far.begun ++ wrote.front),
-      more_written held_new wrote.front wrote.appends,
+    -- the session stops with an error, which is that of a bad length or of a reply for which there is no memory
+    pub stopped_round : (fault : FrontError) (new : LiveView) → Appends held held_new (waiting now) → new ≡ live_view now.kept now.version [] [] → StopsAt (Err fault) now
+        → (written : List ℕ) × Appends held_old held_new written × Round answers (Err fault) start.kept new.kept (start.version, map_start) (new.version, map_now) written
+    stopped_round BadLength new wrote is stops = Round-sent (Err BadLength) new wrote is stops.0 refl
+    stopped_round Memory new wrote is stops = Round-sent (Err Memory) new wrote is tt refl
+    stopped_round Truncated new wrote is stops = absurd stops
+    stopped_round ReadFault new wrote is stops = absurd stops
+    stopped_round WriteFault new wrote is stops = absurd stops
+    stopped_round TurnsUsed new wrote is stops = absurd stops
+
+    -- the writer fails
+    pub Round-unsent : (new : LiveView) → WritesFront held held_new (waiting now) → new.version ≡ now.version
+        → (written : List ℕ) × Appends held_old held_new written × Round answers (Err WriteFault) start.kept new.kept (start.version, map_start) (new.version, map_now) written
+    Round-unsent new wrote same = rw same (
+      concat due.before ++ wrote.front,
+      Appends-trans held_old held held_new (concat due.before) wrote.front due.appends wrote.appends,
       record {
-        payloads = so_far.payloads;
-        texts = so_far.before ++ so_far.gathered;
-        rest = kept;
-        serves = so_far.serves;
+        payloads = due.payloads;
+        texts = (due.before ++ due.gathered) ++ due.alone;
+        rest = now.kept;
+        serves = due.serves;
         ends = tt;
         writes = record {
-          before = so_far.before;
-          gathered = so_far.gathered;
-          alone = [];
-          front = so_far.begun ++ wrote.front;
+          before = due.before;
+          gathered = due.gathered;
+          alone = due.alone;
+          front = wrote.front;
           missing = wrote.missing;
-          texts_are = sym (append-nil (so_far.before ++ so_far.gathered));
+          texts_are = refl;
           written_is = refl;
-          cut = ap concat (append-nil so_far.gathered) ∙ so_far.outbox_is ∙ ap (λ o. so_far.begun ++ o) wrote.split
-              ∙ sym (append_assoc so_far.begun wrote.front wrote.missing);
-          no_errors = so_far.no_errors;
-          one = omega arith;
+          cut = sym due.waits ∙ wrote.split;
+          no_errors = due.no_errors;
+          one = due.one;
         };
       },
     )
-
-    module _ (payload text rest : List ℕ) (new : SessionState S) (stands : kept ≡ frame payload ++ rest) (good : IsPayload payload)
-        (answered : Answers answers now payload text new) where
-      one_more : Serves answers kept_old (so_far.payloads ++ payload ∷ []) ((so_far.before ++ so_far.gathered) ++ text ∷ []) rest old new
-      one_more =
-          Serves-then answers kept_old kept rest so_far.payloads (payload ∷ []) (so_far.before ++ so_far.gathered) (text ∷ []) old now new so_far.serves
-          (Serves-one answers kept rest payload text now new stands good answered)
-
-      -- one more text is put
-      then_waits : (held_new : Option (List ℕ)) (outbox_new : List ℕ) (count_new : ℕ) → Takes held held_new outbox text outbox_new → is_error_reply text ≡ false
-          → count_new ≡ count + 1 → Gathering answers held_old held_new kept_old rest old new outbox_new count_new
-      then_waits held_new outbox_new count_new takes no_error counted = record {
-        payloads = so_far.payloads ++ payload ∷ [];
-        before = so_far.before;
-        gathered = so_far.gathered ++ text ∷ [];
-        begun = so_far.begun ++ takes.sent;
-        serves = subst (λ ts. Serves answers kept_old (so_far.payloads ++ payload ∷ []) ts rest old new) (append_assoc so_far.before so_far.gathered (text ∷ [])) one_more;
-        appends = more_written held_new takes.sent takes.appends;
-        outbox_is = cut_after text takes.sent outbox_new takes.split;
-        no_errors = no_errors-one so_far.gathered text so_far.no_errors no_error;
-        counted = omega (arith, so_far.counted, length-append so_far.payloads (payload ∷ []));
-      }
-
-      -- all is written when nothing waits
-      all_sent : (held_new : Option (List ℕ)) (outbox_new : List ℕ) → Takes held held_new outbox text outbox_new → outbox_new ≡ []
-          → Appends held_old held_new (concat ((so_far.before ++ so_far.gathered) ++ text ∷ []) ++ [])
-      all_sent held_new outbox_new takes none =
-          let gathered : so_far.begun ++ takes.sent ≡ concat (so_far.gathered ++ text ∷ []) =
-          sym (cut_after text takes.sent outbox_new takes.split ∙ ap (λ n. (so_far.begun ++ takes.sent) ++ n) none ∙ append-nil (so_far.begun ++ takes.sent)) in
-          subst (Appends held_old held_new)
-          (ap (λ g. concat so_far.before ++ g) gathered
-          ∙ sym (concat-append so_far.before (so_far.gathered ++ text ∷ []))
-          ∙ ap concat (sym (append_assoc so_far.before so_far.gathered (text ∷ [])))
-          ∙ sym (append-nil (concat ((so_far.before ++ so_far.gathered) ++ text ∷ []))))
-          (more_written held_new takes.sent takes.appends)
-
-      then_sent : (held_new : Option (List ℕ)) (outbox_new : List ℕ) (count_new : ℕ) → Takes held held_new outbox text outbox_new → outbox_new ≡ []
-          → count_new ≡ count + 1 → Gathering answers held_old held_new kept_old rest old new outbox_new count_new
-      then_sent held_new outbox_new count_new takes none counted = record {
-        payloads = so_far.payloads ++ payload ∷ [];
-        before = (so_far.before ++ so_far.gathered) ++ text ∷ [];
-        gathered = [];
-        begun = [];
-        serves = subst (λ ts. Serves answers kept_old (so_far.payloads ++ payload ∷ []) ts rest old new) (sym (append-nil ((so_far.before ++ so_far.gathered) ++ text ∷ []))) one_more;
-        appends = all_sent held_new outbox_new takes none;
-        outbox_is = sym none;
-        no_errors = tt;
-        counted = omega (arith, so_far.counted, length-append so_far.payloads (payload ∷ []));
-      }
-
-      pub Gathering-then : (held_new : Option (List ℕ)) (outbox_new : List ℕ) (count_new : ℕ) → Puts held held_new outbox text outbox_new → count_new ≡ count + 1
-          → Gathering answers held_old held_new kept_old rest old new outbox_new count_new
-      Gathering-then held_new outbox_new count_new put counted = elim put.waits [
-        | inl no_error ↦ then_waits held_new outbox_new count_new put.takes no_error counted
-        | inr none ↦ then_sent held_new outbox_new count_new put.takes none counted
-      ]
-
-      -- the writer fails as one more text is put
-      pub Round-unput : (held_new : Option (List ℕ)) (kept_new : List ℕ) → WritesFront held held_new (outbox ++ text)
-          → (written : List ℕ) × Appends held_old held_new written × Round answers (Err WriteFault) kept_old kept_new old new written
-      Round-unput held_new kept_new wrote = (
-        concat so_far.before ++ (so_far.begun ++ wrote.front),
-        more_written held_new wrote.front wrote.appends,
-        record {
-          payloads = so_far.payloads ++ payload ∷ [];
-          texts = (so_far.before ++ so_far.gathered) ++ text ∷ [];
-          rest = rest;
-          serves = one_more;
-          ends = tt;
-          writes = record {
-            before = so_far.before;
-            gathered = so_far.gathered;
-            alone = text ∷ [];
-            front = so_far.begun ++ wrote.front;
-            missing = wrote.missing;
-            texts_are = refl;
-            written_is = refl;
-            cut = cut_after text wrote.front wrote.missing wrote.split;
-            no_errors = so_far.no_errors;
-            one = omega arith;
-          };
-        },
-      )

@@ -1,5 +1,5 @@
 -- A get whose bundle was stored where it was shown.
-use Rattle.std.proofs.Common.{◌≡◌, ℕ, ◌+◌, ◌≤◌, List, [], ◌∷◌, ◌++◌, length, Option, None, Ok, refl, sym, ap, ◌∙◌, subst, inl, arith, append-nil, length-append}
+use Rattle.std.proofs.Common.{◌≡◌, ℕ, ◌+◌, ◌≤◌, List, [], ◌∷◌, ◌++◌, length, false, Option, None, Ok, refl, sym, ap, ◌∙◌, subst, inl, arith, append-nil, length-append}
 use Rattle.std.specs.Prelude.{Result}
 use Rattle.spiffe_doc.specs.Authority.{BundleValue}
 use Rattle.spiffe_doc.specs.Text.{text_of}
@@ -18,8 +18,9 @@ use Rattle.frame_front.specs.Live.{most_part}
 use Rattle.frame_front.specs.Reply.{reply_frames}
 use Rattle.frame_front.specs.Request.{request_of, get_of, only_name}
 use Rattle.frame_front.specs.Session.{AnswersRequest}
-use Rattle.frame_front.specs.Private.Late.{AnswersLate, stores_found}
+use Rattle.frame_front.specs.Private.Pending.{AnswersLater, stores_found}
 use Rattle.frame_front.proofs.FrameLemmas.{length-frame}
+use Rattle.frame_front.proofs.ReplyLemmas.{reply_answers}
 
 -- a get of a name
 request_get : (version : Version) (bytes : List ℕ) (d : Name) → only_name bytes ≡ Ok d → request_of version (71 ∷ bytes) ≡ Ok (Ask (Get d))
@@ -33,11 +34,12 @@ module _ {S : Type 0} (answers : S → Op → Result Reply AskError → S → Ty
 
   pub shown_late : (version : Version) (bytes : List ℕ) → only_name bytes ≡ Ok d → shown ≡ None
       → ShowsGet {E = AskError} stores_found (λ (answer : Result Reply AskError). answers old (Get d) answer new) ready (Ok shown) ready_new → left ≡ []
-      → AnswersLate answers (version, old) (71 ∷ bytes) (version, new) ready ready_new left
+      → AnswersLater answers false (version, old) (71 ∷ bytes) (version, new) ready ready_new left
   shown_late version bytes is none shows nothing = let s = shown_none none shows in let text : List ℕ = 102 ∷ text_of s.0 in (
     reply_frames (Found s.0),
     inl (subst (λ (r : Result Request Refusal). AnswersRequest answers r (version, old) (reply_frames (Found s.0)) (version, new)) (sym (request_get version bytes d is)) (Ok (Found s.0), s.1, inl refl, refl)),
     omega (arith, length-frame text [], ap length (append-nil (reply_frames (Found s.0)))),
+    sym (reply_answers (Found s.0)),
     ap (λ l. ready_new ++ l) nothing ∙ append-nil ready_new ∙ s.2.0,
   )
 

@@ -3,4 +3,5 @@ pub mod Storage
 pub mod Refusals
 pub mod Round
 pub mod Gathered
-pub mod Late
+pub mod Steps
+pub mod Pending

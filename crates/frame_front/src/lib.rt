@@ -15,16 +15,15 @@ mod dump;
 mod error;
 mod faulty;
 mod frame;
-mod late;
 pub mod laws;
 mod live;
-mod outbox;
 mod output;
+mod pending;
 mod refusal;
+mod replies;
 mod reply;
 mod request;
 mod session;
-mod shown;
 pub mod wire;
 
 pub use answered::{Answered, Wants};

@@ -1,18 +1,20 @@
 //! Sessions without ends: bytes come in, bytes go out, and whoever has the ends says when.
-ghost use Rattle.std.specs.Prelude.{◌≡◌, ◌≤◌, ◌++◌, length, take, drop, min, IfOk, OnErr};
-ghost use Rattle.frame_front.specs.Live.{LiveAnswers, FinishesAt, Feeds, Sends, live_start, most_frames, most_kept, most_ready, room_of, live_view};
-ghost use Rattle.frame_front.specs.Private.Late.{late_left};
+ghost use Rattle.std.specs.Prelude.{◌≡◌, ◌≢◌, ◌≤◌, ◌++◌, [], length, take, drop, min, IfOk, IfErr, OnOk, OnErr};
+ghost use Rattle.std.specs.Io.KnownBytes.{Appends};
+ghost use Rattle.frame_front.specs.Counted.{end_in, faults_in, next_count};
+ghost use Rattle.frame_front.specs.Live.{LiveAnswers, FinishesAt, Feeds, Sends, live_start, most_frames, most_kept, most_ready, room_of, live_view, waiting};
+ghost use Rattle.frame_front.specs.Output.{WritesFront};
+ghost use Rattle.frame_front.specs.Private.Steps.{Steps};
 
 use crate::answered::{Answered, Wants};
 use crate::frame::{LENGTH_BYTES, MAX_PAYLOAD};
-use crate::late::{Late, REPLY_LIMIT};
-use crate::request::Version;
-use crate::shown::{Ready, answer_late};
-use crate::{Decoder, FrontError};
-use bytes::BytesMut;
+use crate::pending::REPLY_LIMIT;
+use crate::replies::Replies;
+use crate::{Counted, Decoder, FrontError};
 use map_core::Ask;
 use spiffe_doc::{DocumentReader, Memory};
 use std::alloc::Global;
+use std::io::Write;
 use std::marker::Model;
 
 /// The most bytes of input that are kept: a frame, and a piece.
@@ -21,24 +23,23 @@ const MOST_KEPT: usize = LENGTH_BYTES + MAX_PAYLOAD + 4096;
 /// The most memory for input that is held from one frame to the next while no byte needs it.
 const MOST_INPUT_HELD: usize = 131_072;
 
-/// The same for replies. Room that doubles as it grows seldom passes twice their limit, so it is not made anew each round.
-const MOST_REPLIES_HELD: usize = 2 * REPLY_LIMIT;
+/// What one step of a session came to.
+pub(crate) enum Step {
+    /// A frame was answered, by an error of whoever was asked or not.
+    Answered(bool),
+    /// No frame was answered: the session wants more input, or that replies are sent, or it ends.
+    Stops(Result<Wants, FrontError>),
+}
 
 /// A session that has no reader and no writer, so that one thread can drive many of them. Pieces of its input are fed
 /// to it, it answers the whole frames among them, and its replies wait until they are sent. It keeps at most 1,053,100
 /// bytes of input, and has at most 196,608 bytes of replies and one more part of a reply ready: a text, or a domain of a
 /// fetch-all. What comes after that part is not copied before it is its turn. While its client is quiet it needs no memory
-/// for either: `rest` gives it back.
-///
-/// `serve` is not made of it: it has its writer at hand, so it writes a long text from where it is kept, and needs no
-/// memory for it. Both read a payload by the same functions and carry the same table; here a get is shown its bundle.
+/// for either: `rest` gives it back. `serve` is a loop over it that has both ends at hand.
 #[derive(Drop)]
 pub struct LiveSession {
-    alloc: Global,
     decoder: Decoder,
-    version: Version,
-    ready: Ready,
-    late: Late,
+    replies: Replies,
 }
 
 impl Model for LiveSession {
@@ -47,11 +48,11 @@ impl Model for LiveSession {
 
     ghost Value = { LiveView };
 
-    ghost use Rattle.frame_front.specs.Private.Late.{late_left};
+    ghost use Rattle.frame_front.specs.Private.Pending.{reply_left};
 
-    ghost view = { λ s. record { kept = s.decoder; version = s.version; ready = s.ready.bytes.items; later = late_left s.late } };
+    ghost view = { λ s. record { kept = s.decoder; version = s.replies.version; ready = s.replies.ready.bytes.items; later = reply_left s.replies.pending } };
 
-    ghost invariant = { λ s. (length s.decoder ≤ most_kept) × (length s.ready.bytes.items ≤ most_ready) };
+    ghost invariant = { λ s. (length s.decoder ≤ most_kept) × (length s.replies.ready.bytes.items ≤ most_ready) };
 }
 
 impl LiveSession {
@@ -60,13 +61,8 @@ impl LiveSession {
         ensures { IfOk result (λ live. live ≡ live_start) }
     {
         Ok(LiveSession {
-            alloc,
             decoder: Decoder::new(alloc)?,
-            version: Version::One,
-            ready: Ready {
-                bytes: BytesMut::new(alloc),
-            },
-            late: Late::nothing(),
+            replies: Replies::new(alloc),
         })
     }
 
@@ -99,17 +95,66 @@ impl LiveSession {
         ensures answers { LiveAnswers A.answers result self.old self.new ask.old ask.new }
         ensures share { result.frames ≤ most_frames }
     {
-        let answered = answer_kept(
-            self.alloc,
-            &mut self.decoder,
-            documents,
-            &mut self.version,
-            &mut self.late,
-            &mut self.ready,
-            ask,
-        );
+        let answered = self.answer_kept(documents, ask);
         self.decoder.shrink(MOST_INPUT_HELD);
         answered
+    }
+
+    fn answer_kept<A: Ask>(&mut self, documents: &mut DocumentReader, ask: &mut A) -> Answered
+        ensures answers { LiveAnswers A.answers result self.old self.new ask.old ask.new }
+        ensures share { result.frames ≤ most_frames }
+    {
+        let mut frames = 0;
+        loop {
+            match self.step(documents, ask) {
+                Step::Answered(_) => frames += 1,
+                Step::Stops(next) => return Answered { frames, next },
+            }
+        }
+    }
+
+    /// Answers the first whole frame that is kept, unless none is left, a bad length comes first, as many bytes of replies are
+    /// ready as may wait, or memory for the reply before it is refused.
+    #[inline(always)]
+    pub(crate) fn step<A: Ask>(&mut self, documents: &mut DocumentReader, ask: &mut A) -> Step
+        ensures { Steps A.answers result self.old self.new ask.old ask.new }
+    {
+        if let Err(_) = self.replies.store() {
+            return Step::Stops(Err(FrontError::Memory));
+        }
+        if self.replies.ready.bytes.len() >= REPLY_LIMIT {
+            return Step::Stops(Ok(Wants::Write));
+        }
+        match self.decoder.payload() {
+            Ok(Some(payload)) => {
+                let size = payload.len();
+                let is_error = self.replies.answer(documents, ask, payload);
+                self.decoder.pass(size);
+                Step::Answered(is_error)
+            }
+            Ok(None) => Step::Stops(Ok(Wants::Read)),
+            Err(fault) => Step::Stops(Err(fault)),
+        }
+    }
+
+    /// Takes the room that replies need, but for long texts. Nothing else changes.
+    pub(crate) fn take_room(&mut self) -> Result<(), Memory>
+        ensures { self.new ≡ self.old }
+    {
+        self.replies.take_room()
+    }
+
+    /// Writes all replies that wait, and sees that the writer keeps nothing back. This needs no memory.
+    pub(crate) fn write<W: Write>(&mut self, writer: &mut Counted<W>) -> Result<(), FrontError>
+        ensures ok { OnOk result (Appends (W.contents (end_in writer.old)) (W.contents (end_in writer.new)) (waiting self.old)) }
+        ensures sent { OnOk result (self.new ≡ live_view self.old.kept self.old.version [] []) }
+        ensures same { (self.new.kept ≡ self.old.kept) × (self.new.version ≡ self.old.version) }
+        ensures quiet { OnOk result (faults_in writer.new ≡ faults_in writer.old) }
+        ensures fault { IfErr result (λ fault. (fault ≡ FrontError.WriteFault) × (faults_in writer.new ≡ next_count (faults_in writer.old))) }
+        ensures front { WritesFront (W.contents (end_in writer.old)) (W.contents (end_in writer.new)) (waiting self.old) }
+    {
+        let replies = &mut self.replies;
+        replies.pending.write(&mut replies.ready.bytes, writer)
     }
 
     /// The replies that are ready to be sent.
@@ -117,7 +162,7 @@ impl LiveSession {
         ensures ready { result.now ≡ self.now.ready }
         ensures few { length result.now ≤ most_ready }
     {
-        self.ready.bytes.as_slice()
+        self.replies.ready.bytes.as_slice()
     }
 
     /// So many bytes of the replies are sent.
@@ -125,15 +170,7 @@ impl LiveSession {
         requires { count ≤ length self.old.ready }
         ensures { Sends (take count self.old.ready) self.old self.new }
     {
-        self.ready.bytes.advance(count);
-        if !self.ready.bytes.is_empty() {
-            return;
-        }
-        if self.ready.bytes.capacity() > MOST_REPLIES_HELD {
-            self.ready.bytes = BytesMut::new(self.alloc);
-        } else {
-            self.ready.bytes.clear();
-        }
+        self.replies.sent(count);
     }
 
     /// Gives back the memory that no byte needs. Nothing else changes.
@@ -141,9 +178,15 @@ impl LiveSession {
         ensures { self.new ≡ self.old }
     {
         self.decoder.shrink(0);
-        if self.ready.bytes.is_empty() && self.ready.bytes.capacity() > 0 {
-            self.ready.bytes = BytesMut::new(self.alloc);
-        }
+        self.replies.rest();
+    }
+
+    /// Whether the input may end here if all frames are answered: no byte is kept.
+    pub(crate) fn end(&self) -> Result<(), FrontError>
+        ensures whole { OnOk result (self.now.kept ≡ []) }
+        ensures rest { IfErr result (λ fault. (fault ≡ FrontError.Truncated) × (self.now.kept ≢ [])) }
+    {
+        self.decoder.finish()
     }
 
     /// Whether the input may end here: `false` if frames are left to be answered.
@@ -155,53 +198,6 @@ impl LiveSession {
             None => {
                 self.decoder.finish()?;
                 Ok(true)
-            }
-        }
-    }
-}
-
-/// Answers each whole frame that the decoder keeps, in order, while fewer bytes are ready than may wait.
-fn answer_kept<A: Ask>(
-    alloc: Global,
-    decoder: &mut Decoder,
-    documents: &mut DocumentReader,
-    version: &mut Version,
-    late: &mut Late,
-    ready: &mut Ready,
-    ask: &mut A,
-) -> Answered
-    requires few_kept { length decoder.old ≤ most_kept }
-    ensures answers { LiveAnswers A.answers result
-        (live_view decoder.old version.old ready.old.bytes.items (late_left late.old))
-        (live_view decoder.new version.new ready.new.bytes.items (late_left late.new)) ask.old ask.new }
-    ensures share { result.frames ≤ most_frames }
-    ensures few_ready { length ready.old.bytes.items ≤ most_ready → length ready.new.bytes.items ≤ most_ready }
-    ensures fewer_kept { length decoder.new ≤ length decoder.old }
-{
-    let mut frames = 0;
-    loop {
-        if let Err(_) = late.store(&mut ready.bytes) {
-            let next = Err(FrontError::Memory);
-            return Answered { frames, next };
-        }
-        if ready.bytes.len() >= REPLY_LIMIT {
-            let next = Ok(Wants::Write);
-            return Answered { frames, next };
-        }
-        match decoder.payload() {
-            Ok(Some(payload)) => {
-                let size = payload.len();
-                answer_late(alloc, documents, version, ask, ready, late, payload);
-                decoder.pass(size);
-                frames += 1;
-            }
-            Ok(None) => {
-                let next = Ok(Wants::Read);
-                return Answered { frames, next };
-            }
-            Err(fault) => {
-                let next = Err(fault);
-                return Answered { frames, next };
             }
         }
     }

@@ -24,3 +24,8 @@ abbrev pub ShowsGet : {V E : Type 0} → (V → BundleValue → V → Type 0) �
 ShowsGet notes answered old (Ok (Some reply)) new = answered (Ok reply) × (new ≡ old)
 ShowsGet notes answered old (Ok None) new = (b : BundleValue) × answered (Ok (Found b)) × notes old b new
 ShowsGet notes answered old (Err e) new = answered (Err e) × (new ≡ old)
+
+-- If a map is shown, the answers are the plain map's.
+abbrev pub AnswersPlainly : {S : Type 0} → (S → Op → Result Reply AskError → S → Type 0) → (S → Option PlainMap) → Type 0
+AnswersPlainly {S} answers shows =
+    (old : S) (op : Op) (result : Result Reply AskError) (new : S) (m : PlainMap) → shows old ≡ Some m → answers old op result new → PlainAnswer m op result (shows new)

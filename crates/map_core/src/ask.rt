@@ -30,7 +30,7 @@ pub trait Ask {
     ghost use Rattle.map_core.specs.declared.reply.Reply.{Reply};
     ghost use Rattle.map_core.specs.declared.reply.AskError.{AskError};
     ghost use Rattle.map_core.specs.PlainMap.{PlainMap};
-    ghost use Rattle.map_core.specs.Ask.{PlainAnswer, ShowsGet};
+    ghost use Rattle.map_core.specs.Ask.{AnswersPlainly, ShowsGet};
 
     // In the state before, the operation may be answered so and leave the state after.
     ghost answers: { Self → Op → Result Reply AskError → Self → Type 0 };
@@ -42,14 +42,6 @@ pub trait Ask {
     fn ask(&mut self, op: Op) -> Result<Reply, AskError>
         ensures answered { answers self.old op result self.new };
 
-    /// Answers a `Get` of the name, with the same answers and errors as `ask`. Most operations are gets: an implementation
-    /// may answer one without making a value that has room for any operation.
-    fn ask_get(&mut self, domain: TrustDomain) -> Result<Reply, AskError>
-        ensures answered { answers self.old (Get domain) result self.new }
-    {
-        self.ask(Op::Get(domain))
-    }
-
     /// Answers a `Get` of the name, with the same answers and errors as `ask`. A bundle that was found may be shown to the
     /// viewer where it is kept: then there is no reply, and nobody has counted its owners.
     fn show_get<V: Viewer>(
@@ -59,12 +51,11 @@ pub trait Ask {
     ) -> Result<Option<Reply>, AskError>
         ensures shown { ShowsGet V.notes (λ answer. answers self.old (Get domain) answer self.new) (V.noted viewer.old) result (V.noted viewer.new) }
     {
-        Ok(Some(self.ask_get(domain)?))
+        Ok(Some(self.ask(Op::Get(domain))?))
     }
 
     // If a map is shown, the answers are the plain map's.
-    ghost answers_plainly: { (old : Self) (op : Op) (result : Result Reply AskError) (new : Self) (m : PlainMap)
-        → shows old ≡ Some m → answers old op result new → PlainAnswer m op result (shows new) };
+    ghost answers_plainly: { AnswersPlainly answers shows };
 }
 
 impl Ask for Contents {

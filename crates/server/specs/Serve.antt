@@ -15,8 +15,8 @@ use Rattle.shard_store.specs.Pass.{StoreView, PassView}
 use Rattle.shard_store.specs.declared.close.CloseError.{CloseError}
 use Rattle.commands.specs.declared.fault.Fault.{Fault}
 use Rattle.commands.specs.declared.fault.Fault.TheVariants.{Front, Dump, Listen as ListenFault, Close}
-use Rattle.server.specs.declared.lines.Said.{Said}
-use Rattle.server.specs.declared.lines.Said.TheVariants.{Listening, Served, Domains}
+use Rattle.server.specs.declared.lines.ServerLine.{ServerLine}
+use Rattle.server.specs.declared.lines.ServerLine.TheVariants.{Listening, Served, Domains}
 use Rattle.workers.specs.declared.ended.SessionFault.{SessionFault}
 use Rattle.workers.specs.declared.ended.SessionFault.TheVariants as session
 use Rattle.workers.specs.declared.ended.Worked.{Worked}
@@ -28,7 +28,7 @@ use Rattle.workers.specs.declared.filling.FillError.TheVariants as fill
 use Rattle.workers.specs.Closing.{ranges_of, AreAll, ClosesAs}
 
 -- a line of words, each with a number
-abbrev pub said_line : Said → List ℕ
+abbrev pub said_line : ServerLine → List ℕ
 said_line (Listening port None) = codes "listening " ++ (decimal port ++ 10 ∷ [])
 said_line (Listening port (Some read_port)) = codes "listening " ++ (decimal port ++ (codes " read-only " ++ (decimal read_port ++ 10 ∷ [])))
 said_line (Served count) = codes "served " ++ (decimal count ++ 10 ∷ [])

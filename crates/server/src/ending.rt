@@ -6,7 +6,7 @@ ghost use Rattle.workers.specs.Closing.{AreAll};
 ghost use Rattle.server.specs.Serve.{Reports};
 ghost use Rattle.frame_front.specs.Output.{end_of};
 
-use crate::lines::{Said, count_begun, say, tell_faults};
+use crate::lines::{ServerLine, count_begun, say, tell_faults};
 use commands::Fault;
 use frame_front::Counted;
 use shard_store::Store;
@@ -36,12 +36,12 @@ pub fn report<W: Write, E: Write>(
     ensures { Reports worked.items before result (end_of W.contents out.old) (end_of W.contents out.new)
         (end_of E.contents err.old) (end_of E.contents err.new) }
 {
-    let served = Said::Served(count_begun(worked.as_slice()));
+    let served = ServerLine::Served(count_begun(worked.as_slice()));
     let served_taken = say(out, err, before, served);
     let have_come = tell_faults(worked.as_slice(), err, before);
     match close_store(store, worked) {
         Ok(contents) => {
-            let domains = Said::Domains(contents.len() as u64);
+            let domains = ServerLine::Domains(contents.len() as u64);
             // The process ends with the server, and its memory goes back as a whole: no walk over every bundle.
             forget(contents);
             let domains_taken = say(out, err, before, domains);

@@ -10,8 +10,8 @@ mod serving;
 mod set_up;
 
 pub use ending::report;
-pub use lines::{Said, say};
+pub use lines::{ServerLine, say};
 pub use load::requests_of;
 pub use log::LineLog;
-pub use serving::{Host, NOBODY, Ports, Task, Waits, serve_at, serve_on, tell_early};
+pub use serving::{Host, NOBODY, Ports, Task, WorkerPolls, serve_at, serve_on, tell_early};
 pub use set_up::SetUp;

@@ -1,6 +1,6 @@
 //! What a server says, on its output and on standard error.
 ghost use Rattle.std.specs.Prelude.{◌≡◌, ◌<◌, ◌≤◌, ◌-◌, ◌+◌, ◌^◌, ◌++◌, ◌∷◌, [], min, length, decimal, Some};
-ghost use Rattle.server.specs.declared.lines.Said.TheVariants.{Listening};
+ghost use Rattle.server.specs.declared.lines.ServerLine.TheVariants.{Listening};
 ghost use Rattle.server.specs.Serve.{IsOffered, said_line, write_fault, begun_by, have_all_come, session_lines, faults_by};
 ghost use Rattle.frame_front.specs.Output.{TellsUnlessFailed, end_of};
 
@@ -16,7 +16,7 @@ const LINE_BYTES: usize = 62;
 
 /// What a server says on its output: words, each with a number.
 #[derive(Clone, Copy)]
-pub enum Said {
+pub enum ServerLine {
     /// The port where it listens, and the port for reads only, if there is one.
     Listening(u16, Option<u16>),
     /// How many sessions were begun.
@@ -25,15 +25,15 @@ pub enum Said {
     Domains(u64),
 }
 
-impl Said {
+impl ServerLine {
     fn line(self) -> ArrayVec<u8, LINE_BYTES>
         ensures { result.items ≡ said_line self }
     {
         match self {
-            Said::Listening(port, None) => line_of(b"listening ", u64::from(port)),
-            Said::Listening(port, Some(read_port)) => ports_line(port, read_port),
-            Said::Served(count) => line_of(b"served ", count),
-            Said::Domains(count) => line_of(b"domains ", count),
+            ServerLine::Listening(port, None) => line_of(b"listening ", u64::from(port)),
+            ServerLine::Listening(port, Some(read_port)) => ports_line(port, read_port),
+            ServerLine::Served(count) => line_of(b"served ", count),
+            ServerLine::Domains(count) => line_of(b"domains ", count),
         }
     }
 }
@@ -86,7 +86,7 @@ pub fn say<W: Write, E: Write>(
     out: &mut Counted<W>,
     err: &mut Counted<E>,
     before: u64,
-    said: Said,
+    said: ServerLine,
 ) -> bool
     ensures offered { IsOffered result (said_line said) (end_of W.contents out.old) (end_of W.contents out.new) }
     ensures tells { TellsUnlessFailed before (end_of E.contents err.old) (end_of E.contents err.new) (write_fault result) }

@@ -11,6 +11,6 @@ mod stream;
 
 pub use blocking::serve_on;
 pub use host::Host;
-pub use lasting::{Task, Waits, serve_at, tell_early};
+pub use lasting::{Task, WorkerPolls, serve_at, tell_early};
 pub use ports::Ports;
 pub use ready::NOBODY;

@@ -46,13 +46,14 @@ impl<'a> Seated<'a> {
 
 impl<'a> Ask for Seated<'a> {
     ghost use Rattle.std.specs.Prelude.{None};
-    ghost use Rattle.shard_store.specs.Seated.{SeatedAnswer, seated_answers_plainly};
+    ghost use Rattle.shard_store.specs.Seated.{SeatedAnswer};
+    ghost use Rattle.map_core.specs.AskLaws.{shows_nothing};
 
     ghost answers = { SeatedAnswer };
 
     ghost shows = { λ _. None };
 
-    ghost answers_plainly = { seated_answers_plainly };
+    ghost answers_plainly = { shows_nothing SeatedAnswer };
 
     fn ask(&mut self, op: Op) -> Result<Reply, AskError> {
         self.store.ask(&mut self.pass, op)

@@ -4,6 +4,10 @@ use Rattle.std.proofs.lemmas.List.{set-get_or}
 use Rattle.map_core.specs.declared.op.Op.{Op}
 use Rattle.map_core.specs.declared.op.Op.TheVariants.{Get}
 use Rattle.map_core.specs.declared.reply.Reply.{Reply}
+use Rattle.map_core.specs.declared.reply.Reply.TheVariants.{Found}
+use Rattle.map_core.specs.Ask.{ShowsGet}
+use Rattle.spiffe_doc.specs.Authority.{BundleValue}
+use Rattle.std.specs.declared.alloc.AllocError.{AllocError}
 use Rattle.map_core.specs.declared.reply.AskError.{AskError}
 use Rattle.map_core.specs.declared.reply.AskError.TheVariants.{Memory, Worn}
 use Rattle.map_core.specs.Name.{Name}
@@ -46,3 +50,11 @@ get_fits (Err e) vs op d is = tt
 pub get_answer : (vs : List ShardVersion) (d : Name) (r : Result Reply AskError) → IfOk r (λ reply. reply ≡ (ask (map_of vs) (Get d)).reply) → IfErr r (λ e. e ≡ Memory) → ShardsAnswer vs (Get d) r vs
 get_answer vs d (Ok x) found refused = (found, get_left (Ok x) (map_of vs) (Get d) d refl, get_stays (Ok x) vs (Get d) d refl)
 get_answer vs d (Err e) found refused = (inl refused, refl)
+
+-- a get that its shard answered to a viewer
+pub get_shown : {V : Type 0} (notes : V → BundleValue → V → Type 0) (vs : List ShardVersion) (d : Name) (part : PlainMap) (old : V) (shown : Option Reply) (new : V)
+    → ((reply : Reply) → reply ≡ (ask part (Get d)).reply → reply ≡ (ask (map_of vs) (Get d)).reply)
+    → ShowsGet {E = AllocError} notes (λ (answer : Result Reply AllocError). IfOk answer (λ reply. reply ≡ (ask part (Get d)).reply)) old (Ok shown) new
+    → ShowsGet {E = AskError} notes (λ (answer : Result Reply AskError). ShardsAnswer vs (Get d) answer vs) old (Ok shown) new
+get_shown notes vs d part old (Some reply) new same shows = (get_answer vs d (Ok reply) (same reply shows.0) tt, shows.1)
+get_shown notes vs d part old None new same shows = (shows.0, get_answer vs d (Ok (Found shows.0)) (same (Found shows.0) shows.1) tt, shows.2)

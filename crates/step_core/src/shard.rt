@@ -1,12 +1,13 @@
 //! One shard: a part of the map, and how often it was changed.
 ghost use Rattle.std.specs.Prelude.{◌≡◌, ◌<◌, ◌≤◌, ◌⊎◌, ℕ, length, IfOk, IfErr, OnOk, OnErr, Ok, Err, false};
 ghost use Rattle.std.specs.Arc.{arc_value};
+ghost use Rattle.map_core.specs.Ask.{ShowsGet};
 ghost use Rattle.map_core.specs.PlainMap.{ask};
 ghost use Rattle.map_core.specs.Reply.{is_change};
 ghost use Rattle.map_core.specs.declared.op.Op.TheVariants.{Get};
 ghost use Rattle.step_core.specs.Shard.{fresh_shard, last_revision, of_shard, reading, step_on};
 
-use map_core::{AskError, Contents, Op, Reply};
+use map_core::{AskError, Contents, Op, Reply, Viewer};
 use spiffe_doc::{Memory, TrustDomain};
 use std::alloc::{AllocError, Global};
 use std::marker::Model;
@@ -76,11 +77,15 @@ impl Shard {
         Ok((self.revision, Arc::try_clone(&self.version)?))
     }
 
-    /// The reply to a `Get` of the name, by the version as it stands. Nobody needs to know whether others share it.
-    pub(crate) fn get(&self, domain: &TrustDomain) -> Result<Reply, AllocError>
-        ensures { IfOk result (λ reply. reply ≡ (ask self.now.part (Get domain.now)).reply) }
+    /// A `Get` of the name, answered to a viewer by the version as it stands. Nobody needs to know whether others share it.
+    pub(crate) fn show<V: Viewer>(
+        &self,
+        domain: &TrustDomain,
+        viewer: &mut V,
+    ) -> Result<Option<Reply>, AllocError>
+        ensures { ShowsGet V.notes (λ answer. IfOk answer (λ reply. reply ≡ (ask self.now.part (Get domain.now)).reply)) (V.noted viewer.old) result (V.noted viewer.new) }
     {
-        self.version.get(domain)
+        self.version.show(domain, viewer)
     }
 
     /// Answers an operation on one name. The revision rises by one if and only if the contents change; at the last

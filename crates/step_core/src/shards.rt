@@ -1,16 +1,17 @@
 //! The shards of one caller.
 ghost use Rattle.std.specs.Prelude.{◌≡◌, ◌<◌, ◌≤◌, ◌⊎◌, ◌+◌, ℕ, IfOk, OnOk, IfErr, OnErr, length, Some};
 ghost use Rattle.std.specs.FinMap as finite;
+ghost use Rattle.map_core.specs.Ask.{ShowsGet};
 ghost use Rattle.map_core.specs.PlainMap.{ask, shard_of};
 ghost use Rattle.map_core.specs.declared.op.Op.TheVariants.{FetchAll, Get};
 ghost use Rattle.step_core.specs.Phase.{Waiting};
 ghost use Rattle.step_core.specs.Shard.{fresh_shard, reading};
-ghost use Rattle.step_core.specs.Shards.{map_of, after_step, after_step_at, IsWorn, Refuses};
+ghost use Rattle.step_core.specs.Shards.{map_of, after_step, after_step_at, IsWorn, Refuses, ShardsAnswer};
 
 use crate::home::{home, shard_of};
 use crate::shard::{Shard, at_shard, fresh_shards};
 use crate::task::{Answer, Task};
-use map_core::{Ask, AskError, Op, Reply};
+use map_core::{Ask, AskError, Op, Reply, Viewer};
 use spiffe_doc::{Memory, TrustDomain};
 use std::alloc::Global;
 use std::marker::Model;
@@ -69,13 +70,16 @@ impl Shards {
         }
     }
 
-    // The reply to a `Get` of the name. No shard makes a step for it.
-    fn get(&self, domain: &TrustDomain) -> Result<Reply, AskError>
-        ensures reply { IfOk result (λ reply. reply ≡ (ask (map_of self.now) (Get domain.now)).reply) }
-        ensures refused { IfErr result (λ e. e ≡ AskError.Memory) }
+    // A `Get` of the name, answered to a viewer. No shard makes a step for it.
+    fn show<V: Viewer>(
+        &self,
+        domain: &TrustDomain,
+        viewer: &mut V,
+    ) -> Result<Option<Reply>, AskError>
+        ensures { ShowsGet V.notes (λ answer. ShardsAnswer self.now (Get domain.now) answer self.now) (V.noted viewer.old) result (V.noted viewer.new) }
     {
         let place = home(domain, self.shards.len());
-        Ok(self.shards[place].get(domain)?)
+        Ok(self.shards[place].show(domain, viewer)?)
     }
 
     // Answers an operation on a name of the shard at this place, by a task: it wants that shard's step, and no more.
@@ -153,7 +157,11 @@ impl Ask for Shards {
         Shards::ask(self, op)
     }
 
-    fn ask_get(&mut self, domain: TrustDomain) -> Result<Reply, AskError> {
-        Shards::get(self, &domain)
+    fn show_get<V: Viewer>(
+        &mut self,
+        domain: TrustDomain,
+        viewer: &mut V,
+    ) -> Result<Option<Reply>, AskError> {
+        Shards::show(self, &domain, viewer)
     }
 }

@@ -8,8 +8,7 @@ use Rattle.frame_front.specs.Counted.{next_count}
 use Rattle.frame_front.specs.Output.{WritesFront}
 use Rattle.frame_front.specs.declared.error.FrontError.{FrontError}
 use Rattle.frame_front.specs.declared.error.FrontError.TheVariants.{WriteFault}
-use Rattle.frame_front.proofs.OutputLemmas.{WritesFront-longer, WritesFront-then}
-use Rattle.frame_front.proofs.SessionLemmas.{Takes-whole, Takes-then, Takes-cut, Takes-unsent}
+use Rattle.frame_front.proofs.OutputLemmas.{WritesFront-longer, WritesFront-then, Takes-whole, Takes-then, Takes-cut, Takes-unsent}
 use Rattle.trace_lines.specs.Private.Puts.{Out, Puts, PutsAll, PutsFront}
 
 pub puts_nothing : (out : Out) → PutsAll out out []

@@ -3,13 +3,13 @@
 
 mod event_line;
 mod events;
-mod gathered;
 pub mod laws;
 mod operation;
 mod picture;
 mod picture_row;
 mod record_head;
 mod trace_text;
+mod write_buffer;
 
 pub use events::{LinesError, read_events};
 pub use picture::put_picture;

@@ -8,9 +8,9 @@ ghost use Rattle.trace_lines.specs.TraceText.{ended};
 ghost use Rattle.trace_lines.specs.Picture.{callers_of, with_caller, caller_line as line_of_caller, event_line as line_of_events, order_row as row_of_order, numbered_band, bands_text, legend, picture_text};
 ghost use Rattle.trace_lines.specs.Private.Puts.{Puts, out_of};
 
-use crate::gathered::Gathered;
 use crate::picture_row::{caller_line, drawn, event_line, order_row};
 use crate::trace_text::put_text;
+use crate::write_buffer::WriteBuffer;
 use arrayvec::ArrayVec;
 use frame_front::{Counted, FrontError};
 use std::io::Write;
@@ -50,13 +50,13 @@ pub fn put_picture<W: Write>(
     ensures fault { IfErr result (λ fault. (fault ≡ FrontError.WriteFault) × (faults_in out.new ≡ next_count (faults_in out.old))) }
     ensures front { WritesFront (W.contents (end_in out.old)) (W.contents (end_in out.new)) (picture_text events trace.now.ops.items trace.now.order.items) }
 {
-    let mut gathered = Gathered::new();
+    let mut gathered = WriteBuffer::new();
     put_page(&mut gathered, out, events, trace)?;
     gathered.flush(out)
 }
 
 fn put_page<W: Write>(
-    gathered: &mut Gathered,
+    gathered: &mut WriteBuffer,
     out: &mut Counted<W>,
     events: usize,
     trace: &Trace,
@@ -69,14 +69,14 @@ fn put_page<W: Write>(
 }
 
 #[tactic(auto, unfolding(crate::specs::Picture::legend))]
-fn put_legend<W: Write>(gathered: &mut Gathered, out: &mut Counted<W>) -> Result<(), FrontError>
+fn put_legend<W: Write>(gathered: &mut WriteBuffer, out: &mut Counted<W>) -> Result<(), FrontError>
     ensures { Puts result (out_of W.contents out.old gathered.old) (out_of W.contents out.new gathered.new) legend }
 {
     gathered.put(out, LEGEND, &[])
 }
 
 fn put_drawn<W: Write>(
-    gathered: &mut Gathered,
+    gathered: &mut WriteBuffer,
     out: &mut Counted<W>,
     events: usize,
     trace: &Trace,
@@ -90,7 +90,7 @@ fn put_drawn<W: Write>(
 }
 
 fn put_bands<W: Write>(
-    gathered: &mut Gathered,
+    gathered: &mut WriteBuffer,
     out: &mut Counted<W>,
     events: usize,
     trace: &Trace,
@@ -137,7 +137,7 @@ fn add_new(callers: &mut ArrayVec<u32, CALLERS>, caller: u32)
 }
 
 fn put_band<W: Write>(
-    gathered: &mut Gathered,
+    gathered: &mut WriteBuffer,
     out: &mut Counted<W>,
     trace: &Trace,
     callers: &[u32],
@@ -157,7 +157,7 @@ fn put_band<W: Write>(
 }
 
 fn put_rows<W: Write>(
-    gathered: &mut Gathered,
+    gathered: &mut WriteBuffer,
     out: &mut Counted<W>,
     trace: &Trace,
     callers: &[u32],
@@ -176,7 +176,7 @@ fn put_rows<W: Write>(
 }
 
 fn put_row<W: Write>(
-    gathered: &mut Gathered,
+    gathered: &mut WriteBuffer,
     out: &mut Counted<W>,
     trace: &Trace,
     caller: u32,
@@ -192,7 +192,7 @@ fn put_row<W: Write>(
 }
 
 fn put_events<W: Write>(
-    gathered: &mut Gathered,
+    gathered: &mut WriteBuffer,
     out: &mut Counted<W>,
     from: usize,
     width: usize,
@@ -206,7 +206,7 @@ fn put_events<W: Write>(
 }
 
 fn put_last_row<W: Write>(
-    gathered: &mut Gathered,
+    gathered: &mut WriteBuffer,
     out: &mut Counted<W>,
     trace: &Trace,
     from: usize,

@@ -9,8 +9,8 @@ ghost use Rattle.frame_lines.specs.ReplyForm.{reply as said, line_of, IsLined};
 ghost use Rattle.trace_lines.specs.TraceText.{trace_text, records_text, record_line, reply_words, answer_words, bundle_words, order_line, number_word, ended};
 ghost use Rattle.trace_lines.specs.Private.Puts.{Puts, out_of};
 
-use crate::gathered::Gathered;
 use crate::record_head::record_head;
+use crate::write_buffer::WriteBuffer;
 use frame_front::{Counted, FrontError};
 use frame_lines::ReplyForm;
 use frame_lines::head::{head_of, put, put_number};
@@ -27,13 +27,13 @@ pub fn put_trace<W: Write>(out: &mut Counted<W>, trace: &Trace) -> Result<(), Fr
     ensures fault { IfErr result (λ fault. (fault ≡ FrontError.WriteFault) × (faults_in out.new ≡ next_count (faults_in out.old))) }
     ensures front { WritesFront (W.contents (end_in out.old)) (W.contents (end_in out.new)) (trace_text trace.now.ops.items trace.now.order.items) }
 {
-    let mut gathered = Gathered::new();
+    let mut gathered = WriteBuffer::new();
     put_text(&mut gathered, out, trace)?;
     gathered.flush(out)
 }
 
 pub(crate) fn put_text<W: Write>(
-    gathered: &mut Gathered,
+    gathered: &mut WriteBuffer,
     out: &mut Counted<W>,
     trace: &Trace,
 ) -> Result<(), FrontError>
@@ -44,7 +44,7 @@ pub(crate) fn put_text<W: Write>(
 }
 
 fn put_records<W: Write>(
-    gathered: &mut Gathered,
+    gathered: &mut WriteBuffer,
     out: &mut Counted<W>,
     records: &[OpRecord],
 ) -> Result<(), FrontError>
@@ -57,7 +57,7 @@ fn put_records<W: Write>(
 }
 
 fn put_record<W: Write>(
-    gathered: &mut Gathered,
+    gathered: &mut WriteBuffer,
     out: &mut Counted<W>,
     number: usize,
     entry: &OpRecord,
@@ -72,7 +72,7 @@ fn put_record<W: Write>(
 
 /// Puts a reply, or a dash for none.
 fn put_reply<W: Write>(
-    gathered: &mut Gathered,
+    gathered: &mut WriteBuffer,
     out: &mut Counted<W>,
     reply: &Option<Result<Reply, AskError>>,
 ) -> Result<(), FrontError>
@@ -86,7 +86,7 @@ fn put_reply<W: Write>(
 
 /// Puts the line of a reply, and on it all bundles if it tells them.
 fn put_answer<W: Write>(
-    gathered: &mut Gathered,
+    gathered: &mut WriteBuffer,
     out: &mut Counted<W>,
     answer: &Result<Reply, AskError>,
 ) -> Result<(), FrontError>
@@ -108,7 +108,7 @@ fn bundles(answer: &Result<Reply, AskError>) -> &[(TrustDomain, Bundle)]
 }
 
 fn put_form<W: Write>(
-    gathered: &mut Gathered,
+    gathered: &mut WriteBuffer,
     out: &mut Counted<W>,
     form: &ReplyForm<'_>,
 ) -> Result<(), FrontError>
@@ -122,7 +122,7 @@ fn put_form<W: Write>(
 }
 
 fn put_bundles<W: Write>(
-    gathered: &mut Gathered,
+    gathered: &mut WriteBuffer,
     out: &mut Counted<W>,
     items: &[(TrustDomain, Bundle)],
 ) -> Result<(), FrontError>
@@ -135,7 +135,7 @@ fn put_bundles<W: Write>(
 }
 
 fn put_bundle<W: Write>(
-    gathered: &mut Gathered,
+    gathered: &mut WriteBuffer,
     out: &mut Counted<W>,
     item: &(TrustDomain, Bundle),
 ) -> Result<(), FrontError>
@@ -149,7 +149,7 @@ fn put_bundle<W: Write>(
 }
 
 fn put_order<W: Write>(
-    gathered: &mut Gathered,
+    gathered: &mut WriteBuffer,
     out: &mut Counted<W>,
     order: &[usize],
 ) -> Result<(), FrontError>
@@ -161,7 +161,7 @@ fn put_order<W: Write>(
 }
 
 fn put_numbers<W: Write>(
-    gathered: &mut Gathered,
+    gathered: &mut WriteBuffer,
     out: &mut Counted<W>,
     numbers: &[usize],
 ) -> Result<(), FrontError>
@@ -175,7 +175,7 @@ fn put_numbers<W: Write>(
 
 /// Puts a number behind what stands before it.
 fn put_next<W: Write>(
-    gathered: &mut Gathered,
+    gathered: &mut WriteBuffer,
     out: &mut Counted<W>,
     number: usize,
 ) -> Result<(), FrontError>

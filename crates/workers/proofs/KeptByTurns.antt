@@ -12,7 +12,7 @@ use Rattle.workers.proofs.KeptAlong.{all_keep}
 use Rattle.workers.specs.ReadOnly.{is_read}
 use Rattle.workers.specs.AtPort.{PortAnswer}
 use Rattle.workers.specs.Connection.{ConnectionView, Turn, turn_rounds, last_rounds}
-use Rattle.workers.specs.declared.after.After.{After}
+use Rattle.workers.specs.declared.turn_end.TurnEnd.{TurnEnd}
 use Rattle.workers.specs.Places.{Places, Step, Opens, Turns, Misses, Ticks, Closes, GivesUp, Ends, Fails, Takes, TakesAll, ServedAll, nobody}
 
 module _ {S : Type 0} (answers : S → Op → Result Reply AskError → S → Type 0) (Keeps : S → S → Type 0)
@@ -46,7 +46,7 @@ module _ {S : Type 0} (answers : S → Op → Result Reply AskError → S → Ty
   port_keeps true s op answer t a = behind_keeps (is_read op) s op answer t a
   port_keeps false s op answer t a = each s op answer t a
 
-  turn_keeps : (rounds : ℕ) (reads_only : Bool) (after : After) (a b : ConnectionView) (old new : S) → Turn rounds (PortAnswer answers reads_only) after a b old new → Keeps old new
+  turn_keeps : (rounds : ℕ) (reads_only : Bool) (after : TurnEnd) (a b : ConnectionView) (old new : S) → Turn rounds (PortAnswer answers reads_only) after a b old new → Keeps old new
   turn_keeps rounds reads_only after a b old new t =
       does_all_keep (PortAnswer answers reads_only) Keeps same further (port_keeps reads_only) t.calls (a.live, old) (b.live, new) t.does
 

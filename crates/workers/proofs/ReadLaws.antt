@@ -5,7 +5,7 @@ use Rattle.map_core.specs.declared.op.Op.TheVariants.{Set, SetIf, Append, Remove
 use Rattle.map_core.specs.declared.reply.Reply.{Reply}
 use Rattle.map_core.specs.declared.reply.AskError.{AskError}
 use Rattle.map_core.specs.PlainMap.{PlainMap, ask}
-use Rattle.map_core.specs.Ask.{PlainAnswer}
+use Rattle.map_core.specs.Ask.{AnswersPlainly, PlainAnswer}
 use Rattle.workers.specs.Gate.{AnsweredBehind}
 use Rattle.workers.specs.ReadOnly.{ReadAnswer, is_read}
 use Rattle.map_core.proofs.Asks.{kept_left}
@@ -24,7 +24,7 @@ reads_change_nothing m (Append d a) read = cc
 reads_change_nothing m (Remove d) read = cc
 
 module _ {S : Type 0} (answers : S → Op → Result Reply AskError → S → Type 0) (shows : S → Option PlainMap)
-    (plainly : (old : S) (op : Op) (answer : Result Reply AskError) (new : S) (m : PlainMap) → shows old ≡ Some m → answers old op answer new → PlainAnswer m op answer (shows new)) where
+    (plainly : AnswersPlainly answers shows) where
   -- a read that was answered
   after_read : (m : PlainMap) (op : Op) (answer : Result Reply AskError) (shown : Option PlainMap) → is_read op ≡ true → PlainAnswer m op answer shown → shown ≡ Some m
   after_read m op (Ok reply) shown read answered = answered.1 ∙ ap Some (reads_change_nothing m op read)

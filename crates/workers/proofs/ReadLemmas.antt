@@ -4,7 +4,7 @@ use Rattle.std.specs.Prelude.{Option}
 use Rattle.std.specs.Io.KnownBytes.{Consumes, Keeps}
 use Rattle.std.proofs.KnownBytes.{Consumes-nil, Consumes-kept}
 use Rattle.frame_front.specs.Live.{LiveView, Feeds, live_view}
-use Rattle.workers.specs.declared.after.After.{After}
+use Rattle.workers.specs.declared.turn_end.TurnEnd.{TurnEnd}
 use Rattle.workers.specs.Connection.{ConnectionView, MakesReads}
 use Rattle.workers.specs.Private.Goes.{ReadsAs, ReadsUntil}
 
@@ -30,7 +30,7 @@ after_read c left ended = record {
 }
 
 -- nothing reaches the session
-pub reads_nothing : (c : ConnectionView) (left : Option (List ℕ)) (ended had_left : Bool) (result : Result Bool After)
+pub reads_nothing : (c : ConnectionView) (left : Option (List ℕ)) (ended had_left : Bool) (result : Result Bool TurnEnd)
     → Consumes c.left left [] → ReadsUntil had_left result [] [] c (after_read c left ended) → ReadsAs had_left result c (after_read c left ended)
 reads_nothing c left ended had_left result consumes until = record {
   piece = [];

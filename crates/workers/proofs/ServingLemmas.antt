@@ -12,8 +12,8 @@ use Rattle.map_core.specs.declared.reply.AskError.{AskError}
 use Rattle.frame_front.specs.declared.error.FrontError.{FrontError}
 use Rattle.workers.specs.Connection.{Owes, StopsFor, Turn, opened, told, turn_rounds}
 use Rattle.workers.specs.Stream.{May}
-use Rattle.workers.specs.declared.after.After.{After}
-use Rattle.workers.specs.declared.after.After.TheVariants.{Over}
+use Rattle.workers.specs.declared.turn_end.TurnEnd.{TurnEnd}
+use Rattle.workers.specs.declared.turn_end.TurnEnd.TheVariants.{Over}
 use Rattle.workers.specs.AtPort.{PortAnswer}
 use Rattle.workers.specs.Arrivals.{News, NewClient, IsReady, HasTicked, HasFailed}
 use Rattle.workers.specs.declared.limits.Limits.{Limits}
@@ -45,7 +45,7 @@ beyond s place far = get_or_past s.slots place None far
 -- ---- turns and ends as steps
 
 -- these steps are a turn of the connection that is there
-is_turn : (place : ℕ) (ready : Option Bool) (after : After) (o : Option Place) (p : Place) (steps : List Step) → o ≡ Some p → steps ≡ turn_steps place ready after → IsTurn place ready o steps
+is_turn : (place : ℕ) (ready : Option Bool) (after : TurnEnd) (o : Option Place) (p : Place) (steps : List Step) → o ≡ Some p → steps ≡ turn_steps place ready after → IsTurn place ready o steps
 is_turn place ready after o p steps was is = subst (λ (q : Option Place). IsTurn place ready q steps) (sym was) (after, is)
 
 module _ {S : Type 0} (answers : S → Op → Result Reply AskError → S → Type 0) (limits : Limits) where
@@ -64,7 +64,7 @@ module _ {S : Type 0} (answers : S → Op → Result Reply AskError → S → Ty
       serves_then answers limits (AllByRecursion IsLast) (AllByRecursion IsLast) (AllByRecursion IsLast) a b c s t u (λ xs ys waits m n. all_then IsLast xs ys m n) p q
 
   -- a turn is taken
-  had_turn : (place : ℕ) (is_closing : Bool) (ready : Option Bool) (found after : After) (old new : Work) (s t : S) → found ≡ after → closing_of ready ≡ is_closing
+  had_turn : (place : ℕ) (is_closing : Bool) (ready : Option Bool) (found after : TurnEnd) (old new : Work) (s t : S) → found ≡ after → closing_of ready ≡ is_closing
       → HadTurn answers place is_closing (Some found) old.places new.places s t → new.waiting ≡ waiting_after old.waiting (Turns place ready after) → new.kept ≡ old.kept
       → Serves answers limits (λ steps. steps ≡ Turns place ready after ∷ []) old new s t
   had_turn place is_closing ready found after old new s t is closes h waits kept =
@@ -77,7 +77,7 @@ module _ {S : Type 0} (answers : S → Op → Result Reply AskError → S → Ty
           (subst (λ b. Turn turn_rounds (PortAnswer answers h.before.reads_only) found (told b h.before.connection) h.behind s t) (sym closes) h.does)
 
   -- a turn, after which the connection is not left
-  pub turn_serves : (place : ℕ) (is_closing : Bool) (ready : Option Bool) (found after : After) (old new : Work) (s t : S) → turn_steps place ready after ≡ Turns place ready after ∷ []
+  pub turn_serves : (place : ℕ) (is_closing : Bool) (ready : Option Bool) (found after : TurnEnd) (old new : Work) (s t : S) → turn_steps place ready after ≡ Turns place ready after ∷ []
       → found ≡ after → closing_of ready ≡ is_closing → HadTurn answers place is_closing (Some found) old.places new.places s t → new.waiting ≡ waiting_after old.waiting (Turns place ready after) → new.kept ≡ old.kept
       → Serves answers limits (IsTurn place ready (old.places place)) old new s t
   turn_serves place is_closing ready found after old new s t stays is closes h waits kept =
@@ -86,7 +86,7 @@ module _ {S : Type 0} (answers : S → Op → Result Reply AskError → S → Ty
       (had_turn place is_closing ready found after old new s t is closes h waits kept)
 
   -- a turn after which the session is over, and the connection is left
-  pub over_serves : (place : ℕ) (is_closing : Bool) (ready : Option Bool) (found : After) (end : Result ℕ FrontError) (old mid new : Work) (s t : S)
+  pub over_serves : (place : ℕ) (is_closing : Bool) (ready : Option Bool) (found : TurnEnd) (end : Result ℕ FrontError) (old mid new : Work) (s t : S)
       → found ≡ Over end → closing_of ready ≡ is_closing → HadTurn answers place is_closing (Some found) old.places mid.places s t → mid.waiting ≡ without place old.waiting → mid.kept ≡ old.kept
       → new.places place ≡ None → OthersStay place mid.places new.places → new.waiting ≡ without place mid.waiting → Notes (front_end end ∷ []) mid.kept new.kept
       → Serves answers limits (IsTurn place ready (old.places place)) old new s t

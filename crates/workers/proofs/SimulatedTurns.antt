@@ -16,7 +16,7 @@ use Rattle.workers.specs.Gate.{AnsweredBehind}
 use Rattle.workers.specs.ReadOnly.{is_read}
 use Rattle.workers.specs.AtPort.{PortAnswer}
 use Rattle.workers.specs.Connection.{ConnectionView, Turn, turn_rounds, last_rounds}
-use Rattle.workers.specs.declared.after.After.{After}
+use Rattle.workers.specs.declared.turn_end.TurnEnd.{TurnEnd}
 use Rattle.workers.specs.Places.{Places, Step, Opens, Turns, Misses, Ticks, Closes, GivesUp, Ends, Fails, Takes, TakesAll, ServedAll, nobody}
 
 module _ {S T : Type 0} (answers : S → Op → Result Reply AskError → S → Type 0) (answers_seen : T → Op → Result Reply AskError → T → Type 0)
@@ -76,7 +76,7 @@ module _ {S T : Type 0} (answers : S → Op → Result Reply AskError → S → 
       let rest = does_all_seen calls d.0 new one.0 d.2 in
       (rest.0, ((d.0.0, seen d.0.1), one.1, rest.1))
 
-  pub turn_seen : (rounds : ℕ) (after : After) (a b : ConnectionView) (old new : S) → Stays old → Turn rounds answers after a b old new
+  pub turn_seen : (rounds : ℕ) (after : TurnEnd) (a b : ConnectionView) (old new : S) → Stays old → Turn rounds answers after a b old new
       → Stays new × Turn rounds answers_seen after a b (seen old) (seen new)
   turn_seen rounds after a b old new stays t =
       let all = does_all_seen t.calls (a.live, old) (b.live, new) stays t.does in (
@@ -115,7 +115,7 @@ module _ {S T : Type 0} (answers : S → Op → Result Reply AskError → S → 
   port_seen true s op answer t stays a = behind_seen (is_read op) s op answer t stays a
   port_seen false s op answer t stays a = each s op answer t stays a
 
-  port_turn_seen : (rounds : ℕ) (reads_only : Bool) (after : After) (a b : ConnectionView) (old new : S) → Stays old
+  port_turn_seen : (rounds : ℕ) (reads_only : Bool) (after : TurnEnd) (a b : ConnectionView) (old new : S) → Stays old
       → Turn rounds (PortAnswer answers reads_only) after a b old new → Stays new × Turn rounds (PortAnswer answers_seen reads_only) after a b (seen old) (seen new)
   port_turn_seen rounds reads_only after a b old new stays t =
       turn_seen (PortAnswer answers reads_only) (PortAnswer answers_seen reads_only) seen Stays (port_seen reads_only) rounds after a b old new stays t

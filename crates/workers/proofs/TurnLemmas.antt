@@ -12,9 +12,9 @@ use Rattle.frame_front.specs.declared.error.FrontError.TheVariants.{BadLength, T
 use Rattle.frame_front.specs.Frame.{IsBadLength}
 use Rattle.frame_front.specs.Live.{LiveView, Sends, StopsAt, most_frames}
 use Rattle.frame_front.specs.LiveCalls.{LiveCall, DoesAll, piece_of, bytes_of, Feed, Send, fed, sent, frames_of}
-use Rattle.workers.specs.declared.after.After.{After}
-use Rattle.workers.specs.declared.ends.Broken.{Broken}
-use Rattle.workers.specs.declared.after.After.TheVariants.{Waits, Again, Over}
+use Rattle.workers.specs.declared.turn_end.TurnEnd.{TurnEnd}
+use Rattle.workers.specs.declared.ends.StreamFailed.{StreamFailed}
+use Rattle.workers.specs.declared.turn_end.TurnEnd.TheVariants.{Waits, Again, Over}
 use Rattle.workers.specs.Connection.{ConnectionView, EndsFor, EndsHere, EndsShort, HadShare, IsLost, LosesOnly, MakesReads, StopsFor, Turn, WaitsFor, room_bytes}
 use Rattle.workers.specs.Reads.{reads_for, reads_of}
 use Rattle.workers.specs.Private.Goes.{Goes, GoesOn, ReadsAs, Round, SendsAs, StaysShort, StaysSo, StopsIn}
@@ -72,7 +72,7 @@ waits_by P Q c f (inr reads) = inr (reads.0, reads.1, reads.2, reads.3, by reads
     by (inl waits) = inl waits
     by (inr short) = inr (short.0, short.1, f short.2)
 
-stops_by : (P Q : Type 0) (after : After) (c : ConnectionView) → (P → Q) → StopsIn P after c → StopsIn Q after c
+stops_by : (P Q : Type 0) (after : TurnEnd) (c : ConnectionView) → (P → Q) → StopsIn P after c → StopsIn Q after c
 stops_by P Q Waits c f stops = waits_by P Q c f stops
 stops_by P Q Again c f stops = absurd stops
 stops_by P Q (Over result) c f stops = stops
@@ -169,7 +169,7 @@ module _ {S : Type 0} (answers : S → Op → Result Reply AskError → S → Ty
       short (inr s) = short_before p.0.calls q.calls (p.2 s.0) s.1
 
   -- frames are answered, and replies written
-  pub round_sent : (result : Result Bool Broken) (a b c : ConnectionView) (m n : S) → Goes answers most_frames [] a b m n → (q : SendsAs result b c)
+  pub round_sent : (result : Result Bool StreamFailed) (a b c : ConnectionView) (m n : S) → Goes answers most_frames [] a b m n → (q : SendsAs result b c)
       → b.has_ended ≡ a.has_ended → b.turns ≡ a.turns → (goes : Goes answers most_frames [] a c m n) × (length q.bytes ≤ length (sent goes.calls)) × (reads_of goes.calls ≡ 0)
   round_sent result a b c m n p q unended unread =
       let sends : Goes answers 0 [] b c n n = record {
@@ -194,7 +194,7 @@ module _ {S : Type 0} (answers : S → Op → Result Reply AskError → S → Ty
   HasRead piece lost a c m n = (goes : Goes answers most_frames lost a c m n) × (reads_for piece ≤ reads_of goes.calls) × (0 < length piece → length piece < room_bytes → EndsShort goes.calls)
 
   -- and then a piece is read
-  pub round_read : (had_left : Bool) (result : Result Bool After) (a b c : ConnectionView) (m n : S) → Goes answers most_frames [] a b m n → (q : ReadsAs had_left result b c)
+  pub round_read : (had_left : Bool) (result : Result Bool TurnEnd) (a b c : ConnectionView) (m n : S) → Goes answers most_frames [] a b m n → (q : ReadsAs had_left result b c)
       → b.has_ended ≡ a.has_ended → HasRead q.piece q.lost a c m n
   round_read had_left result a b c m n p q unended =
       let reads : Goes answers 0 q.lost b c n n = record {
@@ -215,7 +215,7 @@ module _ {S : Type 0} (answers : S → Op → Result Reply AskError → S → Ty
       )
 
   -- what ends the read ends the round
-  pub round_ends : (had_left : Bool) (result : Result Bool After) (a b c : ConnectionView) (m n : S) (q : ReadsAs had_left result b c)
+  pub round_ends : (had_left : Bool) (result : Result Bool TurnEnd) (a b c : ConnectionView) (m n : S) (q : ReadsAs had_left result b c)
       → HasRead q.piece q.lost a c m n → b.has_ended ≡ a.has_ended → b.turns ≡ a.turns → Round answers had_left result a c m n
   round_ends had_left (Err after) a b c m n q goes same unread =
       let unmade : (had_left ≡ true) × (c.turns ≡ b.turns) → StaysShort had_left goes.0.calls = λ (h : (had_left ≡ true) × (c.turns ≡ b.turns)). (h.0, omega (arith, goes.0.makes, h.1, unread)) in
@@ -225,7 +225,7 @@ module _ {S : Type 0} (answers : S → Op → Result Reply AskError → S → Ty
       (λ g. (g.0, q.until.1 ∙ same, (0, omega (arith, g.1, q.until.2), omega arith), q.until.3, λ e. inl (g.2 q.until.2 (q.until.4 e)))) goes
 
   -- a turn ends with a round
-  pub turn_ends : (most rounds : ℕ) (had_left : Bool) (after : After) (a b c : ConnectionView) (m n o : S) → rounds < most → GoesOn answers rounds had_left a b m n → b.has_ended ≡ a.has_ended
+  pub turn_ends : (most rounds : ℕ) (had_left : Bool) (after : TurnEnd) (a b c : ConnectionView) (m n o : S) → rounds < most → GoesOn answers rounds had_left a b m n → b.has_ended ≡ a.has_ended
       → Round answers had_left (Err after) b c n o → Turn most answers after a c m o
   turn_ends most rounds had_left after a b c m n o few before same e =
       let further = goes_on rounds had_left e.0 a b c m n o before e.1 same in
@@ -248,7 +248,7 @@ module _ {S : Type 0} (answers : S → Op → Result Reply AskError → S → Ty
         why = why after goes.calls (λ s. further.2 (inr s)) e.4;
       }
     where
-      why : (after : After) (calls : List LiveCall) → (StaysShort had_left e.1.calls → EndsShort calls) → StopsIn (StaysShort had_left e.1.calls) after c → EndsFor most after calls c
+      why : (after : TurnEnd) (calls : List LiveCall) → (StaysShort had_left e.1.calls → EndsShort calls) → StopsIn (StaysShort had_left e.1.calls) after c → EndsFor most after calls c
       why Waits calls short stops = waits_by (StaysShort had_left e.1.calls) (EndsShort calls) c short stops
       why Again calls short stops = absurd stops
       why (Over result) calls short stops = stops

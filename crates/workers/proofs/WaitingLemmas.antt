@@ -7,8 +7,8 @@ use Rattle.std.proofs.lemmas.List.Sums.{fold-append}
 use Rattle.map_core.specs.declared.op.Op.{Op}
 use Rattle.map_core.specs.declared.reply.Reply.{Reply}
 use Rattle.map_core.specs.declared.reply.AskError.{AskError}
-use Rattle.workers.specs.declared.after.After.{After}
-use Rattle.workers.specs.declared.after.After.TheVariants.{Waits, Again, Over}
+use Rattle.workers.specs.declared.turn_end.TurnEnd.{TurnEnd}
+use Rattle.workers.specs.declared.turn_end.TurnEnd.TheVariants.{Waits, Again, Over}
 use Rattle.workers.specs.Arrivals.{News}
 use Rattle.workers.specs.Places.{Place, Places, Step, Opens, Turns, Misses, Ticks, Closes, GivesUp, Ends, Fails, Follows, FollowsAll, OthersStay, ServesFirst, Takes, TakesAll, ticked, waiting_after, without}
 use Rattle.workers.specs.Private.Serving.{AreOpen, Serves, Work}
@@ -49,7 +49,7 @@ module _ {S : Type 0} (answers : S → Op → Result Reply AskError → S → Ty
   left_open place old new others waiting are_there =
       without_all place (λ other. IsSome (old other)) (λ other. IsSome (new other)) (λ other else there. subst IsSome (sym (others other else)) there) waiting are_there
 
-  turn_open : (place : ℕ) (ready : Option Bool) (after : After) (old new : Places) → IsSome (new place) → OthersStay place old new → (waiting : List ℕ) → AreOpen old waiting
+  turn_open : (place : ℕ) (ready : Option Bool) (after : TurnEnd) (old new : Places) → IsSome (new place) → OthersStay place old new → (waiting : List ℕ) → AreOpen old waiting
       → AreOpen new (waiting_after waiting (Turns place ready after))
   turn_open place ready Again old new here others waiting are_there =
       all_then (λ other. IsSome (new other)) (without place waiting) (place ∷ []) (left_open place old new others waiting are_there) (here, tt)

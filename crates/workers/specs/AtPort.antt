@@ -1,10 +1,10 @@
 -- What is answered at a port.
-use Rattle.std.specs.Prelude.{◌≡◌, Bool, true, false, Option, Some, Result}
+use Rattle.std.specs.Prelude.{Bool, true, false, Option, Result}
 use Rattle.map_core.specs.declared.op.Op.{Op}
 use Rattle.map_core.specs.declared.reply.Reply.{Reply}
 use Rattle.map_core.specs.declared.reply.AskError.{AskError}
 use Rattle.map_core.specs.PlainMap.{PlainMap}
-use Rattle.map_core.specs.Ask.{PlainAnswer}
+use Rattle.map_core.specs.Ask.{AnswersPlainly}
 use Rattle.workers.specs.ReadOnly.{ReadAnswer, read_answers_plainly}
 
 -- at a port that is for reads only, or for all
@@ -14,7 +14,6 @@ PortAnswer answers false old op answer new = answers old op answer new
 
 -- If a map is shown, what is answered is the plain map's, too.
 pub port_answers_plainly : {S : Type 0} (answers : S → Op → Result Reply AskError → S → Type 0) (shows : S → Option PlainMap)
-    → ((old : S) (op : Op) (answer : Result Reply AskError) (new : S) (m : PlainMap) → shows old ≡ Some m → answers old op answer new → PlainAnswer m op answer (shows new))
-    → (reads_only : Bool) (old : S) (op : Op) (answer : Result Reply AskError) (new : S) (m : PlainMap) → shows old ≡ Some m → PortAnswer answers reads_only old op answer new → PlainAnswer m op answer (shows new)
+    → AnswersPlainly answers shows → (reads_only : Bool) → AnswersPlainly (PortAnswer answers reads_only) shows
 port_answers_plainly answers shows plainly true old op answer new m shown answered = read_answers_plainly answers shows plainly old op answer new m shown answered
 port_answers_plainly answers shows plainly false old op answer new m shown answered = plainly old op answer new m shown answered

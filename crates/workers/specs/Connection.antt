@@ -12,8 +12,8 @@ use Rattle.frame_front.specs.Live.{LiveView, live_start, most_frames, reply_limi
 use Rattle.frame_front.specs.LiveCalls.{LiveCall, Feed, DoesAll, fed, sent, frames_of}
 use Rattle.workers.specs.Stream.{May}
 use Rattle.workers.specs.Reads.{reads_for, reads_of}
-use Rattle.workers.specs.declared.after.After.{After}
-use Rattle.workers.specs.declared.after.After.TheVariants.{Waits, Again, Over}
+use Rattle.workers.specs.declared.turn_end.TurnEnd.{TurnEnd}
+use Rattle.workers.specs.declared.turn_end.TurnEnd.TheVariants.{Waits, Again, Over}
 
 -- A connection between two turns: its session, how many frames were answered, how many reads it may still make, whether its input
 -- has ended, whether bytes that were read are lost, and whether its client is known to have closed its side. Of its stream: what
@@ -117,7 +117,7 @@ StopsFor (Err TurnsUsed) new = IsUnfinished new.live.kept × AllSent new × (new
 StopsFor (Err Memory) new = (new.live.later ≢ []) ⊎ (new.has_lost ≡ true)
 
 -- why a turn of so many rounds ends, in which these calls were made
-abbrev pub EndsFor : ℕ → After → List LiveCall → ConnectionView → Type 0
+abbrev pub EndsFor : ℕ → TurnEnd → List LiveCall → ConnectionView → Type 0
 EndsFor rounds Waits calls new = WaitsFor (EndsShort calls) new
 EndsFor rounds Again calls new = HadShare rounds calls
 EndsFor rounds (Over result) calls new = StopsFor result new
@@ -135,13 +135,13 @@ abbrev pub LosesOnly : List ℕ → ConnectionView → ConnectionView → Type 0
 LosesOnly lost old new = new.has_lost ≡ true → (old.has_lost ≡ true) ⊎ (0 < length lost)
 
 -- only if memory is refused, bytes are read that reach no session
-abbrev pub IsLost : After → List ℕ → Type 0
+abbrev pub IsLost : TurnEnd → List ℕ → Type 0
 IsLost (Over (Err Memory)) lost = ⊤
 IsLost result lost = lost ≡ []
 
 -- One turn of a connection: calls of its session, one after the other, fed with what was read and whose replies were written.
 -- Each piece was one read. An input that has ended is read no more.
-pub record Turn (rounds : ℕ) {S : Type 0} (answers : S → Op → Result Reply AskError → S → Type 0) (result : After)
+pub record Turn (rounds : ℕ) {S : Type 0} (answers : S → Op → Result Reply AskError → S → Type 0) (result : TurnEnd)
     (old new : ConnectionView) (map_old map_new : S) : Type 0 where
   pub calls : List LiveCall
   pub lost : List ℕ
@@ -160,7 +160,7 @@ pub record Turn (rounds : ℕ) {S : Type 0} (answers : S → Op → Result Reply
   pub why : EndsFor rounds result calls new
 
 -- how a session ends after its last turn: if it would wait, its client takes no more
-abbrev pub last_end : After → Result ℕ FrontError
+abbrev pub last_end : TurnEnd → Result ℕ FrontError
 last_end (Over result) = result
 last_end Waits = Err WriteFault
 last_end Again = Err TurnsUsed
@@ -169,4 +169,4 @@ last_end Again = Err TurnsUsed
 abbrev pub LastTurn : {S : Type 0} (answers : S → Op → Result Reply AskError → S → Type 0) → Result ℕ FrontError
     → ConnectionView → ConnectionView → S → S → Type 0
 LastTurn answers result old new map_old map_new =
-    (after : After) × Turn last_rounds answers after (ended old) new map_old map_new × (result ≡ last_end after)
+    (after : TurnEnd) × Turn last_rounds answers after (ended old) new map_old map_new × (result ≡ last_end after)

@@ -6,7 +6,7 @@ use Rattle.map_core.specs.declared.reply.Reply.{Reply}
 use Rattle.map_core.specs.declared.reply.AskError.{AskError}
 use Rattle.map_core.specs.declared.reply.AskError.TheVariants.{GateShut}
 use Rattle.map_core.specs.PlainMap.{PlainMap}
-use Rattle.map_core.specs.Ask.{PlainAnswer}
+use Rattle.map_core.specs.Ask.{AnswersPlainly, PlainAnswer}
 
 module _ {S : Type 0} (answers : S → Op → Result Reply AskError → S → Type 0) where
   -- whoever stands behind an open gate answers; at a shut one nothing is asked
@@ -20,8 +20,7 @@ module _ {S : Type 0} (answers : S → Op → Result Reply AskError → S → Ty
 
 -- If a map is shown, what is answered through a gate is the plain map's, too.
 pub gated_answers_plainly : {S : Type 0} (opens : Bool → Type 0) (answers : S → Op → Result Reply AskError → S → Type 0) (shows : S → Option PlainMap)
-    → ((old : S) (op : Op) (answer : Result Reply AskError) (new : S) (m : PlainMap) → shows old ≡ Some m → answers old op answer new → PlainAnswer m op answer (shows new))
-    → (old : S) (op : Op) (answer : Result Reply AskError) (new : S) (m : PlainMap) → shows old ≡ Some m → GatedAnswer answers opens old op answer new → PlainAnswer m op answer (shows new)
+    → AnswersPlainly answers shows → AnswersPlainly (GatedAnswer answers opens) shows
 gated_answers_plainly {S} opens answers shows plainly old op answer new m shown gated = behind gated.0 gated.2
   where
     behind : (is_open : Bool) → AnsweredBehind answers is_open old op answer new → PlainAnswer m op answer (shows new)

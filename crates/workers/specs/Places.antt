@@ -7,8 +7,8 @@ use Rattle.map_core.specs.declared.reply.AskError.{AskError}
 use Rattle.frame_front.specs.declared.error.FrontError.{FrontError}
 use Rattle.workers.specs.Connection.{ConnectionView, LastTurn, Owes, StopsFor, Turn, counted, opened, told, turn_rounds}
 use Rattle.workers.specs.Stream.{May}
-use Rattle.workers.specs.declared.after.After.{After}
-use Rattle.workers.specs.declared.after.After.TheVariants.{Again, Over}
+use Rattle.workers.specs.declared.turn_end.TurnEnd.{TurnEnd}
+use Rattle.workers.specs.declared.turn_end.TurnEnd.TheVariants.{Again, Over}
 use Rattle.workers.specs.Arrivals.{News, NewClient, IsReady, HasTicked, HasFailed, IsQuiet, IsToStop}
 use Rattle.workers.specs.AtPort.{PortAnswer}
 use Rattle.workers.specs.Ended.{EndsView, kept_of}
@@ -40,7 +40,7 @@ ticked (Some place) = Some (record place { silent = counted (place.silent + 1) }
 -- connection its last turn and leaves it; or it learns that its listener failed.
 pub data Step : Type 0 where
   Opens : (place : ℕ) → (start : ConnectionView) → (reads_only : Bool) → Step
-  Turns : (place : ℕ) → (ready : Option Bool) → (after : After) → Step
+  Turns : (place : ℕ) → (ready : Option Bool) → (after : TurnEnd) → Step
   Misses : (place : ℕ) → (is_closing : Bool) → Step
   Ticks : Step
   Closes : (place : ℕ) → (result : Result ℕ FrontError) → Step
@@ -87,7 +87,7 @@ abbrev pub AllTick : Places → Places → Type 0
 AllTick old new = (place : ℕ) → new place ≡ ticked (old place)
 
 -- a turn of the connection at a place, which is left at once if its session is over then
-abbrev pub turn_steps : ℕ → Option Bool → After → List Step
+abbrev pub turn_steps : ℕ → Option Bool → TurnEnd → List Step
 turn_steps place ready (Over result) = Turns place ready (Over result) ∷ Closes place result ∷ []
 turn_steps place ready after = Turns place ready after ∷ []
 
@@ -99,7 +99,7 @@ IsGivenUp step = ⊥
 -- the steps that follow news, after which a worker goes on
 abbrev pub Follows : News → List Step → Type 0
 Follows (NewClient place start reads_only) steps = steps ≡ Opens place start reads_only ∷ []
-Follows (IsReady place is_closing) steps = (steps ≡ Misses place is_closing ∷ []) ⊎ ((after : After) × (steps ≡ turn_steps place (Some is_closing) after))
+Follows (IsReady place is_closing) steps = (steps ≡ Misses place is_closing ∷ []) ⊎ ((after : TurnEnd) × (steps ≡ turn_steps place (Some is_closing) after))
 Follows HasTicked steps = (silent : List Step) × (steps ≡ Ticks ∷ silent) × AllByRecursion IsGivenUp silent
 Follows HasFailed steps = steps ≡ Fails ∷ []
 Follows IsQuiet steps = steps ≡ []
@@ -123,7 +123,7 @@ waiting_after waiting step = waiting
 -- the first of those that wait has a turn, if any waits
 abbrev pub ServesFirst : List ℕ → List Step → Type 0
 ServesFirst [] steps = steps ≡ []
-ServesFirst (place ∷ others) steps = (after : After) × (steps ≡ turn_steps place None after)
+ServesFirst (place ∷ others) steps = (after : TurnEnd) × (steps ≡ turn_steps place None after)
 
 -- News is followed, one piece after the other, and after each piece the first of those that wait has a turn.
 abbrev pub FollowsAll : (waiting : List ℕ) → List News → List Step → Type 0

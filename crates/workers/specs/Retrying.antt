@@ -6,7 +6,7 @@ use Rattle.map_core.specs.declared.reply.Reply.{Reply}
 use Rattle.map_core.specs.declared.reply.AskError.{AskError}
 use Rattle.map_core.specs.declared.reply.AskError.TheVariants.{Memory, Moved, Held}
 use Rattle.map_core.specs.PlainMap.{PlainMap}
-use Rattle.map_core.specs.Ask.{PlainAnswer}
+use Rattle.map_core.specs.Ask.{AnswersPlainly, PlainAnswer}
 
 -- nothing was done, and the answer may be another soon: another caller held or changed a shard
 abbrev pub is_transient : {R : Type 0} → Result R AskError → Bool
@@ -33,8 +33,7 @@ module _ {S : Type 0} (answers : S → Op → Result Reply AskError → S → Ty
 
 -- If a map is shown, the last answer is the plain map's.
 pub retried_answers_plainly : {S : Type 0} (answers : S → Op → Result Reply AskError → S → Type 0) (shows : S → Option PlainMap)
-    → ((old : S) (op : Op) (answer : Result Reply AskError) (new : S) (m : PlainMap) → shows old ≡ Some m → answers old op answer new → PlainAnswer m op answer (shows new))
-    → (most : ℕ) (old : S) (op : Op) (answer : Result Reply AskError) (new : S) (m : PlainMap) → shows old ≡ Some m → Retried answers most old op answer new → PlainAnswer m op answer (shows new)
+    → AnswersPlainly answers shows → (most : ℕ) → AnswersPlainly (Retried answers most) shows
 retried_answers_plainly {S} answers shows plainly most old op answer new m shown retried = again retried.0 retried.3 old shown retried.4
   where
     still : (first : Result Reply AskError) (s : Option PlainMap) → is_transient first ≡ true → PlainAnswer m op first s → s ≡ Some m

@@ -47,10 +47,6 @@ impl<A: Ask> Ask for AtPort<A> {
         self.ask.ask(op)
     }
 
-    fn ask_get(&mut self, domain: TrustDomain) -> Result<Reply, AskError> {
-        self.ask.ask_get(domain)
-    }
-
     fn show_get<V: Viewer>(
         &mut self,
         domain: TrustDomain,

@@ -6,10 +6,10 @@ ghost use Rattle.workers.specs.Connection.{IsLost, LastTurn, Owes, StopsFor, Tur
 ghost use Rattle.workers.specs.Private.Ends.{LeavesAs};
 ghost use Rattle.workers.specs.Private.Goes.{Answers, SendsAs, ReadsAs, Round};
 
-use crate::after::After;
-use crate::ends::{Broken, Came, ROOM_BYTES, read_piece, write_replies};
+use crate::ends::{ROOM_BYTES, ReadOutcome, StreamFailed, read_piece, write_replies};
 use crate::limited::Limited;
 use crate::stream::Stream;
+use crate::turn_end::TurnEnd;
 use frame_front::{FrontError, LiveSession, Wants};
 use map_core::Ask;
 use spiffe_doc::DocumentReader;
@@ -107,7 +107,7 @@ impl<E: Stream + Drop> Connection<E> {
     }
 
     /// Writes the replies that are ready. The answer is whether all are written; if not, the stream takes no more now.
-    fn send(&mut self) -> Result<bool, Broken>
+    fn send(&mut self) -> Result<bool, StreamFailed>
         ensures { SendsAs result self.old self.new }
     {
         write_replies(&mut self.end, &mut self.live)
@@ -119,7 +119,7 @@ impl<E: Stream + Drop> Connection<E> {
         requires sent { waiting self.now.live ≡ [] }
         requires ended { self.now.has_ended ≡ true }
         ensures stops { StopsFor result self.now }
-        ensures none { IsLost (After.Over result) [] }
+        ensures none { IsLost (TurnEnd.Over result) [] }
     {
         match self.live.finish() {
             Ok(true) => Ok(self.answered),
@@ -130,33 +130,33 @@ impl<E: Stream + Drop> Connection<E> {
 
     /// Reads once, if no whole frame is left and nothing waits. The turn ends with the answer, or goes on: then the answer
     /// is whether the read has left some of its room. If the one before has, there is no more to read now.
-    fn read(&mut self, room: &mut [u8; ROOM_BYTES], has_left: bool) -> Result<bool, After>
+    fn read(&mut self, room: &mut [u8; ROOM_BYTES], has_left: bool) -> Result<bool, TurnEnd>
         requires unfinished { IsUnfinished self.old.live.kept }
         requires sent { waiting self.old.live ≡ [] }
         requires left { LeavesAs has_left self.old.may }
         ensures { ReadsAs has_left result self.old self.new }
     {
         if self.has_ended {
-            return Err(After::Over(self.finish()));
+            return Err(TurnEnd::Over(self.finish()));
         }
         if self.end.turns() == 0 {
-            return Err(After::Over(Err(FrontError::TurnsUsed)));
+            return Err(TurnEnd::Over(Err(FrontError::TurnsUsed)));
         }
         if has_left && !self.is_closing {
-            return Err(After::Waits);
+            return Err(TurnEnd::Waits);
         }
         match read_piece(&mut self.end, &mut self.live, room) {
-            Came::Piece(has_left) => Ok(has_left),
-            Came::Nothing => Err(After::Waits),
-            Came::End => {
+            ReadOutcome::Piece(has_left) => Ok(has_left),
+            ReadOutcome::Nothing => Err(TurnEnd::Waits),
+            ReadOutcome::End => {
                 self.has_ended = true;
-                Err(After::Over(self.finish()))
+                Err(TurnEnd::Over(self.finish()))
             }
-            Came::NoMemory => {
+            ReadOutcome::NoMemory => {
                 self.has_lost = true;
-                Err(After::Over(Err(FrontError::Memory)))
+                Err(TurnEnd::Over(Err(FrontError::Memory)))
             }
-            Came::Broken => Err(After::Over(Err(FrontError::ReadFault))),
+            ReadOutcome::Failed => Err(TurnEnd::Over(Err(FrontError::ReadFault))),
         }
     }
 
@@ -168,19 +168,19 @@ impl<E: Stream + Drop> Connection<E> {
         room: &mut [u8; ROOM_BYTES],
         ask: &mut A,
         has_left: bool,
-    ) -> Result<bool, After>
+    ) -> Result<bool, TurnEnd>
         requires { LeavesAs has_left self.old.may }
         ensures { Round A.answers has_left result self.old self.new ask.old ask.new }
     {
         let wants = self.answer(documents, ask);
         match self.send() {
             Ok(true) => {}
-            Ok(false) => return Err(After::Waits),
-            Err(Broken) => return Err(After::Over(Err(FrontError::WriteFault))),
+            Ok(false) => return Err(TurnEnd::Waits),
+            Err(StreamFailed) => return Err(TurnEnd::Over(Err(FrontError::WriteFault))),
         }
         let wants = match wants {
             Ok(wants) => wants,
-            Err(error) => return Err(After::Over(Err(error))),
+            Err(error) => return Err(TurnEnd::Over(Err(error))),
         };
         match wants {
             Wants::Write => Ok(has_left),
@@ -195,7 +195,7 @@ impl<E: Stream + Drop> Connection<E> {
         room: &mut [u8; ROOM_BYTES],
         ask: &mut A,
         most: u64,
-    ) -> After
+    ) -> TurnEnd
         requires { 0 < most }
         ensures { Turn most A.answers result self.old self.new ask.old ask.new }
     {
@@ -208,7 +208,7 @@ impl<E: Stream + Drop> Connection<E> {
             }
             rounds += 1;
         }
-        After::Again
+        TurnEnd::Again
     }
 
     /// Answers what has come and what comes now, in order, until the stream has no more or takes no more, the session is
@@ -222,7 +222,7 @@ impl<E: Stream + Drop> Connection<E> {
         room: &mut [u8; ROOM_BYTES],
         ask: &mut A,
         is_closing: bool,
-    ) -> After
+    ) -> TurnEnd
         ensures { Turn turn_rounds A.answers result (told is_closing self.old) self.new ask.old ask.new }
     {
         if is_closing {
@@ -244,9 +244,9 @@ impl<E: Stream + Drop> Connection<E> {
     {
         self.has_ended = true;
         match self.go(documents, room, ask, LAST_ROUNDS) {
-            After::Over(end) => end,
-            After::Waits => Err(FrontError::WriteFault),
-            After::Again => Err(FrontError::TurnsUsed),
+            TurnEnd::Over(end) => end,
+            TurnEnd::Waits => Err(FrontError::WriteFault),
+            TurnEnd::Again => Err(FrontError::TurnsUsed),
         }
     }
 }

@@ -18,10 +18,10 @@ use std::io::ErrorKind;
 pub const ROOM_BYTES: usize = 65_536;
 
 /// A call of a stream has failed.
-pub(crate) struct Broken;
+pub(crate) struct StreamFailed;
 
 /// What comes of one read.
-pub(crate) enum Came {
+pub(crate) enum ReadOutcome {
     /// A piece of the input, which was fed to the session; and whether the read has left some of its room.
     Piece(bool),
     /// The stream would have to wait.
@@ -31,7 +31,7 @@ pub(crate) enum Came {
     /// A piece of the input, which is lost: memory for it was refused.
     NoMemory,
     /// The stream failed.
-    Broken,
+    Failed,
 }
 
 /// Whether a call that ended so would have to wait.
@@ -46,7 +46,7 @@ fn would_wait(error: &io::Error) -> bool
 pub(crate) fn write_replies<E: Stream>(
     end: &mut Limited<E>,
     live: &mut LiveSession,
-) -> Result<bool, Broken>
+) -> Result<bool, StreamFailed>
     ensures sends { (bytes : List ℕ) × Sends bytes live.old live.new × Appends (E.held (stream_of end.old)) (E.held (stream_of end.new)) bytes }
     ensures left { E.left (stream_of end.new) ≡ E.left (stream_of end.old) }
     ensures turns { turns_of end.new ≡ turns_of end.old }
@@ -55,10 +55,10 @@ pub(crate) fn write_replies<E: Stream>(
 {
     while !live.replies().is_empty() {
         match end.write(live.replies()) {
-            Ok(0) => return Err(Broken),
+            Ok(0) => return Err(StreamFailed),
             Ok(count) => live.sent(count),
             Err(error) if would_wait(&error) => return Ok(false),
-            Err(_) => return Err(Broken),
+            Err(_) => return Err(StreamFailed),
         }
     }
     Ok(true)
@@ -69,7 +69,7 @@ pub(crate) fn read_piece<E: Stream>(
     end: &mut Limited<E>,
     live: &mut LiveSession,
     room: &mut [u8; ROOM_BYTES],
-) -> Came
+) -> ReadOutcome
     requires unfinished { IsUnfinished live.old.kept }
     requires turns { 0 < turns_of end.old }
     ensures takes { Takes result (E.may (stream_of end.old)) (E.left (stream_of end.old)) (E.left (stream_of end.new)) (turns_of end.old) (turns_of end.new) live.old live.new }
@@ -78,16 +78,16 @@ pub(crate) fn read_piece<E: Stream>(
 {
     let (room, _) = room.split_at_mut(live.room().min(ROOM_BYTES));
     match end.read(room) {
-        Ok(0) => Came::End,
+        Ok(0) => ReadOutcome::End,
         Ok(count) => match live.feed(room.split_at(count).0) {
-            Ok(_) => Came::Piece(count < room.len()),
-            Err(_) => Came::NoMemory,
+            Ok(_) => ReadOutcome::Piece(count < room.len()),
+            Err(_) => ReadOutcome::NoMemory,
         },
         Err(error) => {
             if would_wait(&error) {
-                Came::Nothing
+                ReadOutcome::Nothing
             } else {
-                Came::Broken
+                ReadOutcome::Failed
             }
         }
     }

@@ -67,16 +67,6 @@ impl<'a, A: Ask, G: Gate> Ask for Gated<'a, A, G> {
     }
 
     /// The same for a get.
-    fn ask_get(&mut self, domain: TrustDomain) -> Result<Reply, AskError> {
-        if !self.enters() {
-            return Err(AskError::GateShut);
-        }
-        let answer = self.ask.ask_get(domain);
-        self.gate.after(self.worker, self.calls);
-        answer
-    }
-
-    /// The same for a get that is answered to a viewer.
     fn show_get<V: Viewer>(
         &mut self,
         domain: TrustDomain,

@@ -11,7 +11,6 @@
 //! it carries. `AtPort` is a map that is asked at a port, maybe for reads only.
 #![tactic(auto)]
 
-mod after;
 mod arrivals;
 mod at_port;
 mod closing;
@@ -35,9 +34,9 @@ mod serving;
 mod session;
 mod sessions;
 mod stream;
+mod turn_end;
 mod worker;
 
-pub use after::After;
 pub use arrivals::{Arrival, Arrivals};
 pub use at_port::AtPort;
 pub use closing::close_store;
@@ -59,4 +58,5 @@ pub use serving::serve_arrivals;
 pub use session::Session;
 pub use sessions::{ListenFault, Sessions};
 pub use stream::Stream;
+pub use turn_end::TurnEnd;
 pub use worker::{Crew, Worker};

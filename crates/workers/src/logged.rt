@@ -136,13 +136,13 @@ impl<'a, C: Clock, L: Log> Logged<'a, C, L> {
             return Ok(None);
         };
         let copy = domain.copy()?;
-        found_by(self.patient.ask_get(copy))
+        found_by(self.patient.ask(Op::Get(copy)))
     }
 }
 
 impl<'a, C: Clock, L: Log> Ask for Logged<'a, C, L> {
     ghost use Rattle.std.specs.Prelude.{None};
-    ghost use Rattle.shard_store.specs.Seated.{seated_answers_plainly};
+    ghost use Rattle.std.proofs.lemmas.Option.{none-some};
     ghost use Rattle.workers.specs.Log.{LoggedAnswer};
 
     ghost answers = { λ old op answer new. (new.worker ≡ old.worker)
@@ -150,7 +150,7 @@ impl<'a, C: Clock, L: Log> Ask for Logged<'a, C, L> {
 
     ghost shows = { λ _. None };
 
-    ghost answers_plainly = { λ old op answer new m none answered. seated_answers_plainly old.patient.ask op answer new.patient.ask m none answered.1.answered };
+    ghost answers_plainly = { λ old op answer new m none answered. absurd (none-some m none) };
 
     /// Asks. If changes are to be told, it looks at what stands there before, and tells of the change that the answer tells
     /// of. It is out of memory, and has changed nothing, if there is no room for a copy of the operation or for the look.
@@ -176,10 +176,6 @@ impl<'a, C: Clock, L: Log> Ask for Logged<'a, C, L> {
     }
 
     /// The same for a get, which changes nothing.
-    fn ask_get(&mut self, domain: TrustDomain) -> Result<Reply, AskError> {
-        self.patient.ask_get(domain)
-    }
-
     fn show_get<V: Viewer>(
         &mut self,
         domain: TrustDomain,

@@ -67,22 +67,7 @@ impl<'a, A: Ask, C: Clock> Ask for Retrying<'a, A, C> {
         self.ask.ask(op)
     }
 
-    /// The same for a get, of which only the name is copied.
-    fn ask_get(&mut self, domain: TrustDomain) -> Result<Reply, AskError> {
-        for _try in 0..self.retries {
-            let Ok(copy) = domain.copy() else {
-                return Err(AskError::Memory);
-            };
-            let found = self.ask.ask_get(copy);
-            if !may_change(&found) {
-                return found;
-            }
-            thread::sleep(self.clock, Duration::from_micros(PAUSE));
-        }
-        self.ask.ask_get(domain)
-    }
-
-    /// The same for a get that is answered to a viewer, which sees nothing before the last answer.
+    /// The same for a get, of which only the name is copied. The viewer sees nothing before the last answer.
     fn show_get<V: Viewer>(
         &mut self,
         domain: TrustDomain,

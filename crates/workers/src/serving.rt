@@ -11,7 +11,7 @@ ghost use Rattle.workers.specs.Private.Serving.{AreOpen, Asks, HadLastTurn, HadT
 use crate::arrivals::{Arrival, Arrivals};
 use crate::at_port::AtPort;
 use crate::worker::Worker;
-use crate::{After, Connection, Log, ROOM_BYTES, SessionEnds, SessionFault, Stream};
+use crate::{Connection, Log, ROOM_BYTES, SessionEnds, SessionFault, Stream, TurnEnd};
 use frame_front::FrontError;
 use map_core::Ask;
 use slab::Slab;
@@ -22,7 +22,7 @@ use std::marker::Model;
 
 /// A connection at its place.
 #[derive(Drop)]
-struct Placed<E: Stream + Drop> {
+struct OpenConnection<E: Stream + Drop> {
     connection: Connection<E>,
     reads_only: bool,
     /// How many ticks have passed since its last turn.
@@ -32,7 +32,7 @@ struct Placed<E: Stream + Drop> {
 /// The connections of a worker, and what they share.
 #[derive(Drop)]
 struct Served<E: Stream + Drop> {
-    open: Slab<Placed<E>>,
+    open: Slab<OpenConnection<E>>,
     /// The places of connections that wait for a turn, in this order: those that are new, and those that have had their share
     /// of one and may have more to do. Each stands there once.
     waiting: VecDeque<usize>,
@@ -42,7 +42,7 @@ struct Served<E: Stream + Drop> {
     ends: SessionEnds,
 }
 
-impl<E: Stream + Drop> Model for Placed<E> {
+impl<E: Stream + Drop> Model for OpenConnection<E> {
     ghost use Rattle.workers.specs.Places.{Place};
 
     ghost Value = { Place };
@@ -86,7 +86,7 @@ impl<E: Stream + Drop> Served<E> {
         ensures waits { OnOk result (self.new.waiting.items ≡ self.old.waiting.items ++ self.old.open.vacant_key ∷ []) }
         ensures ends { self.new.ends ≡ self.old.ends }
     {
-        let placed = Placed {
+        let placed = OpenConnection {
             connection: Connection::new(worker.alloc, end, worker.limits.turns)?,
             reads_only,
             silent: 0,
@@ -97,7 +97,12 @@ impl<E: Stream + Drop> Served<E> {
     }
 
     /// Gives the connection at a place a turn, if one is there.
-    fn turn<A: Ask>(&mut self, place: usize, is_closing: bool, ask: &mut AtPort<A>) -> Option<After>
+    fn turn<A: Ask>(
+        &mut self,
+        place: usize,
+        is_closing: bool,
+        ask: &mut AtPort<A>,
+    ) -> Option<TurnEnd>
         ensures turn { HadTurn A.answers place is_closing result (get self.old.open) (get self.new.open) ask.old.ask ask.new.ask }
         ensures waiting { self.new.waiting ≡ self.old.waiting }
         ensures ends { self.new.ends ≡ self.old.ends }
@@ -175,9 +180,9 @@ impl<E: Stream + Drop> Served<E> {
         };
         wait_no_more(&mut self.waiting, place);
         match after {
-            After::Waits => Ok(()),
-            After::Again => Ok(self.waiting.push_back(place)?),
-            After::Over(end) => self.close(place, end, worker),
+            TurnEnd::Waits => Ok(()),
+            TurnEnd::Again => Ok(self.waiting.push_back(place)?),
+            TurnEnd::Over(end) => self.close(place, end, worker),
         }
     }
 

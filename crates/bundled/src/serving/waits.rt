@@ -5,7 +5,7 @@ use commands::Fault;
 use frame_front::FrontError;
 use mio::unix::SourceFd;
 use mio::{Interest, Poll, Waker};
-use server::{NOBODY, Ports, Waits};
+use server::{NOBODY, Ports, WorkerPolls};
 use std::alloc::Global;
 use std::io;
 use std::net::Net;
@@ -24,10 +24,15 @@ fn watching<N: Net>(net: &N, ports: &Ports) -> io::Result<(Poll, Waker)> {
 }
 
 /// What so many workers wait with, and their seats.
-pub fn waits_of<N: Net>(net: &N, alloc: Global, ports: &Ports, workers: u64) -> Result<Waits, Fault>
+pub fn waits_of<N: Net>(
+    net: &N,
+    alloc: Global,
+    ports: &Ports,
+    workers: u64,
+) -> Result<WorkerPolls, Fault>
     ensures { IfOk result (λ waits. vec_len waits.all ≡ workers) }
 {
-    let mut waits = Waits::new(alloc);
+    let mut waits = WorkerPolls::new(alloc);
     for _ in 0..workers {
         let Ok((poll, waker)) = watching(net, ports) else {
             return Err(Fault::Listen);

@@ -10,7 +10,7 @@ ghost use Rattle.server.specs.Serve.{SetUpRun, always_open};
 ghost use Rattle.server.specs.Serving.{ClientComes, EndsClient, MayTake, ServedInTurn, most_taken as taken_by, most_turns as turns_of, unknown};
 
 use crate::ending::report;
-use crate::lines::{Said, say};
+use crate::lines::{ServerLine, say};
 use crate::serving::clients::Clients;
 use crate::serving::host::Host;
 use crate::serving::stream::close;
@@ -175,7 +175,12 @@ pub fn serve_on<R: Threads + Clock + Sync, L: Log + Copy + Send + Sync, W: Write
     let Ok(address) = listener.local_addr() else {
         return Fault::Listen.tell(err);
     };
-    if !say(out, err, before, Said::Listening(address.port(), None)) {
+    if !say(
+        out,
+        err,
+        before,
+        ServerLine::Listening(address.port(), None),
+    ) {
         return 1;
     }
     match run_in_turn(host, &store, settings.retries, passes, clients) {

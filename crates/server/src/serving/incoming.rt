@@ -2,7 +2,7 @@
 ghost use Rattle.std.specs.Prelude.{◌≡◌};
 
 use crate::serving::ports::Ports;
-use crate::serving::ready::{MOST_EVENTS, Ready, Told};
+use crate::serving::ready::{MOST_EVENTS, PollEvent, WorkerPoll};
 use crate::serving::shared::Shared;
 use crate::serving::stream::Stream;
 use std::io;
@@ -20,7 +20,7 @@ pub struct Incoming<'a, C> {
     clock: &'a C,
     shared: &'a Shared,
     worker: usize,
-    ready: Ready,
+    ready: WorkerPoll,
     /// How much may come still.
     left: u64,
     /// When the last tick was told.
@@ -31,7 +31,12 @@ pub struct Incoming<'a, C> {
 
 impl<'a, C: Clock> Incoming<'a, C> {
     /// What comes to a worker that has not begun yet.
-    pub fn new(clock: &'a C, shared: &'a Shared, worker: usize, ready: Ready) -> Incoming<'a, C> {
+    pub fn new(
+        clock: &'a C,
+        shared: &'a Shared,
+        worker: usize,
+        ready: WorkerPoll,
+    ) -> Incoming<'a, C> {
         Incoming {
             clock,
             shared,
@@ -91,10 +96,10 @@ impl<'a, C: Clock> Incoming<'a, C> {
     {
         for _ in 0..MOST_EVENTS {
             match self.ready.next()? {
-                Told::Client { place, is_closing } => {
+                PollEvent::Client { place, is_closing } => {
                     return Some(Arrival::Ready { place, is_closing });
                 }
-                Told::Port => {
+                PollEvent::Port => {
                     if let Some(arrival) = self.take(free) {
                         return Some(arrival);
                     }

@@ -12,11 +12,11 @@ ghost use Rattle.frame_front.specs.declared.error.FrontError.TheVariants.{Memory
 ghost use Rattle.server.specs.Serving.{ServedBeside};
 
 use crate::ending::report;
-use crate::lines::{Said, say};
+use crate::lines::{ServerLine, say};
 use crate::serving::host::Host;
 use crate::serving::incoming::{Incoming, TICKS_A_SECOND};
 use crate::serving::ports::Ports;
-use crate::serving::ready::Ready;
+use crate::serving::ready::WorkerPoll;
 use crate::serving::shared::{Seat, Shared, Watch};
 use crate::set_up::SetUp;
 use command_line::{Lasting, Settings};
@@ -35,7 +35,7 @@ use workers::{Crew, Limits, Log, Open, Worked, run_arrivals};
 #[derive(Drop)]
 pub struct Task {
     pub ports: Ports,
-    pub waits: Waits,
+    pub waits: WorkerPolls,
     pub settings: Settings,
     pub lasting: Lasting,
     pub set_up: SetUp,
@@ -53,17 +53,17 @@ struct Work<'h, 'r, 's, 'd, H, L> {
 
 /// What the workers wait with, and their seats.
 #[derive(Drop)]
-pub struct Waits {
-    pub all: Vec<Ready>,
+pub struct WorkerPolls {
+    pub all: Vec<WorkerPoll>,
     seats: Vec<Seat>,
 }
 
-impl Waits {
+impl WorkerPolls {
     /// Those of no worker yet.
-    pub fn new(alloc: Global) -> Waits
+    pub fn new(alloc: Global) -> WorkerPolls
         ensures { vec_len result.all ≡ 0 }
     {
-        Waits {
+        WorkerPolls {
             all: Vec::new(alloc),
             seats: Vec::new(alloc),
         }
@@ -73,7 +73,7 @@ impl Waits {
     pub fn push(&mut self, alloc: Global, poll: Poll, waker: Waker) -> Result<(), AllocError>
         ensures { OnOk result (vec_len self.new.all ≡ vec_len self.old.all + 1) }
     {
-        let ready = Ready::new(alloc, poll)?;
+        let ready = WorkerPoll::new(alloc, poll)?;
         self.seats.push(Seat::new(waker))?;
         self.all.push(ready)?;
         Ok(())
@@ -85,7 +85,7 @@ fn incoming_of<'a, C: Clock>(
     alloc: Global,
     clock: &'a C,
     shared: &'a Shared,
-    waits: Vec<Ready>,
+    waits: Vec<WorkerPoll>,
 ) -> Result<Vec<Incoming<'a, C>>, AllocError>
     ensures { IfOk result (λ all. vec_len all ≡ vec_len waits) }
 {
@@ -187,7 +187,7 @@ pub fn serve_at<H: Threads + Clock + Sync, I: Read, W: Write, E: Write, L: Log +
     let before = err.faults();
     let Task {
         ports,
-        waits: Waits { all, seats },
+        waits: WorkerPolls { all, seats },
         settings,
         lasting,
         set_up: SetUp { store, passes },
@@ -197,7 +197,7 @@ pub fn serve_at<H: Threads + Clock + Sync, I: Read, W: Write, E: Write, L: Log +
     let Ok(incoming) = incoming_of(host.alloc, host.rt, &shared, all) else {
         return Fault::Front(FrontError::Memory).tell(err);
     };
-    if !say(out, err, before, Said::Listening(port, read_port)) {
+    if !say(out, err, before, ServerLine::Listening(port, read_port)) {
         return 1;
     }
     let work = Work {

@@ -14,7 +14,7 @@ pub const NOBODY: Token = Token(usize::MAX);
 
 /// What the system tells a worker.
 #[derive(Clone, Copy)]
-pub enum Told {
+pub enum PollEvent {
     /// A client may be waiting at a port.
     Port,
     /// The stream at the place is ready. Its client has closed its side, or it has failed, if it `is_closing`.
@@ -23,18 +23,18 @@ pub enum Told {
 
 /// What a worker waits with: for its ports, and for its clients.
 #[derive(Drop)]
-pub struct Ready {
+pub struct WorkerPoll {
     poll: Poll,
     events: Events,
     /// How many of the events have been told.
     told: usize,
 }
 
-impl Ready {
+impl WorkerPoll {
     /// Waits with the poll, which waits for clients at the ports already.
-    pub fn new(alloc: Global, poll: Poll) -> Result<Ready, AllocError> {
+    pub fn new(alloc: Global, poll: Poll) -> Result<WorkerPoll, AllocError> {
         let events = Events::with_capacity(alloc, MOST_EVENTS)?;
-        Ok(Ready {
+        Ok(WorkerPoll {
             poll,
             events,
             told: 0,
@@ -56,14 +56,14 @@ impl Ready {
     }
 
     /// What is ready, and was not told yet.
-    pub fn next(&mut self) -> Option<Told> {
+    pub fn next(&mut self) -> Option<PollEvent> {
         let event = self.events.iter().as_slice().get(self.told)?;
         self.told = self.told.saturating_add(1);
         let token = event.token();
         if token == NOBODY {
-            return Some(Told::Port);
+            return Some(PollEvent::Port);
         }
-        Some(Told::Client {
+        Some(PollEvent::Client {
             place: usize::from(token),
             is_closing: event.is_read_closed() || event.is_error(),
         })

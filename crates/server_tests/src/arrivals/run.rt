@@ -188,7 +188,7 @@ fn has_ended(ended: &Ended, written: (&[u8], &[u8]), frames: u64) -> Result<(), 
 
 /// Which workers have come to their first call.
 #[derive(Drop)]
-struct Came {
+struct ReadOutcome {
     first: bool,
     second: bool,
 }
@@ -197,14 +197,14 @@ struct Came {
 #[derive(Drop)]
 struct Meeting<'a, R: Wait> {
     rt: &'a R,
-    came: Mutex<Came>,
+    came: Mutex<ReadOutcome>,
 }
 
 impl<'a, R: Wait> Meeting<'a, R> {
     fn new(rt: &'a R) -> Meeting<'a, R> {
         Meeting {
             rt,
-            came: Mutex::new(Came {
+            came: Mutex::new(ReadOutcome {
                 first: false,
                 second: false,
             }),

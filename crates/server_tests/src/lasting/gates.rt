@@ -8,7 +8,7 @@ use workers::{Gate, Open, SessionFault};
 
 /// Which workers have come to their first call.
 #[derive(Drop)]
-struct Came {
+struct ReadOutcome {
     first: bool,
     second: bool,
 }
@@ -17,7 +17,7 @@ struct Came {
 #[derive(Drop)]
 struct Meeting<'a, R: Wait> {
     rt: &'a R,
-    came: Mutex<Came>,
+    came: Mutex<ReadOutcome>,
 }
 
 impl<'a, R: Wait> Gate for Meeting<'a, R> {
@@ -49,7 +49,7 @@ impl<'a, R: Wait> Gate for Meeting<'a, R> {
 fn two_workers_meet(rt: HostRuntime) -> Result<(), Fail> {
     let gate = Meeting {
         rt: &rt,
-        came: Mutex::new(Came {
+        came: Mutex::new(ReadOutcome {
             first: false,
             second: false,
         }),

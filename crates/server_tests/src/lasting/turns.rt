@@ -8,7 +8,7 @@ use std::io;
 use std::io::{Read, Write};
 use std::process::Abort;
 use std::test::Fail;
-use workers::{After, Connection, ROOM_BYTES, Stream};
+use workers::{TurnEnd, Connection, ROOM_BYTES, Stream};
 
 /// A client that gives all that it has in one piece, and then its end; and takes all.
 #[derive(Drop)]
@@ -71,7 +71,7 @@ fn steady_turn_of(
     sets: usize,
     turns: u64,
     output: &mut Vec<u8>,
-) -> Result<After, AllocError> {
+) -> Result<TurnEnd, AllocError> {
     let mut input = Vec::new(alloc);
     for _ in 0..sets {
         input.extend_from_slice(SET_A)?;
@@ -88,16 +88,16 @@ fn steady_turn_of(
 }
 
 /// How many sets, how many reads may be made, what the turn comes to, and how many sets are answered.
-type Row = (usize, u64, After, usize);
+type Row = (usize, u64, TurnEnd, usize);
 
-const USED_UP: After = After::Over(Err(FrontError::TurnsUsed));
+const USED_UP: TurnEnd = TurnEnd::Over(Err(FrontError::TurnsUsed));
 
 // A turn has 8 reads, and what the last of them gave is not answered yet. A read that finds the end does not count; what was read
 // under the limit is answered.
 static ROWS: [Row; 7] = [
-    (3, u64::MAX, After::Over(Ok(3)), 3),
-    (9, u64::MAX, After::Again, 7),
-    (3, 4, After::Over(Ok(3)), 3),
+    (3, u64::MAX, TurnEnd::Over(Ok(3)), 3),
+    (9, u64::MAX, TurnEnd::Again, 7),
+    (3, 4, TurnEnd::Over(Ok(3)), 3),
     (3, 3, USED_UP, 3),
     (5, 3, USED_UP, 3),
     (9, 7, USED_UP, 7),
@@ -130,7 +130,7 @@ fn turn_of(
     input: &[u8],
     output: &mut Vec<u8>,
     is_closing: bool,
-) -> Result<(After, u64), AllocError> {
+) -> Result<(TurnEnd, u64), AllocError> {
     let mut reads = 0;
     let client = Once {
         input,
@@ -151,7 +151,7 @@ fn is_read_so(
     rt: &impl Abort,
     alloc: Global,
     is_closing: bool,
-    wanted: (After, u64),
+    wanted: (TurnEnd, u64),
 ) -> Result<(), Fail> {
     let mut output = Vec::new(alloc);
     let found = turn_of(alloc, SET_A, &mut output, is_closing)?;
@@ -163,12 +163,12 @@ fn is_read_so(
 // The one read has left some of its room, so a second one would only find that nothing more has come.
 #[test]
 fn a_client_is_not_read_twice_for_one_piece(rt: HostRuntime) -> Result<(), Fail> {
-    is_read_so(&rt, rt.alloc(), false, (After::Waits, 1))
+    is_read_so(&rt, rt.alloc(), false, (TurnEnd::Waits, 1))
 }
 
 #[test]
 fn a_client_that_is_closing_is_read_to_its_end(rt: HostRuntime) -> Result<(), Fail> {
-    is_read_so(&rt, rt.alloc(), true, (After::Over(Ok(1)), 2))
+    is_read_so(&rt, rt.alloc(), true, (TurnEnd::Over(Ok(1)), 2))
 }
 
 /// Sets of 64 trust domains, and then so many fetch-alls, each of which is answered by 1,293 bytes.
@@ -194,7 +194,7 @@ fn last_turn_of(
     alloc: Global,
     input: &[u8],
     output: &mut Vec<u8>,
-) -> Result<(After, Result<u64, FrontError>), AllocError> {
+) -> Result<(TurnEnd, Result<u64, FrontError>), AllocError> {
     let mut reads = 0;
     let client = Once {
         input,
@@ -216,7 +216,7 @@ fn is_given_up(rt: &impl Abort, alloc: Global, fetches: usize) -> Result<(), Fai
     let input = many_fetches(alloc, fetches)?;
     let mut output = Vec::new(alloc);
     let found = last_turn_of(alloc, input.as_slice(), &mut output)?;
-    is_equal(rt, &found, &(After::Again, Err(FrontError::TurnsUsed)));
+    is_equal(rt, &found, &(TurnEnd::Again, Err(FrontError::TurnsUsed)));
     let sent = output.len();
     let is_as_long = 71 * ROUND_BYTES <= sent && sent <= 72 * (ROUND_BYTES + 1_293);
     is_equal(rt, &is_as_long, &true);

@@ -6,9 +6,9 @@ use Rattle.map_core.specs.declared.reply.Reply.{Reply}
 use Rattle.map_core.specs.declared.reply.AskError.{AskError}
 use Rattle.frame_front.specs.Live.{Feeds, Sends, most_frames}
 use Rattle.frame_front.specs.LiveCalls.{LiveCall, DoesAll, fed, sent, frames_of}
-use Rattle.workers.specs.declared.after.After.{After}
-use Rattle.workers.specs.declared.after.After.TheVariants.{Waits, Again, Over}
-use Rattle.workers.specs.declared.ends.Broken.{Broken}
+use Rattle.workers.specs.declared.turn_end.TurnEnd.{TurnEnd}
+use Rattle.workers.specs.declared.turn_end.TurnEnd.TheVariants.{Waits, Again, Over}
+use Rattle.workers.specs.declared.ends.StreamFailed.{StreamFailed}
 use Rattle.workers.specs.Connection.{ConnectionView, counted, EndsHere, EndsShort, HadShare, IsLost, LosesOnly, MakesReads, StopsFor, WaitsFor}
 use Rattle.workers.specs.Reads.{reads_for, reads_of}
 use Rattle.workers.specs.Private.Ends.{IsSentAs, IsShortAs, LeavesAs}
@@ -18,7 +18,7 @@ abbrev pub StaysSo : ConnectionView → ConnectionView → Type 0
 StaysSo old new = (new.may ≡ old.may) × (new.is_closing ≡ old.is_closing)
 
 -- Replies were written, and nothing else was done. All are written, or the stream takes no more now, or it failed.
-pub record SendsAs (result : Result Bool Broken) (old new : ConnectionView) : Type 0 where
+pub record SendsAs (result : Result Bool StreamFailed) (old new : ConnectionView) : Type 0 where
   pub bytes : List ℕ
   pub sends : Sends bytes old.live new.live
   pub appends : Appends old.held new.held bytes
@@ -31,18 +31,18 @@ pub record SendsAs (result : Result Bool Broken) (old new : ConnectionView) : Ty
   pub until : IsSentAs result new.may new.live.ready
 
 -- Why a part of a turn ends it. It waits for more input after a short read only if that was short in this sense.
-abbrev pub StopsIn : (IsShort : Type 0) → After → ConnectionView → Type 0
+abbrev pub StopsIn : (IsShort : Type 0) → TurnEnd → ConnectionView → Type 0
 StopsIn IsShort Waits new = WaitsFor IsShort new
 StopsIn IsShort Again new = ⊥
 StopsIn IsShort (Over result) new = StopsFor result new
 
 -- Bytes were read, and fed to the session; nothing else was done. If memory was refused, they are lost. If the read before has left
 -- some of its room, none may be made.
-abbrev pub ReadsUntil : Bool → Result Bool After → List ℕ → List ℕ → ConnectionView → ConnectionView → Type 0
+abbrev pub ReadsUntil : Bool → Result Bool TurnEnd → List ℕ → List ℕ → ConnectionView → ConnectionView → Type 0
 ReadsUntil had_left (Err after) piece lost old new = IsLost after lost × EndsHere old new × StopsIn ((had_left ≡ true) × (new.turns ≡ old.turns)) after new
 ReadsUntil had_left (Ok has_left) piece lost old new = (lost ≡ []) × (new.has_ended ≡ old.has_ended) × (0 < length piece) × LeavesAs has_left new.may × IsShortAs has_left piece
 
-pub record ReadsAs (had_left : Bool) (result : Result Bool After) (old new : ConnectionView) : Type 0 where
+pub record ReadsAs (had_left : Bool) (result : Result Bool TurnEnd) (old new : ConnectionView) : Type 0 where
   pub piece : List ℕ
   pub lost : List ℕ
   pub feeds : Feeds piece old.live new.live
@@ -80,7 +80,7 @@ module _ {S : Type 0} (answers : S → Op → Result Reply AskError → S → Ty
 
   -- One round of a turn, which ends the turn, or goes on: then a piece was read, or enough bytes were sent. The last read before it
   -- may have been a short one.
-  abbrev pub Round : Bool → Result Bool After → ConnectionView → ConnectionView → S → S → Type 0
+  abbrev pub Round : Bool → Result Bool TurnEnd → ConnectionView → ConnectionView → S → S → Type 0
   Round had_left (Err after) old new map_old map_new =
       (lost : List ℕ) × (goes : Goes most_frames lost old new map_old map_new) × IsLost after lost × EndsHere old new × StopsIn (StaysShort had_left goes.calls) after new
   Round had_left (Ok has_left) old new map_old map_new =

@@ -7,7 +7,7 @@ use Rattle.map_core.specs.declared.reply.Reply.{Reply}
 use Rattle.map_core.specs.declared.reply.AskError.{AskError}
 use Rattle.frame_front.specs.declared.error.FrontError.{FrontError}
 use Rattle.workers.specs.Connection.{ConnectionView, LastTurn, Turn, told, turn_rounds}
-use Rattle.workers.specs.declared.after.After.{After}
+use Rattle.workers.specs.declared.turn_end.TurnEnd.{TurnEnd}
 use Rattle.workers.specs.AtPort.{PortAnswer}
 use Rattle.workers.specs.Places.{Place, Places, GoesSoFar, OthersStay, AllStay, Step, Misses, TakesAll, nobody, told_all, turn_steps, waiting_after}
 use Rattle.workers.specs.declared.limits.Limits.{Limits}
@@ -33,7 +33,7 @@ AreOpen places waiting = AllByRecursion (λ place. IsSome (places place)) waitin
 
 -- a turn of the connection that is maybe at this place
 abbrev pub IsTurn : ℕ → Option Bool → Option Place → List Step → Type 0
-IsTurn place ready (Some p) steps = (after : After) × (steps ≡ turn_steps place ready after)
+IsTurn place ready (Some p) steps = (after : TurnEnd) × (steps ≡ turn_steps place ready after)
 IsTurn place (Some is_closing) None steps = steps ≡ Misses place is_closing ∷ []
 IsTurn place None None steps = steps ≡ []
 
@@ -52,7 +52,7 @@ module _ {S : Type 0} (answers : S → Op → Result Reply AskError → S → Ty
   NobodyThere place old new map_old map_new = (old place ≡ None) × AllStay old new × (map_new ≡ map_old)
 
   -- a turn, or no connection is at the place
-  abbrev pub HadTurn : ℕ → Bool → Option After → Places → Places → S → S → Type 0
+  abbrev pub HadTurn : ℕ → Bool → Option TurnEnd → Places → Places → S → S → Type 0
   HadTurn place is_closing (Some after) old new map_old map_new =
       AtPlace place (λ p. 0) (λ p c. Turn turn_rounds (PortAnswer answers p.reads_only) after (told is_closing p.connection) c map_old map_new) old new
   HadTurn place is_closing None old new map_old map_new = NobodyThere place old new map_old map_new

@@ -1,4 +1,4 @@
-use Rattle.frame_front.proofs.LiveTables.{wants_room}
+use Rattle.frame_front.proofs.LiveLemmas.{wants_room}
 use Rattle.frame_front.proofs.laws.live_sessions_have_room.Goals as goal
 
 pub returns : goal.returns

@@ -1,4 +1,4 @@
-use Rattle.frame_front.proofs.SessionLemmas.{WritesFront-longer, WritesFront-then}
+use Rattle.frame_front.proofs.OutputLemmas.{WritesFront-longer, WritesFront-then}
 use Rattle.frame_front.proofs.output.write_both.Goals as goal
 
 pub returns-in_err-write_whole-clause-front : goal.returns-in_err-write_whole-clause-front

@@ -1,6 +1,6 @@
 use Rattle.std.proofs.Common.{◌≡◌, ℕ, List, ◌++◌, ◌&&◌, Bool, false, Ok, Err, refl, ap, subst, ◌∙◌}
 use Rattle.std.specs.Prelude.{min, if◌then◌else◌}
-use Rattle.server.specs.declared.lines.Said.TheVariants.{Served, Domains}
+use Rattle.server.specs.declared.lines.ServerLine.TheVariants.{Served, Domains}
 use Rattle.workers.specs.declared.ended.Worked.{Worked}
 use Rattle.server.specs.Serve.{IsOffered, said_line, write_fault, begun_by, have_all_come, session_lines, faults_by}
 use Rattle.frame_front.specs.Output.{TellsUnlessFailed, end_of}

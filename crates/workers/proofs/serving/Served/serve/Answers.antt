@@ -1,6 +1,6 @@
 use Rattle.std.proofs.Common.{◌++◌, ◌∷◌, [], ℕ, List, refl, ap, ◌∙◌}
 use Rattle.slab.specs.Slab.{get}
-use Rattle.workers.specs.declared.after.After.TheVariants.{Waits, Again}
+use Rattle.workers.specs.declared.turn_end.TurnEnd.TheVariants.{Waits, Again}
 use Rattle.workers.specs.Places.{without}
 use Rattle.workers.specs.Private.Serving.{Work, work_of}
 use Rattle.workers.proofs.ServingLemmas.{missed_serves, on_ok_then, over_serves, turn_serves}

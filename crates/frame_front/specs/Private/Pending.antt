@@ -1,0 +1,59 @@
+-- What is left to store of a reply.
+use Rattle.std.specs.Prelude.{◌≡◌, ℕ, ◌≤◌, List, [], ◌++◌, drop, length, Result, Bool}
+use Rattle.std.specs.List.{flat_map}
+use Rattle.spiffe_doc.specs.Authority.{BundleValue}
+use Rattle.map_core.specs.Name.{Name}
+use Rattle.map_core.specs.declared.op.Op.{Op}
+use Rattle.map_core.specs.declared.reply.Reply.{Reply}
+use Rattle.map_core.specs.declared.reply.Reply.TheVariants.{Found}
+use Rattle.map_core.specs.declared.reply.AskError.{AskError}
+use Rattle.spiffe_doc.specs.Text.{text_of}
+use Rattle.frame_front.specs.Reply.{is_error_reply, item_frame, reply_frames}
+use Rattle.frame_front.specs.Session.{SessionState, Answers}
+use Rattle.frame_front.specs.declared.pending.PendingReply.{PendingReply}
+use Rattle.frame_front.specs.declared.replies.Replies.{Replies}
+use Rattle.frame_front.specs.declared.reply.Body.{Body}
+use Rattle.frame_front.specs.declared.reply.Body.TheVariants.{Empty, Canonical, All}
+
+-- the frames of the domains, but for the first ones
+abbrev pub items_left : List (Name × BundleValue) → ℕ → List ℕ
+items_left items stored = flat_map item_frame (drop stored items)
+
+-- what follows the first bytes, when so many domains are stored
+abbrev pub body_left : Body → ℕ → List ℕ
+body_left Empty stored = []
+body_left (Canonical bundle) stored = text_of bundle
+body_left (All items) stored = items_left items stored
+
+-- of what follows the first bytes, the frames of domains
+abbrev pub frames_in : Body → ℕ → List ℕ
+frames_in Empty stored = []
+frames_in (Canonical bundle) stored = []
+frames_in (All items) stored = items_left items stored
+
+-- no text is left
+abbrev pub HasNoText : Body → Type 0
+HasNoText Empty = Unit {0}
+HasNoText (Canonical bundle) = ⊥
+HasNoText (All items) = Unit {0}
+
+-- the frames of domains that are left
+abbrev pub domains_left : PendingReply → List ℕ
+domains_left pending = frames_in pending.body pending.stored
+
+-- what is left to store of a reply
+abbrev pub reply_left : PendingReply → List ℕ
+reply_left pending = pending.head.items ++ body_left pending.body pending.stored
+
+-- the reply to a get that found the bundle stands after what was ready
+abbrev pub stores_found : List ℕ → BundleValue → List ℕ → Type 0
+stores_found ready bundle new = (new ≡ ready ++ reply_frames (Found bundle)) × (length (text_of bundle) ≤ 1048576)
+
+-- The payload is answered, by an error of whoever was asked or not, and the text of the answer waits: what is left of it, after what is ready
+abbrev pub AnswersLater : {S : Type 0} → (S → Op → Result Reply AskError → S → Type 0) → Bool → SessionState S → List ℕ → SessionState S → List ℕ → List ℕ → List ℕ → Type 0
+AnswersLater answers is_error old payload new ready_old ready_new left =
+    (text : List ℕ) × Answers answers old payload text new × (5 ≤ length text) × (is_error ≡ is_error_reply text) × (ready_new ++ left ≡ ready_old ++ text)
+
+-- the bytes of replies that wait
+abbrev pub waits_in : Replies → List ℕ
+waits_in replies = replies.ready.bytes.items ++ reply_left replies.pending
