@@ -7,9 +7,9 @@ ghost use Rattle.commands.specs.Streams.{Source};
 
 use client::Client;
 use command_line::Refreshing;
-use commands::{Fault, RefreshFault, ServerFault};
+use commands::{Fault, RefreshFault, ServerFault, read_schedule};
 use frame_front::{Counted, FrontError};
-use refresher::{Folder, Sender, Server, Times, read_schedule, refresh_each};
+use refresh::{Folder, Sender, Server, Times, refresh_each};
 use std::alloc::Global;
 use std::fs::Files;
 use std::io;
@@ -68,7 +68,7 @@ fn refresh_list<H: Files + Clock + Net, W: Write, E: Write>(
     match wanted.port {
         Some(port) => {
             let mut server = connect(alloc, host, port)?;
-            refresh_each(
+            Ok(refresh_each(
                 alloc,
                 &mut folder,
                 &mut server,
@@ -76,11 +76,11 @@ fn refresh_list<H: Files + Clock + Net, W: Write, E: Write>(
                 &times,
                 out,
                 true,
-            )
+            )?)
         }
         None => {
             let mut sender = Sender::new(alloc, out);
-            refresh_each(
+            Ok(refresh_each(
                 alloc,
                 &mut folder,
                 &mut sender,
@@ -88,7 +88,7 @@ fn refresh_list<H: Files + Clock + Net, W: Write, E: Write>(
                 &times,
                 err,
                 false,
-            )
+            )?)
         }
     }
 }

@@ -6,6 +6,8 @@ use Rattle.client.specs.ClientError.{client_number}
 use Rattle.shard_store.specs.Close.{close_number}
 use Rattle.shard_store.specs.declared.close.CloseError.TheVariants as closing
 use Rattle.refresh.specs.Number.{relation_number}
+use Rattle.refresh.specs.declared.error.RefreshError.{RefreshError}
+use Rattle.refresh.specs.declared.error.RefreshError.TheVariants as refreshing
 use Rattle.frame_front.specs.declared.dump.DumpError.TheVariants as dumps
 use Rattle.commands.specs.declared.fault.RefreshFault.{RefreshFault}
 use Rattle.commands.specs.declared.fault.RefreshFault.TheVariants.{BadRelationship, NoClock}
@@ -90,3 +92,8 @@ numbers_text (number ∷ numbers) = number_text number ++ numbers_text numbers
 -- `fault`, its number and what it carries, with single spaces between; a line feed ends it
 abbrev pub fault_line : Fault → List ℕ
 fault_line fault = codes "fault " ++ decimal (fault_number fault) ++ numbers_text (fault_numbers fault) ++ 10 ∷ []
+
+-- the fault of a command whose refreshes ended so
+abbrev pub refresh_fault : RefreshError → Fault
+refresh_fault (refreshing.Front error) = Front error
+refresh_fault (refreshing.Client error) = Server (Client error)

@@ -13,4 +13,5 @@ pub mod Import
 pub mod Pem
 pub mod Diff
 pub mod Check
+pub mod Schedule
 pub mod Private

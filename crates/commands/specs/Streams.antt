@@ -1,23 +1,14 @@
 -- Standard input, output and error, or what stands in their place, and what a command that ends tells them.
-use Rattle.std.specs.Prelude.{◌≡◌, ◌≢◌, ◌⊎◌, ℕ, List, Option, Result, Ok, Err}
-use Rattle.std.specs.Io.KnownBytes.{Appends}
+use Rattle.std.specs.Prelude.{◌≡◌, ℕ, List, Option, Result, Ok, Err}
 use Rattle.frame_front.specs.Counted.{end_in, faults_in, reads_of, next_count}
 use Rattle.frame_front.specs.declared.counted.Counted.{Counted}
 use Rattle.frame_front.specs.declared.error.FrontError.TheVariants.{ReadFault, WriteFault}
-use Rattle.frame_front.specs.Output.{WritesFront}
+use Rattle.frame_front.specs.Output.{End, Tells, end_of}
 use Rattle.commands.specs.declared.fault.Fault.{Fault}
 use Rattle.commands.specs.declared.fault.Fault.TheVariants.{Front}
 use Rattle.commands.specs.Fault.{fault_line}
 
--- the bytes that a writer holds or a reader has left, if they are known, and how many of its calls have failed
-pub record End : Type 0 where
-  pub bytes : Option (List ℕ)
-  pub faults : ℕ
-
-abbrev pub end_of : {E : Type 0} → (E → Option (List ℕ)) → Counted E → End
-end_of bytes_of counted = record { bytes = bytes_of (end_in counted); faults = faults_in counted }
-
--- the same of the input, and how often it was read
+-- the bytes that a reader has left, if they are known, how many of its calls have failed, and how often it was read
 pub record Source : Type 0 where
   pub bytes : Option (List ℕ)
   pub faults : ℕ
@@ -35,14 +26,6 @@ abbrev pub streams : {R W E : Type 0} → (R → Option (List ℕ)) → (W → O
     → Counted R → Counted W → Counted E → Streams
 streams left_of held_of told_of reader out err =
     record { input = source_of left_of reader; output = end_of held_of out; error = end_of told_of err }
-
--- These bytes are written; or a front of them, and a call of the writer has failed.
-pub record Tells (old new : End) (bytes : List ℕ) : Type 0 where
-  pub told : (Appends old.bytes new.bytes bytes × (new.faults ≡ old.faults)) ⊎ (WritesFront old.bytes new.bytes bytes × (new.faults ≡ next_count old.faults))
-
--- A text follows, unless the writer has failed since it had failed so often.
-abbrev pub TellsUnlessFailed : ℕ → End → End → List ℕ → Type 0
-TellsUnlessFailed before old new text = ((old.faults ≡ before) × Tells old new text) ⊎ ((old.faults ≢ before) × (new ≡ old))
 
 -- 53 is told only if the reader failed in the meantime, and 54 only if the writer did
 abbrev pub Blames : Fault → Streams → Streams → Type 0

@@ -10,7 +10,7 @@ use frame_front::wire::tell;
 use frame_front::{Counted, DumpError, FrontError};
 use itoa::Buffer;
 use map_core::AskError;
-use refresh::RelationError;
+use refresh::{RefreshError, RelationError};
 use shard_store::CloseError;
 use std::io::Write;
 use thiserror::Error;
@@ -65,6 +65,20 @@ pub enum Fault {
     /// The store gave no map at its end.
     #[error(transparent)]
     Close(CloseError),
+}
+
+impl From<RefreshError> for Fault {
+    ghost use Rattle.std.specs.Prelude.{◌≡◌};
+    ghost use Rattle.commands.specs.Fault.{refresh_fault};
+
+    ghost from_gives = { λ error result. result ≡ refresh_fault error };
+
+    fn from(error: RefreshError) -> Fault {
+        match error {
+            RefreshError::Front(error) => Fault::Front(error),
+            RefreshError::Client(error) => Fault::Server(ServerFault::Client(error)),
+        }
+    }
 }
 
 /// Why a server cannot be asked.

@@ -4,7 +4,7 @@
 //! and `picture_over` run the machine over a list of events, `ask_over` asks a server, `migrate_over` turns a dump into requests, and `explain_over`
 //! writes a text. `check_over` reads documents, `map_over`, `pem_over` and `digest_over` a dump, `import_over` a bundle map, and
 //! `diff_over` two dumps. Each reads from a reader, writes to a writer, tells its fault to another, and answers the exit status.
-//! What they are made of serves the other commands too.
+//! What they are made of serves the other commands too; `read_schedule` reads the list of `refresh`.
 #![tactic(auto)]
 
 mod ask;
@@ -23,6 +23,7 @@ mod output;
 mod pem;
 mod reading;
 mod run;
+mod schedule;
 mod trace;
 
 pub use ask::{ask_over, ask_words_over};
@@ -40,4 +41,5 @@ pub use migrate::migrate_over;
 pub use output::write_flushed;
 pub use pem::pem_over;
 pub use run::run_over;
+pub use schedule::read_schedule;
 pub use trace::{picture_over, trace_over};

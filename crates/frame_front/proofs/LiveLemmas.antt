@@ -9,7 +9,7 @@ use Rattle.map_core.specs.Name.{Name}
 use Rattle.map_core.specs.declared.op.Op.{Op}
 use Rattle.map_core.specs.declared.reply.Reply.{Reply}
 use Rattle.map_core.specs.declared.reply.AskError.{AskError}
-use Rattle.frame_front.specs.Frame.{IsUnfinished, frame}
+use Rattle.frame_front.specs.Frame.{IsUnfinished}
 use Rattle.frame_front.specs.Live.{LiveView, LiveAnswers, ComeBelowLimit, Feeds, StopsAt, live_view, reply_limit, room_of, waiting}
 use Rattle.frame_front.specs.Reply.{item_frame}
 use Rattle.frame_front.specs.Session.{Serves}

@@ -20,9 +20,6 @@ WritesFront-longer held held_new bytes more wrote = record {
   appends = wrote.appends;
 }
 
-pub WritesFront-whole : (held held_new : Option (List ℕ)) (bytes more : List ℕ) → Appends held held_new bytes → WritesFront held held_new (bytes ++ more)
-WritesFront-whole held held_new bytes more wrote = record { front = bytes; missing = more; split = refl; appends = wrote }
-
 pub WritesFront-then : (held held_mid held_new : Option (List ℕ)) (bytes more : List ℕ) → Appends held held_mid bytes → WritesFront held_mid held_new more
     → WritesFront held held_new (bytes ++ more)
 WritesFront-then held held_mid held_new bytes more sent wrote = record {
@@ -40,16 +37,9 @@ cut_again sent ready bytes rest more ready_new split =
     ∙ sym (append_assoc sent more (ready_new ++ rest))
 
 module _ (held held_mid : Option (List ℕ)) (ready bytes mid : List ℕ) (takes : Takes held held_mid ready bytes mid) where
-  pub Takes-front : WritesFront held held_mid (ready ++ bytes)
-  Takes-front = record { front = takes.sent; missing = mid; split = takes.split; appends = takes.appends }
-
-  -- what waits is written
-  pub Takes-sent : (held_new : Option (List ℕ)) (ready_new : List ℕ) → Appends held_mid held_new mid → ready_new ≡ [] → Takes held held_new ready bytes ready_new
-  Takes-sent held_new ready_new wrote none = record {
-    sent = takes.sent ++ mid;
-    appends = Appends-trans held held_mid held_new takes.sent mid takes.appends wrote;
-    split = takes.split ∙ sym (ap (λ n. (takes.sent ++ mid) ++ n) none ∙ append-nil (takes.sent ++ mid));
-  }
+  -- what is ready is written too
+  pub Takes-all : (held_new : Option (List ℕ)) → Appends held_mid held_new mid → Appends held held_new (ready ++ bytes)
+  Takes-all held_new wrote = subst (Appends held held_new) (sym takes.split) (Appends-trans held held_mid held_new takes.sent mid takes.appends wrote)
 
   -- the writer fails as what waits is written
   pub Takes-unsent : (held_new : Option (List ℕ)) → WritesFront held_mid held_new mid → WritesFront held held_new (ready ++ bytes)

@@ -1,10 +1,11 @@
 //! Lists of relationships, and the lines of refreshes.
 use client::Client;
-use commands::Fault;
 use frame_front::{Counted, FaultyWriter, FrontError};
 use map_core::{Ask, AskError, MapRefusal, Op, Reply};
-use refresh::{RelationError, What};
-use refresher::{ListError, Remark, Sender, Server, Target, Told, outcome_line, read_list};
+use refresh::{
+    ListError, RefreshError, RelationError, Remark, Sender, Server, Target, Told, What,
+    outcome_line, read_list,
+};
 use spiffe_doc::{DocError, NameError, TrustDomain, read_document};
 use std::alloc::Global;
 use std::fmt::Debug;
@@ -302,7 +303,7 @@ fn a_sender_whose_write_fails(rt: HostRuntime) -> Result<(), Fail> {
     let mut sender = Sender::new(rt.alloc(), &mut short);
     let is_shut = matches!(sender.ask(op), Err(AskError::GateShut));
     let told = (is_shut, sender.fault());
-    let wanted = (true, Some(Fault::Front(FrontError::WriteFault)));
+    let wanted = (true, Some(RefreshError::Front(FrontError::WriteFault)));
     is_equal_at(&rt, &told, &wanted, &"after 5 bytes");
     Ok(())
 }

@@ -1,1 +1,6 @@
 pub mod RefreshLaws
+pub mod Rounds
+pub mod Words
+pub mod ListWords
+pub mod ListReading
+pub mod ListLines

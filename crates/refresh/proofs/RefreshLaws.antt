@@ -17,7 +17,7 @@ use Rattle.map_core.specs.declared.reply.Reply.TheVariants.{Stored, Unchanged, R
 use Rattle.map_core.specs.declared.reply.MapRefusal.TheVariants.{Stale}
 use Rattle.map_core.specs.declared.reply.AskError.{AskError}
 use Rattle.map_core.specs.declared.reply.AskError.TheVariants.{Memory}
-use Rattle.map_core.specs.Ask.{ContentsAnswer, PlainAnswer}
+use Rattle.map_core.specs.Ask.{AnswersPlainly, ContentsAnswer, PlainAnswer}
 use Rattle.map_core.specs.Name.{Name}
 use Rattle.map_core.specs.Reply.{is_change}
 use Rattle.map_core.specs.Table.{Effect as Row, keep, store, store_after, is_lower, set, meaning}
@@ -133,7 +133,7 @@ row_is b (Some (Published c)) =
     [ true ↦ inr refl | false ↦ after_is c.sequence b (Some (Published c)) ]
 
 module _ {A : Type 0} (answers : A → Op → Result Reply AskError → A → Type 0) (shows : A → Option PlainMap)
-    (plainly : (old : A) (op : Op) (result : Result Reply AskError) (new : A) (m : PlainMap) → shows old ≡ Some m → answers old op result new → PlainAnswer m op result (shows new)) where
+    (plainly : AnswersPlainly answers shows) where
   -- a Set is answered by Stored, or the map that is shown stays
   answer_keeps : (now : ℕ) (hint : Option ℕ) (d : Name) (b : BundleValue) (m : PlainMap) (answer : Result Reply AskError) (shown : Option PlainMap)
       → PlainAnswer m (Set d b) answer shown → IsStored (outcome_of now hint answer) ⊎ (shown ≡ Some m)

@@ -4,4 +4,10 @@ pub mod Relationship
 pub mod Fetch
 pub mod Refresh
 pub mod Schedule
+pub mod List
+pub mod Target
+pub mod Folder
+pub mod OutcomeLine
+pub mod Each
 pub mod Laws
+pub mod Private

@@ -1,7 +1,9 @@
-//! Why texts are not a federation relationship.
+//! Why texts are not a federation relationship, and why refreshes end early.
 ghost use Rattle.std.specs.Prelude.{◌≡◌};
 ghost use Rattle.refresh.specs.Number.{relation_number};
 
+use client::ClientError;
+use frame_front::FrontError;
 use spiffe_doc::{IdError, NameError};
 use thiserror::Error;
 
@@ -38,4 +40,15 @@ impl RelationError {
             RelationError::Memory => 22,
         }
     }
+}
+
+/// Why the relationships of a schedule are not refreshed to its end.
+#[derive(Clone, Copy, Debug, PartialEq, Eq, Error)]
+pub enum RefreshError {
+    /// Memory ran out, or a writer failed: that of the requests, or that of the lines.
+    #[error(transparent)]
+    Front(FrontError),
+    /// The exchange with the server failed. Whether its request took effect is not known.
+    #[error(transparent)]
+    Client(ClientError),
 }

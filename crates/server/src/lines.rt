@@ -81,7 +81,7 @@ fn ports_line(port: u16, read_port: u16) -> ArrayVec<u8, LINE_BYTES>
 
 /// Writes a line, and sees that the writer keeps nothing back. If the line is not taken, that is told as a fault.
 /// Answers whether it was taken.
-#[tactic(auto, using(commands::proofs::Telling::told_nothing))]
+#[tactic(auto, using(frame_front::proofs::OutputLemmas::told_nothing))]
 pub fn say<W: Write, E: Write>(
     out: &mut Counted<W>,
     err: &mut Counted<E>,

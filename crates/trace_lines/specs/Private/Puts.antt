@@ -5,7 +5,7 @@ use Rattle.frame_front.specs.declared.counted.Counted.{Counted}
 use Rattle.frame_front.specs.declared.error.FrontError.{FrontError}
 use Rattle.frame_front.specs.declared.error.FrontError.TheVariants.{WriteFault}
 use Rattle.frame_front.specs.Output.{WritesFront}
-use Rattle.frame_front.specs.Private.WriteBuffer.{Takes}
+use Rattle.frame_front.specs.Private.Gathered.{Takes}
 use Rattle.step_core.specs.declared.trace.OpRecord.{OpRecord}
 use Rattle.frame_lines.specs.RequestForm.{◌then◌}
 use Rattle.trace_lines.specs.TraceText.{event_word}

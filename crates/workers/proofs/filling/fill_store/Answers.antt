@@ -14,7 +14,7 @@ use Rattle.workers.proofs.PassLaws.{StaysSeated, seated_same, seated_then, seate
 use Rattle.workers.proofs.filling.fill_store.Goals as goal
 
 -- the pass stays at its store
-stays : (c : goal.TurnEnd-drop-writer-2) → StaysSeated c.new-seated.result c.serve.new.ask
+stays : (c : goal.After-drop-writer-2) → StaysSeated c.new-seated.result c.serve.new.ask
 stays c =
     served_keeps SeatedAnswer StaysSeated seated_same seated_then seated_answer (Ok c.in-Ok.answered) _ _ _ _ _ c.new-seated.result c.serve.new.ask c.in-Ok.ensures.transcript
 

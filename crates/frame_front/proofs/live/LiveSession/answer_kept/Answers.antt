@@ -1,4 +1,4 @@
-use Rattle.std.proofs.Common.{◌≡◌, ◌≤◌, ◌<◌, length, arith}
+use Rattle.std.proofs.Common.{arith}
 use Rattle.frame_front.proofs.LiveLemmas.{Answering-none, Answering-then, AnswersFrame-smaller}
 use Rattle.frame_front.proofs.live.LiveSession.answer_kept.Goals as goal
 

@@ -1,9 +1,5 @@
-use Rattle.std.proofs.Common.{◌≡◌, ◌+◌, ◌<◌, ◌++◌, length, drop, [], ap, sym, ◌∙◌, arith, append-nil, length-append}
-use Rattle.frame_front.specs.Frame.{frame}
-use Rattle.frame_front.specs.Live.{reply_limit}
-use Rattle.frame_front.specs.Private.Pending.{reply_left}
+use Rattle.std.proofs.Common.{◌+◌, length, drop, ap, arith, length-append}
 use Rattle.frame_front.proofs.FrameLemmas.{length-frame}
-use Rattle.frame_front.proofs.LiveLemmas.{stored_whole}
 use Rattle.frame_front.proofs.live.LiveSession.step.Goals as goal
 
 pub pass-requires-clause-stands : goal.pass-requires-clause-stands

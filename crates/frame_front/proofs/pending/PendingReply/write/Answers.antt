@@ -1,9 +1,7 @@
-use Rattle.std.proofs.Common.{◌≡◌, ◌++◌, ap, sym, ◌∙◌, subst, append_assoc}
-use Rattle.std.specs.Io.KnownBytes.{Appends}
-use Rattle.std.proofs.KnownBytes.{Appends-trans}
+use Rattle.std.proofs.Common.{◌++◌, ap, sym, ◌∙◌, subst, append_assoc}
 use Rattle.frame_front.specs.Output.{WritesFront}
 use Rattle.frame_front.specs.Private.Pending.{domains_left, reply_left}
-use Rattle.frame_front.proofs.OutputLemmas.{WritesFront-longer, Takes-then, Takes-cut, Takes-unsent}
+use Rattle.frame_front.proofs.OutputLemmas.{WritesFront-longer, Takes-all, Takes-then, Takes-cut, Takes-unsent}
 use Rattle.frame_front.proofs.pending.PendingReply.write.Goals as goal
 
 pub returns-in_err-put-clause-front : goal.returns-in_err-put-clause-front
@@ -36,7 +34,7 @@ returns-clause-ok g c =
     let bytes = old.head.items ++ c.text.result.now in
     let whole = append_assoc old.head.items c.text.result.now (domains_left old) ∙ ap (λ b. old.head.items ++ b) (sym c.text.ensures.left) in
     let takes = Takes-then _ _ c.args.ready.now.items bytes c.put.new.ready.items (rw c.as_slice.ensures.value at c.in_ok-put.ensures.ok) (domains_left old) (reply_left old) whole _ c.put_domains.new.ready.items c.in_ok-put_domains.ensures.ok in
-    subst (Appends _ _) (sym takes.split) (Appends-trans _ _ _ takes.sent c.put_domains.new.ready.items takes.appends (rw c.as_slice-2.ensures at c.in_ok-write_flushed.ensures.ok))
+    Takes-all _ _ c.args.ready.now.items (reply_left old) c.put_domains.new.ready.items takes _ (rw c.as_slice-2.ensures at c.in_ok-write_flushed.ensures.ok)
 
 pub returns-clause-front : goal.returns-clause-front
 returns-clause-front g c =

@@ -1,5 +1,0 @@
-pub mod Rounds
-pub mod Words
-pub mod ListWords
-pub mod ListReading
-pub mod ListLines
