@@ -8,7 +8,7 @@ use std::io;
 use std::io::{Read, Write};
 use std::process::Abort;
 use std::test::Fail;
-use workers::{TurnEnd, Connection, ROOM_BYTES, Stream};
+use workers::{Connection, ROOM_BYTES, Stream, TurnEnd};
 
 /// A client that gives all that it has in one piece, and then its end; and takes all.
 #[derive(Drop)]
