@@ -24,7 +24,7 @@ A_MINUTE = 140
 # Ghost items that are proofs, or that only the prover needs.
 PROOFS = {"coded", "invariant", "answers_plainly", "laws", "from_gives", "is_clone", "is_infallible", "matches_eq", "matches_partial_cmp", "total"}
 # Modules that no caller sees, by their crates, whose ghost items are claims all the same.
-CLAIMS = {"shard_store": {"rule", "plays"}}
+CLAIMS = {"shard_store": {"rule", "steps"}}
 TOKEN = re.compile(r"[^\s(){}\[\],;]+")
 START = re.compile(r"( *)(?:unfoldable )?(?:abbrev )?(?:pub )?(record |data )?([^\s:({]+)")
 # An implementation of a trait: the trait's name, and the type's.

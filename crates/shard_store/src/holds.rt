@@ -7,8 +7,8 @@ ghost use Rattle.shard_store.specs.Numbers.{IsPart};
 ghost use Rattle.shard_store.specs.Promise.{IsLater, IsAlone};
 ghost use Rattle.shard_store.specs.Private.Seat.{IsAt, IsSameSeat, IsIdle, HasInHand, IsHolding, Missed, Writes, change_by};
 
-use crate::plays::{Look, NamesChange, Publish, Release, Take};
 use crate::rule::{ShardTable, StoreSeat};
+use crate::steps::{Look, NamesChange, Publish, Release, Take};
 use map_core::{Contents, Op};
 use std::alloc::AllocError;
 use std::sync::Arc;

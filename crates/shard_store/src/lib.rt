@@ -16,10 +16,10 @@ pub mod laws;
 mod one_shard;
 mod parts;
 mod pass;
-mod plays;
 mod recall;
 mod rule;
 mod seated;
+mod steps;
 mod store;
 
 pub use change::{Change, Seen};

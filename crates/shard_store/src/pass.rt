@@ -5,8 +5,8 @@ ghost use Rattle.shard_store.specs.Private.Seat.{IsAt, IsSameSeat, IsIdle};
 
 use crate::last_all::LastAll;
 use crate::last_reads::LastReads;
-use crate::plays::{Look, NamesShare, SplitOff, TakeIn};
 use crate::rule::{ShardTable, StoreSeat};
+use crate::steps::{Look, NamesShare, SplitOff, TakeIn};
 use std::marker::Model;
 
 /// A thread's leave to ask its store. Contracts see a log of the changes that the pass has seen, and its numbers:
