@@ -38,8 +38,3 @@ changed_holds {Z} n i op s m e h = subst (λ (x : Seen). HasInHand n i (x.log ++
 pub answered_by_change : (n i : ℕ) (op : Op) (s t u : Seen) (reply : Reply) → shard_of n op ≡ Some i → t ≡ s → reply ≡ (ask (after s.log) op).reply → is_change reply ≡ true → Writes n i op t u → IsReply op s reply u
 answered_by_change n i op s t u reply at e is write w = answered_by_write n i op s s u (partition n (after s.log) i) reply at (later_self s) refl (is ∙ sym (reply_of_part n i op s.log (partition n (after s.log) i) at refl)) write
     (subst (λ (x : Seen). Writes n i op x u) e w)
-
--- and the reply where nothing is changed
-pub answered_unchanged : (n i : ℕ) (op : Op) (s u : Seen) (reply : Reply) → shard_of n op ≡ Some i → u ≡ s → reply ≡ (ask (after s.log) op).reply → is_change reply ≡ false → IsReply op s reply u
-answered_unchanged n i op s u reply at e is quiet = answered_by_read n i op s u (partition n (after s.log) i) reply at (seen_as s u e) (ap (λ (x : Seen). partition n (after x.log) i) (sym e))
-    (is ∙ sym (reply_of_part n i op s.log (partition n (after s.log) i) at refl)) quiet

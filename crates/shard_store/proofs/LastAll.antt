@@ -24,15 +24,8 @@ use Rattle.shard_store.proofs.LastReads.{Begins, begins_answered, refused_at_lat
 use Rattle.shard_store.proofs.Promise.{alone_later, extends_then, later_then}
 use Rattle.shard_store.proofs.Readings.{all_answered, moved_since}
 
-not_all : (last : LastAll) → None ≡ Some last → ⊥
-not_all last e = absurd (cc)
-
 same_all : (r q : LastAll) → Some r ≡ Some q → r ≡ q
 same_all r q e = cc
-
--- nothing is remembered
-pub none_all : (n : ℕ) (log : List Change) (remembered : Option LastAll) → remembered ≡ None → IsLastAll n log remembered
-none_all n log remembered none last e = absurd (not_all last (sym none ∙ e))
 
 -- it stays so
 pub all_longer : (n : ℕ) (log more : List Change) (remembered : Option LastAll) → Begins log more → IsLastAll n log remembered → IsLastAll n more remembered

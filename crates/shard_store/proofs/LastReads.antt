@@ -64,9 +64,6 @@ halved word n e = omega arith
 pub read_longer : (n i : ℕ) (log more : List Change) (read : Option LastRead) → Begins log more → IsLastRead n i log read → IsLastRead n i more read
 read_longer n i log more read b told r e = let was = told r e in (was.0, was.1 ++ b.0, b.1 ∙ (ap (λ (x : List Change). x ++ b.0) was.2 ∙ append_assoc was.0 was.1 b.0), was.3, was.4, was.5)
 
-pub read_later : (n i : ℕ) (s t : Seen) (read : Option LastRead) → IsLater t s → IsLastRead n i s.log read → IsLastRead n i t.log read
-read_later n i s t read l told = read_longer n i s.log t.log read (l.0.0, l.0.1) told
-
 pub reads_longer : (n : ℕ) (log more : List Change) (reads : List (Option LastRead)) → Begins log more → AreLastReads n log reads → AreLastReads n more reads
 reads_longer n log more reads b told shard = read_longer n shard log more (get_or reads shard None) b (told shard)
 

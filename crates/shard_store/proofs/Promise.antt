@@ -98,10 +98,6 @@ missed n i word found s t l counted is miss even = (
   counted,
 )
 
--- an odd word, if another has the shard
-pub missed_odd : (n i found : ℕ) (s t : Seen) → IsLater t s → found / 2 ≡ count n t.log i → (IsAlone s → found % 2 ≡ 0) → found % 2 ≡ 1 → Missed n i s found t
-missed_odd n i found s t l counted even odd = ((λ alone. let e : found % 2 ≡ 0 = even alone in let never : ⊥ = omega arith in never), counted)
-
 updated_own : (v : View) (list : List Change) (held : Option ℕ) → v.joined ≡ [] → 0 < own_count v.seen.ranges → 0 < own_count (view_after list v held).seen.ranges
 updated_own v list held e l = subst (λ (r : List (ℕ × ℕ)). 0 < own_count r) (sym (own_ranges v e)) l
 
@@ -207,16 +203,6 @@ refused_at store op s t (Held i k) r = r
 refused_at store op s t (Moved i k m) r = absurd r
 refused_at store op s t GateShut r = absurd r
 
-pub answered_ranges : (op : Op) (s t : Seen) (reply : Reply) → IsReply op s reply t → t.ranges ≡ s.ranges
-answered_ranges op s t reply a = a.3
-
-pub refused_ranges : (store : StoreView) (op : Op) (s t : Seen) (e : AskError) → IsRefused store op s t e → t.ranges ≡ s.ranges
-refused_ranges store op s t Memory r = r.1
-refused_ranges store op s t (Worn i) r = r.0.1
-refused_ranges store op s t (Held i k) r = r.0.1
-refused_ranges store op s t (Moved i k m) r = r.0.1
-refused_ranges store op s t GateShut r = absurd r
-
 -- the shard that an operation on one name is for is its home
 pub at_home : (n i : ℕ) (op : Op) → shard_of n op ≡ Some i → Concerns n op i
 at_home n i op at = subst (λ (o : Option ℕ). MatchOption o (i < n) (λ home. i ≡ home)) (sym at) refl
@@ -228,17 +214,6 @@ at_each n i op none inside = subst (λ (o : Option ℕ). MatchOption o (i < n) (
 pub fetch_has_no_home : (n : ℕ) → shard_of n FetchAll ≡ None
 unfolding shard_of
 fetch_has_no_home n = refl
-
-pub own_kept : (share : ℕ) (rs : List (ℕ × ℕ)) → own_count (without_last share rs) ≡ own_count rs - share
-own_kept share [] = zero_less share
-  where
-    zero_less : (n : ℕ) → 0 ≡ 0 - n
-    zero_less n = omega arith
-own_kept share (r ∷ rs) = refl
-
-pub own_given : (share : ℕ) (rs : List (ℕ × ℕ)) → 0 < own_count rs → own_count (just_last share rs) ≡ share
-own_given share [] l = absurd (omega arith)
-own_given share (r ∷ rs) l = refl
 
 pub own_both : (rs qs : List (ℕ × ℕ)) → 0 < own_count rs → own_count (rs ++ qs) ≡ own_count rs
 own_both [] qs l = absurd (omega arith)
