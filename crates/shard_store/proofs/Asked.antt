@@ -1,7 +1,6 @@
 -- What a store's call says, by what its shards said.
 use Rattle.std.proofs.Common.{◌≡◌, ℕ, ◌<◌, true≢false, Option, None, sym, ap, ◌∙◌, subst}
 use Rattle.std.specs.Prelude.{MatchOption, MatchResult, Result, Ok, Err}
-use Rattle.atomic_table.specs.Seated.{TableId}
 use Rattle.map_core.specs.declared.op.Op.{Op}
 use Rattle.map_core.specs.declared.op.Op.TheVariants.{FetchAll}
 use Rattle.map_core.specs.declared.reply.Reply.{Reply}
@@ -14,11 +13,12 @@ use Rattle.map_core.proofs.Asks.{fetch_all}
 use Rattle.shard_store.specs.declared.change.Seen.{Seen}
 use Rattle.shard_store.specs.Changes.{after}
 use Rattle.shard_store.specs.Pass.{StoreView}
-use Rattle.shard_store.specs.Promise.{Concerns, IsReply, IsRefusedAt, IsRefused, StoreAnswer}
+use Rattle.shard_store.specs.Promise.{Concerns, IsReply, IsRefused, StoreAnswer}
+use Rattle.shard_store.specs.Private.Seat.{ShardAnswer}
 use Rattle.shard_store.proofs.Promise.{refused_at, at_each, fetch_has_no_home}
 use Rattle.shard_store.proofs.Changes.{not_some}
 
-by_shard : (r : Result Reply AskError) (store : StoreView) (op : Op) (s t : Seen) → MatchResult r (λ reply. IsReply op s reply t) (IsRefusedAt store.id.slots op s t) → StoreAnswer store op s r t
+by_shard : (r : Result Reply AskError) (store : StoreView) (op : Op) (s t : Seen) → ShardAnswer store.id.slots op s r t → StoreAnswer store op s r t
 by_shard (Ok reply) store op s t a = a
 by_shard (Err e) store op s t a = refused_at store op s t e a
 
@@ -49,18 +49,14 @@ pub by_all : (r : Result Reply AskError) (n : ℕ) (store : StoreView) (op : Op)
 by_all (Ok reply) n store op s t none size a = any_fetch n op s t reply none a
 by_all (Err e) n store op s t none size a = any_refused store op s t e (ap (λ (k : ℕ). shard_of k op) (sym size) ∙ none) a
 
--- the answer of one shard, at the store's own names
-pub shard_answers : (r : Result Reply AskError) (store : StoreView) (op : Op) (z : TableId) (s s' t : Seen) → z ≡ store.id → s ≡ s'
-    → MatchResult r (λ reply. IsReply op s reply t) (IsRefusedAt z.slots op s t) → StoreAnswer store op s' r t
-shard_answers r store op z s s' t e f a = by_shard r store op s' t
-    (subst (λ (x : TableId × Seen). MatchResult r (λ reply. IsReply op x.1 reply t) (IsRefusedAt x.0.slots op x.1 t)) (λ i. (e i, f i)) a)
+-- the answer of one shard, by another name of what was seen
+pub shard_answers : (r : Result Reply AskError) (store : StoreView) (op : Op) (s s' t : Seen) → s ≡ s' → ShardAnswer store.id.slots op s r t → StoreAnswer store op s' r t
+shard_answers r store op s s' t e a = by_shard r store op s' t (subst (λ (x : Seen). ShardAnswer store.id.slots op x r t) e a)
 
 all_at : (r : Result Reply AskError) (store : StoreView) (s t : Seen) → MatchResult r (λ reply. IsReply FetchAll s reply t) (IsRefused store FetchAll s t) → StoreAnswer store FetchAll s r t
 all_at (Ok reply) store s t a = a
 all_at (Err e) store s t a = a
 
--- the answer of all shards, at the store's own names
-pub all_answers : (r : Result Reply AskError) (store here : StoreView) (s s' t : Seen) → here ≡ store → s ≡ s'
-    → MatchResult r (λ reply. IsReply FetchAll s reply t) (IsRefused here FetchAll s t) → StoreAnswer store FetchAll s' r t
-all_answers r store here s s' t e f a = all_at r store s' t
-    (subst (λ (x : StoreView × Seen). MatchResult r (λ reply. IsReply FetchAll x.1 reply t) (IsRefused x.0 FetchAll x.1 t)) (λ i. (e i, f i)) a)
+-- and that of all shards
+pub all_answers : (r : Result Reply AskError) (store : StoreView) (s s' t : Seen) → s ≡ s' → MatchResult r (λ reply. IsReply FetchAll s reply t) (IsRefused store FetchAll s t) → StoreAnswer store FetchAll s' r t
+all_answers r store s s' t e a = subst (λ (x : Seen). StoreAnswer store FetchAll x r t) e (all_at r store s t a)

@@ -15,11 +15,11 @@ use Rattle.shard_store.specs.declared.change.View.{View}
 use Rattle.shard_store.specs.Changes.{after}
 use Rattle.shard_store.specs.Numbers.{IsPart}
 use Rattle.shard_store.specs.Rule.{SlotValue}
-use Rattle.shard_store.specs.Private.Seat.{HasInHand, IsHolding, Writes, AsksAlone, AsksInHand, change_by}
+use Rattle.shard_store.specs.Private.Seat.{HasInHand, Writes, AsksAlone, AsksInHand, change_by}
 use Rattle.shard_store.specs.Promise.{IsReply}
-use Rattle.shard_store.proofs.Promise.{returned, reply_of_part, part_after, later_self, seen_as, answered_by_write, answered_by_read}
+use Rattle.shard_store.proofs.Promise.{returned, reply_of_part, part_after, later_self, answered_by_write}
 
-pub asked_in_hand : {Z : Type 0} (n i : ℕ) (op : Op) (m m' m'' : Me (SlotValue Z) View) (out : SlotValue Z) (old new : Arc PlainMap Z) (answer : Result (Option Reply) AllocError) → shard_of n op ≡ Some i → IsHolding n i m
+pub asked_in_hand : {Z : Type 0} (n i : ℕ) (op : Op) (m m' m'' : Me (SlotValue Z) View) (out : SlotValue Z) (old new : Arc PlainMap Z) (answer : Result (Option Reply) AllocError) → shard_of n op ≡ Some i → HasInHand n i m.0.seen.log m
     → m' ≡ (m.0, (i, out) ∷ rest m.1) → m'' ≡ (m'.0, (i, Some new) ∷ rest m'.1) → IsPart n i m.0.seen.log (arc_value old) → AsksAlone op (arc_value old) answer (arc_value new)
     → AsksInHand n i op m.0.seen answer m''
 asked_in_hand {Z} n i op m m' m'' out old new (Ok (Some reply)) at h e f p a = let s : Seen = m.0.seen in (

@@ -13,3 +13,4 @@ pub mod Continue
 pub mod Together
 pub mod Closed
 pub mod Shown
+pub mod AtTable

@@ -1,5 +1,5 @@
 -- What a pass knows once a step has joined it the list.
-use Rattle.std.proofs.Common.{◌≡◌, ◌≢◌, ℕ, ◌+◌, ◌-◌, ◌*◌, ◌/◌, ◌%◌, ◌<◌, ◌≤◌, true, false, true≢false, List, [], ◌∷◌, ◌++◌, Option, Some, None, sym, refl, ap, ◌∙◌, subst, inl, arith, append_assoc}
+use Rattle.std.proofs.Common.{◌≡◌, ◌≢◌, ℕ, ◌+◌, ◌*◌, ◌/◌, ◌%◌, ◌<◌, ◌≤◌, true, false, true≢false, List, [], ◌∷◌, ◌++◌, Option, Some, None, sym, refl, ap, ◌∙◌, subst, inl, arith, append_assoc}
 use Rattle.std.specs.Prelude.{MatchOption, MatchResult, Result, Ok, Err}
 use Rattle.std.specs.Result.{IsErrAnd}
 use Rattle.std.specs.Arc.{arc_value}
@@ -9,6 +9,7 @@ use native.Mathlib.Decide.{ℕ_discrete}
 use Rattle.std.proofs.lemmas.List.{append-nil}
 use Rattle.atomic_table.specs.Table.{Me, rest}
 use Rattle.atomic_table.specs.Seated.{TableId}
+use Rattle.atomic_table.specs.declared.shared.Seat.{Seat}
 use Rattle.map_core.specs.declared.op.Op.{Op}
 use Rattle.map_core.specs.declared.op.Op.TheVariants.{FetchAll}
 use Rattle.map_core.specs.declared.reply.Reply.{Reply}
@@ -20,13 +21,14 @@ use Rattle.map_core.proofs.MapLaws.{part_reply}
 use Rattle.shard_store.specs.declared.change.Change.{Change}
 use Rattle.shard_store.specs.declared.change.Seen.{Seen}
 use Rattle.shard_store.specs.declared.change.View.{View}
-use Rattle.shard_store.specs.Changes.{after, change_of, count, HasNumber, Extends, own_count, own_number, without_last, just_last}
+use Rattle.shard_store.specs.declared.holds.Hold.{Hold}
+use Rattle.shard_store.specs.Changes.{after, change_of, count, HasNumber, Extends, own_count, own_number}
 use Rattle.shard_store.specs.Numbers.{IsPart}
 use Rattle.shard_store.specs.Rule.{numbers_of_joined, numbers, SlotValue}
 use Rattle.shard_store.specs.Steps.{view_after, Sees, HasAllNumbers}
 use Rattle.shard_store.specs.Promise.{IsLater, IsAlone, Concerns, IsReply, IsRefusedAt, IsRefused}
 use Rattle.shard_store.specs.Pass.{StoreView}
-use Rattle.shard_store.specs.Private.Seat.{IsIdle, HasInHand, IsHolding, Missed, Writes, change_by}
+use Rattle.shard_store.specs.Private.Seat.{IsIdle, IsWordOf, HasInHand, Holds, Missed, Writes, change_by}
 use Rattle.shard_store.proofs.Changes.{count_append, none_by_others, others_append, has_number_left, not_some, is_part_stays, is_part_of_change, same_change, part_written, home_named}
 
 pub own_ranges : (v : View) → v.joined ≡ [] → numbers v ≡ v.seen.ranges
@@ -171,13 +173,6 @@ answered_by_read n i op s t old reply at l p is kept = (
   λ _. ([], sym (append-nil t.log), tt),
 )
 
--- what the contents' answer says if there is a new version
-pub with_new : (o : Option PlainMap) (new : PlainMap) (P : Type 0) (Q : PlainMap → Type 0) → o ≡ Some new → MatchOption o P Q → Q new
-with_new o new P Q e m = subst (λ (x : Option PlainMap). MatchOption x P Q) e m
-
-pub with_none : (o : Option PlainMap) (P : Type 0) (Q : PlainMap → Type 0) → o ≡ None → MatchOption o P Q → P
-with_none o P Q e m = subst (λ (x : Option PlainMap). MatchOption x P Q) e m
-
 pub answered_since : (op : Op) (s t u : Seen) (reply : Reply) → IsLater t s → IsReply op t reply u → IsReply op s reply u
 answered_since op s t u reply l a = (
   a.0,
@@ -221,8 +216,8 @@ own_both (r ∷ rs) qs l = refl
 
 -- the exchange that took the shard left its version in hand
 pub taken_holds : {Z : Type 0} (n i : ℕ) (m m' : Me (SlotValue Z) View) (list : List Change) → IsIdle m
-    → (version : Arc PlainMap Z) × (m' ≡ (view_after list m.0 (Some i), (i, Some version) ∷ m.1)) × IsPart n i list (arc_value version) → IsHolding n i m'
-taken_holds {Z} n i m m' list idle t = subst (λ (x : Me (SlotValue Z) View). IsHolding n i x) (sym t.1)
+    → (version : Arc PlainMap Z) × (m' ≡ (view_after list m.0 (Some i), (i, Some version) ∷ m.1)) × IsPart n i list (arc_value version) → HasInHand n i m'.0.seen.log m'
+taken_holds {Z} n i m m' list idle t = subst (λ (x : Me (SlotValue Z) View). HasInHand n i x.0.seen.log x) (sym t.1)
     (t.0, ap (λ (h : List (ℕ × SlotValue Z)). (i, Some t.0) ∷ h) idle.0, t.2, refl, refl, updated_own m.0 list (Some i) idle.1 idle.3)
 
 pub taken_count : {Z : Type 0} (n i word found : ℕ) (m m' : Me (SlotValue Z) View) (list : List Change) (hand : List (ℕ × SlotValue Z)) (held : Option ℕ) → m' ≡ (view_after list m.0 held, hand) → found / 2 ≡ count n list i
@@ -230,26 +225,21 @@ pub taken_count : {Z : Type 0} (n i word found : ℕ) (m m' : Me (SlotValue Z) V
 taken_count {Z} n i word found m m' list hand held e counted is hit = let now : count n m'.0.seen.log i ≡ count n list i = ap (λ (x : Me (SlotValue Z) View). count n x.0.seen.log i) e in omega arith
 
 -- a version that was put in place of the one in hand
-pub put_in_hand : {Z : Type 0} (n i : ℕ) (f : Seen → List Change) (m m' : Me (SlotValue Z) View) (version : Arc PlainMap Z) → IsHolding n i m → m' ≡ (m.0, (i, Some version) ∷ rest m.1)
+pub put_in_hand : {Z : Type 0} (n i : ℕ) (f : Seen → List Change) (m m' : Me (SlotValue Z) View) (version : Arc PlainMap Z) → HasInHand n i m.0.seen.log m → m' ≡ (m.0, (i, Some version) ∷ rest m.1)
     → IsPart n i (f m.0.seen) (arc_value version) → (m'.0 ≡ m.0) × HasInHand n i (f m'.0.seen) m'
 put_in_hand {Z} n i f m m' version h e p = let again : m' ≡ (m.0, (i, Some version) ∷ []) = e ∙ ap (λ (c : List (ℕ × SlotValue Z)). (m.0, (i, Some version) ∷ c)) (bare m.1 (i, Some h.0) h.1) in
     (ap (λ (x : Me (SlotValue Z) View). x.0) again, subst (λ (x : Me (SlotValue Z) View). HasInHand n i (f x.0.seen) x) (sym again) (version, refl, p, h.3, h.4, h.5))
 
 -- a version that was put back in place of the one that was taken out of the slot in hand
-pub returned : {Z : Type 0} (n i : ℕ) (log : List Change) (m m' m'' : Me (SlotValue Z) View) (out : SlotValue Z) (version : Arc PlainMap Z) → IsHolding n i m → m' ≡ (m.0, (i, out) ∷ rest m.1) → m'' ≡ (m'.0, (i, Some version) ∷ rest m'.1)
+pub returned : {Z : Type 0} (n i : ℕ) (log : List Change) (m m' m'' : Me (SlotValue Z) View) (out : SlotValue Z) (version : Arc PlainMap Z) → HasInHand n i m.0.seen.log m → m' ≡ (m.0, (i, out) ∷ rest m.1) → m'' ≡ (m'.0, (i, Some version) ∷ rest m'.1)
     → IsPart n i log (arc_value version) → (m''.0 ≡ m.0) × HasInHand n i log m''
 returned {Z} n i log m m' m'' out version h e f p = let again : m'' ≡ (m.0, (i, Some version) ∷ []) =
     f ∙ (ap (λ (x : Me (SlotValue Z) View). (x.0, (i, Some version) ∷ rest x.1)) e ∙ ap (λ (c : List (ℕ × SlotValue Z)). (m.0, (i, Some version) ∷ c)) (bare m.1 (i, Some h.0) h.1)) in
     (ap (λ (x : Me (SlotValue Z) View). x.0) again, subst (λ (x : Me (SlotValue Z) View). HasInHand n i log x) (sym again) (version, refl, p, h.3, h.4, h.5))
 
--- what is in hand after the changes that were seen is the shard's version
-pub holds_seen : {Z : Type 0} (n i : ℕ) (s : Seen) (m : Me (SlotValue Z) View) → m.0.seen ≡ s → HasInHand n i s.log m → IsHolding n i m
-holds_seen {Z} n i s m e h = subst (λ (x : Seen). HasInHand n i x.log m) (sym e) h
-
--- the version that was taken out of its slot and put back is still in hand
-pub copied_holds : {Z : Type 0} (n i : ℕ) (m m' m'' : Me (SlotValue Z) View) (out : SlotValue Z) (version : Arc PlainMap Z) → IsHolding n i m → m' ≡ (m.0, (i, out) ∷ rest m.1) → m'' ≡ (m'.0, (i, Some version) ∷ rest m'.1)
-    → IsPart n i m.0.seen.log (arc_value version) → (m''.0 ≡ m.0) × IsHolding n i m''
-copied_holds {Z} n i m m' m'' out version h e f p = let r = returned n i m.0.seen.log m m' m'' out version h e f p in (r.0, holds_seen n i m.0.seen m'' (ap (λ (v : View). v.seen) r.0) r.1)
+-- the seat holds the shard still, with the version in hand that was put back
+pub held_still : {Z : Type 0} (z : TableId) (hold : Hold) (p q : Seat (SlotValue Z) View) → q.me.0 ≡ p.me.0 → q.table_id ≡ z → IsWordOf z hold p.me.0.seen → HasInHand z.slots hold.shard p.me.0.seen.log q.me → Holds z hold q
+held_still {Z} z hold p q e at word hand = (at, subst (λ (v : View). IsWordOf z hold v.seen) (sym e) word, subst (λ (v : View). HasInHand z.slots hold.shard v.seen.log q.me) (sym e) hand)
 
 pub part_after : (n i : ℕ) (op : Op) (s : Seen) (old new : PlainMap) → shard_of n op ≡ Some i → IsPart n i s.log old → new ≡ (ask old op).map → IsPart n i (s.log ++ change_by op s ∷ []) new
 part_after n i op s old new at p e = part_written n i op s.log (own_number s.ranges) old new at p e
@@ -258,7 +248,3 @@ part_after n i op s old new at p e = part_written n i op s.log (own_number s.ran
 pub error_passed : {A E : Type 0} (r : Result A E) (e : E) (P : A → Type 0) (Q : E → Type 0) → IsErrAnd r (λ x. x ≡ e) → Q e → MatchResult r P Q
 error_passed (Ok x) e P Q is q = absurd is
 error_passed (Err x) e P Q is q = subst Q (sym is) q
-
--- what holds of an error holds of one that is equal
-pub error_is : (e e' : AskError) (Q : AskError → Type 0) → e ≡ e' → Q e' → Q e
-error_is e e' Q is q = subst Q (sym is) q

@@ -1,6 +1,6 @@
 -- A get that is answered to a viewer by what was read last.
 use Rattle.std.proofs.Common.{◌≡◌, ℕ, List, Option, Some, None, sym, ap, ◌∙◌, subst}
-use Rattle.std.specs.Prelude.{Result, Ok, Err, IfOk, MatchResult}
+use Rattle.std.specs.Prelude.{Result, Ok, Err, IfOk}
 use Rattle.std.specs.Result.{IsErrAnd}
 use Rattle.std.specs.declared.alloc.AllocError.{AllocError}
 use Rattle.spiffe_doc.specs.Authority.{BundleValue}
@@ -16,7 +16,7 @@ use Rattle.map_core.specs.PlainMap.{PlainMap, ask, home, shard_of}
 use Rattle.map_core.proofs.Asks.{get_changes_nothing}
 use Rattle.shard_store.specs.declared.change.Seen.{Seen}
 use Rattle.shard_store.specs.Numbers.{IsPart}
-use Rattle.shard_store.specs.Promise.{IsLater, IsReply, IsRefusedAt}
+use Rattle.shard_store.specs.Promise.{IsLater, IsReply}
 use Rattle.shard_store.specs.Private.LastReads.{AreLastReads}
 use Rattle.shard_store.specs.Private.Seat.{ShardAnswer}
 use Rattle.shard_store.specs.declared.last_reads.LastRead.{LastRead}
@@ -52,7 +52,7 @@ pub shown_seen : {V : Type 0} (notes : V → BundleValue → V → Type 0) (n : 
 shown_seen notes n op s t reads old (Some reply) new shows told = reads_answered n op s t reply reads shows.0 told
 shown_seen notes n op s t reads old None new shows told = reads_answered n op s t (Found shows.0) reads shows.1 told
 
-answer_ranges : (n : ℕ) (op : Op) (s t : Seen) (answer : Result Reply AskError) → ShardAnswer n op s answer t → t.ranges ≡ s.ranges
+pub answer_ranges : (n : ℕ) (op : Op) (s t : Seen) (answer : Result Reply AskError) → ShardAnswer n op s answer t → t.ranges ≡ s.ranges
 answer_ranges n op s t (Ok reply) a = a.3
 answer_ranges n op s t (Err e) a = (refused_at_later n op s t e a).1
 
@@ -61,10 +61,6 @@ pub shown_ranges : {V : Type 0} (notes : V → BundleValue → V → Type 0) (n 
 shown_ranges notes n op s t old (Ok (Some reply)) new shows = answer_ranges n op s t (Ok reply) shows.0
 shown_ranges notes n op s t old (Ok None) new shows = answer_ranges n op s t (Ok (Found shows.0)) shows.1
 shown_ranges notes n op s t old (Err e) new shows = answer_ranges n op s t (Err e) shows.0
-
-pub as_matched : (n : ℕ) (op : Op) (s t : Seen) (answer : Result Reply AskError) → ShardAnswer n op s answer t → MatchResult answer (λ reply. IsReply op s reply t) (IsRefusedAt n op s t)
-as_matched n op s t (Ok reply) a = a
-as_matched n op s t (Err e) a = a
 
 -- what is remembered of the last fetch-all stays so
 pub shown_all : {V : Type 0} (notes : V → BundleValue → V → Type 0) (n : ℕ) (op : Op) (s t : Seen) (remembered : Option LastAll) (old : V) (shown : Result (Option Reply) AskError) (new : V)

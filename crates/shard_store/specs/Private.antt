@@ -4,3 +4,4 @@ pub mod Fresh
 pub mod Seat
 pub mod LastReads
 pub mod LastAll
+pub mod Desk

@@ -1,13 +1,12 @@
 //! An operation on a shard's version where it is: nothing is copied if nobody else owns the version.
-ghost use Rattle.std.specs.Prelude.{◌≡◌, ◌*◌, ◌<◌, Some};
+ghost use Rattle.std.specs.Prelude.{◌≡◌};
 ghost use Rattle.std.specs.Arc.{arc_value};
-ghost use Rattle.map_core.specs.PlainMap.{shard_of};
-ghost use Rattle.shard_store.specs.Changes.{count};
-ghost use Rattle.shard_store.specs.Private.Seat.{IsAt, IsSameSeat, IsHolding, AsksAlone, AsksInHand, AsksHeld};
+ghost use Rattle.shard_store.specs.Private.Seat.{IsAtHome, Holds, AsksAlone, AsksInHand, AsksHeld};
 
-use crate::holds::{let_go_changed, release};
+use crate::holds::Hold;
 use crate::one_shard::LAST_REVISION;
-use crate::rule::{ShardTable, StoreSeat};
+use crate::rule::StoreSeat;
+use crate::store::Store;
 use map_core::{AskError, Contents, Op, Reply};
 use std::alloc::AllocError;
 use std::marker::Brand;
@@ -27,65 +26,61 @@ fn ask_alone(version: &mut Arc<Contents>, op: &Op) -> Result<Option<Reply>, Allo
     }
 }
 
-/// The same for the version in hand.
-fn ask_in_hand(
-    shards: &ShardTable,
-    seat: &mut StoreSeat,
-    shard: usize,
-    op: &Op,
-) -> Result<Option<Reply>, AllocError>
-    requires own { IsAt seat.old shards.now.shared.table_id }
-    requires shard { shard < seat.old.table_id.slots }
-    requires holds { IsHolding seat.old.table_id.slots shard seat.old.me }
-    requires home { shard_of seat.old.table_id.slots op.now ≡ Some shard }
-    ensures seat { IsSameSeat seat.old seat.new × (seat.new.me.0 ≡ seat.old.me.0) }
-    ensures asked { AsksInHand seat.old.table_id.slots shard op.now seat.old.me.0.seen result seat.new.me }
-{
-    let mut version = shards.shared.exchange(seat, shard, None).unwrap();
-    let answer = ask_alone(&mut version, op);
-    shards.shared.exchange(seat, shard, Some(version));
-    answer
-}
-
 /// Whether the operation may change the map. The version that another operation reads is remembered, so that the next
 /// one holds nothing.
 pub(crate) fn may_write(op: &Op) -> bool {
     !matches!(op, Op::Get(_) | Op::FetchAll)
 }
 
-/// A change of a shard that is held, which is let go then. None if others own the version, if the operation only reads, or
-/// if the shard takes no more changes: then it is still held.
-pub(crate) fn change_held(
-    shards: &ShardTable,
-    seat: &mut StoreSeat,
-    shard: usize,
-    word: u64,
-    op: &Op,
-) -> Result<Option<Reply>, AskError>
-    requires own { IsAt seat.old shards.now.shared.table_id }
-    requires shard { shard < seat.old.table_id.slots }
-    requires holds { IsHolding seat.old.table_id.slots shard seat.old.me }
-    requires word { word ≡ 2 * count seat.old.table_id.slots seat.old.me.0.seen.log shard }
-    requires home { shard_of seat.old.table_id.slots op.now ≡ Some shard }
-    ensures seat { IsSameSeat seat.old seat.new }
-    ensures asked { AsksHeld seat.old.table_id.slots shard op.now seat.old.me.0.seen result seat.new.me }
-{
-    if word / 2 >= LAST_REVISION || !may_write(op) {
-        return Ok(None);
+impl Store {
+    // The same for the version in hand.
+    fn ask_in_hand(
+        &self,
+        seat: &mut StoreSeat,
+        hold: Hold,
+        op: &Op,
+    ) -> Result<Option<Reply>, AllocError>
+        requires held { Holds self.now.id hold seat.old }
+        requires home { IsAtHome self.now.id op.now hold.shard }
+        ensures seat { (seat.new.table_id ≡ self.now.id) × (seat.new.me.0 ≡ seat.old.me.0) }
+        ensures asked { AsksInHand self.now.id.slots hold.shard op.now seat.old.me.0.seen result seat.new.me }
+    {
+        let shard = hold.shard;
+        let mut version = self.shards.shared.exchange(seat, shard, None).unwrap();
+        let answer = ask_alone(&mut version, op);
+        self.shards.shared.exchange(seat, shard, Some(version));
+        answer
     }
-    match ask_in_hand(shards, seat, shard, op) {
-        Ok(None) => Ok(None),
-        Ok(Some(reply)) => {
-            if reply.is_change() {
-                let_go_changed::<Brand>(shards, seat, shard, word, op);
-                return Ok(Some(reply));
-            }
-            release(shards, seat, shard, word);
-            Ok(Some(reply))
+
+    /// A change of a shard that is held, which is let go then. None if others own the version, if the operation only reads,
+    /// or if the shard takes no more changes: then it is still held.
+    pub(crate) fn change_held(
+        &self,
+        seat: &mut StoreSeat,
+        hold: Hold,
+        op: &Op,
+    ) -> Result<Option<Reply>, AskError>
+        requires held { Holds self.now.id hold seat.old }
+        requires home { IsAtHome self.now.id op.now hold.shard }
+        ensures asked { AsksHeld self.now.id hold op.now seat.old.me.0.seen result seat.new }
+    {
+        if hold.word / 2 >= LAST_REVISION || !may_write(op) {
+            return Ok(None);
         }
-        Err(_) => {
-            release(shards, seat, shard, word);
-            Err(AskError::Memory)
+        match self.ask_in_hand(seat, hold, op) {
+            Ok(None) => Ok(None),
+            Ok(Some(reply)) => {
+                if reply.is_change() {
+                    self.let_go_changed::<Brand>(seat, hold, op);
+                    return Ok(Some(reply));
+                }
+                self.release(seat, hold);
+                Ok(Some(reply))
+            }
+            Err(_) => {
+                self.release(seat, hold);
+                Err(AskError::Memory)
+            }
         }
     }
 }

@@ -2,14 +2,13 @@
 ghost use Rattle.std.specs.Prelude.{◌≡◌, IfOk, IfSome};
 ghost use Rattle.map_core.specs.PlainMap.{bundles};
 ghost use Rattle.shard_store.specs.Changes.{after};
-ghost use Rattle.shard_store.specs.Promise.{IsLater};
+ghost use Rattle.shard_store.specs.Private.Seat.{IsFree, HasLooked};
 ghost use Rattle.shard_store.specs.Private.LastAll.{IsLastAll};
-ghost use Rattle.shard_store.specs.Private.Seat.{IsAt, IsSameSeat, IsIdle};
 
-use crate::fetch::confirm_all;
-use crate::rule::{ShardTable, StoreSeat};
+use crate::rule::StoreSeat;
+use crate::store::Store;
 use map_core::Snapshot;
-use std::alloc::{AllocError, Global};
+use std::alloc::AllocError;
 
 /// All bundles as they stood together at one moment, and which revisions the shards had then.
 #[derive(Drop)]
@@ -18,30 +17,29 @@ pub(crate) struct LastAll {
     pub all: Snapshot,
 }
 
-/// What the last fetch-all was answered, if no shard has changed since. Each word is loaded once: as no revision has
-/// grown by its load, none had grown when the first was loaded, and all stood together at that moment.
-pub(crate) fn recall_all(
-    alloc: Global,
-    shards: &ShardTable,
-    seat: &mut StoreSeat,
-    remembered: &mut Option<LastAll>,
-) -> Result<Option<Snapshot>, AllocError>
-    requires own { IsAt seat.old shards.now.shared.table_id }
-    requires idle { IsIdle seat.old.me }
-    requires told { IsLastAll seat.old.table_id.slots seat.old.me.0.seen.log remembered.old }
-    ensures seat { IsSameSeat seat.old seat.new × IsIdle seat.new.me }
-    ensures later { IsLater seat.new.me.0.seen seat.old.me.0.seen }
-    ensures kept { remembered.new ≡ remembered.old }
-    ensures all { IfOk result (λ found. IfSome found (λ all. all ≡ bundles (after seat.old.me.0.seen.log))) }
-{
-    let Some(last) = remembered else {
-        return Ok(None);
-    };
-    match confirm_all(shards, seat, last.revisions.as_slice()) {
-        None => {
-            let all = last.all.share(alloc)?;
-            Ok(Some(all))
+impl Store {
+    /// What the last fetch-all was answered, if no shard has changed since. Each word is loaded once: as no revision has
+    /// grown by its load, none had grown when the first was loaded, and all stood together at that moment.
+    pub(crate) fn recall_all(
+        &self,
+        seat: &mut StoreSeat,
+        remembered: &mut Option<LastAll>,
+    ) -> Result<Option<Snapshot>, AllocError>
+        requires free { IsFree self.now.id seat.old }
+        requires told { IsLastAll self.now.id.slots seat.old.me.0.seen.log remembered.old }
+        ensures looked { HasLooked self.now.id seat.old seat.new }
+        ensures kept { remembered.new ≡ remembered.old }
+        ensures all { IfOk result (λ found. IfSome found (λ all. all ≡ bundles (after seat.old.me.0.seen.log))) }
+    {
+        let Some(last) = remembered else {
+            return Ok(None);
+        };
+        match self.confirm_all(seat, last.revisions.as_slice()) {
+            None => {
+                let all = last.all.share(self.alloc)?;
+                Ok(Some(all))
+            }
+            Some(_) => Ok(None),
         }
-        Some(_) => Ok(None),
     }
 }

@@ -17,12 +17,15 @@ pub(crate) struct LastRead {
 }
 
 impl LastRead {
-    /// The same of another owner of the version.
-    pub(crate) fn of(revision: u64, version: &Arc<Contents>) -> Result<LastRead, AllocError>
-        ensures { IfOk result (λ r. (r.revision ≡ revision) × (arc_value r.version ≡ arc_value version.now)) }
+    /// The same, with another owner of the version.
+    pub(crate) fn copy(&self) -> Result<LastRead, AllocError>
+        ensures { IfOk result (λ r. (r.revision ≡ self.now.revision) × (arc_value r.version ≡ arc_value self.now.version)) }
     {
-        let version = Arc::try_clone(version)?;
-        Ok(LastRead { revision, version })
+        let version = Arc::try_clone(&self.version)?;
+        Ok(LastRead {
+            revision: self.revision,
+            version,
+        })
     }
 }
 

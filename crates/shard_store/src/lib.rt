@@ -6,6 +6,7 @@
 
 mod change;
 mod close;
+mod desk;
 mod fetch;
 mod held_pass;
 mod holds;

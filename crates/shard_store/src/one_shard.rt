@@ -1,18 +1,15 @@
 //! One operation on one name, at the shard where the name is at home.
-ghost use Rattle.std.specs.Prelude.{◌≡◌, ◌*◌, ◌/◌, ◌^◌, ◌<◌, ◌≤◌, [], ◌∷◌, ◌++◌, Some, IfOk, MatchResult};
+ghost use Rattle.std.specs.Prelude.{◌≡◌, ◌/◌, ◌^◌, ◌<◌, ◌≤◌, [], ◌∷◌, ◌++◌, MatchResult};
 ghost use Rattle.std.specs.Arc.{arc_value};
-ghost use Rattle.map_core.specs.PlainMap.{shard_of};
-ghost use Rattle.shard_store.specs.Changes.{count};
 ghost use Rattle.shard_store.specs.Numbers.{IsPart};
 ghost use Rattle.shard_store.specs.Promise.{IsLater, IsRefusedAt};
-ghost use Rattle.shard_store.specs.Private.Seat.{IsAt, IsSameSeat, IsIdle, IsHolding, IsReplyRead, Missed, Writes, Tried, change_by};
+ghost use Rattle.shard_store.specs.Private.Seat.{IsFree, IsAtHome, Holds, IsWordOf, IsReplyRead, Missed, Writes, Tried, change_by};
 
-use crate::holds::{hold_from, publish, read_version, try_hold};
-use crate::in_hand::change_held;
+use crate::holds::Hold;
 use crate::last_reads::LastRead;
-use crate::rule::{ShardTable, StoreSeat};
+use crate::rule::StoreSeat;
+use crate::store::Store;
 use map_core::{AskError, Contents, Op, Reply};
-use std::alloc::{AllocError, Global};
 use std::marker::Brand;
 use std::sync::Arc;
 use std::thread;
@@ -25,39 +22,6 @@ pub(crate) const LAST_REVISION: u64 = 1 << 62;
 pub(crate) enum Attempt {
     Replied(Reply, Option<LastRead>),
     Blocked(u64),
-}
-
-/// Tries the operation as often as it may. Beside the reply is what was read for it under a hold, if nothing was
-/// written since.
-pub(crate) fn ask_shard(
-    alloc: Global,
-    shards: &ShardTable,
-    seat: &mut StoreSeat,
-    tries: u64,
-    shard: usize,
-    op: &Op,
-) -> Result<(Reply, Option<LastRead>), AskError>
-    requires own { IsAt seat.old shards.now.shared.table_id }
-    requires shard { shard < seat.old.table_id.slots }
-    requires idle { IsIdle seat.old.me }
-    requires tries { 0 < tries }
-    requires home { shard_of seat.old.table_id.slots op.now ≡ Some shard }
-    ensures seat { IsSameSeat seat.old seat.new × IsIdle seat.new.me }
-    ensures answer { MatchResult result
-        (λ r. IsReplyRead seat.old.table_id.slots shard op.now seat.old.me.0.seen r.0 r.1 seat.new.me.0.seen)
-        (IsRefusedAt seat.old.table_id.slots op.now seat.old.me.0.seen seat.new.me.0.seen) }
-{
-    let mut word = 0;
-    let mut failed = 0;
-    for _ in 0..tries {
-        match try_once(alloc, shards, seat, shard, op)? {
-            Attempt::Replied(reply, read) => return Ok((reply, read)),
-            Attempt::Blocked(found) => word = found,
-        }
-        failed += 1;
-        make_way(word);
-    }
-    Err(given_up(tries, failed, shard, word))
 }
 
 /// Before the next try, lets other threads run if the shard is held: its holder may be one that is not running.
@@ -80,97 +44,107 @@ pub(crate) fn given_up(tries: u64, failed: u64, shard: usize, word: u64) -> AskE
     }
 }
 
-// One try. A change is made where the version is, if nobody else owns it.
-fn try_once(
-    alloc: Global,
-    shards: &ShardTable,
-    seat: &mut StoreSeat,
-    shard: usize,
-    op: &Op,
-) -> Result<Attempt, AskError>
-    requires own { IsAt seat.old shards.now.shared.table_id }
-    requires shard { shard < seat.old.table_id.slots }
-    requires idle { IsIdle seat.old.me }
-    requires home { shard_of seat.old.table_id.slots op.now ≡ Some shard }
-    ensures seat { IsSameSeat seat.old seat.new × IsIdle seat.new.me }
-    ensures tried { MatchResult result
-        (Tried seat.old.table_id.slots shard op.now seat.old.me.0.seen seat.new.me.0.seen)
-        (IsRefusedAt seat.old.table_id.slots op.now seat.old.me.0.seen seat.new.me.0.seen) }
-{
-    let word = match try_hold(shards, seat, shard) {
-        Ok(word) => word,
-        Err(found) => return Ok(Attempt::Blocked(found)),
-    };
-    if let Some(reply) = change_held(shards, seat, shard, word, op)? {
-        return Ok(Attempt::Replied(reply, None));
+impl Store {
+    /// Tries the operation as often as it may. Beside the reply is what was read for it under a hold, if nothing was
+    /// written since.
+    pub(crate) fn ask_shard(
+        &self,
+        seat: &mut StoreSeat,
+        shard: usize,
+        op: &Op,
+    ) -> Result<(Reply, Option<LastRead>), AskError>
+        requires free { IsFree self.now.id seat.old }
+        requires home { IsAtHome self.now.id op.now shard }
+        ensures free { IsFree self.now.id seat.new }
+        ensures answer { MatchResult result
+            (λ r. IsReplyRead self.now.id.slots shard op.now seat.old.me.0.seen r.0 r.1 seat.new.me.0.seen)
+            (IsRefusedAt self.now.id.slots op.now seat.old.me.0.seen seat.new.me.0.seen) }
+    {
+        let mut word = 0;
+        let mut failed = 0;
+        for _ in 0..self.tries {
+            match self.try_once(seat, shard, op)? {
+                Attempt::Replied(reply, read) => return Ok((reply, read)),
+                Attempt::Blocked(found) => word = found,
+            }
+            failed += 1;
+            make_way(word);
+        }
+        Err(given_up(self.tries, failed, shard, word))
     }
-    try_held(alloc, shards, seat, shard, word, op)
-}
 
-// One try at a shard that is held: its version is read, and the one after it made while nothing is held.
-fn try_held(
-    alloc: Global,
-    shards: &ShardTable,
-    seat: &mut StoreSeat,
-    shard: usize,
-    word: u64,
-    op: &Op,
-) -> Result<Attempt, AskError>
-    requires own { IsAt seat.old shards.now.shared.table_id }
-    requires shard { shard < seat.old.table_id.slots }
-    requires holds { IsHolding seat.old.table_id.slots shard seat.old.me }
-    requires word { (word ≡ 2 * count seat.old.table_id.slots seat.old.me.0.seen.log shard) × (word ≤ 2 ^ 63) }
-    requires home { shard_of seat.old.table_id.slots op.now ≡ Some shard }
-    ensures seat { IsSameSeat seat.old seat.new × IsIdle seat.new.me }
-    ensures tried { MatchResult result
-        (Tried seat.old.table_id.slots shard op.now seat.old.me.0.seen seat.new.me.0.seen)
-        (IsRefusedAt seat.old.table_id.slots op.now seat.old.me.0.seen seat.new.me.0.seen) }
-{
-    let version = read_version(shards, seat, shard, word)?;
-    let (reply, next) = version.asked(op)?;
-    let Some(next) = next else {
-        let revision = word / 2;
-        return Ok(Attempt::Replied(reply, Some(LastRead { revision, version })));
-    };
-    drop(version);
-    if word / 2 >= LAST_REVISION {
-        drop((reply, next));
-        return Err(AskError::Worn { shard });
+    // One try. A change is made where the version is, if nobody else owns it.
+    fn try_once(&self, seat: &mut StoreSeat, shard: usize, op: &Op) -> Result<Attempt, AskError>
+        requires free { IsFree self.now.id seat.old }
+        requires home { IsAtHome self.now.id op.now shard }
+        ensures free { IsFree self.now.id seat.new }
+        ensures tried { MatchResult result
+            (Tried self.now.id.slots shard op.now seat.old.me.0.seen seat.new.me.0.seen)
+            (IsRefusedAt self.now.id.slots op.now seat.old.me.0.seen seat.new.me.0.seen) }
+    {
+        let word = match self.try_hold(seat, shard) {
+            Ok(word) => word,
+            Err(found) => return Ok(Attempt::Blocked(found)),
+        };
+        let hold = Hold { shard, word };
+        if let Some(reply) = self.change_held(seat, hold, op)? {
+            return Ok(Attempt::Replied(reply, None));
+        }
+        self.try_held(seat, hold, op)
     }
-    let Ok(next) = Arc::new(alloc, next) else {
-        drop(reply);
-        return Err(AskError::Memory);
-    };
-    match store_version(shards, seat, shard, word, next, op) {
-        Ok(()) => Ok(Attempt::Replied(reply, None)),
-        Err(found) => {
+
+    // One try at a shard that is held: its version is read, and the one after it made while nothing is held.
+    fn try_held(&self, seat: &mut StoreSeat, hold: Hold, op: &Op) -> Result<Attempt, AskError>
+        requires held { Holds self.now.id hold seat.old × (hold.word ≤ 2 ^ 63) }
+        requires home { IsAtHome self.now.id op.now hold.shard }
+        ensures free { IsFree self.now.id seat.new }
+        ensures tried { MatchResult result
+            (Tried self.now.id.slots hold.shard op.now seat.old.me.0.seen seat.new.me.0.seen)
+            (IsRefusedAt self.now.id.slots op.now seat.old.me.0.seen seat.new.me.0.seen) }
+    {
+        let version = self.read_version(seat, hold)?;
+        let (reply, next) = version.asked(op)?;
+        let revision = hold.word / 2;
+        let Some(next) = next else {
+            return Ok(Attempt::Replied(reply, Some(LastRead { revision, version })));
+        };
+        drop(version);
+        if revision >= LAST_REVISION {
+            drop((reply, next));
+            return Err(AskError::Worn { shard: hold.shard });
+        }
+        let Ok(next) = Arc::new(self.alloc, next) else {
             drop(reply);
-            Ok(Attempt::Blocked(found))
+            return Err(AskError::Memory);
+        };
+        match self.store_version(seat, hold, next, op) {
+            Ok(()) => Ok(Attempt::Replied(reply, None)),
+            Err(found) => {
+                drop(reply);
+                Ok(Attempt::Blocked(found))
+            }
         }
     }
-}
 
-// Takes the shard if its word is still the one from which the new version was made, and lets it go with that.
-fn store_version(
-    shards: &ShardTable,
-    seat: &mut StoreSeat,
-    shard: usize,
-    word: u64,
-    version: Arc<Contents>,
-    op: &Op,
-) -> Result<(), u64>
-    requires own { IsAt seat.old shards.now.shared.table_id }
-    requires shard { shard < seat.old.table_id.slots }
-    requires idle { IsIdle seat.old.me }
-    requires word { (word ≡ 2 * count seat.old.table_id.slots seat.old.me.0.seen.log shard) × (word < 2 ^ 63) }
-    requires home { shard_of seat.old.table_id.slots op.now ≡ Some shard }
-    requires version { IsPart seat.old.table_id.slots shard (seat.old.me.0.seen.log ++ change_by op.now seat.old.me.0.seen ∷ []) (arc_value version) }
-    ensures seat { IsSameSeat seat.old seat.new × IsIdle seat.new.me }
-    ensures written { MatchResult result
-        (λ _. Writes seat.old.table_id.slots shard op.now seat.old.me.0.seen seat.new.me.0.seen)
-        (λ n. IsLater seat.new.me.0.seen seat.old.me.0.seen × Missed seat.old.table_id.slots shard seat.old.me.0.seen n seat.new.me.0.seen) }
-{
-    hold_from(shards, seat, shard, word)?;
-    publish::<Brand>(shards, seat, shard, word, version, op);
-    Ok(())
+    // Takes the shard if its word is still the one from which the new version was made, and lets it go with that.
+    fn store_version(
+        &self,
+        seat: &mut StoreSeat,
+        hold: Hold,
+        version: Arc<Contents>,
+        op: &Op,
+    ) -> Result<(), u64>
+        requires free { IsFree self.now.id seat.old }
+        requires word { IsWordOf self.now.id hold seat.old.me.0.seen × (hold.word < 2 ^ 63) }
+        requires home { IsAtHome self.now.id op.now hold.shard }
+        requires version { IsPart self.now.id.slots hold.shard (seat.old.me.0.seen.log ++ change_by op.now seat.old.me.0.seen ∷ []) (arc_value version) }
+        ensures free { IsFree self.now.id seat.new }
+        ensures written { MatchResult result
+            (λ _. Writes self.now.id.slots hold.shard op.now seat.old.me.0.seen seat.new.me.0.seen)
+            (λ n. IsLater seat.new.me.0.seen seat.old.me.0.seen × Missed self.now.id.slots hold.shard seat.old.me.0.seen n seat.new.me.0.seen) }
+    {
+        self.hold_from(seat, hold)?;
+        self.publish::<Brand>(seat, hold, version, op);
+        Ok(())
+    }
 }

@@ -9,15 +9,15 @@ ghost use Rattle.shard_store.specs.Close.{CloseAnswer};
 ghost use Rattle.shard_store.specs.Pass.{IsOf};
 ghost use Rattle.shard_store.specs.Promise.{StoreAnswer, HoldAnswer};
 ghost use Rattle.shard_store.specs.Private.Fresh.{IsEmptyVersion};
+ghost use Rattle.shard_store.specs.Private.Seat.{IsFree};
 
 use crate::close::{CloseError, first_held, join_slots, take_all};
-use crate::fetch::ask_all;
+use crate::desk::Desk;
 use crate::held_pass::HeldPass;
-use crate::holds::try_hold;
+use crate::holds::Hold;
 use crate::last_reads::LastReads;
-use crate::pass::{Pass, join_seats, split_off};
-use crate::recall::{ask_name, show_name};
-use crate::rule::{ShardTable, Slot};
+use crate::pass::Pass;
+use crate::rule::{ShardTable, Slot, StoreSeat};
 use atomic_table::Table;
 use map_core::home::{home, shard_of};
 use map_core::{AskError, Contents, Expect, Op, Reply, Viewer};
@@ -68,21 +68,14 @@ impl Store {
         let Ok((shards, seat)) = Table::new(alloc, words.as_slice(), slots, &()) else {
             return Err(AllocError);
         };
-        let pass = Pass {
-            seat,
-            numbers: 1 << 32,
-            last_reads: LastReads::new(alloc),
-            last_all: None,
+        let store = Store {
+            alloc,
+            shards,
+            rounds,
+            tries,
         };
-        Ok((
-            Store {
-                alloc,
-                shards,
-                rounds,
-                tries,
-            },
-            pass,
-        ))
+        let pass = store.first_pass(seat, 1 << 32);
+        Ok((store, pass))
     }
 
     /// A pass for another thread. It has seen as much, and gets the last `share` numbers of this one.
@@ -93,43 +86,39 @@ impl Store {
         ensures logs { (pass.new.seen.log ≡ pass.old.seen.log) × (result.seen.log ≡ pass.old.seen.log) }
         ensures numbers { (pass.new.seen.ranges ≡ without_last share pass.old.seen.ranges) × (result.seen.ranges ≡ just_last share pass.old.seen.ranges) }
     {
-        let seat = split_off::<Brand>(&self.shards, &mut pass.seat, share);
+        let seat = self.split_off::<Brand>(&mut pass.desk.seat, share);
         pass.numbers -= share;
-        Pass {
+        self.first_pass(seat, share)
+    }
+
+    // A pass that remembers nothing yet.
+    fn first_pass(&self, seat: StoreSeat, numbers: u64) -> Pass
+        requires free { IsFree self.now.id seat }
+        requires numbers { own_count seat.me.0.seen.ranges ≡ numbers }
+        ensures own { IsOf result self.now }
+        ensures seen { result.seen ≡ seat.me.0.seen }
+    {
+        let desk = Desk {
             seat,
-            numbers: share,
             last_reads: LastReads::new(self.alloc),
+        };
+        Pass {
+            desk,
+            numbers,
             last_all: None,
         }
     }
 
     /// One pass in place of two. It has seen all that they have seen, has the first one's numbers, and has taken in
     /// those of the other.
-    pub fn join(&self, pass: Pass, other: Pass) -> Pass
+    pub fn join(&self, mut pass: Pass, other: Pass) -> Pass
         requires own { IsOf pass self.now × IsOf other self.now }
         ensures own { IsOf result self.now }
         ensures log { Extends result.seen.log pass.seen × Extends result.seen.log other.seen }
         ensures numbers { result.seen.ranges ≡ pass.seen.ranges ++ other.seen.ranges }
     {
-        let Pass {
-            mut seat,
-            numbers,
-            last_reads,
-            last_all,
-        } = pass;
-        let Pass {
-            seat: other,
-            numbers: _,
-            last_reads: _,
-            last_all: _,
-        } = other;
-        join_seats(&self.shards, &mut seat, other);
-        Pass {
-            seat,
-            numbers,
-            last_reads,
-            last_all,
-        }
+        self.join_seats(&mut pass.desk.seat, other.desk.seat);
+        pass
     }
 
     /// Answers an operation as the plain map does, after some list of changes that begins with what the pass has
@@ -160,14 +149,7 @@ impl Store {
         ensures own { IsOf pass.new self.now }
         ensures answer { StoreAnswer self.now op.now pass.old.seen result pass.new.seen }
     {
-        let Pass {
-            seat,
-            numbers: _,
-            last_reads,
-            last_all: _,
-        } = pass;
-        let (alloc, shards) = (self.alloc, &self.shards);
-        ask_name(alloc, shards, seat, last_reads, self.tries, shard, op)
+        self.ask_name(&mut pass.desk, shard, op)
     }
 
     // Answers a fetch-all.
@@ -176,22 +158,7 @@ impl Store {
         ensures own { IsOf pass.new self.now }
         ensures answer { StoreAnswer self.now Op.FetchAll pass.old.seen result pass.new.seen }
     {
-        let Pass {
-            seat,
-            numbers: _,
-            last_reads,
-            last_all,
-        } = pass;
-        let (alloc, shards) = (self.alloc, &self.shards);
-        ask_all(
-            alloc,
-            shards,
-            seat,
-            last_reads,
-            last_all,
-            self.tries,
-            self.rounds,
-        )
+        self.ask_all(&mut pass.desk, &mut pass.last_all)
     }
 
     /// Answers a get of the name. The bundle that was found may be shown to the viewer where it is kept: then there is no
@@ -206,17 +173,8 @@ impl Store {
         ensures own { IsOf pass.new self.now }
         ensures shown { ShowsGet V.notes (λ answer. StoreAnswer self.now (Op.Get domain.now) pass.old.seen answer pass.new.seen) (V.noted viewer.old) result (V.noted viewer.new) }
     {
-        let Pass {
-            seat,
-            numbers: _,
-            last_reads,
-            last_all: _,
-        } = pass;
-        let (alloc, shards) = (self.alloc, &self.shards);
-        let shard = home(domain, shards.slot_count());
-        show_name(
-            alloc, shards, seat, last_reads, self.tries, shard, domain, viewer,
-        )
+        let shard = home(domain, self.shards.slot_count());
+        self.show_name(&mut pass.desk, shard, domain, viewer)
     }
 
     /// Puts a bundle under the name.
@@ -291,35 +249,21 @@ impl Store {
 
     /// Takes the shard, by one try. Other passes are refused there until the shard is let go. If another pass has it,
     /// this pass comes back, with the error `Held`.
-    pub fn hold(&self, pass: Pass, shard: usize) -> Result<HeldPass, (Pass, AskError)>
+    pub fn hold(&self, mut pass: Pass, shard: usize) -> Result<HeldPass, (Pass, AskError)>
         requires own { IsOf pass self.now }
         requires shard { shard < self.now.id.slots }
         ensures { HoldAnswer self.now shard pass.seen result }
     {
-        let Pass {
-            mut seat,
-            numbers,
-            last_reads,
-            last_all,
-        } = pass;
-        match try_hold(&self.shards, &mut seat, shard) {
+        match self.try_hold(&mut pass.desk.seat, shard) {
             Ok(word) => Ok(HeldPass {
-                seat,
-                numbers,
-                last_reads,
-                shard,
-                word,
+                desk: pass.desk,
+                numbers: pass.numbers,
+                hold: Hold { shard, word },
             }),
             Err(found) => {
                 let error = AskError::Held {
                     shard,
                     revision: found / 2,
-                };
-                let pass = Pass {
-                    seat,
-                    numbers,
-                    last_reads,
-                    last_all,
                 };
                 Err((pass, error))
             }
@@ -331,19 +275,9 @@ impl Store {
         requires { IsOf pass self }
         ensures { CloseAnswer self pass.seen result }
     {
-        let Store {
-            alloc,
-            shards,
-            rounds: _,
-            tries: _,
-        } = self;
-        let Pass {
-            seat,
-            numbers: _,
-            last_reads: _,
-            last_all: _,
-        } = pass;
-        let closed = shards.close_with(seat);
+        let alloc = self.alloc;
+        let desk = pass.desk;
+        let closed = self.shards.close_with(desk.seat);
         let held = first_held(&closed);
         let slots = take_all(alloc, closed)?;
         if let Some(shard) = held {

@@ -1,5 +1,5 @@
 -- What a seat knows and has in hand, from step to step.
-use Rattle.std.specs.Prelude.{◌≡◌, ℕ, ◌/◌, ◌<◌, ◌≤◌, true, false, List, [], ◌∷◌, ◌++◌, Option, Some, None, Result, Ok, Err}
+use Rattle.std.specs.Prelude.{◌≡◌, ℕ, ◌*◌, ◌/◌, ◌<◌, ◌≤◌, true, false, List, [], ◌∷◌, ◌++◌, Option, Some, None, Result, Ok, Err, MatchResult}
 use Rattle.std.specs.declared.alloc.AllocError.{AllocError}
 use Rattle.std.specs.Arc.{arc_value}
 use Rattle.std.specs.declared.sync.Arc.{Arc}
@@ -10,10 +10,11 @@ use Rattle.map_core.specs.declared.op.Op.{Op}
 use Rattle.map_core.specs.declared.reply.Reply.{Reply}
 use Rattle.map_core.specs.declared.reply.AskError.{AskError}
 use Rattle.map_core.specs.Reply.{is_change}
-use Rattle.map_core.specs.PlainMap.{PlainMap, ask}
+use Rattle.map_core.specs.PlainMap.{PlainMap, ask, shard_of}
 use Rattle.shard_store.specs.declared.change.Change.{Change}
 use Rattle.shard_store.specs.declared.change.Seen.{Seen}
 use Rattle.shard_store.specs.declared.change.View.{View}
+use Rattle.shard_store.specs.declared.holds.Hold.{Hold}
 use Rattle.shard_store.specs.declared.last_reads.LastRead.{LastRead}
 use Rattle.shard_store.specs.declared.one_shard.Attempt.{Attempt}
 use Rattle.shard_store.specs.declared.one_shard.Attempt.TheVariants.{Replied, Blocked}
@@ -27,27 +28,35 @@ use Rattle.shard_store.specs.Private.LastReads.{IsLastRead}
 abbrev pub IsPaired : TableId → Type 0
 IsPaired z = (z.words ≡ z.slots) × (0 < z.slots) × (z.slots ≤ 256)
 
+-- the shard is one of the table's, and the word is what it has after these changes while no pass holds it
+abbrev pub IsWordOf : TableId → Hold → Seen → Type 0
+IsWordOf z hold s = (hold.shard < z.slots) × (hold.word ≡ 2 * count z.slots s.log hold.shard)
+
+-- the shard is one of the table's, and is the operation's home
+abbrev pub IsAtHome : TableId → Op → ℕ → Type 0
+IsAtHome z op shard = (shard < z.slots) × (shard_of z.slots op ≡ Some shard)
+
 module _ {Z : Type 0} where
-  -- the same seat at the same table
-  abbrev pub IsSameSeat : Seat (SlotValue Z) View → Seat (SlotValue Z) View → Type 0
-  IsSameSeat p q = (q.table_id ≡ p.table_id) × (q.id ≡ p.id)
-
-  -- a seat at the table with this identity
-  abbrev pub IsAt : Seat (SlotValue Z) View → TableId → Type 0
-  IsAt p z = (p.table_id ≡ z) × IsPaired p.table_id
-
   -- the seat holds no shard, and has a number
   abbrev pub IsIdle : Me (SlotValue Z) View → Type 0
   IsIdle m = (m.1 ≡ []) × (m.0.joined ≡ []) × (m.0.held ≡ None) × (0 < own_count m.0.seen.ranges)
+
+  -- the seat is at the table with this identity, and holds no shard
+  abbrev pub IsFree : TableId → Seat (SlotValue Z) View → Type 0
+  IsFree z p = (p.table_id ≡ z) × IsIdle p.me
+
+  -- it has seen more since then, and holds no shard
+  abbrev pub HasLooked : TableId → Seat (SlotValue Z) View → Seat (SlotValue Z) View → Type 0
+  HasLooked z p q = IsFree z q × IsLater q.me.0.seen p.me.0.seen
 
   -- the seat holds the shard, of n, and has in hand the version after these changes
   abbrev pub HasInHand : ℕ → ℕ → List Change → Me (SlotValue Z) View → Type 0
   HasInHand n shard log m = (version : Arc PlainMap Z) × (m.1 ≡ (shard, Some version) ∷ []) × IsPart n shard log (arc_value version)
       × (m.0.joined ≡ []) × (m.0.held ≡ Some shard) × (0 < own_count m.0.seen.ranges)
 
-  -- the seat holds the shard, of n, and has its version in hand
-  abbrev pub IsHolding : ℕ → ℕ → Me (SlotValue Z) View → Type 0
-  IsHolding n shard m = HasInHand n shard m.0.seen.log m
+  -- the seat, at the table with this identity, holds the shard, of which this is the word, and has its version in hand
+  abbrev pub Holds : TableId → Hold → Seat (SlotValue Z) View → Type 0
+  Holds z hold p = (p.table_id ≡ z) × IsWordOf z hold p.me.0.seen × HasInHand z.slots hold.shard p.me.0.seen.log p.me
 
 -- What a word says that was found in place of the one expected: others have the shard or changed it, and the word
 -- counts the changes that are seen now.
@@ -69,8 +78,7 @@ IsReplyRead n shard op s reply read t = IsReply op s reply t × IsLastRead n sha
 
 -- what a shard's answer says, of n
 abbrev pub ShardAnswer : ℕ → Op → Seen → Result Reply AskError → Seen → Type 0
-ShardAnswer n op s (Ok reply) t = IsReply op s reply t
-ShardAnswer n op s (Err e) t = IsRefusedAt n op s t e
+ShardAnswer n op s answer t = MatchResult answer (λ reply. IsReply op s reply t) (IsRefusedAt n op s t)
 
 -- what one try of an operation gave
 abbrev pub Tried : ℕ → ℕ → Op → Seen → Seen → Attempt → Type 0
@@ -92,7 +100,7 @@ module _ {Z : Type 0} where
   AsksInHand n shard op s (Err e) m = HasInHand n shard s.log m
 
   -- what the version of a shard that was held says of the operation: the shard is let go, or still held if others own the version
-  abbrev pub AsksHeld : ℕ → ℕ → Op → Seen → Result (Option Reply) AskError → Me (SlotValue Z) View → Type 0
-  AsksHeld n shard op s (Ok (Some reply)) m = IsIdle m × IsReply op s reply m.0.seen
-  AsksHeld n shard op s (Ok None) m = IsHolding n shard m × (m.0.seen ≡ s)
-  AsksHeld n shard op s (Err e) m = IsIdle m × IsRefusedAt n op s m.0.seen e
+  abbrev pub AsksHeld : TableId → Hold → Op → Seen → Result (Option Reply) AskError → Seat (SlotValue Z) View → Type 0
+  AsksHeld z hold op s (Ok (Some reply)) p = IsFree z p × IsReply op s reply p.me.0.seen
+  AsksHeld z hold op s (Ok None) p = Holds z hold p × (p.me.0.seen ≡ s)
+  AsksHeld z hold op s (Err e) p = IsFree z p × IsRefusedAt z.slots op s p.me.0.seen e

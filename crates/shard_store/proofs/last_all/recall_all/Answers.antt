@@ -1,9 +1,0 @@
-use Rattle.std.proofs.Common.{ℕ, List, ◌∙◌, subst}
-use Rattle.shard_store.specs.Private.Readings.{AreConfirmed}
-use Rattle.shard_store.proofs.LastAll.{still_all}
-use Rattle.shard_store.proofs.last_all.recall_all.Goals as goal
-
-pub returns-in_ok-all-in-None-clause-all : goal.returns-in_ok-all-in-None-clause-all
-returns-in_ok-all-in-None-clause-all c = let n = c.args.seat.now.table_id.slots in let log = c.args.seat.now.me.0.seen.log in
-    c.in_ok-all-in-None.ensures.same ∙ still_all n log c.in-Some.last c.requires.own.1.1 (c.requires.told c.in-Some.last c.in-Some.is)
-    (subst (λ (l : List ℕ). AreConfirmed n log l) c.as_slice.ensures.value c.in-None.ensures.found)
