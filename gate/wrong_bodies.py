@@ -31,6 +31,7 @@ PAIR = re.compile(r"^(file|old|new): ?(.*)$", re.M)
 # The parts of a crate that a check reads.
 PARTS = ("src", "specs", "proofs")
 FUNCTION = re.compile(r"^( *)(?:pub(?:\([a-z]+\))? )?(?:const )?fn (\w+)")
+METHODS_OF = re.compile(r"^impl(?:<[^{;]*?>)? (\w+)(?:<[^{;]*>)? \{", re.M)
 
 # What a check says of a function that is not proved, and of a text that it can't read. (A function that only has no proof because
 # it calls one that is not proved has not been looked at.)
@@ -204,10 +205,12 @@ class Room:
 
 
 def is_named(crate, path, function, bad, unclear):
-    """Whether this function of the file is one of those that are not proved, and for its meaning."""
+    """Whether this function of the file is one of those that are not proved, and for its meaning. (The prover names a method by
+    the module of its type, which may be another one.)"""
     modules = re.sub(r"^src/|/mod\.rt$|\.rt$", "", path).replace("/", "::")
     start = f"{crate}::" if modules in ("lib", "main") else f"{crate}::{modules}::"
-    named = any(it.startswith(start) and it.rpartition("::")[2] == function for it in bad)
+    methods = tuple(f"::{it}::{function}" for it in METHODS_OF.findall(text_of(crate, path, {})))
+    named = any((it.startswith(start) and it.rpartition("::")[2] == function) or it.endswith(methods) for it in bad)
     return named and not any(f"/{function}/" in f"/{it}" for it in unclear)
 
 
