@@ -11,8 +11,8 @@ use Rattle.step_core.specs.Phase.{Phase, is_idle, has_point}
 use Rattle.step_core.specs.Run.{Run}
 use Rattle.step_core.specs.Private.Shown.{IsCaller}
 use Rattle.step_core.specs.declared.driver.Running.{Running}
-use Rattle.step_core.proofs.Points.{same_number, other_number, number_itself, numbers_apart}
-use Rattle.step_core.proofs.Book.{cases_number}
+use Rattle.step_core.proofs.Points.{by_number, cases_number, number_itself, numbers_apart}
+use Rattle.step_core.proofs.Acts.{covered}
 use Rattle.step_core.specs.Private.Driver.{IsPlaced}
 
 -- ---- the callers' map
@@ -34,10 +34,6 @@ is_at_number c d =
 pub at_caller : (old new : BTreeMap ℕ Running) (c : ℕ) (x : Option Running) → tree.Updates nat_cmp old new c x → AtCaller old new c x
 at_caller old new c x h d = h.0 d ∙ ap (λ b. cond b x (tree.get nat_cmp old d)) (is_at_number c d)
 
-covered : {X : Type 0} → (b : Bool) (x y z : X) → cond b x (cond b y z) ≡ cond b x z
-covered true x y z = refl
-covered false x y z = refl
-
 -- taken out, and put back changed
 pub at_caller_twice : (old mid new : BTreeMap ℕ Running) (c : ℕ) (x y : Option Running) → AtCaller old mid c x → AtCaller mid new c y → AtCaller old new c y
 at_caller_twice old mid new c x y f g d = g d ∙ ap (cond (d == c) y) (f d) ∙ covered (d == c) y x (tree.get nat_cmp old d)
@@ -46,7 +42,7 @@ at_caller_twice old mid new c x y f g d = g d ∙ ap (cond (d == c) y) (f d) ∙
 pub put_back : (old mid new : BTreeMap ℕ Running) (c : ℕ) (x y : Option Running) → tree.get nat_cmp old c ≡ y → AtCaller old mid c x → AtCaller mid new c y → (d : ℕ) → tree.get nat_cmp new d ≡ tree.get nat_cmp old d
 put_back old mid new c x y was f g d =
     at_caller_twice old mid new c x y f g d
-    ∙ elim (d == c) as (λ b. (d == c) ≡ b → cond b y (tree.get nat_cmp old d) ≡ tree.get nat_cmp old d) [ true ↦ λ e. sym was ∙ ap (tree.get nat_cmp old) (sym (same_number d c e)) | false ↦ λ e. refl ] refl
+    ∙ by_number (λ b. cond b y (tree.get nat_cmp old d) ≡ tree.get nat_cmp old d) d c (λ is. sym was ∙ ap (tree.get nat_cmp old) (sym is)) (λ _. refl)
 
 -- what of a run a caller sees
 pub record KeepsCaller (run next : Run) (d : ℕ) : Type 0 where
@@ -86,7 +82,5 @@ pub callers_after : (n rounds : ℕ) (run next : Run) (points now : List (Option
     → ((d : ℕ) → IsCaller n rounds run points d (tree.get nat_cmp old d)) → (d : ℕ) → IsCaller n rounds next now d (tree.get nat_cmp new d)
 callers_after n rounds run next points now old new c number x at own keeps places apart h d =
     subst (IsCaller n rounds next now d) (sym (at d))
-    (elim (d == c) as (λ b. (d == c) ≡ b → IsCaller n rounds next now d (cond b x (tree.get nat_cmp old d))) [
-      | true ↦ λ e. subst (λ (k : ℕ). IsCaller n rounds next now k x) (sym (same_number d c e)) own
-      | false ↦ λ e. let ne = other_number d c e in caller_kept n rounds run next points now d number (tree.get nat_cmp old d) (keeps d ne) places (apart d ne) (h d)
-    ] refl)
+    (by_number (λ b. IsCaller n rounds next now d (cond b x (tree.get nat_cmp old d))) d c (λ is. subst (λ (k : ℕ). IsCaller n rounds next now k x) (sym is) own)
+    (λ ne. caller_kept n rounds run next points now d number (tree.get nat_cmp old d) (keeps d ne) places (apart d ne) (h d)))

@@ -121,24 +121,21 @@ changed_shows n s m op i at shows j =
     ] refl
 
 -- one more reading
-old_reading : (readings : List ShardVersion) (v : ShardVersion) (j : ℕ) → j < length readings → reading (readings ++ v ∷ []) j ≡ reading readings j
-old_reading readings v j l = grind (arith, elements)
-
-new_reading : (readings : List ShardVersion) (v : ShardVersion) (j : ℕ) → j ≡ length readings → reading (readings ++ v ∷ []) j ≡ v
-new_reading readings v j is = grind (arith, elements)
+pub one_more : (readings : List ShardVersion) (v : ShardVersion) (j : ℕ) → j < length (readings ++ v ∷ []) → let now = reading (readings ++ v ∷ []) j in
+    ((j < length readings) × (now ≡ reading readings j)) ⊎ ((j ≡ length readings) × (now ≡ v))
+one_more readings v j l = grind (arith, elements, length-append {A = ShardVersion})
 
 pub read_more : (s : ℕ → ShardVersion) (readings : List ShardVersion) → ReadSoFar s readings → ReadSoFar s (readings ++ s (length readings) ∷ [])
 read_more s readings h j l =
     let v = s (length readings) in
-    let cases : (j < length readings) ⊎ (j ≡ length readings) = grind (arith, length-append {A = ShardVersion}, l) in
-    ⊎_elim (λ (before : j < length readings). subst (λ (x : ShardVersion). Fresh x (s j) (s j).part) (sym (old_reading readings v j before)) (h j before))
-    (λ (at : j ≡ length readings). subst (λ (x : ShardVersion). Fresh x (s j) (s j).part) (sym (new_reading readings v j at ∙ ap s (sym at))) (record { grown = omega arith; same = λ _. refl })) cases
+    ⊎_elim (λ (before : (j < length readings) × (reading (readings ++ v ∷ []) j ≡ reading readings j)). subst (λ (x : ShardVersion). Fresh x (s j) (s j).part) (sym before.1) (h j before.0))
+    (λ (at : (j ≡ length readings) × (reading (readings ++ v ∷ []) j ≡ v)). subst (λ (x : ShardVersion). Fresh x (s j) (s j).part) (sym (at.1 ∙ ap s (sym at.0))) (record { grown = omega arith; same = λ _. refl })) (one_more readings v j l)
 
 -- the last reading of a round
 pub read_all : (n : ℕ) (s : ℕ → ShardVersion) (m : PlainMap) (readings : List ShardVersion) → length readings ≡ n → ReadSoFar s readings → Shows n s m → (j : ℕ) → j < n → Seen n 0 s readings m j
 read_all n s m readings full h shows j l =
     let here : j < length readings = omega (arith, l, full) in
-    record { sure = λ (none : j < 0). absurd (omega (arith, none)); fresh = subst (Fresh (reading readings j) (s j)) (sym (shows j)) (h j here) }
+    record { sure = λ none. absurd (omega (arith, none)); fresh = subst (Fresh (reading readings j) (s j)) (sym (shows j)) (h j here) }
 
 -- a reading is confirmed
 pub sure_more : (n k : ℕ) (s : ℕ → ShardVersion) (readings : List ShardVersion) (m : PlainMap) → k < n → (reading readings k).revision ≡ (s k).revision → ((j : ℕ) → j < n → Seen n k s readings m j) → (j : ℕ) → j < n → Seen n (k + 1) s readings m j

@@ -20,7 +20,7 @@ use Rattle.step_core.specs.Private.Driver.{positions, holds}
 use Rattle.step_core.specs.Private.Shown.{IsCaller, IsShown}
 use Rattle.step_core.specs.declared.driver.Running.{Running}
 use Rattle.step_core.specs.declared.driver.Driver.{Driver}
-use Rattle.step_core.proofs.Points.{number_itself}
+use Rattle.step_core.proofs.Points.{number_itself, numbers-filter}
 use Rattle.step_core.proofs.Runs.{inv_run, events_of}
 use Rattle.step_core.proofs.Traces.{first_length, first_at}
 
@@ -92,14 +92,6 @@ filter_same f g (x ∷ xs) h =
     let rest : filter f xs ≡ filter g xs = filter_same f g xs (λ q l. h q (omega (arith, l))) in
     λ i. cond (here i) (x ∷ rest i) (rest i)
 
-effective_numbers : (test : ℕ → Bool) (ps : List Point) → numbers (filter (λ p. test p.number) ps) ≡ filter test (numbers ps)
-effective_numbers test [] = refl
-effective_numbers test (p ∷ ps) =
-    elim (test p.number) as (λ b. numbers (cond b (p ∷ filter (λ (x : Point). test x.number) ps) (filter (λ (x : Point). test x.number) ps)) ≡ cond b (p.number ∷ filter test (numbers ps)) (filter test (numbers ps))) [
-      | true ↦ ap (λ (r : List ℕ). p.number ∷ r) (effective_numbers test ps)
-      | false ↦ effective_numbers test ps
-    ]
-
 counted_below : (t q count : ℕ) (h : Bool) → t ≡ cond (nat_lt q count && h) 1 0 → 0 < t → q < count
 counted_below t q count h is l = grind (arith, nat_tests)
 
@@ -112,4 +104,4 @@ shown_order n rounds driver events some h =
     let test : ℕ → Bool = (λ q. took_effect (get_or list q no_record)) in
     ap (filter test) h.points
     ∙ filter_same test (λ q. took_effect (run.records q)) (numbers run.points) (λ q l. ap took_effect (h.records.each q (counted_below _ q run.count _ (inv.core.once q) l)))
-    ∙ sym (effective_numbers (λ q. took_effect (run.records q)) run.points)
+    ∙ sym (numbers-filter (λ q. took_effect (run.records q)) run.points)

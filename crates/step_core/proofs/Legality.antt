@@ -16,22 +16,15 @@ use Rattle.step_core.proofs.Legal.{times, Rises, Replies, IsLegal}
 use Rattle.std.specs.Prelude.{filter}
 use Rattle.step_core.proofs.Claims.{Claim, IsPhaseOf, claim_keeps}
 use Rattle.step_core.proofs.Core.{IsPoint, AtEnd}
-use Rattle.step_core.proofs.Points.{Along, times-filter}
+use Rattle.step_core.proofs.Points.{Along, numbers-filter, times-filter}
 use Rattle.step_core.proofs.Book.{Inv, phase_by, states}
 use Rattle.step_core.proofs.Runs.{inv_run, events_of}
 
 written_point : (phase : Phase) → wrote_shard phase ≡ true → has_point phase ≡ true
-written_point Idle h = cc
-written_point (Waiting op) h = cc
-written_point (Collecting round readings) h = cc
-written_point (Confirming round readings k) h = refl
-written_point (Done (Ok reply)) h = refl
-written_point (Done (Err why)) h = cc
+written_point phase h = grind arith
 
 effective_point : (reply : Option (Result Reply AskError)) (wrote : Bool) (phase : Phase) → wrote ≡ wrote_shard (phase_by reply phase) → took_effect_by reply wrote ≡ true → has_point (phase_by reply phase) ≡ true
-effective_point (Some (Ok reply)) wrote phase w h = refl
-effective_point (Some (Err why)) wrote phase w h = cc
-effective_point None wrote phase w h = written_point phase (sym w ∙ h)
+effective_point reply wrote phase w h = grind (arith, written_point)
 
 member : (a s h : Bool) (x y : ℕ) → x ≡ cond s y 0 → y ≡ cond (a && h) 1 0 → (a ≡ true → s ≡ true → h ≡ true) → x ≡ cond (a && s) 1 0
 member a s h x y e f g = grind arith
@@ -55,7 +48,7 @@ unwritten n s m op None wrote phase w down h = sym w ∙ down
 
 module _ (n : ℕ) (run : Run) (inv : Inv n run.events run) where
   abbrev IsPointHere : Point → PlainMap → Type 0
-  IsPointHere = IsPoint n run.events run.count run.world.shards (λ q. (run.records q).op) (λ q. (run.records q).first) (λ q. (run.records q).last) (states run)
+  IsPointHere = IsPoint n run.events run.count run.world.shards run.records (states run)
 
   abbrev effective : List Point → List ℕ
   effective ps = numbers (filter (λ p. took_effect (run.records p.number)) ps)
@@ -72,7 +65,7 @@ module _ (n : ℕ) (run : Run) (inv : Inv n run.events run) where
   rises_along from m (p ∷ ps) h =
       let rest = rises_along (p.event + 1) (ask m p.op).map ps h.2 in
       elim (took_effect (run.records p.number)) as (λ b. Rises run.events run.records from (numbers (cond b (p ∷ filter (λ x. took_effect (run.records x.number)) ps) (filter (λ x. took_effect (run.records x.number)) ps)))) [
-        | true ↦ (p.event, h.0, (h.1.after_first, h.1.in_time, h.1.before_last), rest)
+        | true ↦ (p.event, h.0, h.1.during, rest)
         | false ↦ rises_lower run.events run.records from (p.event + 1) (effective ps) (let l : from ≤ p.event + 1 = omega (arith, h.0) in l) rest
       ]
 
@@ -92,7 +85,7 @@ module _ (n : ℕ) (run : Run) (inv : Inv n run.events run) where
   pub legal : IsLegal run.events run.count run.records (order_of run)
   legal =
       record {
-        members = λ r. member (nat_lt r run.count) (took_effect (run.records r)) (has_point (states run r)) _ (times r (numbers run.points)) (times-filter (λ q. took_effect (run.records q)) r run.points) (inv.core.once r)
+        members = λ r. member (nat_lt r run.count) (took_effect (run.records r)) (has_point (states run r)) _ (times r (numbers run.points)) (ap (times r) (numbers-filter (λ q. took_effect (run.records q)) run.points) ∙ times-filter (λ q. took_effect (run.records q)) r (numbers run.points)) (inv.core.once r)
             (λ e effective. effective_point (run.records r).reply (run.records r).wrote (run.world.phases (run.records r).caller) (inv.wrote r (under r run.count e)) effective);
         rises = rises_along 0 finite.empty run.points inv.core.fits;
         replies = replies_along 0 finite.empty run.points inv.core.fits;

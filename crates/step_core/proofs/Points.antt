@@ -1,5 +1,5 @@
 -- Facts that hold along a list of points, each at the map that the points before it leave.
-use Rattle.std.proofs.Common.{◌≡◌, ◌≢◌, ℕ, ◌+◌, ◌≤◌, ◌==◌, not, Bool, true, false, cond, List, [], ◌∷◌, ◌++◌, arith, refl, sym, ap, subst, ◌∙◌}
+use Rattle.std.proofs.Common.{◌≡◌, ◌≢◌, ℕ, ◌+◌, ◌<◌, ◌≤◌, ◌==◌, not, Bool, true, false, cond, List, [], ◌∷◌, ◌++◌, ◌⊎◌, inl, inr, arith, refl, sym, ap, subst, ◌∙◌}
 use Rattle.std.specs.Prelude.{filter}
 use Rattle.std.proofs.lemmas.Bool.Decides.{nat_tests}
 use Rattle.map_core.specs.PlainMap.{PlainMap, ask}
@@ -19,6 +19,18 @@ number_itself a = grind (arith, nat_tests)
 pub numbers_apart : (a b : ℕ) → a ≢ b → (a == b) ≡ false
 numbers_apart a b h = grind (arith, nat_tests)
 
+-- P of a test, by what it says
+pub by_test : (P : Bool → Type 0) (b : Bool) → (b ≡ true → P true) → (b ≡ false → P false) → P b
+by_test P true holds fails = holds refl
+by_test P false holds fails = fails refl
+
+-- P of a test of two numbers, by whether they are the same
+pub by_number : (P : Bool → Type 0) (a b : ℕ) → (a ≡ b → P true) → (a ≢ b → P false) → P (a == b)
+by_number P a b same other = by_test P (a == b) (λ e. same (same_number a b e)) (λ e. other (other_number a b e))
+
+pub cases_number : (a b : ℕ) → (a ≡ b) ⊎ (a ≢ b)
+cases_number a b = by_number (λ _. (a ≡ b) ⊎ (a ≢ b)) a b inl inr
+
 pub with_at_same : {X : Type 0} → (f : ℕ → X) (k : ℕ) (x : X) (q : ℕ) → q ≡ k → with_at f k x q ≡ x
 with_at_same f k x q is = ap (λ b. cond b x (f q)) (subst (λ (y : ℕ). (q == y) ≡ true) is (number_itself q))
 
@@ -27,11 +39,7 @@ with_at_other f k x q ne = ap (λ b. cond b x (f q)) (numbers_apart q k ne)
 
 -- what is the same at k is the same everywhere
 pub with_at_keep : {X Y : Type 0} → (f : X → Y) (g : ℕ → X) (k : ℕ) (x : X) → f x ≡ f (g k) → (q : ℕ) → f (with_at g k x q) ≡ f (g q)
-with_at_keep f g k x same q =
-    elim (q == k) as (λ b. (q == k) ≡ b → f (cond b x (g q)) ≡ f (g q)) [
-      | true ↦ λ e. same ∙ ap (λ j. f (g j)) (sym (same_number q k e))
-      | false ↦ λ e. refl
-    ] refl
+with_at_keep f g k x same q = by_number (λ b. f (cond b x (g q)) ≡ f (g q)) q k (λ is. same ∙ ap (λ j. f (g j)) (sym is)) (λ _. refl)
 
 -- P holds of each point at the map before it, the events rise from this one on, and E holds at the end
 abbrev pub Along : (Point → PlainMap → Type 0) → (ℕ → PlainMap → Type 0) → ℕ → PlainMap → List Point → Type 0
@@ -55,31 +63,25 @@ along_without P Q E r keep idle down from m [] h = h
 along_without P Q E r keep idle down from m (p ∷ ps) h =
     let rest = along_without P Q E r keep idle down (p.event + 1) (ask m p.op).map ps h.2 in
     let later : from ≤ p.event + 1 = omega (arith, h.0) in
-    elim (p.number == r) as (λ b. (p.number == r) ≡ b → Along Q E from m (cond (not b) (p ∷ without r ps) (without r ps))) [
-      | true ↦ λ e. along_lower Q E down from (p.event + 1) m (without r ps) later (subst (λ (x : PlainMap). Along Q E (p.event + 1) x (without r ps)) (idle p m h.1 (same_number p.number r e)) rest)
-      | false ↦ λ e. (h.0, keep p m h.1 (other_number p.number r e), rest)
-    ] refl
+    by_number (λ b. Along Q E from m (cond (not b) (p ∷ without r ps) (without r ps))) p.number r
+    (λ is. along_lower Q E down from (p.event + 1) m (without r ps) later (subst (λ (x : PlainMap). Along Q E (p.event + 1) x (without r ps)) (idle p m h.1 is) rest))
+    (λ ne. (h.0, keep p m h.1 ne, rest))
+
+-- ---- numbers in lists
+pub numbers-filter : (test : ℕ → Bool) (ps : List Point) → numbers (filter (λ p. test p.number) ps) ≡ filter test (numbers ps)
+numbers-filter test [] = refl
+numbers-filter test (p ∷ ps) = let ih = numbers-filter test ps in grind (arith, ih)
+
+pub times-filter : (test : ℕ → Bool) (q : ℕ) (xs : List ℕ) → times q (filter test xs) ≡ cond (test q) (times q xs) 0
+times-filter test q [] = grind arith
+times-filter test q (x ∷ xs) =
+    let ih = times-filter test q xs in
+    let link : x ≡ q → test x ≡ test q = (λ is. ap test is) in
+    grind (arith, nat_tests, ih, link)
 
 pub times-push : (q : ℕ) (p : Point) (ps : List Point) → times q (numbers (ps ++ p ∷ [])) ≡ times q (numbers ps) + cond (p.number == q) 1 0
 times-push q p [] = omega arith
-times-push q p (x ∷ ps) = let ih = times-push q p ps in omega (arith, ih)
+times-push q p (x ∷ ps) = omega (arith, times-push q p ps)
 
-kept_one : (a t : Bool) (x y : ℕ) → (a ≡ true → t ≡ true) → x ≡ cond t y 0 → cond a 1 0 + x ≡ cond t (cond a 1 0 + y) 0
-kept_one a t x y link is = grind arith
-
-dropped_one : (a t : Bool) (x y : ℕ) → (a ≡ true → t ≡ false) → x ≡ cond t y 0 → x ≡ cond t (cond a 1 0 + y) 0
-dropped_one a t x y link is = grind arith
-
-none_kept : (b : Bool) → ◌≡◌ {A = ℕ} 0 (cond b 0 0)
-none_kept true = refl
-none_kept false = refl
-
-pub times-filter : (test : ℕ → Bool) (q : ℕ) (ps : List Point) → times q (numbers (filter (λ p. test p.number) ps)) ≡ cond (test q) (times q (numbers ps)) 0
-times-filter test q [] = none_kept (test q)
-times-filter test q (p ∷ ps) =
-    let left = filter (λ (x : Point). test x.number) ps in
-    let ih = times-filter test q ps in
-    elim (test p.number) as (λ b. test p.number ≡ b → times q (numbers (cond b (p ∷ left) left)) ≡ cond (test q) (cond (p.number == q) 1 0 + times q (numbers ps)) 0) [
-      | true ↦ λ e. kept_one (p.number == q) (test q) (times q (numbers left)) (times q (numbers ps)) (λ a. sym (ap test (same_number p.number q a)) ∙ e) ih
-      | false ↦ λ e. dropped_one (p.number == q) (test q) (times q (numbers left)) (times q (numbers ps)) (λ a. sym (ap test (same_number p.number q a)) ∙ e) ih
-    ] refl
+pub times-head : (x : ℕ) (xs : List ℕ) → 0 < times x (x ∷ xs)
+times-head x xs = grind (arith, nat_tests)
