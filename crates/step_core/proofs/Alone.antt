@@ -1,7 +1,7 @@
 -- A fetch-all that nobody disturbs ends in its first round.
 use Rattle.std.proofs.Common.{◌≡◌, ℕ, ◌+◌, ◌<◌, ◌≤◌, ◌==◌, true, false, cond, List, [], ◌∷◌, ◌++◌, length, get_or, take, Result, Ok, Err, IfOk, IfErr, ◌⊎◌, inl, inr, ⊎_elim, arith, refl, sym, ap, subst, ◌∙◌}
 use Rattle.std.proofs.lemmas.Grind.{elements}
-use Rattle.std.proofs.lemmas.List.{take_more}
+use Rattle.std.proofs.lemmas.List.{take_more, take_all, length-take-le}
 use Rattle.map_core.specs.declared.op.Op.TheVariants.{FetchAll}
 use Rattle.map_core.specs.declared.reply.Reply.{Reply}
 use Rattle.map_core.specs.declared.reply.AskError.{AskError}
@@ -14,7 +14,7 @@ use Rattle.step_core.specs.Phase.{Phase, Idle, Waiting, Collecting, Confirming, 
 use Rattle.step_core.specs.TaskView.{TaskView}
 use Rattle.step_core.specs.Task.{out_of_memory}
 use Rattle.step_core.proofs.Parts.{item_here}
-use Rattle.step_core.proofs.Points.{same_number, number_itself, numbers_apart}
+use Rattle.step_core.proofs.Points.{by_number, number_itself, numbers_apart}
 
 -- with k shards read
 abbrev pub gathering : List ShardVersion → ℕ → Phase
@@ -36,41 +36,31 @@ begins n = refl
 
 pub begun_at_none : (n : ℕ) (vs : List ShardVersion) (task : TaskView) → 0 < length vs → n ≡ length vs → task ≡ record { shards = n; rounds = 1; phase = start_phase n FetchAll } → IsAt (length vs) task (gathering vs 0)
 begun_at_none n vs task some size is =
+    let none : take 0 vs ≡ [] = grind (arith, elements) in
     record {
       shards = ap (λ (t : TaskView). t.shards) is ∙ size;
       rounds = ap (λ (t : TaskView). t.rounds) is;
-      phase = inl (ap (λ (t : TaskView). t.phase) is ∙ begins n ∙ sym (ap (λ b. cond b (Confirming 1 vs 0) (Collecting 1 (take 0 vs))) (numbers_apart 0 (length vs) (λ e. let never : ⊥ = omega (arith, some, e) in never)) ∙ ap (Collecting 1) (none_taken vs)));
+      phase = inl (ap (λ (t : TaskView). t.phase) is ∙ begins n ∙ sym (ap (λ b. cond b (Confirming 1 vs 0) (Collecting 1 (take 0 vs))) (numbers_apart 0 (length vs) (λ e. omega (arith, some, e))) ∙ ap (Collecting 1) none));
     }
-  where
-    none_taken : (xs : List ShardVersion) → take 0 xs ≡ []
-    none_taken xs = grind (arith, elements)
 
 -- ---- a reading
-taken_size : (vs : List ShardVersion) (k : ℕ) → k < length vs → length (take (k + 1) vs) ≡ k + 1
-taken_size vs k l = grind (arith, elements)
-
-taken_all : (vs : List ShardVersion) (k : ℕ) → k ≡ length vs → take k vs ≡ vs
-taken_all vs k is = grind (arith, elements)
-
 whole : (vs : List ShardVersion) (k : ℕ) → cond (k == length vs) (Confirming 1 (take k vs) 0) (Collecting 1 (take k vs)) ≡ gathering vs k
 whole vs k =
-    elim (k == length vs) as (λ b. (k == length vs) ≡ b → cond b (Confirming 1 (take k vs) 0) (Collecting 1 (take k vs)) ≡ cond b (Confirming 1 vs 0) (Collecting 1 (take k vs))) [
-      | true ↦ λ e. ap (λ (xs : List ShardVersion). Confirming 1 xs 0) (taken_all vs k (same_number k (length vs) e))
-      | false ↦ λ e. refl
-    ] refl
+    by_number (λ b. cond b (Confirming 1 (take k vs) 0) (Collecting 1 (take k vs)) ≡ cond b (Confirming 1 vs 0) (Collecting 1 (take k vs))) k (length vs)
+    (λ is. ap (λ (xs : List ShardVersion). Confirming 1 xs 0) (take_all k vs (omega (arith, is)))) (λ _. refl)
 
 read_one : (vs : List ShardVersion) (k : ℕ) (v : ShardVersion) → v ≡ get_or vs k v → k < length vs → give (length vs) 1 (gathering vs k) (Seen v) ≡ gathering vs (k + 1)
 read_one vs k v is l =
-    ap (λ b. give (length vs) 1 (cond b (Confirming 1 vs 0) (Collecting 1 (take k vs))) (Seen v)) (numbers_apart k (length vs) (λ e. let never : ⊥ = omega (arith, l, e) in never))
+    ap (λ b. give (length vs) 1 (cond b (Confirming 1 vs 0) (Collecting 1 (take k vs))) (Seen v)) (numbers_apart k (length vs) (λ e. omega (arith, l, e)))
     ∙ ap (after_reading (length vs) 1) (sym (take_more vs k v l ∙ ap (λ (x : ShardVersion). take k vs ++ x ∷ []) (sym is)))
-    ∙ ap (λ (m : ℕ). cond (m == length vs) (Confirming 1 (take (k + 1) vs) 0) (Collecting 1 (take (k + 1) vs))) (taken_size vs k l)
+    ∙ ap (λ (m : ℕ). cond (m == length vs) (Confirming 1 (take (k + 1) vs) 0) (Collecting 1 (take (k + 1) vs))) (length-take-le (k + 1) vs (omega (arith, l)))
     ∙ whole vs (k + 1)
 
 -- ---- a confirm
 confirm_one : (vs : List ShardVersion) (k now : ℕ) → now ≡ (reading vs k).revision → k < length vs → give (length vs) 1 (confirming vs k) (Revision now) ≡ confirming vs (k + 1)
 confirm_one vs k now is l =
     let read = (reading vs k).revision in
-    ap (λ b. give (length vs) 1 (cond b (Done (Ok (snapshot_reply (length vs) vs))) (Confirming 1 vs k)) (Revision now)) (numbers_apart k (length vs) (λ e. let never : ⊥ = omega (arith, l, e) in never))
+    ap (λ b. give (length vs) 1 (cond b (Done (Ok (snapshot_reply (length vs) vs))) (Confirming 1 vs k)) (Revision now)) (numbers_apart k (length vs) (λ e. omega (arith, l, e)))
     ∙ ap (λ b. cond b (after_confirming (length vs) 1 vs (k + 1)) (after_disturbance 1 1 k read now)) (ap (λ (x : ℕ). read == x) is ∙ number_itself read)
 
 -- what a task is after an answer, if it was at a phase
@@ -94,7 +84,7 @@ pub all_read : (vs : List ShardVersion) (k : ℕ) (x : TaskView) → 0 < length 
 all_read vs k x some a b h =
     let full : k ≡ length vs = omega (arith, a, b) in
     let at : gathering vs k ≡ Confirming 1 vs 0 = ap (λ b. cond b (Confirming 1 vs 0) (Collecting 1 (take k vs))) (ap (λ (m : ℕ). k == m) (sym full) ∙ number_itself k) in
-    let start : confirming vs 0 ≡ Confirming 1 vs 0 = ap (λ b. cond b (Done (Ok (snapshot_reply (length vs) vs))) (Confirming 1 vs 0)) (numbers_apart 0 (length vs) (λ e. let never : ⊥ = omega (arith, some, e) in never)) in
+    let start : confirming vs 0 ≡ Confirming 1 vs 0 = ap (λ b. cond b (Done (Ok (snapshot_reply (length vs) vs))) (Confirming 1 vs 0)) (numbers_apart 0 (length vs) (λ e. omega (arith, some, e))) in
     subst (IsAt (length vs) x) (at ∙ sym start) h
 
 pub confirm_next : (vs : List ShardVersion) (k : ℕ) (x new : TaskView) (v : ShardVersion) (now : ℕ) → IsAt (length vs) x (confirming vs k) → v ≡ get_or vs k v → k < length vs → now ≡ v.revision
@@ -113,11 +103,7 @@ pub ended_done : (reply : Reply) (p : Phase) → (p ≡ Done (Ok reply)) ⊎ (p 
 ended_done reply p h = ⊎_elim (λ (e : p ≡ Done (Ok reply)). ap wants e) (λ (e : p ≡ out_of_memory). ap wants e) h
 
 pub done_wants : (p : Phase) → is_done p ≡ true → wants p ≡ want.Done
-done_wants Idle h = cc
-done_wants (Waiting i) h = cc
-done_wants (Collecting round readings) h = cc
-done_wants (Confirming round readings k) h = cc
-done_wants (Done reply) h = refl
+done_wants p h = grind arith
 
 pub ended_reply : (reply : Reply) (p : Phase) (r : Result Reply AskError) → (p ≡ Done (Ok reply)) ⊎ (p ≡ out_of_memory) → p ≡ Done r → IfOk r (λ x. x ≡ reply)
 ended_reply reply p (Ok x) h is = ⊎_elim (λ (e : p ≡ Done (Ok reply)). cc) (λ (e : p ≡ out_of_memory). let never : ⊥ = cc in absurd never) h

@@ -9,7 +9,7 @@ use Rattle.step_core.specs.declared.event.Event.TheVariants.{Begin, Step, Quit, 
 use Rattle.step_core.specs.World.{with_at, World, turn, next, after_turn, with_operation, to_phase, world_from}
 use Rattle.step_core.specs.Shard.{ShardVersion, StepResult, step_on, last_revision}
 use Rattle.step_core.specs.Phase.{Phase, Idle, Waiting, Collecting, Confirming, Done, start_phase, is_idle, is_open, is_done}
-use Rattle.step_core.proofs.Points.{same_number}
+use Rattle.step_core.proofs.Points.{by_number}
 use Rattle.step_core.proofs.Claims.{Advance, Fresh}
 
 Advances : (ℕ → ShardVersion) → (ℕ → ShardVersion) → Type 0
@@ -21,17 +21,12 @@ stay s j = inl refl
 
 -- the shard after a step of its own is as it was, or was changed
 step_advance : (v : ShardVersion) (op : Op) → Advance v (step_on v op).shard
-step_advance v op =
-    let asked : AskResult = ask v.part op in
-    elim (is_change asked.reply) as (λ b. Advance v ((let t : StepResult = cond b (cond (v.revision == last_revision) (record { answer = Err (Worn 0); shard = v }) (record { answer = Ok asked.reply; shard = record { revision = v.revision + 1; part = asked.map } })) (record { answer = Ok asked.reply; shard = v }) in t).shard)) [
-      | true ↦ elim (v.revision == last_revision) as (λ b. Advance v ((let t : StepResult = cond b (record { answer = Err (Worn 0); shard = v }) (record { answer = Ok asked.reply; shard = record { revision = v.revision + 1; part = asked.map } }) in t).shard)) [ true ↦ inl refl | false ↦ inr (let l : v.revision < v.revision + 1 = omega arith in l) ]
-      | false ↦ inl refl
-    ]
+step_advance v op = grind arith
 
 stepped_advances : (s : ℕ → ShardVersion) (i : ℕ) (t : ShardVersion) → Advance (s i) t → Advances s (with_at s i t)
 unfolding Advances
 stepped_advances s i t h j =
-    elim (j == i) as (λ b. (j == i) ≡ b → Advance (s j) (cond b t (s j))) [ true ↦ λ e. subst (λ (k : ℕ). Advance (s k) t) (sym (same_number j i e)) h | false ↦ λ e. inl refl ] refl
+    by_number (λ b. Advance (s j) (cond b t (s j))) j i (λ is. subst (λ (k : ℕ). Advance (s k) t) (sym is) h) (λ _. inl refl)
 
 turn_advances : (n rounds : ℕ) (s : ℕ → ShardVersion) (op : Op) (phase : Phase) → Advances s (turn n rounds s op phase).shards
 turn_advances n rounds s op Idle = stay s
@@ -49,7 +44,7 @@ next_advances n rounds w (End c) = elim (is_done (w.phases c)) as (λ b. Advance
 reached : (s t u : ShardVersion) → Advance s t → Fresh t u u.part → Fresh s u u.part
 reached s t u go h =
     ⊎_elim (λ e. subst (λ (x : ShardVersion). Fresh x u u.part) e h)
-    (λ l. record { grown = omega (arith, l, h.grown); same = λ is. let never : ⊥ = omega (arith, l, h.grown, is) in absurd never }) go
+    (λ l. record { grown = omega (arith, l, h.grown); same = λ is. absurd (omega (arith, l, h.grown, is)) }) go
 
 pub reaches : (n rounds : ℕ) (events : List Event) (w : World) (j : ℕ) → let v = (world_from n rounds w events).shards j in Fresh (w.shards j) v v.part
 unfolding Advances
@@ -67,5 +62,4 @@ holds_between n rounds start before after shard =
     let later = world_from n rounds middle after in
     let one = reaches n rounds before start shard in
     let two = reaches n rounds after middle shard in
-    let up : (start.shards shard).revision ≤ (later.shards shard).revision = omega (arith, one.grown, two.grown) in
-    (up, λ is. sym (one.same (let e : (start.shards shard).revision ≡ (middle.shards shard).revision = omega (arith, one.grown, two.grown, is) in e)))
+    (omega (arith, one.grown, two.grown), λ is. sym (one.same (omega (arith, one.grown, two.grown, is))))

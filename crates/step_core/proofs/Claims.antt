@@ -9,7 +9,7 @@ use Rattle.map_core.proofs.MapLaws.{ask_keeps, part_reply, part_home, part_away,
 use Rattle.step_core.specs.World.{with_at}
 use Rattle.step_core.specs.Shard.{ShardVersion, reading}
 use Rattle.step_core.specs.Phase.{Phase, Idle, Waiting, Collecting, Confirming, Done, snapshot_reply, wrote_shard, has_point}
-use Rattle.step_core.proofs.Points.{same_number, other_number}
+use Rattle.step_core.proofs.Points.{by_number}
 
 -- the reading v of a shard that stands at s: its revision has not gone back since, and if it is the same, v has this part
 pub record Fresh (v s : ShardVersion) (q : PlainMap) : Type 0 where
@@ -50,47 +50,32 @@ IsPhaseOf n shards op (Done reply) = Unit {0}
 abbrev pub Shows : ℕ → (ℕ → ShardVersion) → PlainMap → Type 0
 Shows n shards m = (i : ℕ) → partition n m i ≡ (shards i).part
 
-pub fresh_on : (v s t : ShardVersion) (q : PlainMap) → Advance s t → Fresh v s q → Fresh v t q
-fresh_on v s t q go h =
-    ⊎_elim (λ e. subst (λ (x : ShardVersion). Fresh v x q) (sym e) h)
-    (λ l. record { grown = omega (arith, l, h.grown); same = λ e. absurd (omega (arith, l, h.grown, e)) }) go
-
-pub fresh_reading_on : (v s t : ShardVersion) → Advance s t → Fresh v s s.part → Fresh v t t.part
-fresh_reading_on v s t go h =
-    ⊎_elim (λ e. subst (λ (x : ShardVersion). Fresh v x x.part) (sym e) h)
+pub fresh_on : (v s t : ShardVersion) (p q : PlainMap) → (t ≡ s → q ≡ p) → Advance s t → Fresh v s p → Fresh v t q
+fresh_on v s t p q same go h =
+    ⊎_elim (λ (e : t ≡ s). record { grown = omega (arith, ap (λ x. x.revision) e, h.grown); same = λ is. h.same (is ∙ ap (λ x. x.revision) e) ∙ sym (same e) })
     (λ l. record { grown = omega (arith, l, h.grown); same = λ e. absurd (omega (arith, l, h.grown, e)) }) go
 
 pub claim_on : (n : ℕ) (s t : ℕ → ShardVersion) → ((j : ℕ) → Advance (s j) (t j)) → (m : PlainMap) (op : Op) (phase : Phase) → Claim n s m op phase → Claim n t m op phase
 claim_on n s t go m op Idle h = h
 claim_on n s t go m op (Waiting i) h = h
 claim_on n s t go m op (Collecting round readings) h = h
-claim_on n s t go m op (Confirming round readings k) h = λ j l. record { sure = (h j l).sure; fresh = fresh_on (reading readings j) (s j) (t j) (partition n m j) (go j) (h j l).fresh }
+claim_on n s t go m op (Confirming round readings k) h = λ j l. record { sure = (h j l).sure; fresh = fresh_on (reading readings j) (s j) (t j) (partition n m j) (partition n m j) (λ _. refl) (go j) (h j l).fresh }
 claim_on n s t go m op (Done (Ok reply)) h = h
 claim_on n s t go m op (Done (Err why)) h = h
 
 pub phase_on : (n : ℕ) (s t : ℕ → ShardVersion) → ((j : ℕ) → Advance (s j) (t j)) → (op : Op) (phase : Phase) → IsPhaseOf n s op phase → IsPhaseOf n t op phase
 phase_on n s t go op Idle h = h
 phase_on n s t go op (Waiting i) h = h
-phase_on n s t go op (Collecting round readings) h = (h.0, h.1, λ j l. fresh_reading_on (reading readings j) (s j) (t j) (go j) (h.2 j l))
+phase_on n s t go op (Collecting round readings) h = (h.0, h.1, λ j l. fresh_on (reading readings j) (s j) (t j) (s j).part (t j).part (ap (λ (x : ShardVersion). x.part)) (go j) (h.2 j l))
 phase_on n s t go op (Confirming round readings k) h = h
 phase_on n s t go op (Done reply) h = h
 
 pub no_claim : (n : ℕ) (s : ℕ → ShardVersion) (m : PlainMap) (op : Op) (phase : Phase) → has_point phase ≡ false → Claim n s m op phase → ⊥
-no_claim n s m op Idle e h = h
-no_claim n s m op (Waiting i) e h = h
-no_claim n s m op (Collecting round readings) e h = h
-no_claim n s m op (Confirming round readings k) e h = cc
-no_claim n s m op (Done (Ok reply)) e h = cc
-no_claim n s m op (Done (Err why)) e h = h
+no_claim n s m op phase e h = grind arith
 
 -- an operation that has its point and has not written leaves the map there
 pub claim_keeps : (n : ℕ) (s : ℕ → ShardVersion) (m : PlainMap) (op : Op) (phase : Phase) → IsPhaseOf n s op phase → Claim n s m op phase → wrote_shard phase ≡ false → (ask m op).map ≡ m
-claim_keeps n s m op Idle ok h w = absurd h
-claim_keeps n s m op (Waiting i) ok h w = absurd h
-claim_keeps n s m op (Collecting round readings) ok h w = absurd h
-claim_keeps n s m op (Confirming round readings k) ok h w = fetch_keeps n m op ok.0
-claim_keeps n s m op (Done (Ok reply)) ok h w = ask_keeps m op (ap is_change (sym h) ∙ w)
-claim_keeps n s m op (Done (Err why)) ok h w = absurd h
+claim_keeps n s m op phase ok h w = grind (arith, fetch_keeps, ask_keeps)
 
 -- ---- the steps
 -- a step on one name that changes nothing
@@ -107,18 +92,14 @@ changed s op i = with_at s i (record { revision = (s i).revision + 1; part = (as
 
 pub changed_advance : (s : ℕ → ShardVersion) (op : Op) (i j : ℕ) → Advance (s j) (changed s op i j)
 changed_advance s op i j =
-    elim (j == i) as (λ b. (j == i) ≡ b → Advance (s j) (cond b (record { revision = (s i).revision + 1; part = (ask (s i).part op).map }) (s j))) [
-      | true ↦ λ e. let is : (s j).revision ≡ (s i).revision = ap (λ k. (s k).revision) (same_number j i e) in inr (omega (arith, is))
-      | false ↦ λ e. inl refl
-    ] refl
+    by_number (λ b. Advance (s j) (cond b (record { revision = (s i).revision + 1; part = (ask (s i).part op).map }) (s j))) j i
+    (λ is. inr (omega (arith, ap (λ k. (s k).revision) is))) (λ _. inl refl)
 
 -- a step on one name that is stored
 pub changed_shows : (n : ℕ) (s : ℕ → ShardVersion) (m : PlainMap) (op : Op) (i : ℕ) → shard_of n op ≡ Some i → Shows n s m → Shows n (changed s op i) (ask m op).map
 changed_shows n s m op i at shows j =
-    elim (j == i) as (λ b. (j == i) ≡ b → partition n (ask m op).map j ≡ (let r : ShardVersion = cond b (record { revision = (s i).revision + 1; part = (ask (s i).part op).map }) (s j) in r).part) [
-      | true ↦ λ e. ap (partition n (ask m op).map) (same_number j i e) ∙ part_home n m op i at ∙ ap (λ (q : PlainMap). (ask q op).map) (shows i)
-      | false ↦ λ e. part_away n m op i j at (other_number j i e) ∙ shows j
-    ] refl
+    by_number (λ b. partition n (ask m op).map j ≡ (let r : ShardVersion = cond b (record { revision = (s i).revision + 1; part = (ask (s i).part op).map }) (s j) in r).part) j i
+    (λ is. ap (partition n (ask m op).map) is ∙ part_home n m op i at ∙ ap (λ (q : PlainMap). (ask q op).map) (shows i)) (λ ne. part_away n m op i j at ne ∙ shows j)
 
 -- one more reading
 pub one_more : (readings : List ShardVersion) (v : ShardVersion) (j : ℕ) → j < length (readings ++ v ∷ []) → let now = reading (readings ++ v ∷ []) j in
@@ -155,7 +136,7 @@ all_sure n s readings m op h none seen =
 
 -- a shard that is put back
 put_back_at : (s : ℕ → ShardVersion) (i j : ℕ) → with_at s i (s i) j ≡ s j
-put_back_at s i j = elim (j == i) as (λ b. (j == i) ≡ b → cond b (s i) (s j) ≡ s j) [ true ↦ λ e. ap s (sym (same_number j i e)) | false ↦ λ e. refl ] refl
+put_back_at s i j = by_number (λ b. cond b (s i) (s j) ≡ s j) j i (λ is. ap s (sym is)) (λ _. refl)
 
 pub put_back : (s : ℕ → ShardVersion) (i : ℕ) → with_at s i (s i) ≡ s
 put_back s i = λ x j. put_back_at s i j x

@@ -7,7 +7,7 @@ use Rattle.std.specs.Prelude.{filter}
 use Rattle.std.specs.Ordering.{nat_cmp}
 use Rattle.std.specs.BTreeMap.{BTreeMap, IsEmpty, is_at}
 use Rattle.std.specs.Map.{lookup}
-use Rattle.std.proofs.lemmas.List.{take_more}
+use Rattle.std.proofs.lemmas.List.{take_more, length-take-le}
 use Rattle.std.specs.BTreeMap as tree
 use Rattle.step_core.specs.declared.event.Event.{Event}
 use Rattle.step_core.specs.Shard.{fresh_shard, reading}
@@ -20,7 +20,7 @@ use Rattle.step_core.specs.Private.Driver.{positions, holds}
 use Rattle.step_core.specs.Private.Shown.{IsCaller, IsShown}
 use Rattle.step_core.specs.declared.driver.Running.{Running}
 use Rattle.step_core.specs.declared.driver.Driver.{Driver}
-use Rattle.step_core.proofs.Points.{number_itself, numbers-filter}
+use Rattle.step_core.proofs.Points.{numbers-filter, times-head}
 use Rattle.step_core.proofs.Runs.{inv_run, events_of}
 use Rattle.step_core.proofs.Traces.{first_length, first_at}
 
@@ -33,13 +33,10 @@ fresh_shown n rounds driver r size fresh callers ops points =
       rounds_are = r;
       shards = record { size = size; each = fresh };
       callers = λ c. subst (IsCaller n rounds fresh_run driver.points.items c) (sym (get-empty driver.callers c callers)) refl;
-      records = record { size = ap (λ l. length l) ops; each = λ q l. let never : ⊥ = omega (arith, l) in absurd never };
+      records = record { size = ap (λ l. length l) ops; each = λ q l. absurd (omega (arith, l)) };
       points = ap positions points;
-      known = λ i q is. let none : false ≡ true = sym (ap (λ (xs : List (Option ℕ)). holds (get_or xs i None) q) points ∙ nothing_held i q) ∙ is in let never : ⊥ = cc in absurd never;
+      known = λ i q is. let none : false ≡ true = sym (ap (λ (xs : List (Option ℕ)). holds (get_or xs i None) q) points) ∙ is in cc;
     }
-  where
-    nothing_held : (i q : ℕ) → holds (get_or {A = Option ℕ} [] i None) q ≡ false
-    nothing_held i q = refl
 
 run_push : (n rounds : ℕ) (events : List Event) (event : Event) (run : Run) → run_from n rounds run (events ++ event ∷ []) ≡ tick (act n rounds (run_from n rounds run events) event)
 run_push n rounds [] event run = refl
@@ -47,12 +44,6 @@ run_push n rounds (e ∷ events) event run = run_push n rounds events event (tic
 
 next_take : (xs : List Event) (k : ℕ) (x : Event) → x ≡ get_or xs k x → k < length xs → take (k + 1) xs ≡ take k xs ++ x ∷ []
 next_take xs k x is l = take_more xs k x l ∙ ap (λ (y : Event). take k xs ++ y ∷ []) (sym is)
-
-take_size : (xs : List Event) (k : ℕ) → k < length xs → length (take k xs) ≡ k
-take_size xs k l = grind (arith, elements)
-
-pub all_taken : (xs : List Event) (k : ℕ) → length xs ≤ k → take k xs ≡ xs
-all_taken xs k l = grind (arith, elements)
 
 -- time goes on
 ticked : (n rounds : ℕ) (driver : Driver) (run : Run) → IsShown n rounds driver run → IsShown n rounds driver (tick run)
@@ -66,7 +57,7 @@ pub next_shown : (n rounds : ℕ) (events : List Event) (k : ℕ) (new : Driver)
     → ((run_of n rounds (take k events)).events ≡ k → IsShown n rounds new (act n rounds (run_of n rounds (take k events)) event)) → IsShown n rounds new (run_of n rounds (take (k + 1) events))
 next_shown n rounds events k new event is l h =
     let run = run_of n rounds (take k events) in
-    let time : run.events ≡ k = events_of n rounds (take k events) ∙ take_size events k l in
+    let time : run.events ≡ k = events_of n rounds (take k events) ∙ length-take-le k events (omega (arith, l)) in
     subst (IsShown n rounds new) (sym (ap (run_of n rounds) (next_take events k event is l) ∙ run_push n rounds (take k events) event fresh_run))
     (ticked n rounds new (act n rounds run event) (h time))
 
@@ -88,7 +79,7 @@ shown_records n rounds driver events h =
 filter_same : (f g : ℕ → Bool) (xs : List ℕ) → ((q : ℕ) → 0 < times q xs → f q ≡ g q) → filter f xs ≡ filter g xs
 filter_same f g [] h = refl
 filter_same f g (x ∷ xs) h =
-    let here : f x ≡ g x = h x (subst (λ b. 0 < cond b 1 0 + times x xs) (sym (number_itself x)) (let one : 0 < 1 + times x xs = omega arith in one)) in
+    let here = h x (times-head x xs) in
     let rest : filter f xs ≡ filter g xs = filter_same f g xs (λ q l. h q (omega (arith, l))) in
     λ i. cond (here i) (x ∷ rest i) (rest i)
 

@@ -1,5 +1,5 @@
 -- A get is answered by the shard of its name, and changes none.
-use Rattle.std.proofs.Common.{◌≡◌, ℕ, ◌+◌, ◌<◌, ◌==◌, true, false, cond, List, length, set, Option, Some, None, Result, Ok, Err, IfOk, IfErr, OnOk, inl, refl, sym, ap, ◌∙◌}
+use Rattle.std.proofs.Common.{◌≡◌, ℕ, ◌+◌, ◌<◌, ◌==◌, true, false, cond, List, length, get_or, set, Option, Some, None, Result, Ok, Err, IfOk, IfErr, OnOk, inl, arith, refl, sym, ap, ◌∙◌}
 use Rattle.std.proofs.lemmas.List.{set-get_or}
 use Rattle.map_core.specs.declared.op.Op.{Op}
 use Rattle.map_core.specs.declared.op.Op.TheVariants.{Get}
@@ -24,16 +24,15 @@ pub get_home : (n i : ℕ) (d : Name) → i ≡ home n d → shard_of n (Get d) 
 unfolding shard_of
 get_home n i d is = ap Some (sym is)
 
-pub get_reply : (vs : List ShardVersion) (d : Name) (i : ℕ) (r : Reply) (v : ShardVersion) → AreParts vs → shard_of (length vs) (Get d) ≡ Some i → i < length vs → v ≡ reading vs i → r ≡ (ask v.part (Get d)).reply → r ≡ (ask (map_of vs) (Get d)).reply
-get_reply vs d i r v parts at small here is = is ∙ ap (λ (x : ShardVersion). (ask x.part (Get d)).reply) here ∙ reply_here vs (Get d) i parts at small
+pub get_reply : (vs : List ShardVersion) (d : Name) (i : ℕ) (r : Reply) (v : ShardVersion) → AreParts vs → shard_of (length vs) (Get d) ≡ Some i → i < length vs → v ≡ get_or vs i v → r ≡ (ask v.part (Get d)).reply → r ≡ (ask (map_of vs) (Get d)).reply
+get_reply vs d i r v parts at small item is = is ∙ reply_here vs (Get d) i v item parts at small
 
 pub get_left : (r : Result Reply AskError) (m : PlainMap) (op : Op) (d : Name) → op ≡ Get d → OnOk r (m ≡ (ask m op).map)
 get_left (Ok x) m op d is = sym (ask_keeps m op (sym (get_changes_nothing m op d is)))
 get_left (Err e) m op d is = tt
 
 stays : (v : ShardVersion) (op : Op) → is_change (ask v.part op).reply ≡ false → (step_on v op).shard ≡ v
-stays v op quiet =
-    ap (λ b. (let s : StepResult = cond b (cond (v.revision == last_revision) (record { answer = Err (Worn 0); shard = v }) (record { answer = Ok (ask v.part op).reply; shard = record { revision = v.revision + 1; part = (ask v.part op).map } })) (record { answer = Ok (ask v.part op).reply; shard = v }) in s).shard) quiet
+stays v op quiet = grind arith
 
 all_stay : (vs : List ShardVersion) (op : Op) (d : Name) (at : Option ℕ) → op ≡ Get d → vs ≡ after_step_at vs op at
 all_stay vs op d (Some i) is = sym (ap (set vs i) (stays (reading vs i) op (sym (get_changes_nothing (reading vs i).part op d is))) ∙ set-get_or vs i fresh_shard)
@@ -42,10 +41,6 @@ all_stay vs op d None is = refl
 pub get_stays : (r : Result Reply AskError) (vs : List ShardVersion) (op : Op) (d : Name) → op ≡ Get d → OnOk r (vs ≡ after_step vs op)
 get_stays (Ok x) vs op d is = all_stay vs op d (shard_of (length vs) op) is
 get_stays (Err e) vs op d is = tt
-
-pub get_fits : (r : Result Reply AskError) (vs : List ShardVersion) (op : Op) (d : Name) → op ≡ Get d → OnOk r ((i : ℕ) → IsWorn vs op i → ⊥)
-get_fits (Ok x) vs op d is = λ i worn. let never : false ≡ true = get_changes_nothing (map_of vs) op d is ∙ worn.changes in cc
-get_fits (Err e) vs op d is = tt
 
 pub get_answer : (vs : List ShardVersion) (d : Name) (r : Result Reply AskError) → IfOk r (λ reply. reply ≡ (ask (map_of vs) (Get d)).reply) → IfErr r (λ e. e ≡ Memory) → ShardsAnswer vs (Get d) r vs
 get_answer vs d (Ok x) found refused = (found, get_left (Ok x) (map_of vs) (Get d) d refl, get_stays (Ok x) vs (Get d) d refl)

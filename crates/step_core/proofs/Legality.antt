@@ -16,7 +16,7 @@ use Rattle.step_core.proofs.Legal.{times, Rises, Replies, IsLegal}
 use Rattle.std.specs.Prelude.{filter}
 use Rattle.step_core.proofs.Claims.{Claim, IsPhaseOf, claim_keeps}
 use Rattle.step_core.proofs.Core.{IsPoint, AtEnd}
-use Rattle.step_core.proofs.Points.{Along, numbers-filter, times-filter}
+use Rattle.step_core.proofs.Points.{Along, by_test, numbers-filter, times-filter}
 use Rattle.step_core.proofs.Book.{Inv, phase_by, states}
 use Rattle.step_core.proofs.Runs.{inv_run, events_of}
 
@@ -26,25 +26,18 @@ written_point phase h = grind arith
 effective_point : (reply : Option (Result Reply AskError)) (wrote : Bool) (phase : Phase) → wrote ≡ wrote_shard (phase_by reply phase) → took_effect_by reply wrote ≡ true → has_point (phase_by reply phase) ≡ true
 effective_point reply wrote phase w h = grind (arith, written_point)
 
-member : (a s h : Bool) (x y : ℕ) → x ≡ cond s y 0 → y ≡ cond (a && h) 1 0 → (a ≡ true → s ≡ true → h ≡ true) → x ≡ cond (a && s) 1 0
-member a s h x y e f g = grind arith
-
-under : (q count : ℕ) → nat_lt q count ≡ true → q < count
-under q count e = grind (arith, nat_tests, e)
+member : (q count : ℕ) (s h : Bool) (x y : ℕ) → x ≡ cond s y 0 → y ≡ cond (nat_lt q count && h) 1 0 → (q < count → s ≡ true → h ≡ true) → x ≡ cond (nat_lt q count && s) 1 0
+member q count s h x y e f g = grind (arith, nat_tests)
 
 rises_lower : (events : ℕ) (records : ℕ → OpRecord) (a b : ℕ) (rs : List ℕ) → a ≤ b → Rises events records b rs → Rises events records a rs
 rises_lower events records a b [] l h = tt
-rises_lower events records a b (r ∷ rs) l h = (h.0, (let first : a ≤ h.0 = omega (arith, l, h.1) in first), h.2, h.3)
+rises_lower events records a b (r ∷ rs) l h = (h.0, omega (arith, l, h.1), h.2, h.3)
 
 answered : (n : ℕ) (s : ℕ → ShardVersion) (m : PlainMap) (op : Op) (reply : Option (Result Reply AskError)) (phase : Phase) → Claim n s m op (phase_by reply phase) → IfSome reply (λ x. x ≡ Ok (ask m op).reply)
-answered n s m op (Some (Ok reply)) phase h = ap Ok h
-answered n s m op (Some (Err why)) phase h = absurd h
-answered n s m op None phase h = tt
+answered n s m op reply phase h = grind arith
 
 unwritten : (n : ℕ) (s : ℕ → ShardVersion) (m : PlainMap) (op : Op) (reply : Option (Result Reply AskError)) (wrote : Bool) (phase : Phase) → wrote ≡ wrote_shard (phase_by reply phase) → took_effect_by reply wrote ≡ false → Claim n s m op (phase_by reply phase) → wrote_shard (phase_by reply phase) ≡ false
-unwritten n s m op (Some (Ok reply)) wrote phase w down h = cc
-unwritten n s m op (Some (Err why)) wrote phase w down h = absurd h
-unwritten n s m op None wrote phase w down h = sym w ∙ down
+unwritten n s m op reply wrote phase w down h = grind arith
 
 module _ (n : ℕ) (run : Run) (inv : Inv n run.events run) where
   abbrev IsPointHere : Point → PlainMap → Type 0
@@ -64,29 +57,26 @@ module _ (n : ℕ) (run : Run) (inv : Inv n run.events run) where
   rises_along from m [] h = tt
   rises_along from m (p ∷ ps) h =
       let rest = rises_along (p.event + 1) (ask m p.op).map ps h.2 in
-      elim (took_effect (run.records p.number)) as (λ b. Rises run.events run.records from (numbers (cond b (p ∷ filter (λ x. took_effect (run.records x.number)) ps) (filter (λ x. took_effect (run.records x.number)) ps)))) [
-        | true ↦ (p.event, h.0, h.1.during, rest)
-        | false ↦ rises_lower run.events run.records from (p.event + 1) (effective ps) (let l : from ≤ p.event + 1 = omega (arith, h.0) in l) rest
-      ]
+      by_test (λ b. Rises run.events run.records from (numbers (cond b (p ∷ filter (λ x. took_effect (run.records x.number)) ps) (filter (λ x. took_effect (run.records x.number)) ps)))) (took_effect (run.records p.number))
+      (λ _. (p.event, h.0, h.1.during, rest)) (λ _. rises_lower run.events run.records from (p.event + 1) (effective ps) (omega (arith, h.0)) rest)
 
   replies_along : (from : ℕ) (m : PlainMap) (ps : List Point) → Along IsPointHere (AtEnd n run.events run.world.shards) from m ps → Replies run.records m (effective ps)
   replies_along from m [] h = tt
   replies_along from m (p ∷ ps) h =
       let rest = replies_along (p.event + 1) (ask m p.op).map ps h.2 in
-      elim (took_effect (run.records p.number)) as (λ b. took_effect (run.records p.number) ≡ b → Replies run.records m (numbers (cond b (p ∷ filter (λ x. took_effect (run.records x.number)) ps) (filter (λ x. took_effect (run.records x.number)) ps)))) [
-        | true ↦ λ e. (
-          subst (λ (x : Op). IfSome (run.records p.number).reply (λ reply. reply ≡ Ok (ask m x).reply)) (sym h.1.op_is)
-              (answered n run.world.shards m p.op (run.records p.number).reply (run.world.phases (run.records p.number).caller) h.1.claim),
-          subst (λ (x : Op). Replies run.records (ask m x).map (effective ps)) (sym h.1.op_is) rest,
-        )
-        | false ↦ λ e. subst (λ (x : PlainMap). Replies run.records x (effective ps)) (leaves p m h.1 e) rest
-      ] refl
+      by_test (λ b. Replies run.records m (numbers (cond b (p ∷ filter (λ x. took_effect (run.records x.number)) ps) (filter (λ x. took_effect (run.records x.number)) ps)))) (took_effect (run.records p.number))
+      (λ _. (
+        subst (λ (x : Op). IfSome (run.records p.number).reply (λ reply. reply ≡ Ok (ask m x).reply)) (sym h.1.op_is)
+            (answered n run.world.shards m p.op (run.records p.number).reply (run.world.phases (run.records p.number).caller) h.1.claim),
+        subst (λ (x : Op). Replies run.records (ask m x).map (effective ps)) (sym h.1.op_is) rest,
+      ))
+      (λ e. subst (λ (x : PlainMap). Replies run.records x (effective ps)) (leaves p m h.1 e) rest)
 
   pub legal : IsLegal run.events run.count run.records (order_of run)
   legal =
       record {
-        members = λ r. member (nat_lt r run.count) (took_effect (run.records r)) (has_point (states run r)) _ (times r (numbers run.points)) (ap (times r) (numbers-filter (λ q. took_effect (run.records q)) run.points) ∙ times-filter (λ q. took_effect (run.records q)) r (numbers run.points)) (inv.core.once r)
-            (λ e effective. effective_point (run.records r).reply (run.records r).wrote (run.world.phases (run.records r).caller) (inv.wrote r (under r run.count e)) effective);
+        members = λ r. member r run.count (took_effect (run.records r)) (has_point (states run r)) _ (times r (numbers run.points)) (ap (times r) (numbers-filter (λ q. took_effect (run.records q)) run.points) ∙ times-filter (λ q. took_effect (run.records q)) r (numbers run.points)) (inv.core.once r)
+            (λ l effective. effective_point (run.records r).reply (run.records r).wrote (run.world.phases (run.records r).caller) (inv.wrote r l) effective);
         rises = rises_along 0 finite.empty run.points inv.core.fits;
         replies = replies_along 0 finite.empty run.points inv.core.fits;
       }

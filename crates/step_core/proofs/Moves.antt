@@ -10,7 +10,7 @@ use Rattle.map_core.proofs.MapLaws.{fetch_keeps}
 use Rattle.step_core.specs.World.{with_at, Turn, turn}
 use Rattle.step_core.specs.Shard.{ShardVersion, reading, last_revision, StepResult, step_on, of_shard}
 use Rattle.step_core.specs.Phase.{Phase, Idle, Waiting, Collecting, Confirming, Done, after_reading, after_confirming, snapshot_reply, after_disturbance, confirm, is_open, has_point}
-use Rattle.step_core.proofs.Points.{same_number, other_number}
+use Rattle.step_core.proofs.Points.{by_test, by_number}
 use Rattle.step_core.proofs.Claims.{Advance, Seen, Claim, ReadSoFar, IsPhaseOf, Shows, still_claim, still_shows, changed_advance, changed_shows, put_back, read_more, read_all, sure_more, all_sure}
 
 -- what becomes of the point, by whether the operation had one and has one then
@@ -39,78 +39,52 @@ stepped s i st = to (with_at s i st.shard) (Done (of_shard i st.answer))
 shard_kept : (n : ℕ) (s : ℕ → ShardVersion) (op : Op) (i : ℕ) (reply : Result Reply AskError) → Move n s op (Waiting i) (to s (Done reply)) → Move n s op (Waiting i) (to (with_at s i (s i)) (Done reply))
 shard_kept n s op i reply h = subst (λ (t : ℕ → ShardVersion). Move n s op (Waiting i) (to t (Done reply))) (sym (put_back s i)) h
 
-shard_changes : (n : ℕ) (s : ℕ → ShardVersion) (op : Op) (i : ℕ) → shard_of n op ≡ Some i
-    → Move n s op (Waiting i) (stepped s i (cond ((s i).revision == last_revision) (record { answer = Err (Worn 0); shard = s i }) (record { answer = Ok (ask (s i).part op).reply; shard = record { revision = (s i).revision + 1; part = (ask (s i).part op).map } })))
-shard_changes n s op i at =
-    elim ((s i).revision == last_revision) as (λ b. Move n s op (Waiting i) (stepped s i (cond b (record { answer = Err (Worn 0); shard = s i }) (record { answer = Ok (ask (s i).part op).reply; shard = record { revision = (s i).revision + 1; part = (ask (s i).part op).map } })))) [
-      | true ↦ shard_kept n s op i (Err (Worn i)) (record { advance = stay s; ok = tt; point = λ m shows. shows })
-      | false ↦ record { advance = changed_advance s op i; ok = tt; point = λ m shows. (still_claim n s m op i at shows, changed_shows n s m op i at shows) }
-    ]
-
 shard_asked : (n : ℕ) (s : ℕ → ShardVersion) (op : Op) (i : ℕ) → shard_of n op ≡ Some i → Move n s op (Waiting i) (stepped s i (step_on (s i) op))
 shard_asked n s op i at =
     let asked : AskResult = ask (s i).part op in
-    elim (is_change asked.reply) as (λ b. is_change asked.reply ≡ b → Move n s op (Waiting i) (stepped s i (cond b
-    (cond ((s i).revision == last_revision) (record { answer = Err (Worn 0); shard = s i }) (record { answer = Ok asked.reply; shard = record { revision = (s i).revision + 1; part = asked.map } })) (record { answer = Ok asked.reply; shard = s i })))) [
-      | true ↦ λ e. shard_changes n s op i at
-      | false ↦ λ e. shard_kept n s op i (Ok asked.reply) (record { advance = stay s; ok = tt; point = λ m shows. (still_claim n s m op i at shows, still_shows n s m op i at shows e) })
-    ] refl
+    let written : ShardVersion = record { revision = (s i).revision + 1; part = asked.map } in
+    let worn : StepResult = record { answer = Err (Worn 0); shard = s i } in
+    by_test (λ b. Move n s op (Waiting i) (stepped s i (cond b (cond ((s i).revision == last_revision) worn (record { answer = Ok asked.reply; shard = written })) (record { answer = Ok asked.reply; shard = s i })))) (is_change asked.reply)
+    (λ _. by_test (λ b. Move n s op (Waiting i) (stepped s i (cond b worn (record { answer = Ok asked.reply; shard = written })))) ((s i).revision == last_revision)
+    (λ _. shard_kept n s op i (Err (Worn i)) (record { advance = stay s; ok = tt; point = λ m shows. shows }))
+    (λ _. record { advance = changed_advance s op i; ok = tt; point = λ m shows. (still_claim n s m op i at shows, changed_shows n s m op i at shows) }))
+    (λ quiet. shard_kept n s op i (Ok asked.reply) (record { advance = stay s; ok = tt; point = λ m shows. (still_claim n s m op i at shows, still_shows n s m op i at shows quiet) }))
 
 -- ---- a fetch-all
-short : (readings : List ShardVersion) (v : ShardVersion) (n : ℕ) → length readings < n → length (readings ++ v ∷ []) ≢ n → length (readings ++ v ∷ []) < n
-short readings v n small ne = omega (arith, length-append {A = ShardVersion})
-
-later : (k n : ℕ) → k < n → k + 1 ≢ n → k + 1 < n
-later k n small ne = omega arith
-
 collects : (n : ℕ) (s : ℕ → ShardVersion) (op : Op) (round : ℕ) (readings : List ShardVersion) → 0 < n → shard_of n op ≡ None → length readings < n → ReadSoFar s readings
     → Move n s op (Collecting round readings) (to s (after_reading n round (readings ++ s (length readings) ∷ [])))
 collects n s op round readings h none small sofar =
     let now = readings ++ s (length readings) ∷ [] in
     let read = read_more s readings sofar in
-    elim (length now == n) as (λ b. (length now == n) ≡ b → Move n s op (Collecting round readings) (to s (cond b (Confirming round now 0) (Collecting round now)))) [
-      | true ↦ λ e. record {
-        advance = stay s;
-        ok = (none, h);
-        point = λ m shows. (read_all n s m now (same_number (length now) n e) read shows, subst (Shows n s) (sym (fetch_keeps n m op none)) shows);
-      }
-      | false ↦ λ e. let more : length now < n = short readings (s (length readings)) n small (other_number (length now) n e) in
-          record { advance = stay s; ok = (none, more, read); point = λ m shows. shows }
-    ] refl
+    by_number (λ b. Move n s op (Collecting round readings) (to s (cond b (Confirming round now 0) (Collecting round now)))) (length now) n
+    (λ is. record { advance = stay s; ok = (none, h); point = λ m shows. (read_all n s m now is read shows, subst (Shows n s) (sym (fetch_keeps n m op none)) shows) })
+    (λ ne. record { advance = stay s; ok = (none, omega (arith, length-append {A = ShardVersion}, small, ne), read); point = λ m shows. shows })
 
 confirms : (n : ℕ) (s : ℕ → ShardVersion) (op : Op) (round : ℕ) (readings : List ShardVersion) (k : ℕ) → 0 < n → shard_of n op ≡ None → k < n → (reading readings k).revision ≡ (s k).revision
     → Move n s op (Confirming round readings k) (to s (after_confirming n round readings (k + 1)))
 confirms n s op round readings k h none small is =
-    elim ((k + 1) == n) as (λ b. ((k + 1) == n) ≡ b → Move n s op (Confirming round readings k) (to s (cond b (Done (Ok (snapshot_reply n readings))) (Confirming round readings (k + 1))))) [
-      | true ↦ λ e. record {
-        advance = stay s;
-        ok = tt;
-        point = (λ m claim. all_sure n s readings m op h none (subst (λ (x : ℕ). (j : ℕ) → j < n → Seen n x s readings m j) (same_number (k + 1) n e) (sure_more n k s readings m small is claim)), λ m shows. shows);
-      }
-      | false ↦ λ e. let more : k + 1 < n = later k n small (other_number (k + 1) n e) in
-          record { advance = stay s; ok = (none, more); point = (λ m claim. sure_more n k s readings m small is claim, λ m shows. shows) }
-    ] refl
-
-none_read : (s : ℕ → ShardVersion) → ReadSoFar s []
-none_read s j l = let never : ⊥ = omega (arith, l) in absurd never
+    by_number (λ b. Move n s op (Confirming round readings k) (to s (cond b (Done (Ok (snapshot_reply n readings))) (Confirming round readings (k + 1))))) (k + 1) n
+    (λ full. record {
+      advance = stay s;
+      ok = tt;
+      point = (λ m claim. all_sure n s readings m op h none (subst (λ (x : ℕ). (j : ℕ) → j < n → Seen n x s readings m j) full (sure_more n k s readings m small is claim)), λ m shows. shows);
+    })
+    (λ ne. record { advance = stay s; ok = (none, omega (arith, small, ne)); point = (λ m claim. sure_more n k s readings m small is claim, λ m shows. shows) })
 
 disturbs : (n rounds : ℕ) (s : ℕ → ShardVersion) (op : Op) (round : ℕ) (readings : List ShardVersion) (k first second : ℕ) → 0 < n → shard_of n op ≡ None
     → Move n s op (Confirming round readings k) (to s (after_disturbance rounds round k first second))
 disturbs n rounds s op round readings k first second h none =
-    elim (round == rounds) as (λ b. Move n s op (Confirming round readings k) (to s (cond b (Done (Err (Moved k first second))) (Collecting (round + 1) [])))) [
-      | true ↦ record { advance = stay s; ok = tt; point = (none, λ m shows. shows) }
-      | false ↦ record { advance = stay s; ok = (none, h, none_read s); point = (none, λ m shows. shows) }
-    ]
+    by_test (λ b. Move n s op (Confirming round readings k) (to s (cond b (Done (Err (Moved k first second))) (Collecting (round + 1) [])))) (round == rounds)
+    (λ _. record { advance = stay s; ok = tt; point = (none, λ m shows. shows) })
+    (λ _. record { advance = stay s; ok = (none, h, λ j l. absurd (omega (arith, l))); point = (none, λ m shows. shows) })
 
 compares : (n rounds : ℕ) (s : ℕ → ShardVersion) (op : Op) (round : ℕ) (readings : List ShardVersion) (k : ℕ) → 0 < n → shard_of n op ≡ None → k < n
     → Move n s op (Confirming round readings k) (to s (confirm n rounds round readings k (s k).revision))
 compares n rounds s op round readings k h none small =
     let read = (reading readings k).revision in
     let now = (s k).revision in
-    elim (read == now) as (λ b. (read == now) ≡ b → Move n s op (Confirming round readings k) (to s (cond b (after_confirming n round readings (k + 1)) (after_disturbance rounds round k read now)))) [
-      | true ↦ λ e. confirms n s op round readings k h none small (same_number read now e)
-      | false ↦ λ e. disturbs n rounds s op round readings k read now h none
-    ] refl
+    by_number (λ b. Move n s op (Confirming round readings k) (to s (cond b (after_confirming n round readings (k + 1)) (after_disturbance rounds round k read now)))) read now
+    (confirms n s op round readings k h none small) (λ _. disturbs n rounds s op round readings k read now h none)
 
 -- each step of the machine is such a move
 pub turn_moves : (n rounds : ℕ) (s : ℕ → ShardVersion) (op : Op) (phase : Phase) → 0 < n → is_open phase ≡ true → IsPhaseOf n s op phase → Move n s op phase (turn n rounds s op phase)

@@ -2,23 +2,18 @@
 use Rattle.std.proofs.Common.{◌≡◌, ◌≢◌, ℕ, zero, suc, ◌<◌, ◌≤◌, ◌==◌, not, ◌&&◌, Bool, true, false, cond, List, [], ◌∷◌, ◌++◌, length, get_or, set, length-append, Option, Some, None, arith, refl, sym, ap, subst, ◌∙◌}
 use Rattle.std.proofs.lemmas.Bool.Decides.{nat_tests}
 use Rattle.std.proofs.lemmas.Grind.{elements}
-use Rattle.std.proofs.lemmas.List.{map-append}
+use Rattle.std.proofs.lemmas.List.{map-append, get_or_past}
 use Rattle.std.specs.Prelude.{filter}
 use Rattle.step_core.specs.Run.{Point, update_points, numbers}
 use Rattle.step_core.specs.Private.Driver.{positions, holds, IsPlaced, update_positions, place_after}
 use Rattle.step_core.proofs.Points.{numbers-filter}
 
 -- ---- one entry of the list
-past_end : (xs : List (Option ℕ)) (i : ℕ) → length xs ≤ i → get_or xs i None ≡ None
-past_end [] i l = refl
-past_end (x ∷ xs) zero l = absurd (omega (arith, l))
-past_end (x ∷ xs) (suc i) l = past_end xs i (omega (arith, l))
-
 gained : (xs : List (Option ℕ)) (x : Option ℕ) (i : ℕ) → get_or (xs ++ x ∷ []) i None ≡ cond (i == length xs) x (get_or xs i None)
-gained xs x i = grind (arith, elements, nat_tests, past_end, length-append {A = Option ℕ})
+gained xs x i = grind (arith, elements, nat_tests, get_or_past, length-append {A = Option ℕ})
 
 cleared : (xs : List (Option ℕ)) (k i : ℕ) → get_or (set xs k None) i None ≡ cond (i == k) None (get_or xs i None)
-cleared xs k i = grind (arith, elements, nat_tests, past_end)
+cleared xs k i = grind (arith, elements, nat_tests, get_or_past)
 
 entry : (had has : Bool) (number place : ℕ) (xs : List (Option ℕ)) (i : ℕ) → let old = get_or xs i None in
     get_or (update_positions had has number place xs) i None ≡ cond had (cond has old (cond (i == place) None old)) (cond has (cond (i == length xs) (Some number) old) old)
@@ -86,7 +81,7 @@ other_entry had has t number q place size i x y is ne none own was = grind (arit
 pub other_placed : (had has : Bool) (xs : List (Option ℕ)) (number place q : ℕ) (h : Bool) (k : ℕ) → number ≢ q → IsPlaced xs number had place → IsPlaced xs q h k
     → IsPlaced (update_positions had has number place xs) q h k
 other_placed had has xs number place q h k ne own is i =
-    other_entry had has (h && (i == k)) number q place (length xs) i (get_or xs i None) _ (entry had has number place xs i) ne (past_end xs i) (own i) (is i)
+    other_entry had has (h && (i == k)) number q place (length xs) i (get_or xs i None) _ (entry had has number place xs i) ne (λ l. get_or_past xs i None l) (own i) (is i)
 
 -- ---- all numbers are below the count
 abbrev pub AreKnown : List (Option ℕ) → ℕ → Type 0

@@ -85,3 +85,10 @@ times-push q p (x ∷ ps) = omega (arith, times-push q p ps)
 
 pub times-head : (x : ℕ) (xs : List ℕ) → 0 < times x (x ∷ xs)
 times-head x xs = grind (arith, nat_tests)
+
+pub split-times : (q : ℕ) (xs : List ℕ) → 0 < times q xs → (before after : List ℕ) × (xs ≡ before ++ q ∷ after)
+split-times q [] l = absurd (omega (arith, l))
+split-times q (x ∷ xs) l =
+    by_number (λ b. 0 < cond b 1 0 + times q xs → (before after : List ℕ) × (x ∷ xs ≡ before ++ q ∷ after)) x q
+    (λ is _. ([], xs, ap (λ (k : ℕ). k ∷ xs) is))
+    (λ _ more. let rest = split-times q xs (omega (arith, more)) in (x ∷ rest.0, rest.1, ap (λ (l : List ℕ). x ∷ l) rest.2)) l

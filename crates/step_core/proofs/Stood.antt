@@ -1,16 +1,16 @@
 -- What is confirmed has stood since it was read.
-use Rattle.std.proofs.Common.{◌≡◌, ℕ, ◌+◌, ◌<◌, ◌≤◌, ◌==◌, Bool, true, false, cond, List, [], ◌∷◌, ◌++◌, length, Ok, Err, ◌⊎◌, inl, inr, ⊎_elim, arith, refl, sym, ap, subst, ◌∙◌}
+use Rattle.std.proofs.Common.{◌≡◌, ℕ, ◌+◌, ◌<◌, ◌≤◌, ◌==◌, Bool, true, false, cond, List, [], ◌∷◌, ◌++◌, length, Ok, Err, ◌⊎◌, inl, inr, ⊎_elim, arith, length-append, refl, sym, ap, subst, ◌∙◌}
 use Rattle.map_core.specs.declared.op.Op.{Op}
 use Rattle.map_core.specs.declared.reply.AskError.TheVariants.{Moved}
 use Rattle.step_core.specs.declared.event.Event.{Event}
 use Rattle.step_core.specs.declared.event.Event.TheVariants.{Begin, Step, Quit, End}
 use Rattle.step_core.specs.World.{World, Turn, turn, next, after_turn, with_operation, to_phase, world_from}
-use Rattle.step_core.specs.Shard.{ShardVersion, reading}
+use Rattle.step_core.specs.Shard.{ShardVersion, fresh_shard, reading}
 use Rattle.step_core.specs.Phase.{Phase, Idle, Waiting, Collecting, Confirming, Done, after_reading, after_confirming, snapshot_reply, after_disturbance, confirm, start_phase, is_idle, is_open, is_done}
 use Rattle.step_core.specs.Laws.{BeginsNothing}
-use Rattle.std.proofs.lemmas.Grind.{elements}
-use Rattle.std.proofs.Common.{length-append}
-use Rattle.step_core.proofs.Points.{same_number, with_at_same}
+use Rattle.std.proofs.Math.ListN.{get_or-append}
+use Rattle.std.proofs.Math.Seq.{get_or-append_seam}
+use Rattle.step_core.proofs.Points.{by_test, by_number, with_at_same}
 use Rattle.step_core.proofs.Between.{holds_between}
 
 -- the round is this one, and P holds; or a later one has begun
@@ -25,38 +25,25 @@ Kept round k v (Collecting now readings) = In round now ((k < length readings) �
 Kept round k v (Confirming now readings j) = In round now (reading readings k ≡ v)
 Kept round k v (Done reply) = Unit {0}
 
-old_reading : (readings : List ShardVersion) (x : ShardVersion) (j : ℕ) → j < length readings → reading (readings ++ x ∷ []) j ≡ reading readings j
-old_reading readings x j l = grind (arith, elements)
-
-new_reading : (readings : List ShardVersion) (x : ShardVersion) → reading (readings ++ x ∷ []) (length readings) ≡ x
-new_reading readings x = grind (arith, elements)
-
-longer : (readings : List ShardVersion) (x : ShardVersion) (k : ℕ) → k < length readings → k < length (readings ++ x ∷ [])
-longer readings x k l = omega (arith, length-append {A = ShardVersion}, l)
-
 collected_keeps : (n round k now : ℕ) (v : ShardVersion) (readings : List ShardVersion) → In round now ((k < length readings) × (reading readings k ≡ v)) → Kept round k v (after_reading n now readings)
 collected_keeps n round k now v readings h =
-    elim (length readings == n) as (λ b. Kept round k v (cond b (Confirming now readings 0) (Collecting now readings))) [
-      | true ↦ ⊎_elim (λ (l : round < now). inl l) (λ (p : (now ≡ round) × ((k < length readings) × (reading readings k ≡ v))). inr (p.0, p.1.1)) h
-      | false ↦ h
-    ]
+    by_test (λ b. Kept round k v (cond b (Confirming now readings 0) (Collecting now readings))) (length readings == n)
+    (λ _. ⊎_elim inl (λ (p : (now ≡ round) × ((k < length readings) × (reading readings k ≡ v))). inr (p.0, p.1.1)) h) (λ _. h)
 
 confirmed_keeps : (n round k now : ℕ) (v : ShardVersion) (readings : List ShardVersion) (j : ℕ) → In round now (reading readings k ≡ v) → Kept round k v (after_confirming n now readings j)
-confirmed_keeps n round k now v readings j h = elim (j == n) as (λ b. Kept round k v (cond b (Done (Ok (snapshot_reply n readings))) (Confirming now readings j))) [ true ↦ tt | false ↦ h ]
+confirmed_keeps n round k now v readings j h = by_test (λ b. Kept round k v (cond b (Done (Ok (snapshot_reply n readings))) (Confirming now readings j))) (j == n) (λ _. tt) (λ _. h)
 
 disturbed_keeps : (rounds round k now : ℕ) (v : ShardVersion) (j first second : ℕ) → round ≤ now → Kept round k v (after_disturbance rounds now j first second)
 disturbed_keeps rounds round k now v j first second l =
-    elim (now == rounds) as (λ b. Kept round k v (cond b (Done (Err (Moved j first second))) (Collecting (now + 1) []))) [ true ↦ tt | false ↦ inl (let m : round < now + 1 = omega (arith, l) in m) ]
+    by_test (λ b. Kept round k v (cond b (Done (Err (Moved j first second))) (Collecting (now + 1) []))) (now == rounds) (λ _. tt) (λ _. inl (omega (arith, l)))
 
 not_before : (round now : ℕ) (P : Type 0) → In round now P → round ≤ now
 not_before round now P h = ⊎_elim (λ (l : round < now). omega (arith, l)) (λ (p : (now ≡ round) × P). omega (arith, p.0)) h
 
 confirm_keeps : (n rounds round k now : ℕ) (v : ShardVersion) (readings : List ShardVersion) (j second : ℕ) → In round now (reading readings k ≡ v) → Kept round k v (confirm n rounds now readings j second)
 confirm_keeps n rounds round k now v readings j second h =
-    elim ((reading readings j).revision == second) as (λ b. Kept round k v (cond b (after_confirming n now readings (j + 1)) (after_disturbance rounds now j (reading readings j).revision second))) [
-      | true ↦ confirmed_keeps n round k now v readings (j + 1) h
-      | false ↦ disturbed_keeps rounds round k now v j (reading readings j).revision second (not_before round now (reading readings k ≡ v) h)
-    ]
+    by_test (λ b. Kept round k v (cond b (after_confirming n now readings (j + 1)) (after_disturbance rounds now j (reading readings j).revision second))) ((reading readings j).revision == second)
+    (λ _. confirmed_keeps n round k now v readings (j + 1) h) (λ _. disturbed_keeps rounds round k now v j (reading readings j).revision second (not_before round now (reading readings k ≡ v) h))
 
 turn_keeps : (n rounds : ℕ) (s : ℕ → ShardVersion) (op : Op) (round k : ℕ) (v : ShardVersion) (phase : Phase) → Kept round k v phase → Kept round k v (turn n rounds s op phase).phase
 turn_keeps n rounds s op round k v Idle h = tt
@@ -64,8 +51,7 @@ turn_keeps n rounds s op round k v (Waiting i) h = tt
 turn_keeps n rounds s op round k v (Collecting now readings) h =
     let x = s (length readings) in
     collected_keeps n round k now v (readings ++ x ∷ [])
-    (⊎_elim (λ (l : round < now). inl l)
-    (λ (p : (now ≡ round) × ((k < length readings) × (reading readings k ≡ v))). inr (p.0, (longer readings x k p.1.0, old_reading readings x k p.1.0 ∙ p.1.1))) h)
+    (⊎_elim inl (λ (p : (now ≡ round) × ((k < length readings) × (reading readings k ≡ v))). inr (p.0, (omega (arith, length-append {A = ShardVersion}, p.1.0), get_or-append readings (x ∷ []) fresh_shard k p.1.0 ∙ p.1.1))) h)
 turn_keeps n rounds s op round k v (Confirming now readings j) h = confirm_keeps n rounds round k now v readings j (s j).revision h
 turn_keeps n rounds s op round k v (Done reply) h = tt
 
@@ -73,17 +59,13 @@ turn_keeps n rounds s op round k v (Done reply) h = tt
 module _ (n rounds round k : ℕ) (v : ShardVersion) (c : ℕ) where
   moved_keeps : (w : World) (other : ℕ) (t : Turn) → (other ≡ c → Kept round k v t.phase) → Kept round k v (w.phases c) → Kept round k v ((after_turn w other t).phases c)
   moved_keeps w other t own h =
-      elim (c == other) as (λ b. (c == other) ≡ b → Kept round k v (cond b t.phase (w.phases c))) [
-        | true ↦ λ e. own (sym (same_number c other e))
-        | false ↦ λ e. h
-      ] refl
+      by_number (λ b. Kept round k v (cond b t.phase (w.phases c))) c other (λ is. own (sym is)) (λ _. h)
 
   step_keeps : (w : World) (other : ℕ) → Kept round k v (w.phases c) → Kept round k v ((next n rounds w (Step other)).phases c)
   step_keeps w other h =
-      elim (is_open (w.phases other)) as (λ b. Kept round k v ((let x : World = cond b (after_turn w other (turn n rounds w.shards (w.ops other) (w.phases other))) w in x).phases c)) [
-        | true ↦ moved_keeps w other (turn n rounds w.shards (w.ops other) (w.phases other)) (λ is. subst (λ (x : ℕ). Kept round k v (turn n rounds w.shards (w.ops x) (w.phases x)).phase) (sym is) (turn_keeps n rounds w.shards (w.ops c) round k v (w.phases c) h)) h
-        | false ↦ h
-      ]
+      by_test (λ b. Kept round k v ((let x : World = cond b (after_turn w other (turn n rounds w.shards (w.ops other) (w.phases other))) w in x).phases c)) (is_open (w.phases other))
+      (λ _. moved_keeps w other (turn n rounds w.shards (w.ops other) (w.phases other)) (λ is. subst (λ (x : ℕ). Kept round k v (turn n rounds w.shards (w.ops x) (w.phases x)).phase) (sym is) (turn_keeps n rounds w.shards (w.ops c) round k v (w.phases c) h)) h)
+      (λ _. h)
 
   idle_keeps : (b : Bool) (w : World) (other : ℕ) → Kept round k v (w.phases c) → Kept round k v ((let x : World = cond b (after_turn w other (to_phase w Idle)) w in x).phases c)
   idle_keeps true w other h = moved_keeps w other (to_phase w Idle) (λ is. tt) h
@@ -105,11 +87,10 @@ read_now : (n rounds : ℕ) (w : World) (c round : ℕ) (readings : List ShardVe
 read_now n rounds w c round readings is =
     let x = w.shards (length readings) in
     let here : Kept round (length readings) x (turn n rounds w.shards (w.ops c) (Collecting round readings)).phase =
-    collected_keeps n round (length readings) round x (readings ++ x ∷ []) (inr (refl, ((let l : length readings < length (readings ++ x ∷ []) = omega (arith, length-append {A = ShardVersion}) in l), new_reading readings x))) in
-    elim (is_open (w.phases c)) as (λ b. is_open (w.phases c) ≡ b → Kept round (length readings) x ((let y : World = cond b (after_turn w c (turn n rounds w.shards (w.ops c) (w.phases c))) w in y).phases c)) [
-      | true ↦ λ e. subst (λ (p : Phase). Kept round (length readings) x p) (sym (with_at_same w.phases c (turn n rounds w.shards (w.ops c) (w.phases c)).phase c refl)) (subst (λ (p : Phase). Kept round (length readings) x (turn n rounds w.shards (w.ops c) p).phase) (sym is) here)
-      | false ↦ λ e. let never : true ≡ false = ap is_open (sym is) ∙ e in cc
-    ] refl
+    collected_keeps n round (length readings) round x (readings ++ x ∷ []) (inr (refl, (omega (arith, length-append {A = ShardVersion}), get_or-append_seam readings x [] fresh_shard))) in
+    by_test (λ b. Kept round (length readings) x ((let y : World = cond b (after_turn w c (turn n rounds w.shards (w.ops c) (w.phases c))) w in y).phases c)) (is_open (w.phases c))
+    (λ _. subst (λ (p : Phase). Kept round (length readings) x p) (sym (with_at_same w.phases c (turn n rounds w.shards (w.ops c) (w.phases c)).phase c refl)) (subst (λ (p : Phase). Kept round (length readings) x (turn n rounds w.shards (w.ops c) p).phase) (sym is) here))
+    (λ shut. let never : true ≡ false = ap is_open (sym is) ∙ shut in cc)
 
 joined : (n rounds : ℕ) (before after : List Event) (w : World) → world_from n rounds w (before ++ after) ≡ world_from n rounds (world_from n rounds w before) after
 joined n rounds [] after w = refl
@@ -121,10 +102,8 @@ in_round round k v all j phase is h =
 
 step_shard : (n rounds : ℕ) (w : World) (c round : ℕ) (readings : List ShardVersion) → w.phases c ≡ Collecting round readings → (next n rounds w (Step c)).shards ≡ w.shards
 step_shard n rounds w c round readings is =
-    elim (is_open (w.phases c)) as (λ b. (let y : World = cond b (after_turn w c (turn n rounds w.shards (w.ops c) (w.phases c))) w in y).shards ≡ w.shards) [
-      | true ↦ ap (λ (p : Phase). (turn n rounds w.shards (w.ops c) p).shards) is
-      | false ↦ refl
-    ]
+    by_test (λ b. (let y : World = cond b (after_turn w c (turn n rounds w.shards (w.ops c) (w.phases c))) w in y).shards ≡ w.shards) (is_open (w.phases c))
+    (λ _. ap (λ (p : Phase). (turn n rounds w.shards (w.ops c) p).shards) is) (λ _. refl)
 
 pub confirmed_stood : (n rounds : ℕ) (start : World) (c round : ℕ) (readings all : List ShardVersion) (before after : List Event) →
     let shard = length readings in

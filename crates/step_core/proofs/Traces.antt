@@ -9,7 +9,7 @@ use Rattle.step_core.specs.Run.{Run, run_of, order_of}
 use Rattle.step_core.specs.Records.{no_record, took_effect}
 use Rattle.step_core.proofs.Legal.{times, IsDuring, Rises, Replies, IsLegal}
 use Rattle.step_core.specs.Trace.{records_of}
-use Rattle.step_core.proofs.Points.{number_itself}
+use Rattle.step_core.proofs.Points.{times-head}
 use Rattle.step_core.proofs.Legality.{one_order}
 
 pub first_length : (run : Run) → length (records_of run) ≡ run.count
@@ -23,7 +23,7 @@ abbrev Below : ℕ → List ℕ → Type 0
 Below count rs = (r : ℕ) → 0 < times r rs → r < count
 
 below_head : (count r : ℕ) (rs : List ℕ) → Below count (r ∷ rs) → r < count
-below_head count r rs h = h r (subst (λ b. 0 < cond b 1 0 + times r rs) (sym (number_itself r)) (let one : 0 < 1 + times r rs = omega arith in one))
+below_head count r rs h = h r (times-head r rs)
 
 below_tail : (count r : ℕ) (rs : List ℕ) → Below count (r ∷ rs) → Below count rs
 below_tail count r rs h x l = h x (omega (arith, l))

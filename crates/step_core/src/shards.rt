@@ -97,22 +97,8 @@ impl Shards {
             drop(op);
             return Err(AskError::Memory);
         };
-        let answer = self.step(place, op);
+        let answer = at_shard(place, self.shards[place].step(op));
         replied(task, answer)
-    }
-
-    // The step of the shard at this place.
-    fn step(&mut self, place: usize, op: Op) -> Result<Reply, AskError>
-        requires home { shard_of (length self.old) op ≡ Some place }
-        requires place { place < length self.old }
-        ensures reply { IfOk result (λ reply. reply ≡ (ask (map_of self.old) op).reply) }
-        ensures left { OnOk result (map_of self.new ≡ (ask (map_of self.old) op).map) }
-        ensures shards { OnOk result (self.new ≡ after_step_at self.old op (Some place)) }
-        ensures fit { OnOk result ((i : ℕ) → IsWorn self.old op i → ⊥) }
-        ensures refused { IfErr result (λ e. Refuses self.old op e) }
-        ensures err { OnErr result (self.new ≡ self.old) }
-    {
-        at_shard(place, self.shards[place].step(op))
     }
 
     // All bundles of all shards. Nobody else changes a shard, so one round is enough.

@@ -17,9 +17,7 @@ observation_by shards op want.Done = Revision 0
 
 abbrev pub left_by : List ShardVersion → Op → Want → List ShardVersion
 left_by shards op (want.Do i) = slice_set shards i (step_on (reading shards i) op).shard
-left_by shards op (want.Collect i) = shards
-left_by shards op (want.Confirm i) = shards
-left_by shards op want.Done = shards
+left_by shards op want = shards
 
 -- the numbers that stand in the list; an operation that gave up its point has left its place empty
 abbrev pub positions : List (Option ℕ) → List ℕ
@@ -38,10 +36,9 @@ IsPlaced points number has place = (i : ℕ) → holds (get_or points i None) nu
 
 -- the points after an operation has gone on, whose own stood at this place
 abbrev pub update_positions : Bool → Bool → ℕ → ℕ → List (Option ℕ) → List (Option ℕ)
-update_positions false false number place points = points
 update_positions false true number place points = points ++ Some number ∷ []
 update_positions true false number place points = slice_set points place None
-update_positions true true number place points = points
+update_positions had has number place points = points
 
 -- and the place of its own
 abbrev pub place_after : Bool → Bool → ℕ → List (Option ℕ) → ℕ

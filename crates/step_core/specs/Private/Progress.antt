@@ -1,6 +1,5 @@
 -- How a task stands while it is under way.
 use Rattle.std.specs.Prelude.{◌≡◌, ℕ, ◌<◌, ◌≤◌, Bool, true, false, length, vec_capacity, Err}
-use Rattle.map_core.specs.declared.reply.AskError.{AskError}
 use Rattle.map_core.specs.declared.reply.AskError.TheVariants.{Memory}
 use Rattle.step_core.specs.Phase.{Phase, Waiting, Collecting, Confirming, Done}
 use Rattle.step_core.specs.declared.task.State.{State}
@@ -15,17 +14,11 @@ IsInside n rounds phase = Unit {0}
 
 -- there is room for all readings
 abbrev pub HasRoom : ℕ → State → Type 0
-HasRoom n (state.Waiting shard) = Unit {0}
 HasRoom n (state.Collecting round readings) = n ≤ vec_capacity readings
 HasRoom n (state.Confirming round readings k) = n ≤ vec_capacity readings
-HasRoom n (state.Done reply) = Unit {0}
-
--- whether the error is out of memory
-abbrev pub is_memory : AskError → Bool
-is_memory Memory = true
-is_memory e = false
+HasRoom n state = Unit {0}
 
 -- whether there was no memory
 abbrev pub is_out_of_memory : Phase → Bool
-is_out_of_memory (Done (Err e)) = is_memory e
+is_out_of_memory (Done (Err Memory)) = true
 is_out_of_memory phase = false

@@ -1,4 +1,6 @@
 use Rattle.std.proofs.Common.{◌≡◌, ◌+◌, ◌<◌, ◌≤◌, ℕ, Bool, true, false, cond, List, [], ◌∷◌, ◌++◌, length, get_or, take, arith, refl, sym, ap, ◌∙◌, append-nil}
+use Rattle.std.proofs.lemmas.List.{take_all}
+use Rattle.std.proofs.lemmas.List.Elements.{filter-append}
 use Rattle.std.specs.Prelude.{filter}
 use Rattle.std.proofs.lemmas.Grind.{elements}
 use Rattle.step_core.specs.Records.{took_effect, no_record}
@@ -6,15 +8,10 @@ use Rattle.step_core.proofs.run.effective.Goals as goal
 use Rattle.step_core.proofs.run.effective.Goals.{then-took_effect_at+in_ok-push, else-took_effect_at}
 
 filter-push : (f : ℕ → Bool) (xs : List ℕ) (x : ℕ) → filter f (xs ++ x ∷ []) ≡ filter f xs ++ cond (f x) (x ∷ []) []
-filter-push f [] x = refl
-filter-push f (y ∷ xs) x =
-    elim (f y) as (λ b. cond b (y ∷ filter f (xs ++ x ∷ [])) (filter f (xs ++ x ∷ [])) ≡ cond b (y ∷ filter f xs) (filter f xs) ++ cond (f x) (x ∷ []) []) [ true ↦ ap (λ (r : List ℕ). y ∷ r) (filter-push f xs x) | false ↦ filter-push f xs x ]
+filter-push f xs x = filter-append f xs (x ∷ [])
 
 next_take : (xs : List ℕ) (k : ℕ) → k < length xs → take (k + 1) xs ≡ take k xs ++ get_or xs k 0 ∷ []
 next_take xs k l = grind (arith, elements)
-
-all_taken : (xs : List ℕ) (k : ℕ) → length xs ≤ k → take k xs ≡ xs
-all_taken xs k l = grind (arith, elements)
 
 taken : (f : ℕ → Bool) (xs order next : List ℕ) (k : ℕ) (b : Bool) → b ≡ f (get_or xs k 0) → k < length xs → order ≡ filter f (take k xs) → next ≡ order ++ cond b (get_or xs k 0 ∷ []) [] → next ≡ filter f (take (k + 1) xs)
 taken f xs order next k b test l was is =
@@ -34,4 +31,4 @@ loop-number-preserved c =
     ]
 
 pub returns : goal.returns
-returns c = c.loop-number.invariant ∙ ap (filter (λ q. took_effect (get_or c.args.ops.now q no_record))) (all_taken c.args.numbers.now c.loop-number.number-index c.loop-number-test.false)
+returns c = c.loop-number.invariant ∙ ap (filter (λ q. took_effect (get_or c.args.ops.now q no_record))) (take_all c.loop-number.number-index c.args.numbers.now c.loop-number-test.false)

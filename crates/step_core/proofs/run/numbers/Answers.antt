@@ -1,13 +1,10 @@
 use Rattle.std.proofs.Common.{◌≡◌, ◌+◌, ◌<◌, ◌≤◌, ℕ, List, [], ◌∷◌, ◌++◌, length, get_or, take, Option, Some, None, arith, sym, ap, ◌∙◌}
 use Rattle.std.proofs.lemmas.Grind.{elements}
-use Rattle.std.proofs.lemmas.List.{take_more}
+use Rattle.std.proofs.lemmas.List.{take_more, take_all}
 use Rattle.step_core.specs.Private.Driver.{positions}
 use Rattle.step_core.proofs.Places.{taken-push, taken-skip}
 use Rattle.step_core.proofs.run.numbers.Goals as goal
 use Rattle.step_core.proofs.run.numbers.Goals.{in-Some+in_ok-push, in_default}
-
-all_taken : (xs : List (Option ℕ)) (k : ℕ) → length xs ≤ k → take k xs ≡ xs
-all_taken xs k l = grind (arith, elements)
 
 next_take : (xs : List (Option ℕ)) (k : ℕ) (x : Option ℕ) → get_or xs k None ≡ x → k < length xs → take (k + 1) xs ≡ take k xs ++ x ∷ []
 next_take xs k x is l = take_more xs k None l ∙ ap (λ (y : Option ℕ). take k xs ++ y ∷ []) is
@@ -23,4 +20,4 @@ loop-point-preserved c =
     ]
 
 pub returns : goal.returns
-returns c = c.loop-point.invariant ∙ ap positions (all_taken c.args.points.now c.loop-point.point-index c.loop-point-test.false)
+returns c = c.loop-point.invariant ∙ ap positions (take_all c.loop-point.point-index c.args.points.now c.loop-point-test.false)

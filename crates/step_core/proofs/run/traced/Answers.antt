@@ -1,10 +1,11 @@
 use Rattle.std.proofs.Common.{◌<◌, ℕ, get_or, take, sym, ap, subst, ◌∙◌}
+use Rattle.std.proofs.lemmas.List.{take_all}
 use Rattle.std.specs.Prelude.{filter}
 use Rattle.step_core.specs.Run.{run_of}
 use Rattle.step_core.specs.Records.{took_effect, no_record}
 use Rattle.step_core.specs.Private.Driver.{positions}
 use Rattle.step_core.specs.Private.Shown.{IsShown}
-use Rattle.step_core.proofs.Driven.{next_shown, all_taken, shown_records, shown_order, witness}
+use Rattle.step_core.proofs.Driven.{next_shown, shown_records, shown_order, witness}
 use Rattle.step_core.proofs.run.traced.Goals as goal
 
 pub loop-now-init : goal.loop-now-init
@@ -23,10 +24,10 @@ loop-now-preserved c =
 
 pub returns-clause-ops : goal.returns-clause-ops
 returns-clause-ops c =
-    shown_records c.args.shards c.args.rounds c.loop-now.driver c.args.events.now (subst (λ es. IsShown c.args.shards c.args.rounds c.loop-now.driver (run_of c.args.shards c.args.rounds es)) (all_taken c.args.events.now c.loop-now.now c.loop-now-test.false) c.loop-now.invariant)
+    shown_records c.args.shards c.args.rounds c.loop-now.driver c.args.events.now (subst (λ es. IsShown c.args.shards c.args.rounds c.loop-now.driver (run_of c.args.shards c.args.rounds es)) (take_all c.loop-now.now c.args.events.now c.loop-now-test.false) c.loop-now.invariant)
 
 pub returns-clause-order : goal.returns-clause-order
 returns-clause-order c =
     c.in_ok-order.ensures
     ∙ (λ i. filter (λ q. took_effect (get_or (c.deref-2.ensures.value i) q no_record)) ((c.deref-3.ensures.value ∙ c.in_ok-numbers.ensures ∙ ap positions c.deref.ensures.value) i))
-    ∙ shown_order c.args.shards c.args.rounds c.loop-now.driver c.args.events.now c.requires.shards (subst (λ es. IsShown c.args.shards c.args.rounds c.loop-now.driver (run_of c.args.shards c.args.rounds es)) (all_taken c.args.events.now c.loop-now.now c.loop-now-test.false) c.loop-now.invariant)
+    ∙ shown_order c.args.shards c.args.rounds c.loop-now.driver c.args.events.now c.requires.shards (subst (λ es. IsShown c.args.shards c.args.rounds c.loop-now.driver (run_of c.args.shards c.args.rounds es)) (take_all c.loop-now.now c.args.events.now c.loop-now-test.false) c.loop-now.invariant)

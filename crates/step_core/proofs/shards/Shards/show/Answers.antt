@@ -5,9 +5,8 @@ use Rattle.map_core.specs.PlainMap.{home}
 use Rattle.map_core.specs.declared.op.Op.TheVariants.{Get}
 use Rattle.map_core.specs.declared.reply.Reply.{Reply}
 use Rattle.map_core.specs.declared.reply.AskError.{AskError}
-use Rattle.step_core.specs.Shard.{ShardVersion, reading}
+use Rattle.step_core.specs.Shard.{ShardVersion}
 use Rattle.step_core.specs.Shards.{ShardsAnswer}
-use Rattle.step_core.proofs.Parts.{item_here}
 use Rattle.step_core.proofs.Gets.{get_home, get_reply, get_shown}
 use Rattle.step_core.proofs.shards.Shards.show.Goals as goal
 
@@ -21,7 +20,6 @@ returns g c =
     let size : c.len.result ≡ length vs = search rules in
     let small : place < length vs = subst (λ (n : ℕ). place < n) size c.home-place.ensures.below in
     let at : place ≡ home (length vs) d = c.home-place.ensures.shard ∙ ap (λ (n : ℕ). home n d) size in
-    let here : c.index.result.now ≡ reading vs place = item_here vs place _ c.index.ensures small in
     subst (λ (versions : List ShardVersion). ShowsGet {E = AskError} g.V.Viewer.notes (λ (answer : Result Reply AskError). ShardsAnswer versions (Get d) answer versions) old (Ok c.in_ok-show.field-0) new) c.self.view_is
     (get_shown g.V.Viewer.notes vs d c.index.result.now.part old c.in_ok-show.field-0 new
-    (λ reply is. get_reply vs d place reply c.index.result.now c.self.invariant (get_home (length vs) place d at) small here is) c.in_ok-show.ensures)
+    (λ reply is. get_reply vs d place reply c.index.result.now c.self.invariant (get_home (length vs) place d at) small c.index.ensures is) c.in_ok-show.ensures)
