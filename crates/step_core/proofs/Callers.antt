@@ -38,12 +38,6 @@ at_caller old new c x h d = h.0 d ∙ ap (λ b. cond b x (tree.get nat_cmp old d
 pub at_caller_twice : (old mid new : BTreeMap ℕ Running) (c : ℕ) (x y : Option Running) → AtCaller old mid c x → AtCaller mid new c y → AtCaller old new c y
 at_caller_twice old mid new c x y f g d = g d ∙ ap (cond (d == c) y) (f d) ∙ covered (d == c) y x (tree.get nat_cmp old d)
 
--- put back as it was
-pub put_back : (old mid new : BTreeMap ℕ Running) (c : ℕ) (x y : Option Running) → tree.get nat_cmp old c ≡ y → AtCaller old mid c x → AtCaller mid new c y → (d : ℕ) → tree.get nat_cmp new d ≡ tree.get nat_cmp old d
-put_back old mid new c x y was f g d =
-    at_caller_twice old mid new c x y f g d
-    ∙ by_number (λ b. cond b y (tree.get nat_cmp old d) ≡ tree.get nat_cmp old d) d c (λ is. sym was ∙ ap (tree.get nat_cmp old) (sym is)) (λ _. refl)
-
 -- what of a run a caller sees
 pub record KeepsCaller (run next : Run) (d : ℕ) : Type 0 where
   pub phase : next.world.phases d ≡ run.world.phases d

@@ -28,20 +28,6 @@ use Rattle.step_core.proofs.Lists.{records_push, records_set, told_alike, left_a
 use Rattle.step_core.proofs.Places.{AreKnown, repointed_numbers, own_placed, other_placed, still_known, new_unplaced}
 
 -- ---- the events
--- a driver that has these shards, records and points
-shown_by : (n rounds : ℕ) (new : Driver) (run : Run) (shards : List ShardVersion) (ops : List OpRecord) (points : List (Option ℕ)) → new.rounds ≡ rounds
-    → new.shards.items ≡ shards → new.ops.items ≡ ops → new.points.items ≡ points → ShowsShards n shards run.world.shards → ((c : ℕ) → IsCaller n rounds run points c (tree.get nat_cmp new.callers c))
-    → ShowsRecords ops run.count run.records → positions points ≡ numbers run.points → AreKnown points run.count → IsShown n rounds new run
-shown_by n rounds new run shards ops points r s o p shows callers records numbered known =
-    record {
-      rounds_are = r;
-      shards = subst (λ (x : List ShardVersion). ShowsShards n x run.world.shards) (sym s) shows;
-      callers = λ c. subst (λ (x : List (Option ℕ)). IsCaller n rounds run x c (tree.get nat_cmp new.callers c)) (sym p) (callers c);
-      records = subst (λ x. ShowsRecords x run.count run.records) (sym o) records;
-      points = ap positions p ∙ numbered;
-      known = subst (λ (x : List (Option ℕ)). AreKnown x run.count) (sym p) known;
-    }
-
 -- a driver that shows the run after one caller has gone on, whose operation has this number
 updated : (n rounds : ℕ) (old new : Driver) (run next : Run) (c number : ℕ) (y : Option Running) (shards : List ShardVersion) (ops : List OpRecord) (points : List (Option ℕ)) → IsShown n rounds old run → new.rounds ≡ old.rounds
     → new.shards.items ≡ shards → new.ops.items ≡ ops → new.points.items ≡ points → ShowsShards n shards next.world.shards
@@ -49,15 +35,15 @@ updated : (n rounds : ℕ) (old new : Driver) (run next : Run) (c number : ℕ) 
     → ((d : ℕ) → d ≢ c → IfSome (tree.get nat_cmp old.callers d) (λ running. number ≢ running.number))
     → ShowsRecords ops next.count next.records → positions points ≡ numbers next.points → AreKnown points next.count → IsShown n rounds new next
 updated n rounds old new run next c number y shards ops points h r s o p shows at own keeps places apart records numbered known =
-    shown_by n rounds new next shards ops points (r ∙ h.rounds_are) s o p shows
-    (callers_after n rounds run next old.points.items points old.callers new.callers c number y at own keeps places apart h.callers) records numbered known
-
--- a driver whose callers are the same one by one
-pub same_shown : (n rounds : ℕ) (old new : Driver) (run : Run) → IsShown n rounds old run → new.rounds ≡ old.rounds → new.shards.items ≡ old.shards.items → ((d : ℕ) → tree.get nat_cmp new.callers d ≡ tree.get nat_cmp old.callers d)
-    → new.ops.items ≡ old.ops.items → new.points.items ≡ old.points.items → IsShown n rounds new run
-same_shown n rounds old new run h r s c o p =
-    shown_by n rounds new run old.shards.items old.ops.items old.points.items (r ∙ h.rounds_are) s o p h.shards
-    (λ d. subst (IsCaller n rounds run old.points.items d) (sym (c d)) (h.callers d)) h.records h.points h.known
+    record {
+      rounds_are = r ∙ h.rounds_are;
+      shards = subst (λ (x : List ShardVersion). ShowsShards n x next.world.shards) (sym s) shows;
+      callers = λ d. subst (λ (x : List (Option ℕ)). IsCaller n rounds next x d (tree.get nat_cmp new.callers d)) (sym p)
+          (callers_after n rounds run next old.points.items points old.callers new.callers c number y at own keeps places apart h.callers d);
+      records = subst (λ x. ShowsRecords x next.count next.records) (sym o) records;
+      points = ap positions p ∙ numbered;
+      known = subst (λ (x : List (Option ℕ)). AreKnown x next.count) (sym p) known;
+    }
 
 -- what is known of a caller that is looked up
 pub idle_caller : (n rounds : ℕ) (driver : Driver) (run : Run) (c : ℕ) → IsShown n rounds driver run → tree.get nat_cmp driver.callers c ≡ None → run.world.phases c ≡ Idle
@@ -75,33 +61,6 @@ others_apart n rounds driver run c x h own d ne =
 new_apart : (n rounds : ℕ) (run : Run) (points : List (Option ℕ)) (d : ℕ) (y : Option Running) → IsCaller n rounds run points d y → IfSome y (λ running. run.count ≢ running.number)
 new_apart n rounds run points d None h = tt
 new_apart n rounds run points d (Some x) h = λ same. omega (arith, h.known, same)
-
--- events that do not fit
-pub idle_acts : (n rounds : ℕ) (run : Run) (c : ℕ) → run.world.phases c ≡ Idle → (act n rounds run (Step c) ≡ run) × ((why : Why) → act n rounds run (Quit c why) ≡ run) × (act n rounds run (End c) ≡ run)
-idle_acts n rounds run c idle = (
-  act_is n rounds run (Step c) ∙ ap (λ (p : Phase). cond (is_open p) (pass run c (turn_of n rounds run c)) run) idle,
-  λ why. act_is n rounds run (Quit c why) ∙ ap (λ (p : Phase). cond (is_open p) (give_up run c (refusal why)) run) idle,
-  act_is n rounds run (End c) ∙ ap (end_at run c) idle,
-)
-
-done_open : (p : Phase) → is_done p ≡ true → is_open p ≡ false
-done_open p h = grind arith
-
-pub done_acts : (n rounds : ℕ) (run : Run) (c : ℕ) → is_done (run.world.phases c) ≡ true → (act n rounds run (Step c) ≡ run) × ((why : Why) → act n rounds run (Quit c why) ≡ run)
-done_acts n rounds run c done =
-    let shut = done_open (run.world.phases c) done in (
-      act_is n rounds run (Step c) ∙ ap (λ b. cond b (pass run c (turn_of n rounds run c)) run) shut,
-      λ why. act_is n rounds run (Quit c why) ∙ ap (λ b. cond b (give_up run c (refusal why)) run) shut,
-    )
-
-ends_nothing : (run : Run) (c : ℕ) (p : Phase) → is_done p ≡ false → end_at run c p ≡ run
-ends_nothing run c p h = grind arith
-
-pub open_ends_nothing : (n rounds : ℕ) (run : Run) (c : ℕ) → is_done (run.world.phases c) ≡ false → act n rounds run (End c) ≡ run
-open_ends_nothing n rounds run c h = act_is n rounds run (End c) ∙ ends_nothing run c (run.world.phases c) h
-
-pub busy_begins_nothing : (n rounds : ℕ) (run : Run) (c : ℕ) (op : Op) → is_idle (run.world.phases c) ≡ false → act n rounds run (Begin c op) ≡ run
-busy_begins_nothing n rounds run c op h = act_is n rounds run (Begin c op) ∙ ap (λ b. cond b (begin n run c op) run) h
 
 begun_busy : (at : Option ℕ) → is_idle (start_phase_at at) ≡ false
 begun_busy at = grind arith
@@ -204,7 +163,7 @@ stepped_shown n rounds old new run c x y op h some undone inside op_is same shar
     let inside' : IsWantOf n (wants p) = subst (λ (q : Phase). IsWantOf n (wants q)) phase_is inside in
     let undone' : is_done p ≡ false = sym (ap is_done phase_is) ∙ undone in
     let told : y.task.phase ≡ t.phase = ap (λ (v : TaskView). v.phase) task ∙ (λ i. give n rounds (phase_is i) (observation_by old.shards.items (op_same i) (wants (phase_is i))))
-    ∙ told_alike n rounds old.shards.items run.world.shards (run.world.ops c) p h.shards inside' undone' in
+        ∙ told_alike n rounds old.shards.items run.world.shards (run.world.ops c) p h.shards inside' undone' in
     let phase_now : next.world.phases c ≡ t.phase = with_at_same run.world.phases c t.phase c refl in
     let had = has_point x.task.phase in
     let has = has_point y.task.phase in
@@ -248,7 +207,7 @@ quit_shown n rounds old new run c x reason now h time some undone same shards at
     let phase_is : x.task.phase ≡ p = ap (λ (v : TaskView). v.phase) own.task in
     let undone' : is_done p ≡ false = sym (ap is_done phase_is) ∙ undone in
     let halfway : ShowsRecords mid run.count passed.records = subst (λ (l : List OpRecord). ShowsRecords l run.count passed.records) (sym mid_is)
-    (changed_shown (λ (r : OpRecord). with_wrote r false) old.ops.items run.count run.records (run.current c) x.number own.number own.known h.records) in
+        (changed_shown (λ (r : OpRecord). with_wrote r false) old.ops.items run.count run.records (run.current c) x.number own.number own.known h.records) in
     let had = has_point x.task.phase in
     let there = old.points.items in
     subst (IsShown n rounds new) (sym (act_is n rounds run (Quit c reason) ∙ ap (λ b. cond b next run) (undone_open p own.busy undone')))
@@ -261,22 +220,6 @@ quit_shown n rounds old new run c x reason now h time some undone same shards at
     (repointed_numbers had false there x.place (record { number = x.number; op = mine.op; event = run.events }) run.points own.place h.points
     ∙ (λ i. numbers (update_points (has_point (phase_is i)) false (record { number = own.number i; op = mine.op; event = run.events }) run.points)))
     (still_known had false there x.number x.place run.count own.known h.known))
-
--- an operation ends with its reply
-pub ends_shown : (n rounds : ℕ) (old new : Driver) (run : Run) (c : ℕ) (x : Running) (reply : Result Reply AskError) (now : ℕ) → IsShown n rounds old run → run.events ≡ now → tree.get nat_cmp old.callers c ≡ Some x → x.task.phase ≡ Done reply
-    → new.rounds ≡ old.rounds → new.shards.items ≡ old.shards.items → AtCaller old.callers new.callers c None
-    → new.ops.items ≡ set old.ops.items x.number (with_end (get_or old.ops.items x.number no_record) now reply)
-    → new.points.items ≡ old.points.items
-    → IsShown n rounds new (act n rounds run (End c))
-ends_shown n rounds old new run c x reply now h time some done same shards at ops points =
-    let own = running_caller n rounds old run c x h some in
-    let next = finish run c reply in
-    let list = old.ops.items in
-    subst (IsShown n rounds new) (sym (act_is n rounds run (End c) ∙ ap (end_at run c) (sym (ap (λ (v : TaskView). v.phase) own.task) ∙ done)))
-    (updated n rounds old new run next c x.number None old.shards.items (set list x.number (with_end (get_or list x.number no_record) run.events reply)) old.points.items h same shards
-    (ops ∙ ap (λ (k : ℕ). set list x.number (with_end (get_or list x.number no_record) k reply)) (sym time)) points h.shards at (with_at_same run.world.phases c Idle c refl)
-    (λ d ne. keeps_changed run run c run.world.shards Idle (with_end (run.records (run.current c)) run.events reply) run.points refl refl d ne (keeps_itself run d)) (λ q e k ne is. is) (others_apart n rounds old run c x h own)
-    (changed_shown (λ (r : OpRecord). with_end r run.events reply) list run.count run.records (run.current c) x.number own.number own.known h.records) h.points h.known)
 
 -- ---- an operation's record
 pub op_at : (ops : List OpRecord) (k : ℕ) (e : OpRecord) → e ≡ get_or ops k e → k < length ops → e.op ≡ (get_or ops k no_record).op
