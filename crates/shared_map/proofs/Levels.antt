@@ -1,9 +1,9 @@
 -- The marks of parts, around one of them.
-use Rattle.std.proofs.Common.{◌≡◌, ◌≢◌, ◌⊎◌, inl, inr, true, List, [], ◌∷◌, ◌++◌, Option, Some, refl, sym, ap, subst, ◌∙◌, append_assoc, append-nil, length, ◌+◌, length-append}
+use Rattle.std.proofs.Common.{◌≡◌, ◌≢◌, ◌⊎◌, inl, inr, true, List, [], ◌∷◌, ◌++◌, Option, Some, refl, sym, ap, subst, ◌∙◌, append_assoc, append-nil, length, ◌+◌, length-append, arith}
 use Rattle.std.specs.List.{insert, remove}
 use Rattle.std.specs.Prelude.{ℕ, slice_set}
 use Rattle.std.specs.declared.cmp.Ordering.{Ordering}
-use Rattle.std.specs.declared.cmp.Ordering.TheVariants.{Less, Equal, Greater}
+use Rattle.std.specs.declared.cmp.Ordering.TheVariants.{Less, Greater}
 use Rattle.std.specs.Ordering.{ordering_then}
 use Rattle.std.specs.Option.{option_flatten}
 use Rattle.std.specs.FinMap.Entries.{find}
@@ -16,9 +16,7 @@ use Rattle.shared_map.proofs.Plain.{key_total, find_plain}
 use Rattle.shared_map.proofs.Same.{same_is, same_trans, same_within, fence_out}
 
 at_least : (o : Ordering) → o ≢ Less → ordering_then o Greater ≡ Greater
-at_least Less h = absurd (h refl)
-at_least Equal h = refl
-at_least Greater h = refl
+at_least o h = grind arith
 
 module _ {P V : Type 0} (f : P → Marks V) where
   fenced-append : (a b : List (Name × P)) → fenced f (a ++ b) ≡ fenced f a ++ fenced f b
@@ -60,17 +58,16 @@ module _ {P V : Type 0} (f : P → Marks V) where
         ∙ ap option_flatten (sym (find_inside key_cmp key_total (q, true) (ahead a x.0) (f x.1) (fenced f c) sorted (ahead_above q a x.0 from) (fenced_under q c before)) ∙ ap (find key_cmp (q, true)) (sym (around_is a x c)))
         ∙ sym (find_plain q (marks_of f (a ++ x ∷ c)) s)
 
+    -- a change of the part is a change of all
+    change_part : (g : Marks V → Marks V) → g (ahead a x.0 ++ (f x.1 ++ fenced f c)) ≡ ahead a x.0 ++ (g (f x.1) ++ fenced f c) → (p : P) → IsSameBut (f p) (g (f x.1)) → IsSameBut (marks_of f (a ++ (x.0, p) ∷ c)) (g (marks_of f (a ++ x ∷ c)))
+    change_part g inside p same =
+        same_trans (same_is (around_is a (x.0, p) c)) (same_trans (same_within (ahead a x.0) (fenced f c) same) (same_is (sym inside ∙ ap g (sym (around_is a x c)))))
+
     pub put_part : (v : V) (p : P) → IsSameBut (f p) (with q v (f x.1)) → IsSameBut (marks_of f (a ++ (x.0, p) ∷ c)) (with q v (marks_of f (a ++ x ∷ c)))
-    put_part v p same =
-        same_trans (same_is (around_is a (x.0, p) c))
-        (same_trans (same_within (ahead a x.0) (fenced f c) same)
-        (same_is (sym (put_inside key_cmp key_total (q, true) (ahead a x.0) (f x.1) (fenced f c) sorted (ahead_above q a x.0 from) (fenced_under q c before) (Some v)) ∙ ap (with q v) (sym (around_is a x c)))))
+    put_part v = change_part (with q v) (put_inside key_cmp key_total (q, true) (ahead a x.0) (f x.1) (fenced f c) sorted (ahead_above q a x.0 from) (fenced_under q c before) (Some v))
 
     pub take_part : (p : P) → IsSameBut (f p) (without q (f x.1)) → IsSameBut (marks_of f (a ++ (x.0, p) ∷ c)) (without q (marks_of f (a ++ x ∷ c)))
-    take_part p same =
-        same_trans (same_is (around_is a (x.0, p) c))
-        (same_trans (same_within (ahead a x.0) (fenced f c) same)
-        (same_is (sym (kept_inside key_cmp key_total (q, true) (ahead a x.0) (f x.1) (fenced f c) sorted (ahead_above q a x.0 from) (fenced_under q c before)) ∙ ap (without q) (sym (around_is a x c)))))
+    take_part = change_part (without q) (kept_inside key_cmp key_total (q, true) (ahead a x.0) (f x.1) (fenced f c) sorted (ahead_above q a x.0 from) (fenced_under q c before))
 
   -- a part becomes two
   pub halve_part : (a : List (Name × P)) (x : Name × P) (c : List (Name × P)) (p : P) (t : Name) (h : P) → IsSameBut (f p ++ (fence t ∷ f h)) (f x.1) → IsSameBut (marks_of f (a ++ (x.0, p) ∷ (t, h) ∷ c)) (marks_of f (a ++ x ∷ c))
@@ -110,17 +107,17 @@ module _ {P V : Type 0} (f : P → Marks V) where
         ∙ find_part q r.0.front r.0.item r.0.back r.1 r.2 (sorted_there s)
         ∙ ap (λ (l : List (Name × P)). find name_cmp q (plain (marks_of f l))) (sym r.0.is)
 
-    pub put_reached : (v : V) (p : P) (new : List (Name × P)) → new ≡ slice_set ps place (x.0, p) → (IsSorted (f x.1) → IsSameBut (f p) (with q v (f x.1))) → IsSorted (marks_of f ps) → IsSameBut (marks_of f new) (with q v (marks_of f ps))
-    put_reached v p new is h s =
-        let same : IsSameBut (f p) (with q v (f r.0.item.1)) = subst (λ (y : Name × P). IsSameBut (f p) (with q v (f y.1))) here (h (sorted_here s)) in
+    change_reached : (g : Marks V → Marks V) (p : P) (new : List (Name × P)) → new ≡ slice_set ps place (x.0, p) → IsSameBut (f p) (g (f x.1))
+        → (IsSameBut (f p) (g (f r.0.item.1)) → IsSameBut (marks_of f (r.0.front ++ (r.0.item.0, p) ∷ r.0.back)) (g (marks_of f (r.0.front ++ r.0.item ∷ r.0.back)))) → IsSameBut (marks_of f new) (g (marks_of f ps))
+    change_reached g p new is same change =
         same_trans (same_is (ap (marks_of f) (is ∙ set_here p)))
-        (same_trans (put_part q r.0.front r.0.item r.0.back r.1 r.2 (sorted_there s) v p same) (same_is (ap (λ (l : List (Name × P)). with q v (marks_of f l)) (sym r.0.is))))
+        (same_trans (change (subst (λ (y : Name × P). IsSameBut (f p) (g (f y.1))) here same)) (same_is (ap (λ (l : List (Name × P)). g (marks_of f l)) (sym r.0.is))))
+
+    pub put_reached : (v : V) (p : P) (new : List (Name × P)) → new ≡ slice_set ps place (x.0, p) → (IsSorted (f x.1) → IsSameBut (f p) (with q v (f x.1))) → IsSorted (marks_of f ps) → IsSameBut (marks_of f new) (with q v (marks_of f ps))
+    put_reached v p new is h s = change_reached (with q v) p new is (h (sorted_here s)) (put_part q r.0.front r.0.item r.0.back r.1 r.2 (sorted_there s) v p)
 
     pub take_reached : (p : P) (new : List (Name × P)) → new ≡ slice_set ps place (x.0, p) → (IsSorted (f x.1) → IsSameBut (f p) (without q (f x.1))) → IsSorted (marks_of f ps) → IsSameBut (marks_of f new) (without q (marks_of f ps))
-    take_reached p new is h s =
-        let same : IsSameBut (f p) (without q (f r.0.item.1)) = subst (λ (y : Name × P). IsSameBut (f p) (without q (f y.1))) here (h (sorted_here s)) in
-        same_trans (same_is (ap (marks_of f) (is ∙ set_here p)))
-        (same_trans (take_part q r.0.front r.0.item r.0.back r.1 r.2 (sorted_there s) p same) (same_is (ap (λ (l : List (Name × P)). without q (marks_of f l)) (sym r.0.is))))
+    take_reached p new is h s = change_reached (without q) p new is (h (sorted_here s)) (take_part q r.0.front r.0.item r.0.back r.1 r.2 (sorted_there s) p)
 
     -- the part is left with nothing, and taken out
     pub drop_reached : (p : P) (new : List (Name × P)) → new ≡ remove (slice_set ps place (x.0, p)) place → f p ≡ [] → (IsSorted (f x.1) → IsSameBut (f p) (without q (f x.1))) → IsSorted (marks_of f ps) → IsSameBut (marks_of f new) (without q (marks_of f ps))

@@ -1,5 +1,6 @@
 -- Marks in order, seen as a finite map.
-use Rattle.std.proofs.Common.{◌≡◌, true≢false, ℕ, ◌+◌, ◌-◌, Bool, true, false, cond, not, List, [], ◌∷◌, length, Option, Some, None, is_some, refl, sym, ap, subst, ◌∙◌, arith, Bor}
+use Rattle.std.proofs.Common.{◌≡◌, ℕ, ◌+◌, ◌-◌, Bool, true, false, cond, not, List, [], length, Option, Some, None, is_some, sym, ap, subst, ◌∙◌, arith, Bor}
+use Rattle.std.proofs.lemmas.List.{nil_from_length}
 use Rattle.std.specs.Prelude.{T, option_copied}
 use Rattle.std.specs.Ordering.{is_eq, eq_by_cmp}
 use Rattle.std.specs.Cmp.{eq_by_cmp_equiv}
@@ -27,8 +28,7 @@ absent : {X : Type 0} (b : Bool) (x : Option X) → (b ≡ true → x ≡ None) 
 absent b x h = grind arith
 
 none_of : {X : Type 0} (o : Option X) → is_some o ≡ false → o ≡ None
-none_of (Some x) e = absurd (true≢false e)
-none_of None e = refl
+none_of o e = grind arith
 
 module _ {V : Type 0} (es : List (Name × V)) (s : T (is_sorted name_cmp es)) where
   shown-entries : entries (finite.from_sorted {R = name_cmp} es) ≡ es
@@ -116,12 +116,10 @@ module _ {V : Type 0} (m : FinMap name_cmp V) (ms : Marks V) (is : finite.from_s
         (ap (λ (l : List (Name × V)). cond (is_some (find name_cmp n (plain ms))) 1 0 + length l) left ∙ length_without name_cmp nat_list_cmp_total n (plain ms) names)
 
 pub nothing : {A : Type 0} (l : List A) (n : ℕ) → n ≡ length l → n ≡ 0 → l ≡ []
-nothing [] n is z = refl
-nothing (x ∷ l) n is z = absurd (omega arith)
+nothing l n is z = nil_from_length l (sym is ∙ z)
 
 pub is_some_copied : {A : Type 0} (o : Option (Bor A)) → is_some (option_copied o) ≡ is_some o
-is_some_copied None = refl
-is_some_copied (Some x) = refl
+is_some_copied o = grind arith
 
 -- the levels o, with this many entries, show the map m
 pub record Shows {V : Type 0} (o : Option (Top V)) (count : ℕ) (m : FinMap name_cmp V) : Type 0 where

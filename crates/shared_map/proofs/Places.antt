@@ -1,5 +1,7 @@
 -- A place of a list.
-use Rattle.std.proofs.Common.{◌≡◌, ◌≢◌, ◌⊎◌, inl, inr, ◌<◌, ℕ, zero, suc, List, [], ◌∷◌, ◌++◌, length, take, drop, Option, Some, None, Result, Ok, Err, true≢false, true, refl, sym, ap, subst, ◌∙◌, arith}
+use Rattle.std.proofs.Common.{◌≡◌, ◌≢◌, ◌⊎◌, inl, inr, ◌<◌, ℕ, zero, suc, List, [], ◌∷◌, ◌++◌, length, drop, Option, Some, None, Result, true, refl, sym, ap, subst, ◌∙◌, arith}
+use Rattle.std.proofs.Math.Seq.{take-append_seam, drop-append_seam, set-append_seam, get_or-append_seam}
+use Rattle.std.proofs.lemmas.List.{nil_from_length}
 use Rattle.std.specs.List.{slice_get, insert, remove}
 use Rattle.std.specs.Prelude.{slice_index_or, slice_set, MatchOption, is_ok, if◌then◌else◌}
 use Rattle.std.specs.declared.cmp.Ordering.TheVariants.{Less}
@@ -27,36 +29,26 @@ opened (x ∷ xs) (suc place) h =
       rest = o.rest;
     }
 
-front_empty : {A : Type 0} (l : List A) (n : ℕ) → length l ≡ n → n ≡ 0 → l ≡ []
-front_empty [] n e z = refl
-front_empty (x ∷ l) n e z = absurd (omega arith)
-
 pub reached : {X : Type 0} (q : Name) (xs : List (Name × X)) (low high : ℕ) → low < length xs → high ≡ suc low → (low ≡ 0) ⊎ IsFrom q (slice_get xs low) → IsBefore q (drop high xs) → IsReached q xs low
 reached q xs low high h next from before =
     let o = opened xs low h in (
       o.around,
       elim from [
-        | inl z ↦ inl (front_empty o.around.front low o.around.at z)
+        | inl z ↦ inl (nil_from_length o.around.front (o.around.at ∙ z))
         | inr f ↦ inr (subst (IsFrom q) o.here f)
       ],
       subst (IsBefore q) (ap (λ n. drop n xs) next ∙ o.rest) before,
     )
 
 pub item_at : {A : Type 0} (xs : List A) (front : List A) (x : A) (back : List A) (place : ℕ) (d : A) → xs ≡ front ++ x ∷ back → length front ≡ place → slice_index_or xs place d ≡ x
-item_at xs [] x back zero d is at = ap (λ l. slice_index_or l 0 d) is
-item_at xs [] x back (suc place) d is at = cc
-item_at xs (y ∷ front) x back zero d is at = cc
-item_at xs (y ∷ front) x back (suc place) d is at = ap (λ l. slice_index_or l (suc place) d) is ∙ item_at (front ++ x ∷ back) front x back place d refl (omega arith)
+item_at xs front x back place d is at = (λ i. slice_index_or (is i) (sym at i) d) ∙ get_or-append_seam front x back d
 
 -- what is read at a place
 pub read_at : {A : Type 0} {xs : List A} {place : ℕ} (a : Around xs place) (d : A) → slice_index_or xs place d ≡ a.item
 read_at {A} {xs} {place} a d = item_at xs a.front a.item a.back place d a.is a.at
 
 pub set_at : {A : Type 0} (xs : List A) (front : List A) (x : A) (back : List A) (place : ℕ) (y : A) → xs ≡ front ++ x ∷ back → length front ≡ place → slice_set xs place y ≡ front ++ y ∷ back
-set_at xs [] x back zero y is at = ap (λ l. slice_set l 0 y) is
-set_at xs [] x back (suc place) y is at = cc
-set_at xs (z ∷ front) x back zero y is at = cc
-set_at xs (z ∷ front) x back (suc place) y is at = ap (λ l. slice_set l (suc place) y) is ∙ ap (λ l. z ∷ l) (set_at (front ++ x ∷ back) front x back place y refl (omega arith))
+set_at xs front x back place y is at = (λ i. slice_set (is i) (sym at i) y) ∙ set-append_seam front x back y
 
 -- a value is put under the name at a place
 pub value_at : {X : Type 0} {ys xs : List (Name × X)} {place : ℕ} → ys ≡ xs → (a : Around xs place) → (v : X) (x : Name × X) → x ≡ slice_index_or ys place x → slice_set ys place (x.0, v) ≡ a.front ++ (a.item.0, v) ∷ a.back
@@ -67,25 +59,17 @@ value_at {X} {ys} {xs} {place} kept a v x read =
 pub read_same : {A : Type 0} {ys xs : List A} {place : ℕ} → ys ≡ xs → (a : Around xs place) → (x : A) → x ≡ slice_index_or ys place x → x ≡ a.item
 read_same {A} {ys} {xs} {place} kept a x read = read ∙ ap (λ (l : List A). slice_index_or l place x) kept ∙ read_at a x
 
-take_front : {A : Type 0} (front back : List A) → take (length front) (front ++ back) ≡ front
-take_front [] back = refl
-take_front (x ∷ front) back = ap (λ l. x ∷ l) (take_front front back)
-
-drop_front : {A : Type 0} (front back : List A) → drop (length front) (front ++ back) ≡ back
-drop_front [] back = refl
-drop_front (x ∷ front) back = drop_front front back
-
 drop_more : {A : Type 0} (front : List A) (x : A) (back : List A) → drop (suc (length front)) (front ++ x ∷ back) ≡ back
 drop_more [] x back = refl
 drop_more (y ∷ front) x back = drop_more front x back
 
 pub insert_at : {A : Type 0} {xs : List A} (front back : List A) {place : ℕ} (y : A) → xs ≡ front ++ back → length front ≡ place → insert xs place y ≡ front ++ y ∷ back
 insert_at {A} {xs} front back {place} y is at =
-    ap (λ n. insert xs n y) (sym at) ∙ ap (λ (l : List A). insert l (length front) y) is ∙ ap (λ l. l ++ y ∷ drop (length front) (front ++ back)) (take_front front back) ∙ ap (λ l. front ++ y ∷ l) (drop_front front back)
+    ap (λ n. insert xs n y) (sym at) ∙ ap (λ (l : List A). insert l (length front) y) is ∙ ap (λ l. l ++ y ∷ drop (length front) (front ++ back)) (take-append_seam front back) ∙ ap (λ l. front ++ y ∷ l) (drop-append_seam front back)
 
 pub remove_at : {A : Type 0} {xs : List A} {place : ℕ} (a : Around xs place) → remove xs place ≡ a.front ++ a.back
 remove_at {A} {xs} {place} a =
-    ap (remove xs) (sym a.at) ∙ ap (λ (l : List A). remove l (length a.front)) a.is ∙ ap (λ l. l ++ drop (suc (length a.front)) (a.front ++ a.item ∷ a.back)) (take_front a.front (a.item ∷ a.back)) ∙ ap (λ l. a.front ++ l) (drop_more a.front a.item a.back)
+    ap (remove xs) (sym a.at) ∙ ap (λ (l : List A). remove l (length a.front)) a.is ∙ ap (λ l. l ++ drop (suc (length a.front)) (a.front ++ a.item ∷ a.back)) (take-append_seam a.front (a.item ∷ a.back)) ∙ ap (λ l. a.front ++ l) (drop_more a.front a.item a.back)
 
 pub read_set : {A : Type 0} {ys xs : List A} {place : ℕ} → ys ≡ xs → (a : Around xs place) → (y d : A) → slice_index_or (slice_set ys place y) place d ≡ y
 read_set {A} {ys} {xs} {place} kept a y d = item_at (slice_set ys place y) a.front y a.back place d (set_at ys a.front a.item a.back place y (kept ∙ a.is) a.at) a.at
@@ -99,5 +83,4 @@ pub at_some : {A : Type 0} (P : Type 0) (Q : A → Type 0) {o : Option A} {x : A
 at_some {A} P Q {o} {x} is h = subst (λ o. MatchOption o P Q) is h
 
 pub inserted : {A B E : Type 0} (r : Result B E) (new old : List A) (place : ℕ) (x : A) → new ≡ (if is_ok r then insert old place x else old) → is_ok r ≡ true → new ≡ insert old place x
-inserted (Ok y) new old place x is e = is
-inserted (Err y) new old place x is e = absurd (true≢false (sym e))
+inserted r new old place x is e = grind arith

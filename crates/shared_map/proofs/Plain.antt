@@ -1,5 +1,5 @@
 -- The entries among marks, and those that have no fence between them.
-use Rattle.std.proofs.Common.{◌≡◌, true≢false, true, false, cond, not, List, [], ◌∷◌, ◌++◌, Some, None, refl, sym, ap, subst, ◌∙◌, append_assoc}
+use Rattle.std.proofs.Common.{◌≡◌, true, false, cond, List, [], ◌∷◌, ◌++◌, Option, Some, None, refl, sym, ap, subst, ◌∙◌, append_assoc, arith}
 use Rattle.std.specs.Prelude.{T}
 use Rattle.std.specs.Option.{option_flatten}
 use Rattle.std.specs.declared.cmp.Ordering.{Ordering}
@@ -11,7 +11,7 @@ use Rattle.std.proofs.lemmas.Cmp.{then_total, on_total}
 use Rattle.std.specs.FinMap.{IsAntisymmetric, slice_cmp-IsAntisymmetric, nat_cmp-IsAntisymmetric}
 use Rattle.std.specs.FinMap.Entries.{by_order, put, where_key, find, below_all, is_sorted}
 use Rattle.shared_map.specs.Name.{Name, name_cmp}
-use Rattle.shared_map.specs.Marks.{Key, key_cmp, Marks, IsSorted, entry, entries_only, plain_mark, plain, with, without}
+use Rattle.shared_map.specs.Marks.{Key, key_cmp, Marks, IsSorted, entries_only, plain_mark, plain, with, without}
 use Rattle.shared_map.proofs.Sides.{both, first, second, less, is_less, others, find_below, below_less, below_equal}
 
 pub key_total : IsTotalOrder key_cmp
@@ -21,24 +21,15 @@ pub name_exact : IsAntisymmetric name_cmp
 name_exact = slice_cmp-IsAntisymmetric nat_cmp-IsAntisymmetric
 
 then_equal : (o : Ordering) → ordering_then o Equal ≡ o
-then_equal Less = refl
-then_equal Equal = refl
-then_equal Greater = refl
+then_equal o = grind arith
 
 -- entries are ordered by their names
 pub by_name : (a b : Name) → key_cmp (a, true) (b, true) ≡ name_cmp a b
 by_name a b = then_equal (name_cmp a b)
 
-pub then_less : (o : Ordering) → ordering_then o Greater ≡ Less → o ≡ Less
-then_less Less e = refl
-then_less Equal e = cc
-then_less Greater e = cc
-
 -- an entry is never at a fence
 not_at_fence : (o : Ordering) → is_eq (ordering_then o Greater) ≡ false
-not_at_fence Less = refl
-not_at_fence Equal = refl
-not_at_fence Greater = refl
+not_at_fence o = grind arith
 
 pub plain-entries_only : {V : Type 0} (es : List (Name × V)) → plain (entries_only es) ≡ es
 plain-entries_only [] = refl
@@ -51,20 +42,12 @@ plain-append (m ∷ a) b = ap (λ z. plain_mark m ++ z) (plain-append a b) ∙ s
 pub entries_only-with : {V : Type 0} (n : Name) (v : V) (es : List (Name × V)) → entries_only (put name_cmp n v es) ≡ with n v (entries_only es)
 entries_only-with n v [] = refl
 entries_only-with {V} n v (e ∷ es) =
-    elim (name_cmp n e.0) as (λ o. entries_only (by_order o ((n, v) ∷ e ∷ es) ((e.0, v) ∷ es) (e ∷ put name_cmp n v es)) ≡ by_order (ordering_then o Equal) (entry (n, v) ∷ entry e ∷ entries_only es) (entry (e.0, v) ∷ entries_only es) (entry e ∷ with n v (entries_only es))) [
-      | Less ↦ refl
-      | Equal ↦ refl
-      | Greater ↦ ap (λ (z : Marks V). entry e ∷ z) (entries_only-with n v es)
-    ]
+    let ih = entries_only-with n v es in grind (arith, ih)
 
 pub entries_only-without : {V : Type 0} (n : Name) (es : List (Name × V)) → entries_only (where_key name_cmp (others name_cmp n) es) ≡ without n (entries_only es)
 entries_only-without n [] = refl
 entries_only-without {V} n (e ∷ es) =
-    elim (name_cmp n e.0) as (λ o. entries_only (cond (not (is_eq o)) (e ∷ where_key name_cmp (others name_cmp n) es) (where_key name_cmp (others name_cmp n) es)) ≡ cond (not (is_eq (ordering_then o Equal))) (entry e ∷ without n (entries_only es)) (without n (entries_only es))) [
-      | Less ↦ ap (λ (z : Marks V). entry e ∷ z) (entries_only-without n es)
-      | Equal ↦ entries_only-without n es
-      | Greater ↦ ap (λ (z : Marks V). entry e ∷ z) (entries_only-without n es)
-    ]
+    let ih = entries_only-without n es in grind (arith, ih)
 
 below_plain : {V : Type 0} (n : Name) (ms : Marks V) → T (below_all key_cmp (n, true) ms) → T (below_all name_cmp n (plain ms))
 below_plain n [] h = tt
@@ -88,20 +71,16 @@ below_tied n x ms t h = below_plain n ms (below_equal key_cmp key_total (n, true
 below_before : {V : Type 0} (n : Name) (k : Key) (ms : Marks V) → key_cmp (n, true) k ≡ Less → T (below_all key_cmp k ms) → T (below_all name_cmp n (plain ms))
 below_before n k ms t h = below_plain n ms (below_less key_cmp key_total (n, true) k ms t h)
 
+sorted_rest : {V : Type 0} (m : Key × Option V) (ms : Marks V) → IsSorted (m ∷ ms) → IsSorted ms
+sorted_rest m ms h = second _ _ h
+
 pub find_plain : {V : Type 0} (n : Name) (ms : Marks V) → IsSorted ms → find name_cmp n (plain ms) ≡ option_flatten (find key_cmp (n, true) ms)
 find_plain n [] h = refl
-find_plain n (((x, true), Some v) ∷ ms) h =
-    elim (name_cmp n x) as (λ o. cond (is_eq o) (Some v) (find name_cmp n (plain ms)) ≡ option_flatten (cond (is_eq (ordering_then o Equal)) (Some (Some v)) (find key_cmp (n, true) ms))) [
-      | Less ↦ find_plain n ms (second _ _ h)
-      | Equal ↦ refl
-      | Greater ↦ find_plain n ms (second _ _ h)
-    ]
+find_plain n (((x, true), Some v) ∷ ms) h = let ih = find_plain n ms (sorted_rest ((x, true), Some v) ms h) in grind (arith, ih)
 find_plain n (((x, true), None) ∷ ms) h =
-    elim (key_cmp (n, true) (x, true)) as (λ o. key_cmp (n, true) (x, true) ≡ o → find name_cmp n (plain ms) ≡ option_flatten (cond (is_eq o) (Some None) (find key_cmp (n, true) ms))) [
-      | Less ↦ λ t. find_plain n ms (second _ _ h)
-      | Equal ↦ λ t. find_below name_cmp n (plain ms) (below_tied n x ms t (first _ _ h))
-      | Greater ↦ λ t. find_plain n ms (second _ _ h)
-    ] refl
+    let ih = find_plain n ms (sorted_rest ((x, true), None) ms h) in
+    let none : key_cmp (n, true) (x, true) ≡ Equal → find name_cmp n (plain ms) ≡ None = (λ t. find_below name_cmp n (plain ms) (below_tied n x ms t (first _ _ h))) in
+    grind (arith, ih, none)
 find_plain {V} n (((x, false), o) ∷ ms) h =
     find_plain n ms (second _ _ h) ∙ ap (λ b. option_flatten (cond b (Some o) (find key_cmp (n, true) ms))) (sym (not_at_fence (name_cmp n x)))
 
@@ -112,33 +91,20 @@ put_below n v (e ∷ es) h = ap (λ o. by_order o ((n, v) ∷ e ∷ es) ((e.0, v
 pub plain_with : {V : Type 0} (n : Name) (v : V) (ms : Marks V) → IsSorted ms → plain (with n v ms) ≡ put name_cmp n v (plain ms)
 plain_with n v [] h = refl
 plain_with {V} n v (((x, true), Some w) ∷ ms) h =
-    elim (name_cmp n x) as (λ o. plain (by_order (ordering_then o Equal) (entry (n, v) ∷ entry (x, w) ∷ ms) (entry (x, v) ∷ ms) (entry (x, w) ∷ with n v ms)) ≡ by_order o ((n, v) ∷ (x, w) ∷ plain ms) ((x, v) ∷ plain ms) ((x, w) ∷ put name_cmp n v (plain ms))) [
-      | Less ↦ refl
-      | Equal ↦ refl
-      | Greater ↦ ap (λ (z : List (Name × V)). (x, w) ∷ z) (plain_with n v ms (second _ _ h))
-    ]
+    let ih = plain_with n v ms (sorted_rest ((x, true), Some w) ms h) in grind (arith, ih)
 plain_with {V} n v (((x, true), None) ∷ ms) h =
-    elim (key_cmp (n, true) (x, true)) as (λ o. key_cmp (n, true) (x, true) ≡ o → plain (by_order o (entry (n, v) ∷ ((x, true), None) ∷ ms) (entry (x, v) ∷ ms) (((x, true), None) ∷ with n v ms)) ≡ put name_cmp n v (plain ms)) [
-      | Less ↦ λ t. sym (put_below n v (plain ms) (below_before n (x, true) ms t (first _ _ h)))
-      | Equal ↦ λ t. ap (λ y. (y, v) ∷ plain ms) (sym (name_exact n x (sym (by_name n x) ∙ t))) ∙ sym (put_below n v (plain ms) (below_tied n x ms t (first _ _ h)))
-      | Greater ↦ λ t. plain_with n v ms (second _ _ h)
-    ] refl
+    let ih = plain_with n v ms (sorted_rest ((x, true), None) ms h) in
+    let before : key_cmp (n, true) (x, true) ≡ Less → put name_cmp n v (plain ms) ≡ (n, v) ∷ plain ms = (λ t. put_below n v (plain ms) (below_before n (x, true) ms t (first _ _ h))) in
+    let tie : key_cmp (n, true) (x, true) ≡ Equal → put name_cmp n v (plain ms) ≡ (x, v) ∷ plain ms =
+    (λ t. put_below n v (plain ms) (below_tied n x ms t (first _ _ h)) ∙ ap (λ y. (y, v) ∷ plain ms) (name_exact n x (sym (by_name n x) ∙ t))) in
+    grind (arith, ih, before, tie)
 plain_with {V} n v (((x, false), o) ∷ ms) h =
-    elim (key_cmp (n, true) (x, false)) as (λ r. key_cmp (n, true) (x, false) ≡ r → plain (by_order r (entry (n, v) ∷ ((x, false), o) ∷ ms) (((x, false), Some v) ∷ ms) (((x, false), o) ∷ with n v ms)) ≡ put name_cmp n v (plain ms)) [
-      | Less ↦ λ t. sym (put_below n v (plain ms) (below_before n (x, false) ms t (first _ _ h)))
-      | Equal ↦ λ t. absurd (true≢false (sym (ap is_eq t) ∙ not_at_fence (name_cmp n x)))
-      | Greater ↦ λ t. plain_with n v ms (second _ _ h)
-    ] refl
+    let ih = plain_with n v ms (sorted_rest ((x, false), o) ms h) in
+    let before : key_cmp (n, true) (x, false) ≡ Less → put name_cmp n v (plain ms) ≡ (n, v) ∷ plain ms = (λ t. put_below n v (plain ms) (below_before n (x, false) ms t (first _ _ h))) in
+    grind (arith, ih, before)
 
 pub plain_without : {V : Type 0} (n : Name) (ms : Marks V) → plain (without n ms) ≡ where_key name_cmp (others name_cmp n) (plain ms)
 plain_without n [] = refl
-plain_without {V} n (((x, true), Some w) ∷ ms) =
-    elim (name_cmp n x) as (λ o. plain (cond (not (is_eq (ordering_then o Equal))) (entry (x, w) ∷ without n ms) (without n ms)) ≡ cond (not (is_eq o)) ((x, w) ∷ where_key name_cmp (others name_cmp n) (plain ms)) (where_key name_cmp (others name_cmp n) (plain ms))) [
-      | Less ↦ ap (λ (z : List (Name × V)). (x, w) ∷ z) (plain_without n ms)
-      | Equal ↦ plain_without n ms
-      | Greater ↦ ap (λ (z : List (Name × V)). (x, w) ∷ z) (plain_without n ms)
-    ]
-plain_without {V} n (((x, true), None) ∷ ms) =
-    elim (is_eq (key_cmp (n, true) (x, true))) as (λ b. plain (cond (not b) (((x, true), None) ∷ without n ms) (without n ms)) ≡ where_key name_cmp (others name_cmp n) (plain ms)) [ true ↦ plain_without n ms | false ↦ plain_without n ms ]
-plain_without {V} n (((x, false), o) ∷ ms) =
-    elim (is_eq (key_cmp (n, true) (x, false))) as (λ b. plain (cond (not b) (((x, false), o) ∷ without n ms) (without n ms)) ≡ where_key name_cmp (others name_cmp n) (plain ms)) [ true ↦ plain_without n ms | false ↦ plain_without n ms ]
+plain_without n (((x, true), Some w) ∷ ms) = let ih = plain_without n ms in grind (arith, ih)
+plain_without n (((x, true), None) ∷ ms) = let ih = plain_without n ms in grind (arith, ih)
+plain_without n (((x, false), o) ∷ ms) = let ih = plain_without n ms in grind (arith, ih)

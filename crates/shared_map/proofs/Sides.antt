@@ -1,5 +1,5 @@
 -- Lists in order, around one part: what stands before it, and what stands after.
-use Rattle.std.proofs.Common.{◌≡◌, ◌⊎◌, inl, inr, Bool, true, false, cond, not, ◌&&◌, List, [], ◌∷◌, ◌++◌, Some, None, refl, sym, ap, subst, ◌∙◌, append_assoc, append-nil}
+use Rattle.std.proofs.Common.{◌≡◌, ◌⊎◌, inl, inr, Bool, cond, not, ◌&&◌, List, [], ◌∷◌, ◌++◌, Some, None, refl, sym, ap, subst, ◌∙◌, append_assoc, append-nil, arith}
 use Rattle.std.specs.Prelude.{T}
 use Rattle.std.specs.declared.cmp.Ordering.{Ordering}
 use Rattle.std.specs.declared.cmp.Ordering.TheVariants.{Less, Equal, Greater}
@@ -8,21 +8,16 @@ use Rattle.std.specs.Cmp.{IsTotalOrder}
 use Rattle.std.specs.FinMap.Entries.{by_order, put, where_key, find, below_all, is_sorted}
 
 pub both : (a b : Bool) → T a → T b → T (a && b)
-both true b p q = q
-both false b p q = p
+both a b p q = grind arith
 
 pub first : (a b : Bool) → T (a && b) → T a
-first true b p = tt
-first false b p = p
+first a b p = grind arith
 
 pub second : (a b : Bool) → T (a && b) → T b
-second true b p = p
-second false b p = absurd p
+second a b p = grind arith
 
 pub less : (o : Ordering) → T (is_lt o) → o ≡ Less
-less Less p = refl
-less Equal p = absurd p
-less Greater p = absurd p
+less o p = grind arith
 
 pub is_less : (o : Ordering) → o ≡ Less → T (is_lt o)
 is_less o e = subst (λ r. T (is_lt r)) (sym e) tt
@@ -55,10 +50,6 @@ module _ {K X : Type 0} (R : K → K → Ordering) where
   pub sorted-front : (l m : List (K × X)) → T (is_sorted R (l ++ m)) → T (is_sorted R l)
   sorted-front [] m h = tt
   sorted-front (x ∷ l) m h = both _ _ (below-front x.0 l m (first _ _ h)) (sorted-front l m (second _ _ h))
-
-  pub sorted-back : (l : List (K × X)) (e : K × X) (r : List (K × X)) → T (is_sorted R (l ++ e ∷ r)) → T (is_sorted R r)
-  sorted-back [] e r h = second _ _ h
-  sorted-back (x ∷ l) e r h = sorted-back l e r (second _ _ h)
 
   after : (l : List (K × X)) (e : K × X) (r : List (K × X)) → T (is_sorted R (l ++ e ∷ r)) → T (below_all R e.0 r)
   after [] e r h = first _ _ h
@@ -93,10 +84,7 @@ module _ {K X : Type 0} (R : K → K → Ordering) where
   kept_front : (q : K) (l m : List (K × X)) → T (below_all R q m) → where_key R (others R q) (l ++ m) ≡ where_key R (others R q) l ++ m
   kept_front q [] m h = kept_below q m h
   kept_front q (x ∷ l) m h =
-      elim (others R q x.0) as (λ b. cond b (x ∷ where_key R (others R q) (l ++ m)) (where_key R (others R q) (l ++ m)) ≡ cond b (x ∷ where_key R (others R q) l) (where_key R (others R q) l) ++ m) [
-        | true ↦ ap (λ z. x ∷ z) (kept_front q l m h)
-        | false ↦ kept_front q l m h
-      ]
+      let ih = kept_front q l m h in grind (arith, ih)
 
   -- the first of these, if there is one, is after q
   abbrev pub IsUnder : K → List (K × X) → Type 0
@@ -106,11 +94,7 @@ module _ {K X : Type 0} (R : K → K → Ordering) where
   pub put_left : (q : K) (v : X) (l : List (K × X)) (e : K × X) (r : List (K × X)) → R q e.0 ≡ Less → put R q v (l ++ e ∷ r) ≡ put R q v l ++ e ∷ r
   put_left q v [] e r p = ap (λ o. by_order o ((q, v) ∷ e ∷ r) ((e.0, v) ∷ r) (e ∷ put R q v r)) p
   put_left q v (x ∷ l) e r p =
-      elim (R q x.0) as (λ o. by_order o ((q, v) ∷ x ∷ (l ++ e ∷ r)) ((x.0, v) ∷ (l ++ e ∷ r)) (x ∷ put R q v (l ++ e ∷ r)) ≡ by_order o ((q, v) ∷ x ∷ l) ((x.0, v) ∷ l) (x ∷ put R q v l) ++ e ∷ r) [
-        | Less ↦ refl
-        | Equal ↦ refl
-        | Greater ↦ ap (λ z. x ∷ z) (put_left q v l e r p)
-      ]
+      let ih = put_left q v l e r p in grind (arith, ih)
 
   put_front : (q : K) (v : X) (b c : List (K × X)) → IsUnder q c → put R q v (b ++ c) ≡ put R q v b ++ c
   put_front q v b [] h = ap (put R q v) (append-nil b) ∙ sym (append-nil (put R q v b))
@@ -142,32 +126,13 @@ module _ {K X : Type 0} (R : K → K → Ordering) where
     below_from : (q : K) (l : List (K × X)) (e : K × X) (r : List (K × X)) → T (is_sorted R (l ++ e ∷ r)) → R q e.0 ≡ Less → T (below_all R q (e ∷ r))
     below_from q l e r h p = both _ _ (is_less _ p) (below_less q e.0 r p (after l e r h))
 
-    pub put_right : (q : K) (v : X) (l : List (K × X)) (e : K × X) (r : List (K × X)) → T (is_sorted R (l ++ e ∷ r)) → R q e.0 ≡ Greater → put R q v (l ++ e ∷ r) ≡ l ++ e ∷ put R q v r
-    put_right q v l e r h p =
-        put_past q v l (e ∷ r) (past_greater q l e r h p) ∙ ap (λ o. l ++ by_order o ((q, v) ∷ e ∷ r) ((e.0, v) ∷ r) (e ∷ put R q v r)) p
-
     pub put_middle : (q : K) (v : X) (l : List (K × X)) (e : K × X) (r : List (K × X)) → T (is_sorted R (l ++ e ∷ r)) → R q e.0 ≡ Equal → put R q v (l ++ e ∷ r) ≡ l ++ (e.0, v) ∷ r
     put_middle q v l e r h p =
         put_past q v l (e ∷ r) (past_equal q l e r h p) ∙ ap (λ o. l ++ by_order o ((q, v) ∷ e ∷ r) ((e.0, v) ∷ r) (e ∷ put R q v r)) p
 
-    pub find_left : (q : K) (l : List (K × X)) (e : K × X) (r : List (K × X)) → T (is_sorted R (l ++ e ∷ r)) → R q e.0 ≡ Less → find R q (l ++ e ∷ r) ≡ find R q l
-    find_left q l e r h p = find_front q l (e ∷ r) (below_from q l e r h p)
-
-    pub find_right : (q : K) (l : List (K × X)) (e : K × X) (r : List (K × X)) → T (is_sorted R (l ++ e ∷ r)) → R q e.0 ≡ Greater → find R q (l ++ e ∷ r) ≡ find R q r
-    find_right q l e r h p =
-        find_past q l (e ∷ r) (past_greater q l e r h p) ∙ ap (λ o. cond (is_eq o) (Some e.1) (find R q r)) p
-
     pub find_middle : (q : K) (l : List (K × X)) (e : K × X) (r : List (K × X)) → T (is_sorted R (l ++ e ∷ r)) → R q e.0 ≡ Equal → find R q (l ++ e ∷ r) ≡ Some e.1
     find_middle q l e r h p =
         find_past q l (e ∷ r) (past_equal q l e r h p) ∙ ap (λ o. cond (is_eq o) (Some e.1) (find R q r)) p
-
-    pub kept_left : (q : K) (l : List (K × X)) (e : K × X) (r : List (K × X)) → T (is_sorted R (l ++ e ∷ r)) → R q e.0 ≡ Less → where_key R (others R q) (l ++ e ∷ r) ≡ where_key R (others R q) l ++ e ∷ r
-    kept_left q l e r h p = kept_front q l (e ∷ r) (below_from q l e r h p)
-
-    pub kept_right : (q : K) (l : List (K × X)) (e : K × X) (r : List (K × X)) → T (is_sorted R (l ++ e ∷ r)) → R q e.0 ≡ Greater → where_key R (others R q) (l ++ e ∷ r) ≡ l ++ e ∷ where_key R (others R q) r
-    kept_right q l e r h p =
-        kept_past q l (e ∷ r) (past_greater q l e r h p)
-        ∙ ap (λ o. l ++ cond (not (is_eq o)) (e ∷ where_key R (others R q) r) (where_key R (others R q) r)) p
 
     pub kept_middle : (q : K) (l : List (K × X)) (e : K × X) (r : List (K × X)) → T (is_sorted R (l ++ e ∷ r)) → R q e.0 ≡ Equal → where_key R (others R q) (l ++ e ∷ r) ≡ l ++ r
     kept_middle q l e r h p =
