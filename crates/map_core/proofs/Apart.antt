@@ -1,5 +1,5 @@
 -- Bundles and marks, each in a map of their own.
-use Rattle.std.proofs.Common.{◌≡◌, T, Bool, true, false, cond, List, [], ◌∷◌, length, suc, not, Option, Some, None, is_some, Bor, Result, Ok, Err, IfOk, OnOk, OnErr, refl, sym, ap, subst, ◌∙◌}
+use Rattle.std.proofs.Common.{◌≡◌, T, Bool, true, false, cond, List, [], ◌∷◌, length, suc, not, Option, Some, None, is_some, Bor, Result, Ok, Err, IfOk, OnOk, OnErr, refl, sym, ap, subst, ◌∙◌, arith}
 use Rattle.std.specs.Prelude.{option_copied}
 use Rattle.std.specs.FinMap.Entries.{below_all}
 use Rattle.std.specs.FinMap.{find, get-entries, get-from_sorted, entries-from_sorted, get-empty, is_sorted}
@@ -31,8 +31,7 @@ if_ok (Err e) f a = tt
 
 -- ---- a change under one name
 together : (t : Bool) (a b x y : Option Holding) → or_else (cond t b x) (cond t a y) ≡ cond t (or_else b a) (or_else x y)
-together true a b x y = refl
-together false a b x y = refl
+together t a b x y = grind arith
 
 pub union-put : (m p : PlainMap) (d : Name) (a b : Option Holding) → union (put m d a) (put p d b) ≡ put (union m p) d (or_else b a)
 union-put m p d a b =
@@ -55,8 +54,7 @@ union-bare m p d a none =
     ∙ ap (λ x. put (union m p) d (or_else x a)) none
 
 some_first : (x a y : Option Holding) → is_some x ≡ true → or_else x a ≡ or_else x y
-some_first (Some h) a y e = refl
-some_first None a y e = cc
+some_first x a y e = grind arith
 
 -- a change of the marks under a bundle is not seen
 pub union-hidden : (m p : PlainMap) (d : Name) (a : Option Holding) → is_some (finite.get p d) ≡ true → union (put m d a) p ≡ union m p
@@ -65,21 +63,13 @@ union-hidden m p d a there =
     ∙ put-same (union m p) d _ (some_first _ a (finite.get m d) there ∙ sym (get-join m p d))
 
 -- ---- what is found
-copied : (r : Option (Bor Holding)) → is_some (option_copied r) ≡ is_some r
-copied (Some x) = refl
-copied None = refl
-
-no_one : (x : Option Holding) → is_some x ≡ false → x ≡ None
-no_one (Some x) e = cc
-no_one None e = refl
-
 -- nothing was found
 pub is_bare : (r : Option (Bor Holding)) (x : Option Holding) (none : Bool) → option_copied r ≡ x → is_some r ≡ not none → none ≡ true → x ≡ None
-is_bare r x none is told t = no_one x (ap is_some (sym is) ∙ copied r ∙ told ∙ ap not t)
+is_bare r x none is told t = grind arith
 
 -- something was found
 pub is_there : (r : Option (Bor Holding)) (x : Option Holding) (none : Bool) → option_copied r ≡ x → is_some r ≡ not none → none ≡ false → is_some x ≡ true
-is_there r x none is told t = ap is_some (sym is) ∙ copied r ∙ told ∙ ap not t
+is_there r x none is told t = grind arith
 
 pub at-bundle : (m p u : PlainMap) (d : Name) (held : Holding) → union m p ≡ u → finite.get p d ≡ Some held → Some held ≡ finite.get u d
 at-bundle m p u d held is there =
@@ -89,8 +79,7 @@ pub at-mark : (m p u : PlainMap) (d : Name) → union m p ≡ u → finite.get p
 at-mark m p u d is none = sym (ap (λ x. or_else x (finite.get m d)) none) ∙ sym (get-join m p d) ∙ ap (λ x. finite.get x d) is
 
 kept : (t : Bool) (f : Option Holding → Bool) (a x : Option Holding) → f a ≡ false → f x ≡ false → f (cond t a x) ≡ false
-kept true f a x h k = h
-kept false f a x h k = k
+kept t f a x h k = grind arith
 
 pub no_bundle-put : (m : PlainMap) (d : Name) (a : Option Holding) → is_bundle a ≡ false → HasNoBundle m → HasNoBundle (put m d a)
 no_bundle-put m d a none h = λ q. ap is_bundle (get-put m d a q) ∙ kept (is_name q d) is_bundle a (finite.get m q) none (h q)
@@ -123,12 +112,10 @@ sorted-published ((d, Published b) ∷ es) h = both _ _ (below-published d es (f
 sorted-published ((d, Mark s) ∷ es) h = sorted-published es (second _ _ h)
 
 found : (t : Bool) (h : Holding) (x y : Option Holding) → only_bundle (Some h) ≡ Some h → x ≡ only_bundle y → cond t (Some h) x ≡ only_bundle (cond t (Some h) y)
-found true h x y is e = sym is
-found false h x y is e = e
+found t h x y is e = grind arith
 
 passed : (t : Bool) (s x : Option Holding) → only_bundle s ≡ None → (t ≡ true → x ≡ None) → only_bundle x ≡ only_bundle (cond t s x)
-passed true s x is e = ap only_bundle (e refl) ∙ sym is
-passed false s x is e = refl
+passed t s x is e = grind arith
 
 find-published : (q : Name) (es : List (Name × Holding)) → T (is_sorted name_cmp es) → find name_cmp q (published es) ≡ only_bundle (find name_cmp q es)
 unfolding published
@@ -139,11 +126,7 @@ find-published q ((d, Mark s) ∷ es) h =
     ∙ passed (is_name q d) (Some (Mark s)) (find name_cmp q es) refl (λ t. ap (λ x. find name_cmp x es) (same_name q d t) ∙ find-below d es (first _ _ h))
 
 apart : (b m : Option Holding) → is_mark b ≡ false → is_bundle m ≡ false → b ≡ only_bundle (or_else b m)
-apart None None h k = refl
-apart None (Some (Published b)) h k = cc
-apart None (Some (Mark s)) h k = refl
-apart (Some (Published b)) m h k = refl
-apart (Some (Mark s)) m h k = cc
+apart b m h k = grind arith
 
 -- the bundles' map has the bundles of both, in order
 shown : (m p : PlainMap) → HasNoBundle m → HasNoMark p → p ≡ finite.from_sorted (published (finite.entries (union m p)))

@@ -1,15 +1,15 @@
 -- What an operation answers and leaves, by the row of the table that it means.
-use Rattle.std.proofs.Common.{◌≡◌, false, Option, Some, None, Result, Ok, Err, IfOk, refl, sym, ap, subst, ◌∙◌}
+use Rattle.std.proofs.Common.{◌≡◌, false, Option, Some, Result, Ok, Err, IfOk, refl, sym, ap, subst, ◌∙◌, arith}
 use Rattle.std.specs.FinMap as finite
 use Rattle.spiffe_doc.specs.Authority.{BundleValue}
 use Rattle.map_core.specs.declared.op.Op.{Op}
 use Rattle.map_core.specs.declared.op.Op.TheVariants.{Get, FetchAll}
 use Rattle.map_core.specs.declared.held.Holding.{Holding}
-use Rattle.map_core.specs.declared.held.Holding.TheVariants.{Published, Mark}
+use Rattle.map_core.specs.declared.held.Holding.TheVariants.{Published}
 use Rattle.map_core.specs.declared.reply.Reply.{Reply}
 use Rattle.map_core.specs.declared.reply.Reply.TheVariants.{All, Found}
 use Rattle.map_core.specs.declared.table.RowEffect as program
-use Rattle.map_core.specs.declared.table.RowEffect.TheVariants.{Kept, Put, Cleared}
+use Rattle.map_core.specs.declared.table.RowEffect.TheVariants.{Kept}
 use Rattle.map_core.specs.Name.{Name}
 use Rattle.map_core.specs.Op.{domain_of}
 use Rattle.map_core.specs.Private.Outcome.{reply_of, held_after, outcome_at, left_by}
@@ -24,9 +24,7 @@ at_name : (m : PlainMap) (d : Name) (table : Option Holding → Effect) (o : pro
 at_name m d table o held is row = subst (λ (h : Option Holding). outcome_at h o ≡ table h) is row
 
 left-put : (m : PlainMap) (d : Name) (o : program.RowEffect) → left_by m (Some d) o ≡ put m d (held_after (finite.get m d) o)
-left-put m d (Kept reply) = sym (put-same m d (finite.get m d) refl)
-left-put m d (Put reply now) = refl
-left-put m d (Cleared reply) = refl
+left-put m d o = grind (arith, put-same)
 
 pub row_reply : (m : PlainMap) (op : Op) (d : Name) (table : Option Holding → Effect) (o : program.RowEffect) (held : Option Holding)
     → meaning op ≡ On_name d table → held ≡ finite.get m d → outcome_at held o ≡ table held → reply_of o ≡ (ask m op).reply
@@ -53,14 +51,10 @@ IfOk-row_left m op d table (Ok o) held named on is row = row_left m op d table o
 IfOk-row_left m op d table (Err e) held named on is row = tt
 
 get_left : (m : PlainMap) (held : Option Holding) (d : Name) → held ≡ finite.get m d → m ≡ put m d (get held).held
-get_left m None d is = sym (put-same m d None is)
-get_left m (Some (Mark s)) d is = sym (put-same m d (Some (Mark s)) is)
-get_left m (Some (Published b)) d is = sym (put-same m d (Some (Published b)) is)
+get_left m held d is = grind (arith, put-same)
 
 get_quiet : (held : Option Holding) → is_change (get held).reply ≡ false
-get_quiet None = refl
-get_quiet (Some (Mark s)) = refl
-get_quiet (Some (Published b)) = refl
+get_quiet held = grind arith
 
 -- ---- a look and a fetch-all change nothing
 pub get_changes_nothing : (m : PlainMap) (op : Op) (d : Name) → op ≡ Get d → false ≡ is_change (ask m op).reply

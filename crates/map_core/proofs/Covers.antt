@@ -1,10 +1,9 @@
 -- Maps put over one another, of which only the bundles are told.
-use Rattle.std.proofs.Common.{◌≡◌, Bool, true, false, cond, List, [], ◌∷◌, ◌++◌, filter, not, Option, Some, None, is_some, refl, sym, ap, ◌∙◌}
+use Rattle.std.proofs.Common.{◌≡◌, Bool, true, false, cond, List, [], ◌∷◌, ◌++◌, filter, not, Option, Some, None, is_some, refl, sym, ap, ◌∙◌, arith}
 use Rattle.std.specs.Cmp.Lexicographic.{nat_list_cmp_total}
 use Rattle.std.specs.FinMap.{get-empty, get-insert}
 use Rattle.std.specs.FinMap as finite
 use Rattle.map_core.specs.declared.held.Holding.{Holding}
-use Rattle.map_core.specs.declared.held.Holding.TheVariants.{Published, Mark}
 use Rattle.map_core.specs.Name.{Name, name_cmp}
 use Rattle.map_core.specs.PlainMap.{PlainMap, union}
 use Rattle.map_core.specs.Private.Held.{is_bundle, HasNoBundle, only_bundle, HaveSameBundles}
@@ -19,15 +18,11 @@ is_unmarked m e = not (is_some (finite.get m e.0))
 
 -- an entry that is taken out is not seen where the map has its name
 taken : (t g : Bool) (h x y : Option Holding) → (t ≡ true → g ≡ true) → y ≡ cond g None x → y ≡ cond g None (cond t h x)
-taken t true h x y at is = is
-taken true false h x y at is = let e : false ≡ true = at refl in cc
-taken false false h x y at is = is
+taken t g h x y at is = grind arith
 
 -- one that stays is seen where the map has not
 left : (t g : Bool) (h x y : Option Holding) → (t ≡ true → g ≡ false) → y ≡ cond g None x → cond t h y ≡ cond g None (cond t h x)
-left true true h x y at is = let e : true ≡ false = at refl in cc
-left true false h x y at is = refl
-left false g h x y at is = is
+left t g h x y at is = grind arith
 
 one_less : (m : PlainMap) (e : Name × Holding) (a b : PlainMap) (q : Name) → is_some (finite.get m e.0) ≡ true
     → finite.get b q ≡ cond (is_some (finite.get m q)) None (finite.get a q)
@@ -57,15 +52,11 @@ get-unmarked m (e ∷ es) a b is q =
     ] refl
 
 in_none : (g : Bool) (x : Option Holding) → x ≡ None → x ≡ cond g None x
-in_none true x is = is
-in_none false x is = refl
+in_none g x is = grind arith
 
 -- a mark is told as nothing is
 only-covered : (b m x : Option Holding) → is_bundle m ≡ false → only_bundle (or_else b (cond (is_some m) None x)) ≡ only_bundle (or_else (or_else b m) x)
-only-covered (Some h) m x e = refl
-only-covered None None x e = refl
-only-covered None (Some (Mark s)) x e = refl
-only-covered None (Some (Published b)) x e = cc
+only-covered b m x e = grind arith
 
 -- bundles over the entries that no mark takes out
 pub covered : (es : List (Name × Holding)) (m p : PlainMap) → HasNoBundle m
@@ -84,8 +75,7 @@ pub covered_by_both : (es : List (Name × Holding)) (m p : PlainMap)
 covered_by_both es m p q = ap (λ (x : PlainMap). only_bundle (finite.get x q)) (pushed es m p)
 
 over : (x y z : Option Holding) → only_bundle y ≡ only_bundle z → only_bundle (or_else x y) ≡ only_bundle (or_else x z)
-over (Some h) y z e = refl
-over None y z e = e
+over x y z e = grind arith
 
 -- what is put over maps with the same bundles
 pub same-union : (n m o p : PlainMap) → HaveSameBundles n (union m p) → HaveSameBundles m o → HaveSameBundles n (union o p)

@@ -1,9 +1,8 @@
 -- Entries in order, inserted into a map in turn.
-use Rattle.std.proofs.Common.{◌≡◌, T, ◌&&◌, Bool, true, false, cond, List, [], ◌∷◌, ◌++◌, append-nil, Option, Some, None, refl, sym, ap, ◌∙◌}
+use Rattle.std.proofs.Common.{◌≡◌, T, ◌&&◌, Bool, true, false, cond, List, [], ◌∷◌, ◌++◌, append-nil, Option, Some, None, refl, sym, ap, ◌∙◌, arith}
 use Rattle.spiffe_doc.specs.Authority.{BundleValue}
 use Rattle.std.specs.Ordering.{is_eq, is_lt}
 use Rattle.std.specs.declared.cmp.Ordering.{Ordering}
-use Rattle.std.specs.declared.cmp.Ordering.TheVariants.{Less, Equal, Greater}
 use Rattle.std.specs.Cmp.Lexicographic.{nat_list_cmp_total}
 use Rattle.std.specs.FinMap.Entries.{below_all}
 use Rattle.std.specs.FinMap.{find, get-from_entries, get-from_sorted, entries-from_sorted, get-entries, get-empty, get-insert, is_sorted}
@@ -16,21 +15,16 @@ use Rattle.map_core.proofs.Maps.{is_name, same_name, same_held, or_else, get-joi
 
 -- ---- lists in order
 pub first : (a b : Bool) → T (a && b) → T a
-first true b p = tt
-first false b p = p
+first a b p = grind arith
 
 pub second : (a b : Bool) → T (a && b) → T b
-second true b p = p
-second false b p = absurd p
+second a b p = grind arith
 
 pub both : (a b : Bool) → T a → T b → T (a && b)
-both true b p q = q
-both false b p q = p
+both a b p q = grind arith
 
 not_tied : (o : Ordering) → T (is_lt o) → is_eq o ≡ false
-not_tied Less p = refl
-not_tied Equal p = absurd p
-not_tied Greater p = refl
+not_tied o p = grind arith
 
 -- a name below all others is not found among them
 pub find-below : (d : Name) (es : List (Name × Holding)) → T (below_all name_cmp d es) → find name_cmp d es ≡ None
@@ -42,17 +36,15 @@ pub with_more : (m : PlainMap) (es fs : List (Name × Holding)) → with_entries
 with_more m [] fs = refl
 with_more m (e ∷ es) fs = with_more (finite.insert m e.0 e.1) es fs
 
-after_none : (x : Option Holding) (h : Holding) (y : Option Holding) → x ≡ None → or_else x (Some h) ≡ or_else (Some h) y
-after_none x h y none = ap (λ z. or_else z (Some h)) none
-
 -- what the first entry of a list in order adds
 adds : (m : PlainMap) (e : Name × Holding) (es : List (Name × Holding)) (q : Name) → T (below_all name_cmp e.0 es)
     → or_else (find name_cmp q es) (cond (is_name q e.0) (Some e.1) (finite.get m q)) ≡ or_else (cond (is_name q e.0) (Some e.1) (find name_cmp q es)) (finite.get m q)
 adds m e es q below =
-    elim (is_name q e.0) as (λ t. is_name q e.0 ≡ t → or_else (find name_cmp q es) (cond t (Some e.1) (finite.get m q)) ≡ or_else (cond t (Some e.1) (find name_cmp q es)) (finite.get m q)) [
-      | true ↦ λ t. after_none _ e.1 (finite.get m q) (ap (λ x. find name_cmp x es) (same_name q e.0 t) ∙ find-below e.0 es below)
-      | false ↦ λ t. refl
-    ] refl
+    let none : is_name q e.0 ≡ true → find name_cmp q es ≡ None = (λ t. ap (λ x. find name_cmp x es) (same_name q e.0 t) ∙ find-below e.0 es below) in
+    other_first (is_name q e.0) e.1 (find name_cmp q es) (finite.get m q) none
+  where
+    other_first : (t : Bool) (h : Holding) (x y : Option Holding) → (t ≡ true → x ≡ None) → or_else x (cond t (Some h) y) ≡ or_else (cond t (Some h) x) y
+    other_first t h x y none = grind arith
 
 pub get-in_turn : (m : PlainMap) (es : List (Name × Holding)) (q : Name) → T (is_sorted name_cmp es) → finite.get (with_entries m es) q ≡ or_else (find name_cmp q es) (finite.get m q)
 get-in_turn m [] q h = refl
@@ -66,8 +58,7 @@ pub with_map : (m p : PlainMap) → with_entries m (finite.entries p) ≡ union 
 with_map m p = same_held _ _ (λ q. get-in_turn m (finite.entries p) q (finite.entries_sorted p) ∙ ap (λ x. or_else x (finite.get m q)) (sym (get-entries p q)) ∙ sym (get-join m p q))
 
 pub or_none : (x y : Option Holding) → y ≡ None → or_else x y ≡ x
-or_none (Some x) y e = refl
-or_none None y e = e
+or_none x y e = grind arith
 
 -- entries in order, inserted in turn, are the map of them
 pub in_turn : (es : List (Name × Holding)) → T (is_sorted name_cmp es) → put_in_turn es ≡ finite.from_entries es
@@ -81,6 +72,3 @@ entries_sorted es h =
 -- with nothing left to push, the pairs are all
 pub all_pushed : (pairs rest all : List (Name × BundleValue)) → pairs ++ rest ≡ all → rest ≡ [] → pairs ≡ all
 all_pushed pairs rest all e none = sym (append-nil pairs) ∙ ap (λ x. pairs ++ x) (sym none) ∙ e
-
-pub all_entries : (out rest before all : List (Name × Holding)) → out ++ rest ≡ before ++ all → rest ≡ [] → out ≡ before ++ all
-all_entries out rest before all e none = sym (append-nil out) ∙ ap (λ x. out ++ x) (sym none) ∙ e

@@ -1,5 +1,5 @@
 -- What the plain map answers, in its parts: all that the crates above use of it.
-use Rattle.std.proofs.Common.{◌≡◌, ◌≢◌, ℕ, ◌<◌, Bool, true, false, Option, Some, None, refl, sym, ap, subst, ◌∙◌}
+use Rattle.std.proofs.Common.{◌≡◌, ◌≢◌, ℕ, ◌<◌, Bool, true, false, Option, Some, None, refl, sym, ap, subst, ◌∙◌, arith}
 use Rattle.std.specs.FinMap as finite
 use Rattle.map_core.specs.declared.op.Op.{Op}
 use Rattle.map_core.specs.declared.op.Op.TheVariants.{Set, SetIf, Append, Remove, Get, FetchAll}
@@ -12,7 +12,7 @@ use Rattle.map_core.specs.Op.{domain_of}
 use Rattle.map_core.proofs.Tables.{Keeps, Changes, set_changes, set_if_changes, append_changes, remove_changes, get_changes, set_keeps, set_if_keeps, append_keeps, remove_keeps, get_keeps}
 use Rattle.std.proofs.Common.{cond, [], option_map}
 use Rattle.std.specs.Option.{unwrap_or}
-use Rattle.map_core.proofs.Maps.{is_name, same_name, name_itself, get-put, put-same, get-part_home, part-put_home, part-put_away, home-lt, together_parts, together_same}
+use Rattle.map_core.proofs.Maps.{is_name, same_name, name_itself, get-put, put-same, get-part_home, part-put_home, part-put_away, together_parts, together_same}
 
 -- the name and the shard of what an operation means
 abbrev name_on : OnName → Option Name
@@ -24,12 +24,7 @@ shard_on n w = option_map (home n) (name_on w)
 
 domain_on : (op : Op) → name_on (meaning op) ≡ domain_of op
 unfolding meaning
-domain_on (Set d b) = refl
-domain_on (SetIf d expect b) = refl
-domain_on (Append d a) = refl
-domain_on (Remove d) = refl
-domain_on (Get d) = refl
-domain_on FetchAll = refl
+domain_on op = grind arith
 
 shard_is : (n : ℕ) (op : Op) → shard_on n (meaning op) ≡ shard_of n op
 unfolding shard_of
@@ -92,16 +87,8 @@ pub part_away : (n : ℕ) (m : PlainMap) (op : Op) (i j : ℕ) → shard_of n op
 unfolding ask
 part_away n m op i j at ne = on_part_away n m i j (meaning op) (shard_is n op ∙ at) ne
 
-on_small : (n i : ℕ) (w : OnName) → 0 < n → shard_on n w ≡ Some i → i < n
-on_small n i (On_name d table) h at = let is : home n d ≡ i = (cc) in subst (λ (k : ℕ). k < n) is (home-lt n d h)
-on_small n i On_all h at = cc
-
-pub shard_of-lt : (n i : ℕ) (op : Op) → 0 < n → shard_of n op ≡ Some i → i < n
-shard_of-lt n i op h at = on_small n i (meaning op) h (shard_is n op ∙ at)
-
 on_all_keeps : (n : ℕ) (m : PlainMap) (w : OnName) → shard_on n w ≡ None → (ask_on m w).map ≡ m
-on_all_keeps n m (On_name d table) none = cc
-on_all_keeps n m On_all none = refl
+on_all_keeps n m w none = grind arith
 
 -- a fetch-all leaves the map
 pub fetch_keeps : (n : ℕ) (m : PlainMap) (op : Op) → shard_of n op ≡ None → (ask m op).map ≡ m
@@ -115,16 +102,10 @@ together_is n m parts h is = together_same n parts (partition n m) is ∙ togeth
 -- every fetch-all is answered alike
 pub fetch_reply : (n : ℕ) (m : PlainMap) (op : Op) → shard_of n op ≡ None → (ask m op).reply ≡ (ask m FetchAll).reply
 unfolding shard_of
-fetch_reply n m (Set d b) none = cc
-fetch_reply n m (SetIf d expect b) none = cc
-fetch_reply n m (Append d a) none = cc
-fetch_reply n m (Remove d) none = cc
-fetch_reply n m (Get d) none = cc
-fetch_reply n m FetchAll none = refl
+fetch_reply n m op none = grind arith
 
 other_held : (b : Bool) (x y : Option Holding) → (b ≡ true → ⊥) → cond b x y ≡ y
-other_held true x y h = absurd (h refl)
-other_held false x y h = refl
+other_held b x y h = grind arith
 
 on_depends : (m n : PlainMap) (d : Name) (w : OnName) → name_on w ≡ Some d → finite.get m d ≡ finite.get n d →
     ((ask_on m w).reply ≡ (ask_on n w).reply) × (finite.get (ask_on m w).map d ≡ finite.get (ask_on n w).map d)
@@ -171,12 +152,11 @@ unfolding ask
 ask_changes m op h = on_changes m (meaning op) (meaning_changes op) h
 
 pub tells_of_change : (m : PlainMap) (op : Op) → ((ask m op).map ≢ m → is_change (ask m op).reply ≡ true) × (is_change (ask m op).reply ≡ true → (ask m op).map ≢ m)
-tells_of_change m op = (λ other. elim (is_change (ask m op).reply) as (λ b. is_change (ask m op).reply ≡ b → b ≡ true) [ true ↦ λ e. refl | false ↦ λ e. absurd (other (ask_keeps m op e)) ] refl, ask_changes m op)
+tells_of_change m op = (λ other. grind (arith, ask_keeps), ask_changes m op)
 
 -- ---- the name of an operation
 home_named : (n i : ℕ) (w : OnName) → shard_on n w ≡ Some i → home n (unwrap_or (name_on w) []) ≡ i
-home_named n i (On_name d table) at = cc
-home_named n i On_all at = cc
+home_named n i w at = grind arith
 
 -- the shard of an operation is the home of its name
 pub home_of : (n i : ℕ) (op : Op) → shard_of n op ≡ Some i → home n (name_of op) ≡ i

@@ -87,8 +87,7 @@ or_else (Some x) y = Some x
 or_else None y = y
 
 or_else_cond : (b : Bool) (x y z : Option Holding) → cond b (or_else x y) (or_else z y) ≡ or_else (cond b x z) y
-or_else_cond true x y z = refl
-or_else_cond false x y z = refl
+or_else_cond b x y z = grind arith
 
 find-append : (q : Name) (es fs : List (Name × Holding)) → find name_cmp q (es ++ fs) ≡ or_else (find name_cmp q es) (find name_cmp q fs)
 find-append q [] fs = refl
@@ -130,18 +129,14 @@ together_same zero f g h = refl
 together_same (suc k) f g h = λ i. union (together_same k f g (λ j l. h j (omega arith)) i) (h k (omega arith) i)
 
 either : (b : Bool) (x : Option Holding) → None ≡ x → cond b x None ≡ x
-either true x e = refl
-either false x e = e
+either b x e = grind arith
 
 pub part-empty : (n i : ℕ) → partition n finite.empty i ≡ finite.empty
 part-empty n i = same_held _ _ (λ q. get-part n finite.empty i q ∙ either (home n q == i) _ (sym (get-empty name_cmp q)))
 
 -- ---- parts that hold only names of their own are the parts of what they are together
-same_index : (h k : ℕ) → (h == k) ≡ true → h ≡ k
-same_index h k e = grind (arith, nat_tests)
-
 pick : (h k : ℕ) (f : ℕ → Option Holding) → cond (h == k) (f k) None ≡ cond (h == k) (f h) None
-pick h k f = elim (h == k) as (λ b. (h == k) ≡ b → cond b (f k) None ≡ cond b (f h) None) [ true ↦ λ e. ap f (sym (same_index h k e)) | false ↦ λ e. refl ] refl
+pick h k f = grind (arith, nat_tests)
 
 abbrev pub AtHome : ℕ → ℕ → (ℕ → PlainMap) → Type 0
 AtHome n k parts = (j : ℕ) → j < k → partition n (parts j) j ≡ parts j

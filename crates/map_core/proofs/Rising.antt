@@ -1,8 +1,8 @@
 -- The names of the bundles of a map rise strictly.
-use Rattle.std.proofs.Common.{◌≡◌, T, List, [], ◌∷◌, Option, Some, None, refl, sym, ap, subst, ◌∙◌}
+use Rattle.std.proofs.Common.{◌≡◌, T, List, [], ◌∷◌, Option, Some, None, sym, subst, ◌∙◌, arith}
 use Rattle.std.specs.Ordering.{is_lt}
 use Rattle.std.specs.declared.cmp.Ordering.{Ordering}
-use Rattle.std.specs.declared.cmp.Ordering.TheVariants.{Less, Equal, Greater}
+use Rattle.std.specs.declared.cmp.Ordering.TheVariants.{Less}
 use Rattle.std.specs.FinMap.Entries.{below_all}
 use Rattle.std.specs.FinMap.{is_sorted}
 use Rattle.std.specs.FinMap as finite
@@ -10,8 +10,7 @@ use Rattle.spiffe_doc.specs.Authority.{BundleValue}
 use Rattle.map_core.specs.declared.held.Holding.{Holding}
 use Rattle.map_core.specs.declared.held.Holding.TheVariants.{Published, Mark}
 use Rattle.map_core.specs.declared.op.Op.TheVariants.{FetchAll}
-use Rattle.map_core.specs.declared.reply.Reply.{Reply}
-use Rattle.map_core.specs.declared.reply.Reply.TheVariants.{Stored, Unchanged, Appended, Removed, Found, All, Refused}
+use Rattle.map_core.specs.declared.reply.Reply.TheVariants.{All}
 use Rattle.map_core.specs.Name.{Name, name_cmp}
 use Rattle.map_core.specs.PlainMap.{PlainMap, bundles_among, bundles, ask}
 use Rattle.map_core.specs.Laws.{IsAfter, Ascends}
@@ -19,9 +18,7 @@ use Rattle.map_core.proofs.Asks.{fetch_all}
 use Rattle.map_core.proofs.Entries.{first, second}
 
 less : (o : Ordering) → T (is_lt o) → o ≡ Less
-less Less p = refl
-less Equal p = absurd p
-less Greater p = absurd p
+less o p = grind arith
 
 -- the name of the last one, if any, is below all names of the entries
 abbrev IsBelow : Option Name → List (Name × Holding) → Type 0
@@ -45,16 +42,5 @@ published_rise last ((d, Mark s) ∷ es) below sorted = published_rise last es (
 pub bundles_rise : (m : PlainMap) → Ascends None (bundles m)
 bundles_rise m = published_rise None (finite.entries m) tt (finite.entries_sorted m)
 
--- the pairs of a reply to a fetch-all
-pairs_of : Reply → List (Name × BundleValue)
-pairs_of (All pairs) = pairs
-pairs_of Stored = []
-pairs_of Unchanged = []
-pairs_of (Appended sequence) = []
-pairs_of Removed = []
-pairs_of (Found b) = []
-pairs_of (Refused why) = []
-
 pub names_rise : (m : PlainMap) (pairs : List (Name × BundleValue)) → (ask m FetchAll).reply ≡ All pairs → Ascends None pairs
-unfolding pairs_of
-names_rise m pairs is = subst (Ascends None) (ap pairs_of (sym (fetch_all m) ∙ is)) (bundles_rise m)
+names_rise m pairs is = let same : All (bundles m) ≡ All pairs = sym (fetch_all m) ∙ is in let pairs_are : bundles m ≡ pairs = cc in subst (Ascends None) pairs_are (bundles_rise m)

@@ -1,5 +1,5 @@
 -- A get that is answered to a viewer, by what its answers say.
-use Rattle.std.proofs.Common.{Option, Some, None, refl}
+use Rattle.std.proofs.Common.{Option, Some, None}
 use Rattle.std.specs.Prelude.{Result, Ok, Err}
 use Rattle.spiffe_doc.specs.Authority.{BundleValue}
 use Rattle.map_core.specs.declared.reply.Reply.{Reply}
@@ -12,7 +12,3 @@ pub shows_as : {V E : Type 0} (notes : V → BundleValue → V → Type 0) (P Q 
 shows_as notes P Q old (Ok (Some reply)) new says shows = (says (Ok reply) shows.0, shows.1)
 shows_as notes P Q old (Ok None) new says shows = (shows.0, says (Ok (Found shows.0)) shows.1, shows.2)
 shows_as notes P Q old (Err e) new says shows = (says (Err e) shows.0, shows.1)
-
--- an error is answered as one
-pub shows_error : {V E : Type 0} (notes : V → BundleValue → V → Type 0) (P : Result Reply E → Type 0) (viewer : V) (e : E) → P (Err e) → ShowsGet notes P viewer (Err e) viewer
-shows_error notes P viewer e answered = (answered, refl)

@@ -28,8 +28,7 @@ same_bytes a b t = same_name a b (is_eq-slice_cmp a b ∙ t)
 
 -- ---- an entry that another one follows under its name does not count
 covers : (t : Bool) (x y z : Option Holding) → cond t x (cond t y z) ≡ cond t x z
-covers true x y z = refl
-covers false x y z = refl
+covers t x y z = grind arith
 
 twice : (m : PlainMap) (e f : Name × Holding) → f.0 ≡ e.0 → finite.insert (finite.insert m e.0 e.1) f.0 f.1 ≡ finite.insert m f.0 f.1
 twice m e f same =
@@ -72,17 +71,12 @@ ascend (e ∷ f ∷ es) s = (
       subst (λ (n : ℕ). is_lt (name_cmp (get_or (e ∷ f ∷ es) n d).0 (get_or (f ∷ es) k d).0) ≡ false) next (s (suc k) d (omega arith) (omega arith))),
 )
 
-reversed : (a b : Name) (r : Ordering) → name_cmp a b ≡ r → name_cmp b a ≡ ordering_reverse r
-reversed a b r e = nat_list_cmp_total.antisymm b a ∙ ap ordering_reverse e
-
 -- a name that is not below another one is that name, or the other is below it
 above : (a b : Name) → is_lt (name_cmp b a) ≡ false → bytes_eq b a ≡ false → name_cmp a b ≡ Less
 above a b not_less apart =
-    elim (name_cmp b a) as (λ r. name_cmp b a ≡ r → is_lt r ≡ false → is_eq r ≡ false → name_cmp a b ≡ Less) [
-      | Less ↦ λ e lt eq. cc
-      | Equal ↦ λ e lt eq. cc
-      | Greater ↦ λ e lt eq. reversed b a Greater e
-    ] refl not_less (is_eq-slice_cmp b a ∙ apart)
+    let tie = is_eq-slice_cmp b a ∙ apart in
+    let turned = nat_list_cmp_total.antisymm a b in
+    grind (arith, tie, turned)
 
 less_then : (d a b : Name) → name_cmp d a ≡ Less → is_lt (name_cmp b a) ≡ false → name_cmp d b ≡ Less
 less_then d a b less not_less =

@@ -1,5 +1,5 @@
 -- Maps put together in turn.
-use Rattle.std.proofs.Common.{◌≡◌, ◌<◌, ◌≤◌, List, [], ◌∷◌, ◌++◌, length, get_or, Option, Some, None, arith, refl, sym, ap, ◌∙◌}
+use Rattle.std.proofs.Common.{◌≡◌, ◌<◌, ◌≤◌, List, [], ◌∷◌, ◌++◌, length, get_or, Option, arith, sym, ap, ◌∙◌}
 use Rattle.std.proofs.lemmas.List.Sums.{fold-append}
 use Rattle.std.specs.FinMap.{get-empty}
 use Rattle.std.specs.FinMap as finite
@@ -12,8 +12,7 @@ use Rattle.map_core.proofs.Maps.{same_held, or_else, get-join}
 use Rattle.map_core.proofs.Entries.{with_more, with_map, or_none}
 
 in_a_row : (x y z : Option Holding) → or_else x (or_else y z) ≡ or_else (or_else x y) z
-in_a_row (Some x) y z = refl
-in_a_row None y z = refl
+in_a_row x y z = grind arith
 
 union-assoc : (o m p : PlainMap) → union (union o m) p ≡ union o (union m p)
 union-assoc o m p =

@@ -9,14 +9,12 @@ use Rattle.map_core.specs.PlainMap.{PlainMap}
 -- whether a bundle is held
 abbrev pub is_bundle : Option Holding → Bool
 is_bundle (Some (Published b)) = true
-is_bundle (Some (Mark s)) = false
-is_bundle None = false
+is_bundle held = false
 
 -- whether a mark is held
 abbrev pub is_mark : Option Holding → Bool
-is_mark (Some (Published b)) = false
 is_mark (Some (Mark s)) = true
-is_mark None = false
+is_mark held = false
 
 -- no name holds a bundle
 abbrev pub HasNoBundle : PlainMap → Type 0
@@ -29,8 +27,7 @@ HasNoMark m = (d : Name) → is_mark (finite.get m d) ≡ false
 -- the bundle that is held, if one is
 abbrev pub only_bundle : Option Holding → Option Holding
 only_bundle (Some (Published b)) = Some (Published b)
-only_bundle (Some (Mark s)) = None
-only_bundle None = None
+only_bundle held = None
 
 -- two maps with the same bundles, whatever their marks
 abbrev pub HaveSameBundles : PlainMap → PlainMap → Type 0

@@ -27,7 +27,6 @@ outcome_at held outcome = record { reply = reply_of outcome; held = held_after h
 
 -- what it leaves of a map, under the name of its operation
 abbrev pub left_by : PlainMap → Option Name → program.RowEffect → PlainMap
-left_by m (Some d) (Kept reply) = m
 left_by m (Some d) (Put reply now) = finite.insert m d now
 left_by m (Some d) (Cleared reply) = finite.remove m d
-left_by m None outcome = m
+left_by m name outcome = m
