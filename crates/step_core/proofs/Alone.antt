@@ -1,20 +1,14 @@
--- A fetch-all that nobody disturbs ends in its first round.
-use Rattle.std.proofs.Common.{◌≡◌, ℕ, ◌+◌, ◌<◌, ◌≤◌, ◌==◌, true, false, cond, List, [], ◌∷◌, ◌++◌, length, get_or, take, Result, Ok, Err, IfOk, IfErr, ◌⊎◌, inl, inr, ⊎_elim, arith, refl, sym, ap, subst, ◌∙◌}
+-- A fetch-all that nobody disturbs, in its first round.
+use Rattle.std.proofs.Common.{◌≡◌, ℕ, ◌<◌, ◌==◌, cond, List, [], length, take, Ok, ◌⊎◌, inl, arith, refl, sym, ap, ◌∙◌}
 use Rattle.std.proofs.lemmas.Grind.{elements}
-use Rattle.std.proofs.lemmas.List.{take_more, take_all, length-take-le}
 use Rattle.map_core.specs.declared.op.Op.TheVariants.{FetchAll}
-use Rattle.map_core.specs.declared.reply.Reply.{Reply}
-use Rattle.map_core.specs.declared.reply.AskError.{AskError}
-use Rattle.map_core.specs.declared.reply.AskError.TheVariants.{Memory}
 use Rattle.map_core.specs.Table.{meaning}
 use Rattle.map_core.specs.PlainMap.{shard_of}
-use Rattle.step_core.specs.Shard.{ShardVersion, reading}
-use Rattle.step_core.specs.declared.task.Want.TheVariants as want
-use Rattle.step_core.specs.Phase.{Phase, Idle, Waiting, Collecting, Confirming, Done, wants, Observation, Seen, Revision, start_phase, snapshot_reply, after_reading, after_confirming, after_disturbance, give, is_done}
+use Rattle.step_core.specs.Shard.{ShardVersion}
+use Rattle.step_core.specs.Phase.{Phase, Collecting, Confirming, Done, start_phase, snapshot_reply}
 use Rattle.step_core.specs.TaskView.{TaskView}
 use Rattle.step_core.specs.Task.{out_of_memory}
-use Rattle.step_core.proofs.Parts.{item_here}
-use Rattle.step_core.proofs.Points.{by_number, number_itself, numbers_apart}
+use Rattle.step_core.proofs.Points.{numbers_apart}
 
 -- with k shards read
 abbrev pub gathering : List ShardVersion → ℕ → Phase

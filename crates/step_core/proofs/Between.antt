@@ -1,13 +1,10 @@
 -- A revision that is the same at two moments stands for one part between them.
-use Rattle.std.proofs.Common.{◌≡◌, ℕ, ◌+◌, ◌<◌, ◌≤◌, ◌==◌, true, false, cond, List, [], ◌∷◌, Ok, Err, inl, inr, ⊎_elim, arith, refl, sym, subst}
+use Rattle.std.proofs.Common.{◌≡◌, ℕ, ◌≤◌, true, false, cond, List, [], ◌∷◌, inl, ⊎_elim, arith, refl, sym, subst}
 use Rattle.map_core.specs.declared.op.Op.{Op}
-use Rattle.map_core.specs.declared.reply.AskError.TheVariants.{Worn}
-use Rattle.map_core.specs.Reply.{is_change}
-use Rattle.map_core.specs.PlainMap.{AskResult, ask}
 use Rattle.step_core.specs.declared.event.Event.{Event}
 use Rattle.step_core.specs.declared.event.Event.TheVariants.{Begin, Step, Quit, End}
 use Rattle.step_core.specs.World.{with_at, World, turn, next, after_turn, with_operation, to_phase, world_from}
-use Rattle.step_core.specs.Shard.{ShardVersion, StepResult, step_on, last_revision}
+use Rattle.step_core.specs.Shard.{ShardVersion, step_on}
 use Rattle.step_core.specs.Phase.{Phase, Idle, Waiting, Collecting, Confirming, Done, start_phase, is_idle, is_open, is_done}
 use Rattle.step_core.proofs.Points.{by_number}
 use Rattle.step_core.proofs.Claims.{Advance, Fresh}

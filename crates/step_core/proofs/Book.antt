@@ -1,12 +1,12 @@
 -- The invariant of a run: what each caller is at, and what is known of each operation.
-use Rattle.std.proofs.Common.{◌≡◌, ◌≢◌, ℕ, suc, ◌+◌, ◌<◌, ◌≤◌, ◌==◌, Bool, true, false, cond, Option, Some, None, Result, ◌⊎◌, arith, refl, sym, ap, subst, ◌∙◌, ⊎_elim}
+use Rattle.std.proofs.Common.{◌≡◌, ◌≢◌, ℕ, suc, ◌<◌, ◌≤◌, Bool, true, false, cond, Option, Some, None, Result, arith, refl, sym, ap, subst, ◌∙◌, ⊎_elim}
 use Rattle.map_core.specs.declared.op.Op.{Op}
 use Rattle.map_core.specs.declared.reply.AskError.{AskError}
 use Rattle.map_core.specs.declared.reply.Reply.{Reply}
 use Rattle.map_core.specs.PlainMap.{shard_of}
 use Rattle.step_core.specs.World.{with_at, Turn}
 use Rattle.step_core.specs.Shard.{ShardVersion}
-use Rattle.step_core.specs.Phase.{Phase, Idle, Waiting, Collecting, Confirming, Done, wrote_shard, start_phase, start_phase_at, is_idle, has_point}
+use Rattle.step_core.specs.Phase.{Phase, Idle, Done, wrote_shard, start_phase, start_phase_at, is_idle, has_point}
 use Rattle.step_core.specs.declared.trace.OpRecord.{OpRecord}
 use Rattle.step_core.specs.Run.{Run}
 use Rattle.step_core.specs.Private.Driver.{with_wrote, with_end}

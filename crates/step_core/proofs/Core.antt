@@ -1,9 +1,9 @@
 -- The invariant of a run, over what is known of each operation, and that each move keeps it.
-use Rattle.std.proofs.Common.{◌≡◌, ◌≢◌, ℕ, suc, ◌+◌, ◌<◌, ◌≤◌, ◌==◌, not, ◌&&◌, nat_lt, Bool, true, false, cond, List, ◌∷◌, [], IfSome, None, ◌⊎◌, ⊎_elim, arith, refl, sym, ap, subst, ◌∙◌}
+use Rattle.std.proofs.Common.{◌≡◌, ◌≢◌, ℕ, suc, ◌+◌, ◌<◌, ◌≤◌, ◌==◌, not, ◌&&◌, nat_lt, Bool, true, false, cond, List, IfSome, None, ◌⊎◌, ⊎_elim, arith, refl, sym, ap, subst, ◌∙◌}
 use Rattle.std.proofs.lemmas.Bool.Decides.{nat_tests}
 use Rattle.std.specs.FinMap as finite
 use Rattle.map_core.specs.declared.op.Op.{Op}
-use Rattle.map_core.specs.PlainMap.{PlainMap, ask, shard_of}
+use Rattle.map_core.specs.PlainMap.{PlainMap, shard_of}
 use Rattle.map_core.proofs.MapLaws.{fetch_keeps}
 use Rattle.step_core.specs.declared.trace.OpRecord.{OpRecord}
 use Rattle.step_core.specs.World.{with_at, Turn}

@@ -1,5 +1,5 @@
 -- A fetch-all that is refused as moved was disturbed at least once a round.
-use Rattle.std.proofs.Common.{is_none, ◌≡◌, ◌≢◌, ℕ, suc, ◌+◌, ◌<◌, ◌≤◌, ◌==◌, not, ◌&&◌, nat_lt, Bool, true, false, cond, List, [], ◌∷◌, ◌++◌, length, Option, Some, None, Result, Ok, Err, ◌⊎◌, arith, refl, sym, ap, subst, ◌∙◌, ⊎_elim}
+use Rattle.std.proofs.Common.{is_none, ◌≡◌, ◌≢◌, ℕ, suc, ◌+◌, ◌<◌, ◌≤◌, ◌==◌, not, ◌&&◌, nat_lt, Bool, true, cond, List, [], ◌∷◌, ◌++◌, length, Option, Some, None, Result, Ok, Err, arith, refl, sym, ap, subst, ◌∙◌, ⊎_elim}
 use Rattle.std.proofs.lemmas.Bool.Decides.{nat_tests}
 use Rattle.map_core.specs.declared.op.Op.{Op}
 use Rattle.map_core.specs.declared.reply.AskError.{AskError}
@@ -162,7 +162,7 @@ module _ (n rounds : ℕ) (some : 0 < n) (run : Run) (inv : Inv n run.events run
   abbrev more : Event → ℕ → ℕ
   more event q = cond (is_running run q && is_write_by_other n rounds run event (run.records q).caller) 1 0
 
-  -- an operation that another caller's event does not end
+  -- an operation whose phase the event leaves
   scan_still : (event : Event) (q : ℕ) → q < run.count → Scan n rounds run.world.shards (counts q + more event q) (states run q)
   scan_still event q l = scan_same n rounds run.world.shards (counts q) (more event q) (states run q) (scans q l)
 

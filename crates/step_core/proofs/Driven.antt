@@ -1,5 +1,5 @@
 -- A driver shows the run of the events so far.
-use Rattle.std.proofs.Common.{◌≡◌, ℕ, ◌+◌, ◌<◌, ◌≤◌, ◌&&◌, nat_lt, Bool, true, false, cond, List, [], ◌∷◌, ◌++◌, length, get_or, take, Option, Some, None, arith, refl, sym, ap, subst, ◌∙◌}
+use Rattle.std.proofs.Common.{◌≡◌, ℕ, ◌+◌, ◌<◌, ◌&&◌, nat_lt, Bool, true, false, cond, List, [], ◌∷◌, ◌++◌, length, get_or, take, Option, Some, None, arith, refl, sym, ap, subst, ◌∙◌}
 use Rattle.std.proofs.lemmas.Bool.Decides.{nat_tests}
 use Rattle.std.proofs.lemmas.Grind.{elements}
 use Rattle.std.proofs.lemmas.List.{same_lists}
@@ -12,7 +12,7 @@ use Rattle.std.specs.BTreeMap as tree
 use Rattle.step_core.specs.declared.event.Event.{Event}
 use Rattle.step_core.specs.Shard.{fresh_shard, reading}
 use Rattle.step_core.specs.declared.trace.OpRecord.{OpRecord}
-use Rattle.step_core.specs.Run.{Point, Run, numbers, act, tick, fresh_run, run_from, run_of, order_of}
+use Rattle.step_core.specs.Run.{Run, numbers, act, tick, fresh_run, run_from, run_of, order_of}
 use Rattle.step_core.specs.Records.{no_record, took_effect}
 use Rattle.step_core.proofs.Legal.{times}
 use Rattle.step_core.specs.Trace.{records_of}

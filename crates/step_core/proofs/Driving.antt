@@ -1,5 +1,5 @@
 -- What each event does to a driver that shows a run.
-use Rattle.std.proofs.Common.{◌≡◌, ◌≢◌, ℕ, suc, ◌+◌, ◌<◌, ◌==◌, Bool, true, false, cond, List, [], ◌∷◌, ◌++◌, length, get_or, set, Option, Some, None, Result, Ok, Err, IfSome, ◌⊎◌, arith, refl, sym, ap, subst, ◌∙◌, ⊎_elim}
+use Rattle.std.proofs.Common.{◌≡◌, ◌≢◌, ℕ, ◌<◌, Bool, true, false, cond, List, [], ◌∷◌, ◌++◌, length, get_or, set, Option, Some, None, Result, Err, IfSome, ◌⊎◌, arith, refl, sym, ap, subst, ◌∙◌, ⊎_elim}
 use Rattle.std.proofs.lemmas.Grind.{elements}
 use Rattle.std.specs.Ordering.{nat_cmp}
 use Rattle.std.specs.BTreeMap as tree
@@ -7,14 +7,14 @@ use Rattle.map_core.specs.declared.op.Op.{Op}
 use Rattle.map_core.specs.declared.reply.AskError.{AskError}
 use Rattle.map_core.specs.declared.reply.Reply.{Reply}
 use Rattle.map_core.specs.PlainMap.{shard_of}
-use Rattle.step_core.specs.declared.event.Event.TheVariants.{Begin, Step, Quit, End}
+use Rattle.step_core.specs.declared.event.Event.TheVariants.{Begin, Step, Quit}
 use Rattle.step_core.specs.declared.event.Why.{Why}
 use Rattle.step_core.specs.World.{with_at, Turn, turn, refusal, to_phase}
 use Rattle.step_core.specs.Shard.{ShardVersion}
 use Rattle.step_core.specs.Phase.{Phase, Idle, Done, wants, give, start_phase, start_phase_at, is_idle, is_open, is_done, wrote_shard, Observation, has_point}
 use Rattle.step_core.specs.declared.trace.OpRecord.{OpRecord}
 use Rattle.step_core.specs.Run.{Point, Run, update_points, numbers, act}
-use Rattle.step_core.proofs.Acts.{begin, pass, finish, give_up, end_at, turn_of, act_is}
+use Rattle.step_core.proofs.Acts.{begin, pass, give_up, turn_of, act_is}
 use Rattle.step_core.specs.Records.{no_record}
 use Rattle.step_core.specs.TaskView.{TaskView}
 use Rattle.step_core.specs.Task.{IsWantOf, out_of_memory}
@@ -163,7 +163,7 @@ stepped_shown n rounds old new run c x y op h some undone inside op_is same shar
     let inside' : IsWantOf n (wants p) = subst (λ (q : Phase). IsWantOf n (wants q)) phase_is inside in
     let undone' : is_done p ≡ false = sym (ap is_done phase_is) ∙ undone in
     let told : y.task.phase ≡ t.phase = ap (λ (v : TaskView). v.phase) task ∙ (λ i. give n rounds (phase_is i) (observation_by old.shards.items (op_same i) (wants (phase_is i))))
-        ∙ told_alike n rounds old.shards.items run.world.shards (run.world.ops c) p h.shards inside' undone' in
+    ∙ told_alike n rounds old.shards.items run.world.shards (run.world.ops c) p h.shards inside' undone' in
     let phase_now : next.world.phases c ≡ t.phase = with_at_same run.world.phases c t.phase c refl in
     let had = has_point x.task.phase in
     let has = has_point y.task.phase in
@@ -207,7 +207,7 @@ quit_shown n rounds old new run c x reason now h time some undone same shards at
     let phase_is : x.task.phase ≡ p = ap (λ (v : TaskView). v.phase) own.task in
     let undone' : is_done p ≡ false = sym (ap is_done phase_is) ∙ undone in
     let halfway : ShowsRecords mid run.count passed.records = subst (λ (l : List OpRecord). ShowsRecords l run.count passed.records) (sym mid_is)
-        (changed_shown (λ (r : OpRecord). with_wrote r false) old.ops.items run.count run.records (run.current c) x.number own.number own.known h.records) in
+    (changed_shown (λ (r : OpRecord). with_wrote r false) old.ops.items run.count run.records (run.current c) x.number own.number own.known h.records) in
     let had = has_point x.task.phase in
     let there = old.points.items in
     subst (IsShown n rounds new) (sym (act_is n rounds run (Quit c reason) ∙ ap (λ b. cond b next run) (undone_open p own.busy undone')))

@@ -1,5 +1,5 @@
 -- A get is answered by the shard of its name, and changes none.
-use Rattle.std.proofs.Common.{◌≡◌, ℕ, ◌+◌, ◌<◌, ◌==◌, true, false, cond, List, length, get_or, set, Option, Some, None, Result, Ok, Err, IfOk, IfErr, OnOk, inl, arith, refl, sym, ap, ◌∙◌}
+use Rattle.std.proofs.Common.{◌≡◌, ℕ, ◌<◌, false, List, length, get_or, set, Option, Some, None, Result, Ok, Err, IfOk, IfErr, OnOk, inl, arith, refl, sym, ap, ◌∙◌}
 use Rattle.std.proofs.lemmas.List.{set-get_or}
 use Rattle.map_core.specs.declared.op.Op.{Op}
 use Rattle.map_core.specs.declared.op.Op.TheVariants.{Get}
@@ -9,14 +9,14 @@ use Rattle.map_core.specs.Ask.{ShowsGet}
 use Rattle.spiffe_doc.specs.Authority.{BundleValue}
 use Rattle.std.specs.declared.alloc.AllocError.{AllocError}
 use Rattle.map_core.specs.declared.reply.AskError.{AskError}
-use Rattle.map_core.specs.declared.reply.AskError.TheVariants.{Memory, Worn}
+use Rattle.map_core.specs.declared.reply.AskError.TheVariants.{Memory}
 use Rattle.map_core.specs.Name.{Name}
 use Rattle.map_core.specs.Reply.{is_change}
 use Rattle.map_core.specs.PlainMap.{PlainMap, ask, home, shard_of}
 use Rattle.map_core.proofs.Asks.{get_changes_nothing}
 use Rattle.map_core.proofs.MapLaws.{ask_keeps}
-use Rattle.step_core.specs.Shard.{ShardVersion, fresh_shard, reading, last_revision, StepResult, step_on}
-use Rattle.step_core.specs.Shards.{map_of, after_step_at, after_step, IsWorn, ShardsAnswer}
+use Rattle.step_core.specs.Shard.{ShardVersion, fresh_shard, reading, step_on}
+use Rattle.step_core.specs.Shards.{map_of, after_step_at, after_step, ShardsAnswer}
 use Rattle.step_core.specs.Private.Parts.{AreParts}
 use Rattle.step_core.proofs.Parts.{reply_here}
 

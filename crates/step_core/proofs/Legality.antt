@@ -1,5 +1,5 @@
 -- The order by points is legal.
-use Rattle.std.proofs.Common.{◌≡◌, ℕ, ◌+◌, ◌<◌, ◌≤◌, ◌&&◌, nat_lt, Bool, true, false, cond, List, [], ◌∷◌, length, Option, Some, None, Result, Ok, Err, IfSome, arith, refl, sym, ap, subst, ◌∙◌}
+use Rattle.std.proofs.Common.{◌≡◌, ℕ, ◌+◌, ◌<◌, ◌≤◌, ◌&&◌, nat_lt, Bool, true, false, cond, List, [], ◌∷◌, length, Option, Result, Ok, IfSome, arith, sym, ap, subst, ◌∙◌}
 use Rattle.std.proofs.lemmas.Bool.Decides.{nat_tests}
 use Rattle.std.specs.FinMap as finite
 use Rattle.map_core.specs.declared.op.Op.{Op}
@@ -7,7 +7,7 @@ use Rattle.map_core.specs.declared.reply.AskError.{AskError}
 use Rattle.map_core.specs.declared.reply.Reply.{Reply}
 use Rattle.map_core.specs.PlainMap.{PlainMap, ask}
 use Rattle.step_core.specs.Shard.{ShardVersion}
-use Rattle.step_core.specs.Phase.{Phase, Idle, Waiting, Collecting, Confirming, Done, wrote_shard, has_point}
+use Rattle.step_core.specs.Phase.{Phase, wrote_shard, has_point}
 use Rattle.step_core.specs.declared.event.Event.{Event}
 use Rattle.step_core.specs.declared.trace.OpRecord.{OpRecord}
 use Rattle.step_core.specs.Run.{Point, Run, numbers, run_of, order_of}

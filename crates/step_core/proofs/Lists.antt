@@ -1,5 +1,5 @@
 -- Records and shards in lists, as the program keeps them, and in functions of numbers, as the run does.
-use Rattle.std.proofs.Common.{◌≡◌, ◌≢◌, ℕ, suc, ◌<◌, ◌==◌, true, false, cond, List, [], ◌∷◌, ◌++◌, length, get_or, set, arith, length-append, length-set, get_or-set_same, get_or-set_other, refl, sym, ap, ◌∙◌}
+use Rattle.std.proofs.Common.{◌≡◌, ℕ, suc, ◌<◌, false, cond, List, [], ◌∷◌, ◌++◌, length, get_or, set, arith, length-append, length-set, get_or-set_same, get_or-set_other, refl, sym, ap, ◌∙◌}
 use Rattle.std.proofs.Math.ListN.{get_or-append}
 use Rattle.std.proofs.Math.Seq.{get_or-append_seam}
 use Rattle.map_core.specs.declared.op.Op.{Op}

@@ -1,5 +1,5 @@
 -- What follows from the one order: what a fetch-all shows.
-use Rattle.std.proofs.Common.{◌≡◌, ℕ, ◌+◌, ◌<◌, ◌==◌, nat_lt, ◌&&◌, Bool, true, false, cond, List, [], ◌∷◌, ◌++◌, Some, IfSome, Ok, arith, refl, ap, subst, ◌∙◌}
+use Rattle.std.proofs.Common.{◌≡◌, ℕ, ◌<◌, nat_lt, ◌&&◌, Bool, true, cond, List, [], ◌∷◌, ◌++◌, Some, IfSome, Ok, arith, ap, subst, ◌∙◌}
 use Rattle.std.proofs.lemmas.Bool.Decides.{nat_tests}
 use Rattle.std.specs.FinMap as finite
 use Rattle.map_core.specs.declared.op.Op.{Op}
@@ -11,7 +11,7 @@ use Rattle.map_core.specs.PlainMap.{PlainMap, ask, bundles}
 use Rattle.step_core.specs.declared.trace.OpRecord.{OpRecord}
 use Rattle.step_core.specs.Run.{run_of, order_of}
 use Rattle.step_core.specs.Records.{took_effect_by, took_effect}
-use Rattle.step_core.proofs.Legal.{times, Replies}
+use Rattle.step_core.proofs.Legal.{Replies}
 use Rattle.step_core.specs.Laws.{map_after, ShowsOneMoment}
 use Rattle.step_core.proofs.Points.{split-times}
 use Rattle.step_core.proofs.Legality.{one_order}

@@ -1,5 +1,5 @@
 -- A step of one shard among several, and the map that they are together.
-use Rattle.std.proofs.Common.{◌≡◌, ◌≢◌, ℕ, ◌+◌, ◌<◌, ◌==◌, Bool, true, false, cond, List, length, get_or, set, get_or-set_same, get_or-set_other, Option, Some, None, Result, Ok, Err, IfOk, OnOk, IfErr, OnErr, ◌⊎◌, inl, inr, ⊎_elim, arith, refl, sym, ap, subst, ◌∙◌}
+use Rattle.std.proofs.Common.{◌≡◌, ◌≢◌, ℕ, ◌<◌, ◌==◌, Bool, true, cond, List, length, get_or, set, get_or-set_same, get_or-set_other, Option, Some, None, Result, Ok, Err, IfOk, OnOk, IfErr, OnErr, ◌⊎◌, inl, inr, ⊎_elim, arith, refl, sym, ap, subst, ◌∙◌}
 use Rattle.std.proofs.lemmas.Bool.Decides.{nat_tests}
 use Rattle.std.proofs.lemmas.Grind.{elements}
 use Rattle.std.proofs.lemmas.List.{set-get_or}
