@@ -27,7 +27,8 @@ use Rattle.frame_front.specs.PlainSession.{text_for, state_for, answers_to, stat
 use Rattle.client.specs.Client.{reply_bytes}
 use Rattle.frame_front.specs.Request.{◌>>=◌, split_expect, at_end, parse_name, parse_bundle, authority_or_refusal, parse_authority, named_bundle, only_name, set_of, set_if_of, append_of, remove_of, get_of, fetch_all_of, version_of, request_of}
 use Rattle.frame_front.specs.Reply.{expect_bytes, reply_frames, version_frame}
-use Rattle.client.specs.Request.{is_written, IsExpect, IsValidOp, request_payload, request_payloads, request_preface, request_bytes}
+use Rattle.frame_lines.specs.RequestForm.{IsExpect}
+use Rattle.client.specs.Request.{is_written, IsValidOp, request_payload, request_payloads, request_preface, request_bytes}
 use Rattle.frame_front.proofs.FrameLemmas.{length-frame}
 use Rattle.frame_front.proofs.MigrationLemmas.{split_name-name, name_of-name, bundle_of-text}
 

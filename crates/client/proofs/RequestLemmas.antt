@@ -1,27 +1,26 @@
--- Lemmas on requests in parts.
-use Rattle.std.proofs.Common.{◌≡◌, ℕ, ◌+◌, List, [], ◌∷◌, ◌++◌, length, ap, ◌∙◌, refl, arith, append_assoc, length-append}
+-- Lemmas on what stands before the document of a request.
+use Rattle.std.proofs.Common.{◌≡◌, ℕ, ◌≤◌, List, [], ◌∷◌, ◌++◌, length, ap, ◌∙◌, arith, append_assoc, length-append}
 use Rattle.std.specs.Int.{w32, to_be_bytes}
+use Rattle.map_core.specs.declared.op.Expect.{Expect}
+use Rattle.map_core.specs.declared.op.Expect.TheVariants.{Absent, Sequence, Unnumbered}
 use Rattle.frame_front.specs.Frame.{frame}
-use Rattle.frame_front.proofs.FrameLemmas.{frame_in_parts}
+use Rattle.frame_front.specs.Reply.{expect_bytes}
 
--- a length, a letter, the length of a name, the name, what stands behind it, and a document
-pub request_in_parts : (out field : List ℕ) (letter size : ℕ) (name middle text : List ℕ)
-    → field ≡ to_be_bytes w32 (2 + length name + length middle + length text)
-    → ((((out ++ field) ++ (letter ∷ size ∷ [])) ++ name) ++ middle) ++ text ≡ out ++ frame (letter ∷ size ∷ name ++ (middle ++ text))
-request_in_parts out field letter size name middle text is_field =
-    let front = (out ++ field) ++ (letter ∷ size ∷ []) in
-    let rest = name ++ (middle ++ text) in
-    let size_of : length rest ≡ length name + length middle + length text = omega (arith, length-append name (middle ++ text), length-append middle text) in
-    append_assoc (front ++ name) middle text
-    ∙ append_assoc front name (middle ++ text)
-    ∙ ap (λ f. ((out ++ f) ++ (letter ∷ size ∷ [])) ++ rest) is_field
-    ∙ frame_in_parts out (letter ∷ size ∷ []) rest (2 + length name + length middle + length text) (omega (arith, size_of))
+expect_few : (expect : Expect) → length (expect_bytes expect) ≤ 9
+expect_few Absent = omega arith
+expect_few (Sequence sequence) = omega arith
+expect_few Unnumbered = omega arith
 
--- the request that sets version 2
-pub version_request : frame (86 ∷ 2 ∷ []) ≡ 0 ∷ 0 ∷ 0 ∷ 2 ∷ 86 ∷ 2 ∷ []
+-- the head of a conditional set has room for the request that sets version 2
+pub head_few : (head name text : List ℕ) (expect : Expect) → length name ≤ 255
+    → head ++ text ≡ frame (67 ∷ length name ∷ name ++ (expect_bytes expect ++ text)) → length head ≤ 270
 unfolding frame
-version_request = refl
+head_few head name text expect few same =
+    let rest = expect_bytes expect ++ text in
+    let payload = 67 ∷ length name ∷ name ++ rest in
+    omega (arith, few, ap length same, length-append head text, length-append (to_be_bytes w32 (length payload)) payload, length-append name rest, length-append (expect_bytes expect) text, expect_few expect)
 
-pub fetch_all_request : frame (70 ∷ []) ≡ 0 ∷ 0 ∷ 0 ∷ 1 ∷ 70 ∷ []
+-- that request before the other
+pub behind_version : (head text other : List ℕ) → head ++ text ≡ other → ((0 ∷ 0 ∷ 0 ∷ 2 ∷ 86 ∷ 2 ∷ []) ++ head) ++ text ≡ frame (86 ∷ 2 ∷ []) ++ other
 unfolding frame
-fetch_all_request = refl
+behind_version head text other same = append_assoc (0 ∷ 0 ∷ 0 ∷ 2 ∷ 86 ∷ 2 ∷ []) head text ∙ ap (λ rest. 0 ∷ 0 ∷ 0 ∷ 2 ∷ 86 ∷ 2 ∷ rest) same

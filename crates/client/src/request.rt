@@ -1,26 +1,23 @@
 //! Requests, as they are written.
-ghost use Rattle.std.specs.Prelude.{◌≡◌, ◌⊎◌, ◌≤◌, ◌+◌, ◌∷◌, ◌++◌, true, false, length, Ok, None, OnOk, IfOk, IfErr, IfSome};
+ghost use Rattle.std.specs.Prelude.{◌≡◌, ◌⊎◌, ◌<◌, ◌≤◌, ◌++◌, true, false, length, Ok, None, OnOk, IfOk, IfErr, IfSome};
 ghost use Rattle.std.specs.Io.KnownBytes.{Appends};
 ghost use Rattle.std.specs.Cow.{cow_slice_items};
-ghost use Rattle.arrayvec.specs.ArrayVec.{array_vec_len};
 ghost use Rattle.frame_front.specs.Counted.{end_in, faults_in, next_count};
-ghost use Rattle.frame_front.specs.Frame.{frame};
+ghost use Rattle.frame_lines.specs.RequestForm.{request, IsFramed};
 ghost use Rattle.frame_front.specs.Output.{WritesFront};
-ghost use Rattle.client.specs.Request.{request_bytes, is_append, is_written as can_be_written, IsUnwritable};
+ghost use Rattle.client.specs.Request.{request_bytes, request_form as form_of, is_append, is_written as can_be_written, IsUnwritable};
 ghost use Rattle.client.specs.Private.Requests.{document_part};
 
-use arrayvec::ArrayVec;
-use frame_front::wire::{canonical_text, expect_bytes, write_both};
+use frame_front::wire::{canonical_text, write_both};
 use frame_front::{Counted, FrontError};
+use frame_lines::RequestForm;
+use frame_lines::head::{Head, head_of, put};
 use map_core::Op;
 use spiffe_doc::{TrustDomain, write_entry};
 use std::alloc::{AllocError, Global};
 use std::borrow::CowSlice;
 use std::io::Write;
 use thiserror::Error;
-
-/// A request for the version, a length, a letter, a length, the longest name and an expectation.
-const HEAD_BYTES: usize = 276;
 
 /// Why a request was not written, or not whole.
 #[derive(Clone, Copy, Debug, PartialEq, Eq, Error)]
@@ -112,53 +109,43 @@ pub(crate) fn send_request<W: Write>(
     }
 }
 
+/// The request that says an operation, whose document is the text. A frame may carry it.
+fn request_form<'a>(op: &'a Op, text: &'a [u8]) -> RequestForm<'a>
+    requires document { text.now ≡ document_part op.now }
+    requires short { length text.now ≤ 1048576 }
+    ensures form { request result ≡ form_of op.now }
+    ensures framed { IsFramed (request result) }
+{
+    match op {
+        Op::Set(domain, _) => RequestForm::Set(name_of(domain), text),
+        Op::SetIf(domain, expect, _) => RequestForm::SetIf(name_of(domain), *expect, text),
+        Op::Append(domain, _) => RequestForm::Append(name_of(domain), text),
+        Op::Remove(domain) => RequestForm::Remove(name_of(domain)),
+        Op::Get(domain) => RequestForm::Get(name_of(domain)),
+        Op::FetchAll => RequestForm::Fetch,
+    }
+}
+
+fn name_of(domain: &TrustDomain) -> &[u8]
+    ensures name { result.now ≡ domain.now }
+    ensures few { length result.now < 256 }
+{
+    domain.as_str().as_bytes()
+}
+
 /// What stands before the document of a request.
-fn request_head(op: &Op, document: &[u8]) -> ArrayVec<u8, HEAD_BYTES>
+fn request_head(op: &Op, document: &[u8]) -> Head
     requires document { document.now ≡ document_part op.now }
     requires short { length document.now ≤ 1048576 }
     ensures { result.items ++ document_part op.now ≡ request_bytes op.now }
 {
-    let mut head = ArrayVec::new();
-    match op {
-        Op::Set(domain, _) => put_front(&mut head, b'S', domain, &[], document),
-        Op::SetIf(domain, expect, _) => {
-            let expected = expect_bytes(*expect);
-            put(&mut head, &[0, 0, 0, 2, b'V', 2]);
-            put_front(&mut head, b'C', domain, expected.as_slice(), document);
-        }
-        Op::Append(domain, _) => put_front(&mut head, b'A', domain, &[], document),
-        Op::Remove(domain) => put_front(&mut head, b'R', domain, &[], &[]),
-        Op::Get(domain) => put_front(&mut head, b'G', domain, &[], &[]),
-        Op::FetchAll => put(&mut head, &[0, 0, 0, 1, b'F']),
-    }
-    head
-}
-
-fn put(bytes: &mut ArrayVec<u8, HEAD_BYTES>, more: &[u8])
-    requires { array_vec_len bytes.old + length more.now ≤ 276 }
-    ensures { bytes.new.items ≡ bytes.old.items ++ more.now }
-{
-    let _fits = bytes.try_extend_from_slice(more);
-}
-
-/// Adds the front of a request whose document is the text: all of it up to there.
-fn put_front(
-    head: &mut ArrayVec<u8, HEAD_BYTES>,
-    letter: u8,
-    domain: &TrustDomain,
-    middle: &[u8],
-    text: &[u8],
-)
-    requires room { array_vec_len head.old ≤ 6 }
-    requires few { length middle.now ≤ 9 }
-    requires short { length text.now ≤ 1048576 }
-    ensures { head.new.items ++ text.now
-        ≡ head.old.items ++ frame (letter ∷ length domain.now ∷ domain.now ++ (middle.now ++ text.now)) }
-{
-    let name = domain.as_str().as_bytes();
-    let size = (2 + name.len() + middle.len() + text.len()) as u32;
-    put(head, &size.to_be_bytes());
-    put(head, &[letter, name.len() as u8]);
-    put(head, name);
-    put(head, middle);
+    let Some(head) = request_form(op, document).frame_head() else {
+        unreachable!();
+    };
+    let Op::SetIf(_, _, _) = op else {
+        return head;
+    };
+    let mut both = head_of(&[0, 0, 0, 2, b'V', 2]);
+    put(&mut both, head.as_slice());
+    both
 }
