@@ -1,99 +1,69 @@
--- Lemmas on the payloads of answers.
-use Rattle.std.proofs.Common.{◌≡◌, ℕ, List, [], ◌∷◌, ◌++◌, length, get_or, refl, sym, ap, ◌∙◌, inl, arith, append-nil, Ok, Err, Some, None, true, false}
-use Rattle.std.specs.Prelude.{Option, option_map, if◌then◌else◌}
-use Rattle.std.specs.List.{flat_map}
-use Rattle.std.specs.Int.{w64, to_be_bytes}
+-- Lemmas on the first payload of an answer.
+use Rattle.std.proofs.Common.{◌≡◌, ℕ, zero, suc, ◌<◌, ◌^◌, List, [], ◌∷◌, ◌++◌, length, get_or, map, refl, sym, ap, subst, ◌∙◌, inl, arith, append-nil, Option, Ok, Err, Some, None, true, false}
+use Rattle.std.specs.Prelude.{MatchOption, option_map, if◌then◌else◌}
+use Rattle.std.specs.List.{AllByRecursion, flat_map}
+use Rattle.std.specs.Int.{w32, w64, to_be_bytes, from_be_bytes}
 use Rattle.std.specs.Cmp.Lexicographic.{nat_list_eq_equiv}
+use Rattle.std.proofs.lemmas.Nat.{be_bytes_8}
 use Rattle.spiffe_doc.specs.Authority.{BundleValue}
 use Rattle.spiffe_doc.specs.Bundle.{IsBundle}
 use Rattle.spiffe_doc.specs.Text.{text_of}
 use Rattle.spiffe_doc.proofs.RoundTrip.{document-text_of}
-use Rattle.map_core.specs.Name.{Name}
 use Rattle.map_core.specs.declared.op.Op.{Op}
-use Rattle.map_core.specs.declared.op.Op.TheVariants.{Set, SetIf, Append, Remove, Get, FetchAll}
 use Rattle.map_core.specs.declared.op.Expect.TheVariants.{Absent, Sequence, Unnumbered}
-use Rattle.map_core.specs.declared.reply.Reply.TheVariants.{Stored, Unchanged, Appended, Removed, Found, All, Refused}
+use Rattle.map_core.specs.declared.reply.Reply.TheVariants as map_reply
 use Rattle.map_core.specs.declared.reply.MapRefusal.{MapRefusal}
 use Rattle.map_core.specs.declared.reply.MapRefusal.TheVariants.{NoDomain, Stale, KidTaken, TooMany, TooLong, SequenceFull, NotExpected}
-use Rattle.map_core.specs.declared.reply.AskError.{AskError}
 use Rattle.map_core.specs.declared.reply.AskError.TheVariants as error
-use Rattle.map_core.specs.Reply.{refusal_number, error_number}
+use Rattle.frame_front.specs.Dump.{Domains}
 use Rattle.frame_front.specs.Frame.{IsPayload, IsUnfinished, frame}
-use Rattle.frame_front.specs.Reply.{answer_frames, code_of, place_bytes, sequence_bytes, map_detail, error_detail, item_frame}
-use Rattle.client.specs.Answer.{Answer, MayAnswer, IsValidAnswer, is_code_for}
-use Rattle.client.specs.Private.Payloads.{answer_of, reply_of, refusal_of, error_of, number_of, sequence_of, expect_of, worn_of, held_of, moved_of, found_of, if_canonical}
-use Rattle.client.specs.Client.{BeginsNoReply, NoReply}
-use Rattle.client.specs.Private.Exchanges.{is_of_one}
+use Rattle.frame_front.specs.Reply.{answer_frames, code_of}
 use Rattle.frame_front.proofs.FrameLemmas.{frame_first, none_at_end}
 use Rattle.frame_front.proofs.ReplyLemmas.{not_both}
+use Rattle.frame_lines.specs.declared.reply.Detail.TheVariants.{Nothing, SequenceOf, Expected}
+use Rattle.frame_lines.specs.declared.reply.ReplyForm.{ReplyForm}
+use Rattle.frame_lines.specs.ReplyForm.{Reply, Stored, Unchanged, Removed, Appended, Found, All, Refused, Moved, Held, Worn, Memory, Shut, HasPayload, kind_of, payload_of, reply as said}
+use Rattle.frame_lines.specs.Answers.{answer_form, bundle_form, bundles_of, shard_number}
+use Rattle.frame_lines.proofs.AnswerLines.{answers_are_frames}
+use Rattle.client.specs.Answer.{Answer, MayAnswer, IsValidAnswer, is_code_for}
+use Rattle.client.specs.Client.{BeginsNoReply, NoReply}
+use Rattle.client.specs.Private.Answers.{first_of, refusal_of, error_of, found_of, if_canonical, Says, IsWholeAnswer, Begins}
+use Rattle.client.specs.declared.answer.First.{First}
+use Rattle.client.specs.declared.answer.First.TheVariants as first
 
--- the payload of the first frame of an answer
-abbrev pub first_payload : Answer → List ℕ
-first_payload (Ok Stored) = 115 ∷ []
-first_payload (Ok Unchanged) = 117 ∷ []
-first_payload (Ok (Appended sequence)) = 112 ∷ sequence_bytes sequence
-first_payload (Ok Removed) = 100 ∷ []
-first_payload (Ok (Found bundle)) = 102 ∷ text_of bundle
-first_payload (Ok (All items)) = 97 ∷ to_be_bytes w64 (length items)
-first_payload (Ok (Refused why)) = refusal_number why ∷ map_detail why
-first_payload (Err e) = error_number e ∷ error_detail e
+-- ---- numbers, as 8 bytes hold them
 
--- the frames behind it
-abbrev pub frames_behind : Answer → List ℕ
-frames_behind (Ok Stored) = []
-frames_behind (Ok Unchanged) = []
-frames_behind (Ok (Appended sequence)) = []
-frames_behind (Ok Removed) = []
-frames_behind (Ok (Found bundle)) = []
-frames_behind (Ok (All items)) = flat_map item_frame items
-frames_behind (Ok (Refused why)) = []
-frames_behind (Err e) = []
+abbrev low : ℕ → ℕ
+low n = from_be_bytes w64 (to_be_bytes w64 n)
 
-pub coded_first : (a : Answer) → answer_frames a ≡ frame (first_payload a) ++ frames_behind a
-coded_first (Ok Stored) = sym (append-nil _)
-coded_first (Ok Unchanged) = sym (append-nil _)
-coded_first (Ok (Appended sequence)) = sym (append-nil _)
-coded_first (Ok Removed) = sym (append-nil _)
-coded_first (Ok (Found bundle)) = sym (append-nil _)
-coded_first (Ok (All items)) = refl
-coded_first (Ok (Refused why)) = sym (append-nil _)
-coded_first (Err e) = sym (append-nil _)
+small_at : (xs : List ℕ) → AllByRecursion (λ (b : ℕ). b < 256) xs → (i : ℕ) → get_or xs i 0 < 256
+small_at [] all i = omega arith
+small_at (x ∷ xs) all zero = all.0
+small_at (x ∷ xs) all (suc i) = small_at xs all.1 i
 
-refusal_payload : (why : MapRefusal) → IsPayload (refusal_number why ∷ map_detail why)
-refusal_payload NoDomain = (omega arith, omega arith)
-refusal_payload (Stale sequence) = (omega arith, omega arith)
-refusal_payload KidTaken = (omega arith, omega arith)
-refusal_payload TooMany = (omega arith, omega arith)
-refusal_payload TooLong = (omega arith, omega arith)
-refusal_payload SequenceFull = (omega arith, omega arith)
-refusal_payload (NotExpected Absent) = (omega arith, omega arith)
-refusal_payload (NotExpected (Sequence sequence)) = (omega arith, omega arith)
-refusal_payload (NotExpected Unnumbered) = (omega arith, omega arith)
+bytes_of : (n i : ℕ) → get_or (to_be_bytes w64 n) i 0 < 256
+bytes_of n = small_at (to_be_bytes w64 n) (omega arith, (omega arith, (omega arith, (omega arith, (omega arith, (omega arith, (omega arith, (omega arith, tt))))))))
 
-pub error_payload : (e : AskError) → IsPayload (error_number e ∷ error_detail e)
-unfolding place_bytes
-error_payload error.Memory = (omega arith, omega arith)
-error_payload (error.Worn shard) = (omega arith, omega arith)
-error_payload (error.Moved shard first second) = (omega arith, omega arith)
-error_payload (error.Held shard revision) = (omega arith, omega arith)
-error_payload error.GateShut = (omega arith, omega arith)
+low_bytes : (n : ℕ) → to_be_bytes w64 n ≡ to_be_bytes w64 (low n)
+low_bytes n = sym (be_bytes_8 (to_be_bytes w64 n) (low n) refl (bytes_of n) refl)
 
--- it is a payload
-pub first_is_payload : (a : Answer) → IsValidAnswer a → IsPayload (first_payload a)
-first_is_payload (Ok Stored) valid = (omega arith, omega arith)
-first_is_payload (Ok Unchanged) valid = (omega arith, omega arith)
-first_is_payload (Ok (Appended None)) valid = (omega arith, omega arith)
-first_is_payload (Ok (Appended (Some sequence))) valid = (omega arith, omega arith)
-first_is_payload (Ok Removed) valid = (omega arith, omega arith)
-first_is_payload (Ok (Found bundle)) valid = (omega arith, omega (arith, valid.short))
-first_is_payload (Ok (All items)) valid = (omega arith, omega arith)
-first_is_payload (Ok (Refused why)) valid = refusal_payload why
-first_is_payload (Err e) valid = error_payload e
+below : (bytes : List ℕ) → ((i : ℕ) → get_or bytes i 0 < 256) → from_be_bytes w64 bytes < 2 ^ 64
+below bytes at = omega (arith, at 0, at 1, at 2, at 3, at 4, at 5, at 6, at 7)
 
--- ---- what is read of it
+low_fits : (n : ℕ) → low n < 2 ^ 64
+low_fits n = below (to_be_bytes w64 n) (bytes_of n)
 
-pub some_none : {A : Type 0} (x : A) → Some x ≡ None → ⊥
-some_none x same = cc
+-- ---- the reply that the first payload of an answer is read as
+
+-- what is read says the answer, or of all bundles how many there are
+abbrev pub Tells : Answer → Option First → Type 0
+Tells a None = ⊥
+Tells a (Some (first.Reply r)) = Unit {0}
+Tells a (Some (first.Error e)) = Unit {0}
+Tells a (Some (first.Count count)) = (items : Domains) × (a ≡ Ok (map_reply.All items)) × (length items ≡ count)
+
+abbrev IsReadAs : Answer → Reply → Type 0
+IsReadAs a r = HasPayload r × (payload_of (answer_form a) ≡ payload_of r) × IsPayload (payload_of r) × Tells a (first_of r)
 
 found_text : (bundle : BundleValue) → IsBundle bundle → found_of (text_of bundle) ≡ Some bundle
 unfolding found_of
@@ -101,48 +71,68 @@ found_text bundle valid =
     ap (if_canonical (text_of bundle)) (document-text_of bundle valid)
     ∙ ap (λ b. if b then Some bundle else None) (nat_list_eq_equiv.refl (text_of bundle))
 
-refusal_read : (why : MapRefusal) → refusal_of (refusal_number why) (map_detail why) ≡ None → ⊥
-unfolding refusal_of number_of expect_of
-refusal_read NoDomain same = some_none _ same
-refusal_read (Stale sequence) same = some_none _ same
-refusal_read KidTaken same = some_none _ same
-refusal_read TooMany same = some_none _ same
-refusal_read TooLong same = some_none _ same
-refusal_read SequenceFull same = some_none _ same
-refusal_read (NotExpected Absent) same = some_none _ same
-refusal_read (NotExpected (Sequence sequence)) same = some_none _ same
-refusal_read (NotExpected Unnumbered) same = some_none _ same
+found_read : (bundle : BundleValue) → IsBundle bundle → IsReadAs (Ok (map_reply.Found bundle)) (Found (text_of bundle))
+unfolding first_of
+found_read bundle valid = (
+  tt,
+  refl,
+  (omega arith, omega (arith, valid.short)),
+  subst (λ (o : Option BundleValue). Tells (Ok (map_reply.Found bundle)) (option_map first.Reply (option_map map_reply.Found o))) (sym (found_text bundle valid)) tt,
+)
 
-pub error_read : (e : AskError) → error_of (error_number e) (error_detail e) ≡ None → ⊥
-unfolding error_of worn_of held_of moved_of place_bytes
-error_read error.Memory same = some_none _ same
-error_read (error.Worn shard) same = some_none _ same
-error_read (error.Moved shard first second) same = some_none _ same
-error_read (error.Held shard revision) same = some_none _ same
-error_read error.GateShut same = some_none _ same
+refusal_read : (why : MapRefusal) → (r : Reply) × IsReadAs (Ok (map_reply.Refused why)) r
+unfolding first_of refusal_of kind_of
+refusal_read NoDomain = (Refused 30 Nothing, ((refl, tt), refl, (omega arith, omega arith), tt))
+refusal_read (Stale n) = (Refused 31 (SequenceOf (low n)), ((refl, low_fits n), ap (λ bytes. 31 ∷ bytes) (low_bytes n), (omega arith, omega arith), tt))
+refusal_read KidTaken = (Refused 32 Nothing, ((refl, tt), refl, (omega arith, omega arith), tt))
+refusal_read TooMany = (Refused 33 Nothing, ((refl, tt), refl, (omega arith, omega arith), tt))
+refusal_read TooLong = (Refused 34 Nothing, ((refl, tt), refl, (omega arith, omega arith), tt))
+refusal_read SequenceFull = (Refused 35 Nothing, ((refl, tt), refl, (omega arith, omega arith), tt))
+refusal_read (NotExpected Absent) = (Refused 36 (Expected Absent), ((refl, tt), refl, (omega arith, omega arith), tt))
+refusal_read (NotExpected (Sequence n)) =
+    (Refused 36 (Expected (Sequence (low n))), ((refl, low_fits n), ap (λ bytes. 36 ∷ 1 ∷ bytes) (low_bytes n), (omega arith, omega arith), tt))
+refusal_read (NotExpected Unnumbered) = (Refused 36 (Expected Unnumbered), ((refl, tt), refl, (omega arith, omega arith), tt))
 
--- a map from no value has none
-pub map_none : {A B : Type 0} (f : A → B) (x : Option A) → option_map f x ≡ None → x ≡ None
-map_none f None same = refl
-map_none f (Some x) same = absurd (some_none (f x) same)
+shard_fits : (shard : ℕ) → shard_number shard < 2 ^ 32
+shard_fits shard = omega arith
 
-refused_read : (why : MapRefusal) → answer_of (refusal_number why ∷ map_detail why) ≡ None → ⊥
-unfolding answer_of reply_of
-refused_read NoDomain same = refusal_read NoDomain (map_none Refused _ (map_none Ok _ same))
-refused_read (Stale sequence) same = refusal_read (Stale sequence) (map_none Refused _ (map_none Ok _ same))
-refused_read KidTaken same = refusal_read KidTaken (map_none Refused _ (map_none Ok _ same))
-refused_read TooMany same = refusal_read TooMany (map_none Refused _ (map_none Ok _ same))
-refused_read TooLong same = refusal_read TooLong (map_none Refused _ (map_none Ok _ same))
-refused_read SequenceFull same = refusal_read SequenceFull (map_none Refused _ (map_none Ok _ same))
-refused_read (NotExpected found) same = refusal_read (NotExpected found) (map_none Refused _ (map_none Ok _ same))
+is_read : (a : Answer) → IsValidAnswer a → (r : Reply) × IsReadAs a r
+unfolding first_of error_of
+is_read (Ok map_reply.Stored) valid = (Stored, (tt, refl, (omega arith, omega arith), tt))
+is_read (Ok map_reply.Unchanged) valid = (Unchanged, (tt, refl, (omega arith, omega arith), tt))
+is_read (Ok map_reply.Removed) valid = (Removed, (tt, refl, (omega arith, omega arith), tt))
+is_read (Ok (map_reply.Appended None)) valid = (Appended None, (tt, refl, (omega arith, omega arith), tt))
+is_read (Ok (map_reply.Appended (Some n))) valid =
+    (Appended (Some (low n)), (low_fits n, ap (λ bytes. 112 ∷ 1 ∷ bytes) (low_bytes n), (omega arith, omega arith), tt))
+is_read (Ok (map_reply.Found bundle)) valid = (Found (text_of bundle), found_read bundle valid)
+is_read (Ok (map_reply.All items)) valid = (All (length items), (valid.2, refl, (omega arith, omega arith), (items, refl, refl)))
+is_read (Ok (map_reply.Refused why)) valid = refusal_read why
+is_read (Err error.Memory) valid = (Memory, (tt, refl, (omega arith, omega arith), tt))
+is_read (Err (error.Worn shard)) valid = (Worn (shard_number shard), (shard_fits shard, refl, (omega arith, omega arith), tt))
+is_read (Err (error.Moved shard n m)) valid = (
+  Moved (shard_number shard) (low n) (low m),
+  ((shard_fits shard, low_fits n, low_fits m), (λ i. 41 ∷ to_be_bytes w32 (shard_number shard) ++ (low_bytes n i ++ low_bytes m i)), (omega arith, omega arith), tt),
+)
+is_read (Err (error.Held shard n)) valid = (
+  Held (shard_number shard) (low n),
+  ((shard_fits shard, low_fits n), (λ i. 42 ∷ to_be_bytes w32 (shard_number shard) ++ low_bytes n i), (omega arith, omega arith), tt),
+)
+is_read (Err error.GateShut) valid = (Shut, (tt, refl, (omega arith, omega arith), tt))
 
-failed_read : (e : AskError) → answer_of (error_number e ∷ error_detail e) ≡ None → ⊥
-unfolding answer_of
-failed_read error.Memory same = error_read error.Memory (map_none Err _ same)
-failed_read (error.Worn shard) same = error_read (error.Worn shard) (map_none Err _ same)
-failed_read (error.Moved shard first second) same = error_read (error.Moved shard first second) (map_none Err _ same)
-failed_read (error.Held shard revision) same = error_read (error.Held shard revision) (map_none Err _ same)
-failed_read error.GateShut same = error_read error.GateShut (map_none Err _ same)
+-- the frames behind the first
+abbrev behind : Answer → List ℕ
+behind a = flat_map (λ (r : Reply). frame (payload_of r)) (map bundle_form (bundles_of a))
+
+told : (a : Answer) (form : Option ReplyForm) (r : Reply) → MatchOption form ⊥ (λ f. said f ≡ r) → Tells a (first_of r) → MatchOption form ⊥ (λ f. Tells a (first_of (said f)))
+told a None r is tells = is
+told a (Some f) r is tells = subst (λ (q : Reply). Tells a (first_of q)) (sym is) tells
+
+-- the frame of a whole answer
+pub whole_frame : (a : Answer) (r : Reply) (payload : List ℕ) → payload ≡ payload_of r → answer_form a ≡ r → bundles_of a ≡ [] → frame payload ≡ answer_frames a
+whole_frame a r payload is says none =
+    ap frame (is ∙ ap payload_of (sym says)) ∙ sym (append-nil (frame (payload_of (answer_form a))))
+    ∙ ap (λ (items : Domains). frame (payload_of (answer_form a)) ++ flat_map (λ (r : Reply). frame (payload_of r)) (map bundle_form items)) (sym none)
+    ∙ sym (answers_are_frames a)
 
 -- ---- the code of a reply
 
@@ -164,45 +154,37 @@ pub wrong_code : (op : Op) (payload : List ℕ) → IsPayload payload → is_cod
 wrong_code op payload good wrong rest a may valid same =
     not_both _ may (ap (is_code_for op) (ap code_of same ∙ code_first payload rest good) ∙ wrong)
 
-not_true : false ≡ true → ⊥
-not_true same = cc
+-- A payload is read as a reply, if it is any reply's.
+module _ (payload : List ℕ) (good : IsPayload payload) (form : Option ReplyForm) (only : (wanted : Reply) → HasPayload wanted → payload ≡ payload_of wanted → MatchOption form ⊥ (λ f. said f ≡ wanted)) where
+  -- an answer that begins with it
+  pub first_told : (a : Answer) (rest : List ℕ) → IsValidAnswer a → answer_frames a ≡ frame payload ++ rest → MatchOption form ⊥ (λ f. Tells a (first_of (said f)))
+  first_told a rest valid same =
+      let read = is_read a valid in
+      let first = frame_first (payload_of read.0) payload (behind a) rest read.1.2 good (ap (λ p. frame p ++ behind a) (sym read.1.1) ∙ sym (answers_are_frames a) ∙ same) in
+      told a form read.0 (only read.0 read.1.0 (sym first.0)) read.1.3
 
--- all bundles are the answer to a fetch-all only
-not_all_code : (op : Op) → is_of_one op ≡ true → is_code_for op 97 ≡ true → ⊥
-not_all_code (Set d b) of_one may = not_true may
-not_all_code (SetIf d expect b) of_one may = not_true may
-not_all_code (Append d a) of_one may = not_true may
-not_all_code (Remove d) of_one may = not_true may
-not_all_code (Get d) of_one may = not_true may
-not_all_code FetchAll of_one may = not_true of_one
+  pub none_told : (op : Op) → ((a : Answer) → MatchOption form ⊥ (λ f. Tells a (first_of (said f))) → ⊥) → BeginsNoReply op answer_frames (frame payload)
+  none_told op none rest a may valid same = none a (first_told a rest valid same)
 
-not_all : (op : Op) (items : List (Name × BundleValue)) → is_of_one op ≡ true → MayAnswer op (Ok (All items)) → ⊥
-not_all op items of_one may =
-    not_all_code op of_one (ap (is_code_for op) (sym (code_first (first_payload (Ok (All items))) (frames_behind (Ok (All items))) (omega arith, omega arith))) ∙ may)
+  -- the reply that it is read as says an answer, or how many bundles follow
+  module _ (f : ReplyForm) (is_form : form ≡ Some f) (is : payload ≡ payload_of (said f)) (has : HasPayload (said f)) (op : Op) (right : is_code_for op (get_or payload 0 0) ≡ true) where
+    whole : (a : Answer) → answer_form a ≡ said f → bundles_of a ≡ [] → IsValidAnswer a → IsWholeAnswer op payload a
+    whole a says none valid =
+        let same = whole_frame a (said f) payload is says none in
+        record { may = right_code op payload a good right same; valid = valid; is = same }
 
--- ---- what is not a reply
-
-module _ (op : Op) (of_one : is_of_one op ≡ true) where
-  answer_read : (a : Answer) → IsValidAnswer a → MayAnswer op a → answer_of (first_payload a) ≡ None → ⊥
-  unfolding answer_of reply_of sequence_of number_of
-  answer_read (Ok Stored) valid may same = some_none _ same
-  answer_read (Ok Unchanged) valid may same = some_none _ same
-  answer_read (Ok (Appended None)) valid may same = some_none _ same
-  answer_read (Ok (Appended (Some sequence))) valid may same = some_none _ same
-  answer_read (Ok Removed) valid may same = some_none _ same
-  answer_read (Ok (Found bundle)) valid may same =
-      some_none bundle (sym (found_text bundle valid) ∙ map_none Found _ (map_none Ok _ same))
-  answer_read (Ok (All items)) valid may same = not_all op items of_one may
-  answer_read (Ok (Refused why)) valid may same = refused_read why same
-  answer_read (Err e) valid may same = failed_read e same
-
-  -- a payload of which no answer is read
-  pub no_answer : (payload : List ℕ) → IsPayload payload → answer_of payload ≡ None → BeginsNoReply op answer_frames (frame payload)
-  no_answer payload good none rest a may valid same =
-      let first = frame_first (first_payload a) payload (frames_behind a) rest (first_is_payload a valid) good (sym (coded_first a) ∙ same) in
-      answer_read a valid may (ap answer_of first.0 ∙ none)
+    pub begins : (first : First) → first_of (said f) ≡ Some first → Says first (said f) → Begins op payload first
+    begins (first.Reply r) read says = whole (Ok r) says.0 says.1 says.2
+    begins (first.Error e) read says = whole (Err e) says refl tt
+    begins (first.Count count) read says = record {
+      may = ap (λ p. is_code_for op (get_or p 0 0)) (sym (is ∙ ap payload_of says)) ∙ right;
+      is = is ∙ ap payload_of says;
+      fits = subst HasPayload says has;
+      only = λ a rest valid same. let told = rw is_form at (first_told a rest valid same) in rw read at told;
+    }
 
 -- bytes that are not a whole frame
 pub unfinished_reply : (op : Op) (read : List ℕ) → IsUnfinished read → NoReply op answer_frames read
 unfinished_reply op read cut a may valid same =
-    none_at_end (first_payload a) (frames_behind a) read (first_is_payload a valid) (sym same ∙ coded_first a) (inl cut)
+    let first = is_read a valid in
+    none_at_end (payload_of first.0) (behind a) read first.1.2 (sym same ∙ answers_are_frames a ∙ ap (λ p. frame p ++ behind a) first.1.1) (inl cut)

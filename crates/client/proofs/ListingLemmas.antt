@@ -1,43 +1,35 @@
 -- Lemmas on the frames of all bundles.
-use Rattle.std.proofs.Common.{◌≡◌, ◌≢◌, ℕ, ◌+◌, ◌<◌, ◌^◌, List, [], ◌∷◌, ◌++◌, length, map, take, drop, append-nil, append_assoc, length-append, arith, refl, sym, ap, ◌∙◌, subst, inl, inr, Ok, Err, Some, None, true, false}
+use Rattle.std.proofs.Common.{◌≡◌, ◌≢◌, ℕ, ◌+◌, ◌<◌, List, [], ◌∷◌, ◌++◌, length, map, take, drop, append-nil, append_assoc, length-append, arith, refl, sym, ap, ◌∙◌, subst, inl, inr, Ok, Some, None}
 use Rattle.std.specs.Prelude.{Option}
 use Rattle.std.specs.List.{flat_map, AllByRecursion}
 use Rattle.std.specs.Io.KnownBytes.{Consumes}
 use Rattle.std.proofs.KnownBytes.{Consumes-nil, Consumes-trans}
-use Rattle.std.specs.Int.{w64, to_be_bytes, from_be_bytes}
+use Rattle.std.specs.Int.{w64, to_be_bytes}
 use Rattle.std.proofs.lemmas.List.{take_at}
 use Rattle.std.proofs.Math.Seq.{drop-append_seam}
-use Rattle.std.proofs.lemmas.Nat.{from_be_bytes-to_be_bytes_8}
 use Rattle.spiffe_doc.specs.Authority.{BundleValue}
 use Rattle.spiffe_doc.specs.Bundle.{IsBundle}
 use Rattle.spiffe_doc.specs.Name.{IsName}
 use Rattle.map_core.specs.Name.{Name}
-use Rattle.map_core.specs.declared.op.Op.TheVariants.{FetchAll}
-use Rattle.map_core.specs.declared.reply.Reply.TheVariants.{Stored, Unchanged, Appended, Removed, Found, All, Refused}
-use Rattle.map_core.specs.declared.reply.MapRefusal.{MapRefusal}
-use Rattle.map_core.specs.declared.reply.MapRefusal.TheVariants.{NoDomain, Stale, KidTaken, TooMany, TooLong, SequenceFull, NotExpected}
-use Rattle.map_core.specs.declared.reply.AskError.{AskError}
-use Rattle.map_core.specs.declared.reply.AskError.TheVariants as error
-use Rattle.map_core.specs.Reply.{error_number}
+use Rattle.map_core.specs.declared.op.Op.{Op}
+use Rattle.map_core.specs.declared.reply.Reply.TheVariants.{All}
 use Rattle.frame_front.specs.Frame.{IsPayload, IsUnfinished, frame}
-use Rattle.frame_front.specs.Reply.{answer_frames, code_of, item_frame, map_detail, error_detail}
+use Rattle.frame_front.specs.Reply.{answer_frames, item_frame}
 use Rattle.frame_front.specs.Dump.{Domains, AreValid, item_of, unless_refused}
 use Rattle.map_core.specs.Laws.{IsAfter, Ascends}
 use Rattle.client.specs.Reading.{NoFrame}
 use Rattle.client.specs.Answer.{Answer, MayAnswer, IsValidAnswer, is_code_for}
-use Rattle.client.specs.Private.Payloads.{number_of}
-use Rattle.client.specs.Client.{Breaks, BeginsNoReply}
-use Rattle.client.specs.Private.Listing.{NoListing, BreaksListing, head_of}
+use Rattle.client.specs.Client.{Breaks}
+use Rattle.client.specs.Private.Answers.{IsCountOfAll}
+use Rattle.client.specs.Private.Listing.{NoListing, BreaksListing}
 use Rattle.client.specs.declared.client_error.ClientError.{ClientError}
 use Rattle.client.specs.declared.client_error.ClientError.TheVariants.{Memory, BadLength, BadReply, Truncated, ReadFault, WriteFault}
 use Rattle.frame_front.proofs.FrameLemmas.{frame_first, none_at_end}
-use Rattle.frame_front.proofs.ReplyLemmas.{not_both}
 use Rattle.frame_front.specs.Private.Refusals.{last_of}
-use Rattle.frame_front.proofs.DomainLists.{last_of-one, Ascends-one, cons_head, some_item, none_item}
+use Rattle.frame_front.proofs.DomainLists.{last_of-one, Ascends-one, some_item, none_item}
 use Rattle.client.proofs.RequestLaws.{named_bundle-item}
 use Rattle.frame_front.proofs.DumpTexts.{item_payload, IsPayload-item, same_item}
-use Rattle.client.proofs.AnswerLemmas.{first_payload, frames_behind, coded_first, first_is_payload, error_payload, error_read, map_none, some_none}
-use Rattle.client.proofs.MapAnswers.{one_code, first_code}
+use Rattle.client.proofs.MapAnswers.{first_code}
 
 -- ---- domains that were read
 
@@ -148,98 +140,44 @@ Listed-one l0 l1 l2 items last place y payload listed took same after name sound
 
 -- ---- the whole reply
 
-other_code : (code : ℕ) (rest : List ℕ) → is_code_for FetchAll code ≡ false → is_code_for FetchAll (code_of (frame (code ∷ rest))) ≡ true → ⊥
-other_code code rest other may = not_both _ may (ap (is_code_for FetchAll) (one_code code rest) ∙ other)
-
-not_refused : (why : MapRefusal) → MayAnswer FetchAll (Ok (Refused why)) → ⊥
-not_refused NoDomain may = other_code 30 [] refl may
-not_refused (Stale sequence) may = other_code 31 (map_detail (Stale sequence)) refl may
-not_refused KidTaken may = other_code 32 [] refl may
-not_refused TooMany may = other_code 33 [] refl may
-not_refused TooLong may = other_code 34 [] refl may
-not_refused SequenceFull may = other_code 35 [] refl may
-not_refused (NotExpected found) may = other_code 36 (map_detail (NotExpected found)) refl may
-
-not_97 : (e : AskError) → error_number e ≡ 97 → ⊥
-not_97 error.Memory same = absurd (omega (arith, same))
-not_97 (error.Worn shard) same = absurd (omega (arith, same))
-not_97 (error.Moved shard first second) same = absurd (omega (arith, same))
-not_97 (error.Held shard revision) same = absurd (omega (arith, same))
-not_97 error.GateShut same = absurd (omega (arith, same))
-
-pub may_error : (e : AskError) → MayAnswer FetchAll (Err e)
-may_error error.Memory = ap (is_code_for FetchAll) (one_code 22 [])
-may_error (error.Worn shard) = ap (is_code_for FetchAll) (one_code 40 (error_detail (error.Worn shard)))
-may_error (error.Moved shard first second) = ap (is_code_for FetchAll) (one_code 41 (error_detail (error.Moved shard first second)))
-may_error (error.Held shard revision) = ap (is_code_for FetchAll) (one_code 42 (error_detail (error.Held shard revision)))
-may_error error.GateShut = ap (is_code_for FetchAll) (one_code 56 [])
-
-pub may_all : (items : Domains) → MayAnswer FetchAll (Ok (All items))
-may_all items = ap (is_code_for FetchAll) (first_code 97 (to_be_bytes w64 (length items)) (flat_map item_frame items))
-
-head_read : (a : Answer) → MayAnswer FetchAll a → head_of (first_payload a) ≡ None → ⊥
-unfolding head_of number_of
-head_read (Ok Stored) may same = other_code 115 [] refl may
-head_read (Ok Unchanged) may same = other_code 117 [] refl may
-head_read (Ok (Appended sequence)) may same = other_code 112 _ refl may
-head_read (Ok Removed) may same = other_code 100 [] refl may
-head_read (Ok (Found bundle)) may same = other_code 102 _ refl may
-head_read (Ok (All items)) may same = some_none _ same
-head_read (Ok (Refused why)) may same = not_refused why may
-head_read (Err error.Memory) may same = error_read error.Memory (map_none Err _ same)
-head_read (Err (error.Worn shard)) may same = error_read (error.Worn shard) (map_none Err _ same)
-head_read (Err (error.Moved shard first second)) may same = error_read (error.Moved shard first second) (map_none Err _ same)
-head_read (Err (error.Held shard revision)) may same = error_read (error.Held shard revision) (map_none Err _ same)
-head_read (Err error.GateShut) may same = error_read error.GateShut (map_none Err _ same)
-
--- a payload of which neither a number nor an error is read
-pub bad_head : (payload : List ℕ) → IsPayload payload → head_of payload ≡ None → BeginsNoReply FetchAll answer_frames (frame payload)
-bad_head payload good none rest a may sound same =
-    let first = frame_first (first_payload a) payload (frames_behind a) rest (first_is_payload a sound) good (sym (coded_first a) ∙ same) in
-    head_read a may (ap head_of first.0 ∙ none)
-
-module _ (count : ℕ) (fits : count < 2 ^ 64) where
-  abbrev head : List ℕ
-  head = 97 ∷ to_be_bytes w64 count
-
-  head_payload : IsPayload head
-  head_payload = (omega arith, omega arith)
-
+module _ (op : Op) (payload : List ℕ) (good : IsPayload payload) (count : ℕ) (begins : IsCountOfAll op payload count) where
   -- an answer that begins with the number has so many domains
-  all_listing : (a : Answer) (read : List ℕ) → MayAnswer FetchAll a → IsValidAnswer a → answer_frames a ≡ frame head ++ read
+  all_listing : (a : Answer) (read : List ℕ) → IsValidAnswer a → answer_frames a ≡ frame payload ++ read
       → (items : Domains) × AreValid items × Ascends None items × (length items ≡ count) × (flat_map item_frame items ≡ read)
-  all_listing (Ok Stored) read may sound same = absurd (other_code 115 [] refl may)
-  all_listing (Ok Unchanged) read may sound same = absurd (other_code 117 [] refl may)
-  all_listing (Ok (Appended sequence)) read may sound same = absurd (other_code 112 _ refl may)
-  all_listing (Ok Removed) read may sound same = absurd (other_code 100 [] refl may)
-  all_listing (Ok (Found bundle)) read may sound same = absurd (other_code 102 _ refl may)
-  all_listing (Ok (Refused why)) read may sound same = absurd (not_refused why may)
-  all_listing (Ok (All items)) read may sound same =
-      let own = first_payload (Ok (All items)) in
-      let first = frame_first own head (flat_map item_frame items) read (first_is_payload (Ok (All items)) sound) head_payload same in
-      let size : length items ≡ count = sym (from_be_bytes-to_be_bytes_8 (length items) sound.2) ∙ ap (λ p. from_be_bytes w64 (drop 1 p)) first.0 ∙ from_be_bytes-to_be_bytes_8 count fits in
-      (items, sound.0, sound.1, size, first.1)
-  all_listing (Err e) read may sound same =
-      let own = first_payload (Err e) in
-      let first = frame_first own head [] read (error_payload e) head_payload (append-nil (frame own) ∙ same) in
-      absurd (not_97 e (cons_head (error_number e) 97 (error_detail e) (to_be_bytes w64 count) first.0))
+  all_listing a read valid same =
+      let is = begins.only a read valid same in
+      let sound : IsValidAnswer (Ok (All is.0)) = subst IsValidAnswer is.1 valid in
+      let head : 97 ∷ to_be_bytes w64 (length is.0) ≡ payload = ap (λ n. 97 ∷ to_be_bytes w64 n) is.2 ∙ sym begins.is in
+      let first = frame_first payload payload (flat_map item_frame is.0) read good good (ap (λ p. frame p ++ flat_map item_frame is.0) (sym head) ∙ ap answer_frames (sym is.1) ∙ same) in
+      (is.0, sound.0, sound.1, is.2, first.1)
 
   pub all_breaks : (why : ClientError) (read : List ℕ) (left : Option (List ℕ)) → BreaksListing why count read left
-      → Breaks FetchAll answer_frames why (frame head ++ read) left
+      → Breaks op answer_frames why (frame payload ++ read) left
   all_breaks Truncated read left breaks =
-      (λ a may sound same. let l = all_listing a read may sound same in breaks.0 l.0 l.1 l.2 l.3 l.4, breaks.1)
-  all_breaks ReadFault read left breaks = λ a may sound same. let l = all_listing a read may sound same in breaks l.0 l.1 l.2 l.3 l.4
+      (λ a may sound same. let l = all_listing a read sound same in breaks.0 l.0 l.1 l.2 l.3 l.4, breaks.1)
+  all_breaks ReadFault read left breaks = λ a may sound same. let l = all_listing a read sound same in breaks l.0 l.1 l.2 l.3 l.4
   all_breaks BadReply read left breaks = λ rest a may sound same.
-      let l = all_listing a (read ++ rest) may sound (same ∙ append_assoc (frame head) read rest) in breaks rest l.0 l.1 l.2 l.3 l.4
+      let l = all_listing a (read ++ rest) sound (same ∙ append_assoc (frame payload) read rest) in breaks rest l.0 l.1 l.2 l.3 l.4
   all_breaks BadLength read left breaks = (
-    head ∷ breaks.0,
+    payload ∷ breaks.0,
     breaks.1,
     record {
-      whole = ap (λ r. frame head ++ r) breaks.2.whole ∙ sym (append_assoc (frame head) (flat_map frame breaks.0) breaks.1);
-      each = (head_payload, breaks.2.each);
+      whole = ap (λ r. frame payload ++ r) breaks.2.whole ∙ sym (append_assoc (frame payload) (flat_map frame breaks.0) breaks.1);
+      each = (good, breaks.2.each);
       ends = breaks.2.ends;
     },
     breaks.3,
   )
   all_breaks WriteFault read left breaks = absurd breaks
   all_breaks Memory read left breaks = tt
+
+  -- all bundles are read
+  pub is_all : (items : Domains) (left_old left_mid left_new : Option (List ℕ)) → AreValid items → Ascends None items → length items ≡ count
+      → Consumes left_old left_mid (frame payload) → Consumes left_mid left_new (flat_map item_frame items)
+      → MayAnswer op (Ok (All items)) × IsValidAnswer (Ok (All items)) × Consumes left_old left_new (answer_frames (Ok (All items)))
+  is_all items left_old left_mid left_new valid ascending size number frames = (
+    ap (is_code_for op) (first_code 97 (to_be_bytes w64 (length items)) (flat_map item_frame items)) ∙ begins.may,
+    (valid, ascending, omega (arith, size, begins.fits)),
+    subst (Consumes left_old left_new) (ap (λ p. frame p ++ flat_map item_frame items) (begins.is ∙ ap (λ n. 97 ∷ to_be_bytes w64 n) (sym size)))
+        (Consumes-trans left_old left_mid left_new (frame payload) (flat_map item_frame items) number frames),
+  )

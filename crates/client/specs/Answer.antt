@@ -1,4 +1,4 @@
--- What a payload of one frame tells, if it is the code of an answer.
+-- Answers, and which of them an operation may have.
 use Rattle.std.specs.Prelude.{◌≡◌, ◌<◌, ◌^◌, ℕ, length, Bool, true, ◌==◌, ◌||◌, None, Result, Ok}
 use Rattle.spiffe_doc.specs.Bundle.{IsBundle}
 use Rattle.map_core.specs.declared.op.Op.{Op}
@@ -39,5 +39,3 @@ abbrev pub IsValidAnswer : Answer → Type 0
 IsValidAnswer (Ok (Found bundle)) = IsBundle bundle
 IsValidAnswer (Ok (All items)) = AreValid items × Ascends None items × (length items < 2 ^ 64)
 IsValidAnswer answer = Unit {0}
-
--- ---- reading an answer

@@ -1,23 +1,21 @@
 //! A client: asks whoever serves the other end of a stream.
-ghost use Rattle.std.specs.Prelude.{◌≡◌, ◌⊎◌, ◌≤◌, ◌++◌, ◌∷◌, [], ◌≢◌, ℕ, List, true, false, None, length, Err, OnOk, IfOk, IfErr};
+ghost use Rattle.std.specs.Prelude.{◌≡◌, ◌≤◌, ◌++◌, ◌∷◌, [], ◌≢◌, ℕ, List, true, false, None, length, Err, OnOk, IfOk, IfErr};
 ghost use Rattle.std.specs.Io.KnownBytes.{Consumes};
 ghost use Rattle.frame_front.specs.Counted.{end_in, faults_in};
-ghost use Rattle.frame_front.specs.Frame.{IsPayload, frame};
 ghost use Rattle.client.specs.Reading.{CountsFault};
 ghost use Rattle.frame_front.specs.Reply.{answer_frames};
 ghost use Rattle.client.specs.Answer.{MayAnswer, IsValidAnswer};
 ghost use Rattle.client.specs.Private.Requests.{document_part};
-ghost use Rattle.client.specs.Client.{Asks, Breaks, BeginsNoReply, reply_preface, reply_bytes, Exchange, ends};
-ghost use Rattle.client.specs.Private.Exchanges.{is_of_one as has_one_frame};
+ghost use Rattle.client.specs.Client.{Asks, Breaks, reply_preface, reply_bytes, Exchange, ends};
 
 use crate::ClientError;
-use crate::answer::{is_code_for, read_answer};
-use crate::listing::read_all;
+use crate::answer::{First, judge_payload};
+use crate::listing::read_listing;
 use crate::reading::read_frame;
 use crate::request::{request_document, send_request};
 use frame_front::Counted;
 use frame_front::wire::MAX_PAYLOAD;
-use map_core::{Ask, AskError, Op, Reply};
+use map_core::{Ask, AskError, Op, Reply, Snapshot};
 use std::alloc::{AllocError, Global};
 use std::io::{Read, Write};
 use std::marker::Model;
@@ -132,35 +130,6 @@ fn room(alloc: Global, size: usize) -> Result<Vec<u8>, AllocError>
     vec![in alloc; 0; size]
 }
 
-/// Whether the reply to the operation is one frame.
-fn is_of_one(op: &Op) -> bool
-    ensures { result ≡ has_one_frame op.now }
-{
-    !matches!(op, Op::FetchAll)
-}
-
-/// The answer that the payload of a reply tells.
-fn judge_payload(
-    alloc: Global,
-    op: &Op,
-    payload: &[u8],
-) -> Result<Result<Reply, AskError>, ClientError>
-    requires of_one { has_one_frame op.now ≡ true }
-    requires payload { IsPayload payload.now }
-    ensures ok { IfOk result (λ answer. MayAnswer op.now answer × IsValidAnswer answer × (frame payload.now ≡ answer_frames answer)) }
-    ensures bad { result ≡ Err ClientError.BadReply → BeginsNoReply op.now answer_frames (frame payload.now) }
-    ensures why { IfErr result (λ why. (why ≡ ClientError.BadReply) ⊎ (why ≡ ClientError.Memory)) }
-{
-    if !is_code_for(op, payload[0]) {
-        return Err(ClientError::BadReply);
-    }
-    match read_answer(alloc, payload) {
-        Ok(Some(answer)) => Ok(answer),
-        Ok(None) => Err(ClientError::BadReply),
-        Err(_) => Err(ClientError::Memory),
-    }
-}
-
 /// Whether the payload is the reply that version 2 is set.
 fn is_version_two(payload: &[u8]) -> bool
     ensures yes { result ≡ true → payload.now ≡ 118 ∷ 2 ∷ [] }
@@ -195,14 +164,13 @@ fn read_preface<R: Read>(
     }
 }
 
-/// Reads the reply to the operation's own request, if it is one frame.
-fn read_one<R: Read>(
+/// Reads the reply to the operation's own request.
+fn read_own<R: Read>(
     alloc: Global,
     reader: &mut Counted<R>,
     buffer: &mut [u8],
     op: &Op,
 ) -> Result<Result<Reply, AskError>, ClientError>
-    requires of_one { has_one_frame op.now ≡ true }
     requires room { length buffer.old ≡ 1049000 }
     ensures len { length buffer.new ≡ length buffer.old }
     ensures ok { IfOk result (λ answer. MayAnswer op.now answer × IsValidAnswer answer
@@ -214,30 +182,13 @@ fn read_one<R: Read>(
     ensures counted { IfErr result (λ why. CountsFault why (faults_in reader.old) (faults_in reader.new)) }
 {
     let size = read_frame(reader, buffer)?;
-    judge_payload(alloc, op, &buffer[..size])
-}
-
-/// Reads the reply to the operation's own request.
-fn read_and_count<R: Read>(
-    alloc: Global,
-    reader: &mut Counted<R>,
-    buffer: &mut [u8],
-    op: &Op,
-) -> Result<Result<Reply, AskError>, ClientError>
-    requires room { length buffer.old ≡ 1049000 }
-    ensures len { length buffer.new ≡ length buffer.old }
-    ensures ok { IfOk result (λ answer. MayAnswer op.now answer × IsValidAnswer answer
-        × Consumes (R.remaining (end_in reader.old)) (R.remaining (end_in reader.new)) (answer_frames answer)) }
-    ensures quiet { OnOk result (faults_in reader.new ≡ faults_in reader.old) }
-    ensures err { IfErr result (λ why. (read : List ℕ)
-        × Consumes (R.remaining (end_in reader.old)) (R.remaining (end_in reader.new)) read
-        × Breaks op.now answer_frames why read (R.remaining (end_in reader.new))) }
-    ensures counted { IfErr result (λ why. CountsFault why (faults_in reader.old) (faults_in reader.new)) }
-{
-    if is_of_one(op) {
-        read_one(alloc, reader, buffer, op)
-    } else {
-        read_all(alloc, reader, buffer)
+    match judge_payload(alloc, op, &buffer[..size])? {
+        First::Reply(reply) => Ok(Ok(reply)),
+        First::Error(error) => Ok(Err(error)),
+        First::Count(count) => {
+            let items = read_listing(alloc, reader, buffer, count)?;
+            Ok(Ok(Reply::All(Snapshot::from_pairs(items))))
+        }
     }
 }
 
@@ -259,7 +210,7 @@ fn read_reply<R: Read>(
     ensures counted { IfErr result (λ why. CountsFault why (faults_in reader.old) (faults_in reader.new)) }
 {
     read_preface(reader, buffer, op)?;
-    read_and_count(alloc, reader, buffer, op)
+    read_own(alloc, reader, buffer, op)
 }
 
 /// Writes the request for an operation, which ends with the document, and reads the reply.

@@ -1,50 +1,28 @@
 //! All bundles, as a client reads them: their number, and then a frame for each domain.
-ghost use Rattle.std.specs.Prelude.{◌≡◌, ◌≢◌, ◌<◌, ◌≤◌, ◌^◌, ◌∷◌, ◌++◌, ℕ, List, None, true, false, length, take, OnOk, IfOk, IfErr, IfSome, IfNone, bytes_eq};
+ghost use Rattle.std.specs.Prelude.{◌≡◌, ◌≢◌, ◌≤◌, ◌∷◌, ◌++◌, ℕ, List, None, true, false, length, take, OnOk, IfOk, IfErr, IfSome, IfNone, bytes_eq};
 ghost use Rattle.std.specs.List.{flat_map};
-ghost use Rattle.std.specs.Int.{w64, to_be_bytes};
 ghost use Rattle.std.specs.Io.KnownBytes.{Consumes};
 ghost use Rattle.spiffe_doc.specs.Authority.{BundleValue};
 ghost use Rattle.spiffe_doc.specs.Bundle.{IsBundle};
 ghost use Rattle.spiffe_doc.specs.Name.{IsName};
 ghost use Rattle.spiffe_doc.specs.Text.{text_of};
 ghost use Rattle.map_core.specs.Name.{Name};
-ghost use Rattle.map_core.specs.Reply.{error_number};
-ghost use Rattle.map_core.specs.declared.op.Op.TheVariants.{FetchAll};
 ghost use Rattle.frame_front.specs.Counted.{end_in, faults_in};
 ghost use Rattle.frame_front.specs.Frame.{frame};
 ghost use Rattle.client.specs.Reading.{CountsFault};
-ghost use Rattle.frame_front.specs.Reply.{answer_frames, error_detail, item_frame};
+ghost use Rattle.frame_front.specs.Reply.{item_frame};
 ghost use Rattle.frame_front.specs.Dump.{AreValid};
 ghost use Rattle.map_core.specs.Laws.{IsAfter, Ascends};
-ghost use Rattle.client.specs.Answer.{MayAnswer, IsValidAnswer};
-ghost use Rattle.client.specs.Client.{Breaks};
-ghost use Rattle.client.specs.Private.Listing.{head_of, BreaksListing};
+ghost use Rattle.client.specs.Private.Listing.{BreaksListing};
 
 use crate::ClientError;
-use crate::answer::{read_error, read_number};
 use crate::reading::read_frame;
 use arrayvec::ArrayVec;
 use frame_front::Counted;
 use frame_front::wire::{ITEM_HEAD_BYTES, canonical_text, is_after, read_item};
-use map_core::{AskError, Reply, Snapshot};
 use spiffe_doc::{Bundle, TrustDomain};
 use std::alloc::{AllocError, Global};
 use std::io::Read;
-
-/// The number of domains that a payload tells, or an error of whoever was asked.
-#[tactic(auto, unfolding(crate::specs::Private::Listing::head_of))]
-fn read_head(payload: &[u8]) -> Option<Result<u64, AskError>>
-    ensures value { result ≡ head_of payload.now }
-    ensures count { IfSome result (λ head. IfOk head (λ count. (payload.now ≡ 97 ∷ to_be_bytes w64 count) × (count < 2 ^ 64))) }
-    ensures error { IfSome result (λ head. IfErr head (λ error. payload.now ≡ error_number error ∷ error_detail error)) }
-{
-    let (code, bytes) = payload.split_first()?;
-    if *code == b'a' {
-        Some(Ok(read_number(bytes)?))
-    } else {
-        Some(Err(read_error(*code, bytes)?))
-    }
-}
 
 /// Whether the bytes are the first and then the others.
 fn is_joined(bytes: &[u8], first: &[u8], others: &[u8]) -> bool
@@ -96,7 +74,7 @@ fn read_listed(
 }
 
 /// Reads so many domains.
-fn read_listing<R: Read>(
+pub(crate) fn read_listing<R: Read>(
     alloc: Global,
     reader: &mut Counted<R>,
     buffer: &mut [u8],
@@ -133,31 +111,4 @@ fn read_listing<R: Read>(
         place += 1;
     }
     Ok(items)
-}
-
-/// Reads the reply to a fetch-all.
-pub(crate) fn read_all<R: Read>(
-    alloc: Global,
-    reader: &mut Counted<R>,
-    buffer: &mut [u8],
-) -> Result<Result<Reply, AskError>, ClientError>
-    requires room { length buffer.old ≡ 1049000 }
-    ensures len { length buffer.new ≡ length buffer.old }
-    ensures ok { IfOk result (λ answer. MayAnswer FetchAll answer × IsValidAnswer answer
-        × Consumes (R.remaining (end_in reader.old)) (R.remaining (end_in reader.new)) (answer_frames answer)) }
-    ensures quiet { OnOk result (faults_in reader.new ≡ faults_in reader.old) }
-    ensures err { IfErr result (λ why. (read : List ℕ)
-        × Consumes (R.remaining (end_in reader.old)) (R.remaining (end_in reader.new)) read
-        × Breaks FetchAll answer_frames why read (R.remaining (end_in reader.new))) }
-    ensures counted { IfErr result (λ why. CountsFault why (faults_in reader.old) (faults_in reader.new)) }
-{
-    let size = read_frame(reader, buffer)?;
-    match read_head(&buffer[..size]) {
-        Some(Ok(count)) => {
-            let items = read_listing(alloc, reader, buffer, count)?;
-            Ok(Ok(Reply::All(Snapshot::from_pairs(items))))
-        }
-        Some(Err(error)) => Ok(Err(error)),
-        None => Err(ClientError::BadReply),
-    }
 }

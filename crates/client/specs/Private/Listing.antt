@@ -1,20 +1,13 @@
 -- The frames of all bundles, as a client reads them: one for each domain, in order of their names.
-use Rattle.std.specs.Prelude.{◌≡◌, ◌≢◌, ℕ, List, [], ◌∷◌, ◌++◌, length, ◌==◌, if◌then◌else◌, Option, None, option_map, Result, Ok, Err}
+use Rattle.std.specs.Prelude.{◌≡◌, ◌≢◌, ℕ, List, ◌++◌, length, Option, None}
 use Rattle.std.specs.List.{flat_map}
 use Rattle.std.specs.Io.KnownBytes.{IsAtEnd}
-use Rattle.map_core.specs.declared.reply.AskError.{AskError}
 use Rattle.frame_front.specs.Frame.{HasFrames, IsBadLength}
 use Rattle.frame_front.specs.Reply.{item_frame}
 use Rattle.frame_front.specs.Dump.{Domains, AreValid}
 use Rattle.map_core.specs.Laws.{Ascends}
-use Rattle.client.specs.Private.Payloads.{number_of, error_of}
 use Rattle.client.specs.declared.client_error.ClientError.{ClientError}
 use Rattle.client.specs.declared.client_error.ClientError.TheVariants.{Memory, BadLength, BadReply, Truncated, ReadFault, WriteFault}
-
--- the number of domains, or an error
-unfoldable pub head_of : List ℕ → Option (Result ℕ AskError)
-head_of [] = None
-head_of (code ∷ bytes) = if code == 97 then option_map Ok (number_of bytes) else option_map Err (error_of code bytes)
 
 -- no so many valid domains, in order of their names, are coded so
 abbrev pub NoListing : ℕ → List ℕ → Type 0

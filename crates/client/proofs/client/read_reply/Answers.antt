@@ -8,6 +8,6 @@ use Rattle.client.proofs.client.read_reply.Goals as goal
 pub returns-clause-err : goal.returns-clause-err
 returns-clause-err g c =
     let op = c.args.op.now in
-    IfErr-weaker c.read_and_count.result _ _
+    IfErr-weaker c.read_own.result _ _
     (λ why cut. (reply_preface op ++ cut.0, Consumes-trans _ _ _ (reply_preface op) cut.0 c.in_ok-read_preface.ensures.ok cut.1, breaks_behind op why cut.0 _ cut.2))
-    c.read_and_count.ensures.err
+    c.read_own.ensures.err
