@@ -71,9 +71,9 @@ module _ (gives : Gives) (how : Asking) (old : Ends) (lines from to out : Option
   -- ---- an exchange that breaks off
 
   ends_broken : (fault : AskFault) (request : List ℕ) (lines_new from_new to_new out_new : Option (List ℕ)) (breaks : BreaksOne how fault request from from_new to to_new out out_new) → BecomesNext gives state.kept request
-      → EndsAsking gives how (Err fault) so.items state.kept breaks.out_asked breaks.out_told breaks.out_shown (ends lines_new from_new to_new out_new)
-  ends_broken (Server why) request lines_new from_new to_new out_new breaks next = (request, next, breaks.broken)
-  ends_broken (Front front.WriteFault) request lines_new from_new to_new out_new breaks next = (request, next, breaks.broken)
+      → EndsAsking gives how (Err fault) so.items state.kept breaks.out_asked breaks.out_told breaks.out_shown (ends lines_new from_new to_new out_new) × UsesTurns (Err fault) (length so.items + length (lines_of so.items ++ state.kept))
+  ends_broken (Server why) request lines_new from_new to_new out_new breaks next = ((request, next, breaks.broken), tt)
+  ends_broken (Front front.WriteFault) request lines_new from_new to_new out_new breaks next = ((request, next, breaks.broken), tt)
   ends_broken (Front front.ReadFault) request lines_new from_new to_new out_new breaks next = absurd breaks.broken.why
   ends_broken (Front front.Memory) request lines_new from_new to_new out_new breaks next = absurd breaks.broken.why
   ends_broken (Front front.BadLength) request lines_new from_new to_new out_new breaks next = absurd breaks.broken.why
@@ -82,32 +82,24 @@ module _ (gives : Gives) (how : Asking) (old : Ends) (lines from to out : Option
   ends_broken (BadLine n) request lines_new from_new to_new out_new breaks next = absurd breaks.broken.why
   ends_broken (Unreadable n) request lines_new from_new to_new out_new breaks next = absurd breaks.broken.why
 
-  uses_broken : (fault : AskFault) (request : List ℕ) (from_new to_new out_new : Option (List ℕ)) (breaks : BreaksOne how fault request from from_new to to_new out out_new) → UsesTurns (Err fault) (length so.items + length (lines_of so.items ++ state.kept))
-  uses_broken (Server why) request from_new to_new out_new breaks = tt
-  uses_broken (Front front.WriteFault) request from_new to_new out_new breaks = tt
-  uses_broken (Front front.ReadFault) request from_new to_new out_new breaks = tt
-  uses_broken (Front front.Memory) request from_new to_new out_new breaks = tt
-  uses_broken (Front front.BadLength) request from_new to_new out_new breaks = tt
-  uses_broken (Front front.Truncated) request from_new to_new out_new breaks = tt
-  uses_broken (Front front.TurnsUsed) request from_new to_new out_new breaks = absurd breaks.broken.why
-  uses_broken (BadLine n) request from_new to_new out_new breaks = tt
-  uses_broken (Unreadable n) request from_new to_new out_new breaks = tt
-
-  pub is_broken : (fault : AskFault) (request : List ℕ) (from_new to_new out_new : Option (List ℕ)) → BreaksOne how fault request from from_new to to_new out out_new → BecomesNext gives state.kept request → AsksLines gives how (Err fault) old (ends lines from_new to_new out_new)
-  is_broken fault request from_new to_new out_new breaks next = record {
-    items = so.items;
-    rest = state.kept;
-    more_asked = breaks.out_asked;
-    more_told = breaks.out_told;
-    more_shown = breaks.out_shown;
-    each = so.each;
-    reads = so.reads;
-    asks = Appends-trans old.to to to_new (asked so.items) breaks.out_asked so.asks breaks.asks;
-    tells = Consumes-trans old.from from from_new (told so.items) breaks.out_told so.tells breaks.tells;
-    shows = Appends-trans old.out out out_new (all_shown how.form so.items) breaks.out_shown so.shows breaks.shows;
-    ends_so = ends_broken fault request lines from_new to_new out_new breaks next;
-    used = uses_broken fault request from_new to_new out_new breaks;
-  }
+  -- an exchange breaks off, of the lines that were read up to here
+  is_broken : (fault : AskFault) (request : List ℕ) (lines_new from_new to_new out_new : Option (List ℕ)) → Consumes old.lines lines_new (lines_of so.items ++ state.kept) → BreaksOne how fault request from from_new to to_new out out_new → BecomesNext gives state.kept request → AsksLines gives how (Err fault) old (ends lines_new from_new to_new out_new)
+  is_broken fault request lines_new from_new to_new out_new reads breaks next =
+      let why = ends_broken fault request lines_new from_new to_new out_new breaks next in
+      record {
+        items = so.items;
+        rest = state.kept;
+        more_asked = breaks.out_asked;
+        more_told = breaks.out_told;
+        more_shown = breaks.out_shown;
+        each = so.each;
+        reads = reads;
+        asks = Appends-trans old.to to to_new (asked so.items) breaks.out_asked so.asks breaks.asks;
+        tells = Consumes-trans old.from from from_new (told so.items) breaks.out_told so.tells breaks.tells;
+        shows = Appends-trans old.out out out_new (all_shown how.form so.items) breaks.out_shown so.shows breaks.shows;
+        ends_so = why.0;
+        used = why.1;
+      }
 
   -- ---- nothing more is asked
 
@@ -210,20 +202,7 @@ module _ (gives : Gives) (how : Asking) (old : Ends) (lines from to out : Option
         }
 
     last_broken : (fault : AskFault) (request : List ℕ) → Becomes gives (state.kept, request) → BreaksOne how fault request from from_new to to_new out out_new → AsksLines gives how (Err fault) old (ends lines_new from_new to_new out_new)
-    last_broken fault request becomes breaks = record {
-      items = so.items;
-      rest = state.kept;
-      more_asked = breaks.out_asked;
-      more_told = breaks.out_told;
-      more_shown = breaks.out_shown;
-      each = so.each;
-      reads = at_last;
-      asks = Appends-trans old.to to to_new (asked so.items) breaks.out_asked so.asks breaks.asks;
-      tells = Consumes-trans old.from from from_new (told so.items) breaks.out_told so.tells breaks.tells;
-      shows = Appends-trans old.out out out_new (all_shown how.form so.items) breaks.out_shown so.shows breaks.shows;
-      ends_so = ends_broken fault request lines_new from_new to_new out_new breaks (inr (becomes_frame gives state.kept request becomes breaks.some).1);
-      used = uses_broken fault request from_new to_new out_new breaks;
-    }
+    last_broken fault request becomes breaks = is_broken fault request lines_new from_new to_new out_new at_last breaks (inr (becomes_frame gives state.kept request becomes breaks.some).1)
 
     last_silent : (fault : AskFault) → IsSilent from from_new to to_new out out_new → EndsAsking gives how (Err fault) so.items state.kept [] [] [] (ends lines_new from_new to_new out_new) → UsesTurns (Err fault) (length so.items + length (lines_of so.items ++ state.kept)) → AsksLines gives how (Err fault) old (ends lines_new from_new to_new out_new)
     last_silent fault same ends_so used = record {
@@ -274,4 +253,4 @@ module _ (gives : Gives) (how : Asking) (old : Ends) (lines from to out : Option
 
     pub breaks_off : (fault : AskFault) (from_new to_new out_new : Option (List ℕ)) → BreaksOne how fault request from from_new to to_new out out_new → AsksLines gives how (Err fault) old (ends lines from_new to_new out_new)
     breaks_off fault from_new to_new out_new breaks =
-        is_broken fault request from_new to_new out_new breaks (inl (encodes.0, next.kept, encodes.1, encodes.2.0, (becomes_frame gives encodes.0 request encodes.2.1 breaks.some).1))
+        is_broken fault request lines from_new to_new out_new so.reads breaks (inl (encodes.0, next.kept, encodes.1, encodes.2.0, (becomes_frame gives encodes.0 request encodes.2.1 breaks.some).1))

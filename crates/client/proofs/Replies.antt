@@ -9,9 +9,10 @@ use Rattle.frame_front.specs.declared.error.FrontError.TheVariants as front
 use Rattle.client.specs.Reading.{NoFrame}
 use Rattle.client.specs.declared.client_error.ClientError.{ClientError}
 use Rattle.client.specs.declared.client_error.ClientError.TheVariants as client
-use Rattle.frame_lines.specs.ReplyForm.{Reply, payload_of}
+use Rattle.frame_lines.specs.ReplyForm.{Reply, HasPayload, payload_of}
+use Rattle.client.specs.Asking.{BreaksOff, IsDue, IsNoReply}
 use Rattle.client.specs.Replies.{IsTold, reply_frames, shown}
-use Rattle.client.specs.Private.Steps.{Shows, NotShown, OthersSoFar, BreaksAmong, BreaksOthers}
+use Rattle.client.specs.Private.Steps.{Shows, NotShown, OthersSoFar, BreaksOthers}
 use Rattle.client.specs.declared.asking.Form.{Form}
 use Rattle.client.specs.declared.fault.AskFault.{AskFault}
 use Rattle.client.specs.declared.fault.AskFault.TheVariants.{BadLine, Unreadable, Server, Front}
@@ -45,26 +46,36 @@ adds_nothing (Some xs) (Some ys) keeps = keeps ∙ sym (append-nil xs)
 pub then_kept : (old mid new : Option (List ℕ)) (bytes : List ℕ) → Appends old mid bytes → Keeps mid new → Appends old new bytes
 then_kept old mid new bytes appends keeps = subst (Appends old new) (append-nil bytes) (Appends-trans old mid new bytes [] appends (adds_nothing mid new keeps))
 
+-- ---- payloads that are no reply's
+
+-- no other reply has its payload
+abbrev pub IsOnly : Reply → Type 0
+IsOnly reply = (wanted : Reply) → HasPayload wanted → payload_of reply ≡ payload_of wanted → reply ≡ wanted
+
+-- a reply that may not come there
+pub no_other : (form : Form) (later : Bool) (reply : Reply) → IsPayload (payload_of reply) → IsOnly reply → (IsTold form later reply → ⊥) → IsNoReply form later (payload_of reply)
+no_other form later reply good only none = (good, λ other same told. none (subst (IsTold form later) (sym (only other told.0 same)) told))
+
 -- ---- bundles
 
 pub begins : (form : Form) (from out : Option (List ℕ)) → OthersSoFar form 0 from from out out
 begins form from out = record { others = []; long = refl; each = tt; tells = Consumes-nil from; shows = Appends-nil out }
 
--- no frame is read where a bundle is due
-no_frame : (form : Form) (error : ClientError) (count : ℕ) (others : List Reply) (torn : List ℕ) (left : Option (List ℕ)) → length others < count → NoFrame error torn left → BreaksAmong form (Server error) count others torn [] left
-no_frame form client.Memory count others torn left due none = (due, refl, none)
-no_frame form client.BadLength count others torn left due none = (due, refl, none)
-no_frame form client.BadReply count others torn left due none = absurd none
-no_frame form client.Truncated count others torn left due none = (due, refl, none)
-no_frame form client.ReadFault count others torn left due none = (due, refl, none)
-no_frame form client.WriteFault count others torn left due none = (due, refl, none)
+-- no frame is read where a reply is due
+no_frame : (form : Form) (error : ClientError) (replies : List Reply) (torn : List ℕ) (left : Option (List ℕ)) → IsDue replies → NoFrame error torn left → BreaksOff form (Server error) replies torn [] [] left
+no_frame form client.Memory replies torn left due none = (due, refl, refl, none)
+no_frame form client.BadLength replies torn left due none = (due, refl, refl, none)
+no_frame form client.BadReply replies torn left due none = absurd none
+no_frame form client.Truncated replies torn left due none = (due, refl, refl, none)
+no_frame form client.ReadFault replies torn left due none = (due, refl, refl, none)
+no_frame form client.WriteFault replies torn left due none = absurd none
 
 module _ (form : Form) (count all : ℕ) (due : count < all) (from_old from_mid out_old out_mid : Option (List ℕ)) (so : OthersSoFar form count from_old from_mid out_old out_mid) where
   -- the frame of a reply is read
-  reads : (payload : List ℕ) (from_new : Option (List ℕ)) (reply : Reply) → payload ≡ payload_of reply → Consumes from_mid from_new (frame payload) → Consumes from_old from_new (reply_frames (so.others ++ reply ∷ []))
-  reads payload from_new reply is came =
-      subst (Consumes from_old from_new) (ap (λ p. reply_frames so.others ++ frame p) is ∙ ap (λ f. reply_frames so.others ++ f) (sym (frames_one reply)) ∙ sym (frames_append so.others (reply ∷ [])))
-      (Consumes-trans from_old from_mid from_new (reply_frames so.others) (frame payload) so.tells came)
+  reads : (from_new : Option (List ℕ)) (reply : Reply) → Consumes from_mid from_new (frame (payload_of reply)) → Consumes from_old from_new (reply_frames (so.others ++ reply ∷ []))
+  reads from_new reply came =
+      subst (Consumes from_old from_new) (ap (λ f. reply_frames so.others ++ f) (sym (frames_one reply)) ∙ sym (frames_append so.others (reply ∷ [])))
+      (Consumes-trans from_old from_mid from_new (reply_frames so.others) (frame (payload_of reply)) so.tells came)
 
   -- so many, of which one more is due
   few : length so.others ≤ all
@@ -73,14 +84,14 @@ module _ (form : Form) (count all : ℕ) (due : count < all) (from_old from_mid 
   more_due : length so.others < all
   more_due = omega (arith, so.long, due)
 
-  pub goes_on : (payload : List ℕ) (from_new out_new : Option (List ℕ)) (refused : Bool) (bundles : ℕ) → Consumes from_mid from_new (frame payload) → Shows form true payload refused bundles out_mid out_new → OthersSoFar form (count + 1) from_old from_new out_old out_new
-  goes_on payload from_new out_new refused bundles came shows = record {
-    others = so.others ++ shows.reply ∷ [];
-    long = length-append so.others (shows.reply ∷ []) ∙ ap (λ n. n + 1) so.long;
-    each = each_append (IsTold form true) so.others (shows.reply ∷ []) so.each (shows.told, tt);
-    tells = reads payload from_new shows.reply shows.is came;
-    shows = subst (Appends out_old out_new) (ap (λ s. flat_map (shown form) so.others ++ s) (sym (shown_one form shows.reply)) ∙ sym (shown_append form so.others (shows.reply ∷ [])))
-        (Appends-trans out_old out_mid out_new (flat_map (shown form) so.others) (shown form shows.reply) so.shows shows.shows);
+  pub goes_on : (reply : Reply) (from_new out_new : Option (List ℕ)) (refused : Bool) (bundles : ℕ) → Consumes from_mid from_new (frame (payload_of reply)) → Shows form true reply refused bundles out_mid out_new → OthersSoFar form (count + 1) from_old from_new out_old out_new
+  goes_on reply from_new out_new refused bundles came shows = record {
+    others = so.others ++ reply ∷ [];
+    long = length-append so.others (reply ∷ []) ∙ ap (λ n. n + 1) so.long;
+    each = each_append (IsTold form true) so.others (reply ∷ []) so.each (shows.told, tt);
+    tells = reads from_new reply came;
+    shows = subst (Appends out_old out_new) (ap (λ s. flat_map (shown form) so.others ++ s) (sym (shown_one form reply)) ∙ sym (shown_append form so.others (reply ∷ [])))
+        (Appends-trans out_old out_mid out_new (flat_map (shown form) so.others) (shown form reply) so.shows shows.shows);
   }
 
   pub torn_off : (error : ClientError) (torn : List ℕ) (from_new : Option (List ℕ)) → Consumes from_mid from_new torn → NoFrame error torn from_new → BreaksOthers form (Server error) all from_old from_new out_old out_mid
@@ -94,11 +105,12 @@ module _ (form : Form) (count all : ℕ) (due : count < all) (from_old from_mid 
     split = sym (append-nil (flat_map (shown form) so.others));
     tells = Consumes-trans from_old from_mid from_new (reply_frames so.others) torn so.tells came;
     shows = so.shows;
-    why = no_frame form error all so.others torn from_new more_due none;
+    why = λ first is. no_frame form error (first ∷ so.others) torn from_new (omega (arith, more_due, is)) none;
   }
 
-  pub not_shown : (payload : List ℕ) (from_new out_new : Option (List ℕ)) (fault : AskFault) → IsPayload payload → Consumes from_mid from_new (frame payload) → NotShown form true payload fault out_mid out_new → BreaksOthers form fault all from_old from_new out_old out_new
-  not_shown payload from_new out_new (Server client.BadReply) good came none = record {
+  -- no reply that may come there
+  pub bad_reply : (payload : List ℕ) (from_new : Option (List ℕ)) → Consumes from_mid from_new (frame payload) → IsNoReply form true payload → BreaksOthers form (Server client.BadReply) all from_old from_new out_old out_mid
+  bad_reply payload from_new came none = record {
     others = so.others;
     torn = frame payload;
     showed = flat_map (shown form) so.others;
@@ -107,30 +119,33 @@ module _ (form : Form) (count all : ℕ) (due : count < all) (from_old from_mid 
     each = so.each;
     split = sym (append-nil (flat_map (shown form) so.others));
     tells = Consumes-trans from_old from_mid from_new (reply_frames so.others) (frame payload) so.tells came;
-    shows = subst (λ o. Appends out_old o (flat_map (shown form) so.others)) (sym none.0) so.shows;
-    why = (more_due, refl, payload, refl, (good, none.1));
+    shows = so.shows;
+    why = λ first is. (omega (arith, more_due, is), refl, refl, payload, refl, none);
   }
-  not_shown payload from_new out_new (Front front.WriteFault) good came none = record {
-    others = so.others ++ none.0 ∷ [];
+
+  pub not_shown : (reply : Reply) (from_new out_new : Option (List ℕ)) (fault : AskFault) → IsPayload (payload_of reply) → IsOnly reply → Consumes from_mid from_new (frame (payload_of reply)) → NotShown form true reply fault out_mid out_new → BreaksOthers form fault all from_old from_new out_old out_new
+  not_shown reply from_new out_new (Server client.BadReply) good only came none = rw none.0 (bad_reply (payload_of reply) from_new came (no_other form true reply good only none.1))
+  not_shown reply from_new out_new (Front front.WriteFault) good only came none = record {
+    others = so.others ++ reply ∷ [];
     torn = [];
-    showed = flat_map (shown form) so.others ++ none.3.front;
-    hidden = none.3.missing;
-    few = omega (arith, more_due, length-append so.others (none.0 ∷ []));
-    each = each_append (IsTold form true) so.others (none.0 ∷ []) so.each (none.2, tt);
-    split = shown_append form so.others (none.0 ∷ []) ∙ ap (λ s. flat_map (shown form) so.others ++ s) (shown_one form none.0 ∙ none.3.split) ∙ sym (append_assoc (flat_map (shown form) so.others) none.3.front none.3.missing);
-    tells = subst (Consumes from_old from_new) (sym (append-nil (reply_frames (so.others ++ none.0 ∷ [])))) (reads payload from_new none.0 none.1 came);
-    shows = Appends-trans out_old out_mid out_new (flat_map (shown form) so.others) none.3.front so.shows none.3.appends;
-    why = ((so.others, none.0, none.3.front, refl, none.3.split), refl);
+    showed = flat_map (shown form) so.others ++ none.1.front;
+    hidden = none.1.missing;
+    few = omega (arith, more_due, length-append so.others (reply ∷ []));
+    each = each_append (IsTold form true) so.others (reply ∷ []) so.each (none.0, tt);
+    split = shown_append form so.others (reply ∷ []) ∙ ap (λ s. flat_map (shown form) so.others ++ s) (shown_one form reply ∙ none.1.split) ∙ sym (append_assoc (flat_map (shown form) so.others) none.1.front none.1.missing);
+    tells = subst (Consumes from_old from_new) (sym (append-nil (reply_frames (so.others ++ reply ∷ [])))) (reads from_new reply came);
+    shows = Appends-trans out_old out_mid out_new (flat_map (shown form) so.others) none.1.front so.shows none.1.appends;
+    why = λ first is. ((first ∷ so.others, reply, none.1.front, refl, none.1.split), refl, refl);
   }
-  not_shown payload from_new out_new (Server client.Memory) good came none = absurd none
-  not_shown payload from_new out_new (Server client.BadLength) good came none = absurd none
-  not_shown payload from_new out_new (Server client.Truncated) good came none = absurd none
-  not_shown payload from_new out_new (Server client.ReadFault) good came none = absurd none
-  not_shown payload from_new out_new (Server client.WriteFault) good came none = absurd none
-  not_shown payload from_new out_new (Front front.ReadFault) good came none = absurd none
-  not_shown payload from_new out_new (Front front.Memory) good came none = absurd none
-  not_shown payload from_new out_new (Front front.BadLength) good came none = absurd none
-  not_shown payload from_new out_new (Front front.Truncated) good came none = absurd none
-  not_shown payload from_new out_new (Front front.TurnsUsed) good came none = absurd none
-  not_shown payload from_new out_new (BadLine n) good came none = absurd none
-  not_shown payload from_new out_new (Unreadable n) good came none = absurd none
+  not_shown reply from_new out_new (Server client.Memory) good only came none = absurd none
+  not_shown reply from_new out_new (Server client.BadLength) good only came none = absurd none
+  not_shown reply from_new out_new (Server client.Truncated) good only came none = absurd none
+  not_shown reply from_new out_new (Server client.ReadFault) good only came none = absurd none
+  not_shown reply from_new out_new (Server client.WriteFault) good only came none = absurd none
+  not_shown reply from_new out_new (Front front.ReadFault) good only came none = absurd none
+  not_shown reply from_new out_new (Front front.Memory) good only came none = absurd none
+  not_shown reply from_new out_new (Front front.BadLength) good only came none = absurd none
+  not_shown reply from_new out_new (Front front.Truncated) good only came none = absurd none
+  not_shown reply from_new out_new (Front front.TurnsUsed) good only came none = absurd none
+  not_shown reply from_new out_new (BadLine n) good only came none = absurd none
+  not_shown reply from_new out_new (Unreadable n) good only came none = absurd none

@@ -9,11 +9,11 @@ use Rattle.frame_front.specs.Output.{WritesFront}
 use Rattle.client.specs.Reading.{NoFrame}
 use Rattle.client.specs.declared.client_error.ClientError.{ClientError}
 use Rattle.client.specs.declared.client_error.ClientError.TheVariants as client
-use Rattle.frame_lines.specs.ReplyForm.{Reply, HasPayload, payload_of}
+use Rattle.frame_lines.specs.ReplyForm.{Reply, payload_of}
 use Rattle.client.specs.Asking.{IsTransient, NotGreeted, greeting}
 use Rattle.client.specs.declared.fault.AskFault.TheVariants.{Server}
 use Rattle.client.specs.Replies.{is_transient, reply_frames}
-use Rattle.client.specs.Private.Steps.{AsksUntilTold, TriesSoFar, FailsAsking, BreaksAsking, FailsOnce, IsWhole, NotGreetedBy}
+use Rattle.client.specs.Private.Steps.{AsksUntilTold, TriesSoFar, FailsAsking, FailsOnce, IsWhole, NotGreetedBy}
 use Rattle.client.proofs.Replies.{each_append, frames_append, frames_one}
 
 pub asked_append : (request : List ℕ) (xs ys : List Reply) → flat_map (λ (reply : Reply). request) (xs ++ ys) ≡ flat_map (λ (reply : Reply). request) xs ++ flat_map (λ (reply : Reply). request) ys
@@ -62,48 +62,31 @@ begins retries request from to = record { transient = []; each = tt; count = ome
 
 module _ (retries left : ℕ) (request : List ℕ) (from_old from_mid to_old to_mid : Option (List ℕ)) (so : TriesSoFar retries left request from_old from_mid to_old to_mid) (from_new to_new : Option (List ℕ)) where
   -- one try more, to which a reply came after which it is asked again
-  pub goes_on : (payload : List ℕ) → Appends to_mid to_new request → Consumes from_mid from_new (frame payload) → (reply : Reply) × HasPayload reply × (payload ≡ payload_of reply) × (is_transient reply ≡ true) → 1 ≤ left → TriesSoFar retries (left - 1) request from_old from_new to_old to_new
-  goes_on payload asks came again some = record {
-    transient = so.transient ++ again.0 ∷ [];
-    each = each_append IsTransient so.transient (again.0 ∷ []) so.each (again.3, tt);
-    count = omega (arith, so.count, some, length-append so.transient (again.0 ∷ []));
-    asks = subst (Appends to_old to_new) (ap (λ r. flat_map (λ (reply : Reply). request) so.transient ++ r) (sym (append-nil request)) ∙ sym (asked_append request so.transient (again.0 ∷ [])))
+  pub goes_on : (reply : Reply) → Appends to_mid to_new request → Consumes from_mid from_new (frame (payload_of reply)) → is_transient reply ≡ true → 1 ≤ left → TriesSoFar retries (left - 1) request from_old from_new to_old to_new
+  goes_on reply asks came again some = record {
+    transient = so.transient ++ reply ∷ [];
+    each = each_append IsTransient so.transient (reply ∷ []) so.each (again, tt);
+    count = omega (arith, so.count, some, length-append so.transient (reply ∷ []));
+    asks = subst (Appends to_old to_new) (ap (λ r. flat_map (λ (reply : Reply). request) so.transient ++ r) (sym (append-nil request)) ∙ sym (asked_append request so.transient (reply ∷ [])))
         (Appends-trans to_old to_mid to_new (flat_map (λ (reply : Reply). request) so.transient) request so.asks asks);
-    tells = subst (Consumes from_old from_new) (ap (λ p. reply_frames so.transient ++ frame p) again.2 ∙ ap (λ f. reply_frames so.transient ++ f) (sym (frames_one again.0)) ∙ sym (frames_append so.transient (again.0 ∷ [])))
-        (Consumes-trans from_old from_mid from_new (reply_frames so.transient) (frame payload) so.tells came);
+    tells = subst (Consumes from_old from_new) (ap (λ f. reply_frames so.transient ++ f) (sym (frames_one reply)) ∙ sym (frames_append so.transient (reply ∷ [])))
+        (Consumes-trans from_old from_mid from_new (reply_frames so.transient) (frame (payload_of reply)) so.tells came);
   }
 
   -- the last try
-  pub told_so : (payload : List ℕ) → Appends to_mid to_new request → Consumes from_mid from_new (frame payload) → ((reply : Reply) → HasPayload reply → payload ≡ payload_of reply → is_transient reply ≡ true → left ≡ 0) → AsksUntilTold retries request payload from_old from_new to_old to_new
-  told_so payload asks came last = record {
+  pub told_so : (reply : Reply) → Appends to_mid to_new request → Consumes from_mid from_new (frame (payload_of reply)) → (left ≡ 0) ⊎ (is_transient reply ≡ false) → AsksUntilTold retries request reply from_old from_new to_old to_new
+  told_so reply asks came last = record {
     transient = so.transient;
     each = so.each;
     few = omega (arith, so.count);
-    last = λ reply has is again. omega (arith, so.count, last reply has is again);
+    last = λ again. omega (arith, so.count, none_left reply last again);
     asks = Appends-trans to_old to_mid to_new (flat_map (λ (reply : Reply). request) so.transient) request so.asks asks;
-    tells = Consumes-trans from_old from_mid from_new (reply_frames so.transient) (frame payload) so.tells came;
+    tells = Consumes-trans from_old from_mid from_new (reply_frames so.transient) (frame (payload_of reply)) so.tells came;
   }
-
-  -- a try that failed
-  pub fails : (error : ClientError) → FailsAsking request error from_mid from_new to_mid to_new → BreaksAsking retries request error from_old from_new to_old to_new
-  fails error one = record {
-    transient = so.transient;
-    sent = one.sent;
-    unsent = one.unsent;
-    torn = one.torn;
-    each = so.each;
-    few = omega (arith, so.count);
-    split = one.split;
-    whole = one.whole;
-    asks = Appends-trans to_old to_mid to_new (flat_map (λ (reply : Reply). request) so.transient) one.sent so.asks one.asks;
-    tells = Consumes-trans from_old from_mid from_new (reply_frames so.transient) one.torn so.tells one.tells;
-    why = one.why;
-  }
-
--- the retries are used up, or the payload is that of another reply
-pub is_last : (left : ℕ) (payload : List ℕ) → (left ≡ 0) ⊎ ((reply : Reply) → HasPayload reply → payload ≡ payload_of reply → is_transient reply ≡ false) → (reply : Reply) → HasPayload reply → payload ≡ payload_of reply → is_transient reply ≡ true → left ≡ 0
-is_last left payload (inl none) reply has is again = none
-is_last left payload (inr other) reply has is again = absurd (cc (again, other reply has is))
+    where
+      none_left : (reply : Reply) → (left ≡ 0) ⊎ (is_transient reply ≡ false) → is_transient reply ≡ true → left ≡ 0
+      none_left reply (inl none) again = none
+      none_left reply (inr other) again = absurd (cc (again, other))
 
 -- ---- the greeting
 

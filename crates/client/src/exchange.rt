@@ -1,6 +1,5 @@
 //! Asking one request.
 ghost use Rattle.std.specs.Prelude.{◌≡◌, ◌≢◌, ◌∷◌, [], true, false, length, take, Err, OnOk, IfOk, IfErr};
-ghost use Rattle.std.specs.List.{AllByRecursion, flat_map};
 ghost use Rattle.std.specs.Io.KnownBytes.{Appends, Consumes};
 ghost use Rattle.frame_front.specs.Counted.{end_in, faults_in, next_count};
 ghost use Rattle.frame_front.specs.Frame.{IsPayload, frame as frame_of};
@@ -8,11 +7,10 @@ ghost use Rattle.frame_front.specs.Output.{WritesFront};
 ghost use Rattle.client.specs.declared.client_error.ClientError.TheVariants.{ReadFault, WriteFault};
 ghost use Rattle.client.specs.Asking.{greeting, greeted};
 ghost use Rattle.client.specs.declared.fault.AskFault.TheVariants.{Server};
-ghost use Rattle.client.specs.Private.Steps.{FailsAsking, NotGreetedBy, AsksUntilTold, BreaksAsking};
+ghost use Rattle.client.specs.Private.Steps.{FailsAsking, NotGreetedBy};
 
 use crate::fault::AskFault;
 use crate::link::Link;
-use crate::reply::is_transient_payload;
 use crate::{ClientError, read_frame};
 use frame_front::Counted;
 use frame_front::wire::write_flushed;
@@ -32,7 +30,7 @@ fn send<W: Write>(to: &mut Counted<W>, bytes: &[u8]) -> Result<(), ClientError>
 }
 
 /// Sends a request, and reads one reply into the front of the room. Says how many bytes its payload has.
-fn ask_once<R: Read, W: Write>(
+pub(crate) fn ask_once<R: Read, W: Write>(
     link: &mut Link<R, W>,
     request: &[u8],
     room: &mut [u8],
@@ -82,31 +80,4 @@ fn is_greeted(payload: &[u8]) -> bool
     ensures no { result ≡ false → payload.now ≢ 118 ∷ 2 ∷ [] }
 {
     matches!(payload, [b'v', 2])
-}
-
-/// Asks a request, again after each transient reply, at most so often. Says how many bytes the payload of the last reply has.
-pub(crate) fn ask_until_told<R: Read, W: Write>(
-    retries: u32,
-    link: &mut Link<R, W>,
-    request: &[u8],
-    room: &mut [u8],
-) -> Result<usize, ClientError>
-    requires room { length room.old ≡ 1049000 }
-    ensures len { length room.new ≡ length room.old }
-    ensures payload { IfOk result (λ size. (length (take size room.new) ≡ size) × IsPayload (take size room.new)) }
-    ensures ok { IfOk result (λ size. AsksUntilTold retries request.now (take size room.new) (R.remaining (end_in link.old.from)) (R.remaining (end_in link.new.from)) (W.contents (end_in link.old.to)) (W.contents (end_in link.new.to))) }
-    ensures quiet_from { OnOk result (faults_in link.new.from ≡ faults_in link.old.from) }
-    ensures quiet_to { OnOk result (faults_in link.new.to ≡ faults_in link.old.to) }
-    ensures err { IfErr result (λ error. BreaksAsking retries request.now error (R.remaining (end_in link.old.from)) (R.remaining (end_in link.new.from)) (W.contents (end_in link.old.to)) (W.contents (end_in link.new.to))) }
-    ensures read_fault { result ≡ Err ReadFault → faults_in link.new.from ≡ next_count (faults_in link.old.from) }
-    ensures write_fault { result ≡ Err WriteFault → faults_in link.new.to ≡ next_count (faults_in link.old.to) }
-{
-    let mut left = retries;
-    loop {
-        let size = ask_once(link, request, room)?;
-        if left == 0 || !is_transient_payload(&room[..size]) {
-            return Ok(size);
-        }
-        left -= 1;
-    }
 }

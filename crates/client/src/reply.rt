@@ -1,9 +1,9 @@
 //! What replies are to a client.
-ghost use Rattle.std.specs.Prelude.{◌≡◌, true, false};
-ghost use Rattle.frame_lines.specs.ReplyForm.{Reply, HasPayload, payload_of, reply as said};
+ghost use Rattle.std.specs.Prelude.{◌≡◌, ◌⊎◌, ◌≤◌, true, false};
+ghost use Rattle.frame_lines.specs.ReplyForm.{reply as said};
 ghost use Rattle.client.specs.Replies.{bundles_after as bundles_of, is_bundle as bundle, is_transient as again, is_refusal as refusal};
 
-use frame_lines::{ReplyForm, reply_of_payload};
+use frame_lines::ReplyForm;
 
 /// After such a reply the request is asked again.
 fn is_transient(reply: &ReplyForm<'_>) -> bool
@@ -13,6 +13,14 @@ fn is_transient(reply: &ReplyForm<'_>) -> bool
         reply,
         ReplyForm::Memory | ReplyForm::Moved { .. } | ReplyForm::Held { .. }
     )
+}
+
+/// Whether the request is asked again, if it may be so often still.
+pub(crate) fn is_asked_again(left: u32, reply: &ReplyForm<'_>) -> bool
+    ensures yes { result ≡ true → (1 ≤ left) × (again (said reply.now) ≡ true) }
+    ensures no { result ≡ false → (left ≡ 0) ⊎ (again (said reply.now) ≡ false) }
+{
+    left > 0 && is_transient(reply)
 }
 
 /// Whether the request was not done.
@@ -44,15 +52,4 @@ pub(crate) fn is_bundle(reply: &ReplyForm<'_>) -> bool
     ensures { result ≡ bundle (said reply.now) }
 {
     matches!(reply, ReplyForm::Bundle(_, _))
-}
-
-/// Whether the payload is that of a reply after which the request is asked again.
-pub(crate) fn is_transient_payload(payload: &[u8]) -> bool
-    ensures yes { result ≡ true → (reply : Reply) × HasPayload reply × (payload.now ≡ payload_of reply) × (again reply ≡ true) }
-    ensures no { result ≡ false → (reply : Reply) → HasPayload reply → payload.now ≡ payload_of reply → again reply ≡ false }
-{
-    match reply_of_payload(payload) {
-        Some(reply) => is_transient(&reply),
-        None => false,
-    }
 }

@@ -7,7 +7,7 @@ ghost use Rattle.frame_front.specs.Frame.{IsPayload, frame as frame_of};
 ghost use Rattle.frame_front.specs.Output.{WritesFront};
 ghost use Rattle.frame_front.specs.declared.error.FrontError.TheVariants.{WriteFault};
 ghost use Rattle.client.specs.declared.client_error.ClientError.TheVariants.{ReadFault};
-ghost use Rattle.frame_lines.specs.ReplyForm.{Reply, payload_of, reply as said};
+ghost use Rattle.frame_lines.specs.ReplyForm.{Reply, HasPayload, payload_of, reply as said};
 ghost use Rattle.client.specs.Replies.{CanBeShown, IsTold, reply_frames, shown};
 ghost use Rattle.client.specs.Private.Steps.{Shows, NotShown, NotWritten, BreaksOthers};
 ghost use Rattle.client.specs.declared.fault.AskFault.TheVariants.{Front, Server};
@@ -33,25 +33,25 @@ pub(crate) struct Shown {
 pub(crate) fn show<O: Write>(
     form: Form,
     later: bool,
+    reply: &ReplyForm<'_>,
     payload: &[u8],
     out: &mut Counted<O>,
 ) -> Result<Shown, AskFault>
-    requires payload { IsPayload payload.now }
-    ensures ok { IfOk result (λ told. Shows form later payload.now told.refused told.bundles (O.contents (end_in out.old)) (O.contents (end_in out.new))) }
+    requires payload { payload.now ≡ payload_of (said reply.now) }
+    requires good { IsPayload payload.now }
+    requires has { HasPayload (said reply.now) }
+    ensures ok { IfOk result (λ told. Shows form later (said reply.now) told.refused told.bundles (O.contents (end_in out.old)) (O.contents (end_in out.new))) }
     ensures quiet { OnOk result (faults_in out.new ≡ faults_in out.old) }
-    ensures err { IfErr result (λ fault. NotShown form later payload.now fault (O.contents (end_in out.old)) (O.contents (end_in out.new))) }
+    ensures err { IfErr result (λ fault. NotShown form later (said reply.now) fault (O.contents (end_in out.old)) (O.contents (end_in out.new))) }
     ensures counted { result ≡ Err (Front WriteFault) → faults_in out.new ≡ next_count (faults_in out.old) }
 {
-    let Some(reply) = reply_of_payload(payload) else {
-        return Err(AskFault::Server(ClientError::BadReply));
-    };
-    if is_bundle(&reply) != later {
+    if is_bundle(reply) != later {
         return Err(AskFault::Server(ClientError::BadReply));
     }
-    write_reply(form, &reply, payload, out)?;
+    write_reply(form, reply, payload, out)?;
     Ok(Shown {
-        refused: is_refusal(&reply),
-        bundles: bundles_after(&reply),
+        refused: is_refusal(reply),
+        bundles: bundles_after(reply),
     })
 }
 
@@ -135,7 +135,11 @@ pub(crate) fn show_others<R: Read, O: Write>(
 {
     for _place in 0..count {
         let size = read_frame(from, room)?;
-        show(form, true, &room[..size], out)?;
+        let payload = &room[..size];
+        let Some(reply) = reply_of_payload(payload) else {
+            return Err(AskFault::Server(ClientError::BadReply));
+        };
+        show(form, true, &reply, payload, out)?;
     }
     Ok(())
 }

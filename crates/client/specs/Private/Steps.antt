@@ -1,5 +1,5 @@
 -- What the steps of asking do to the ends.
-use Rattle.std.specs.Prelude.{◌≡◌, ◌≢◌, ◌⊎◌, ℕ, ◌+◌, ◌<◌, ◌≤◌, Bool, true, false, List, [], ◌++◌, length, Option, Result, Ok, Err}
+use Rattle.std.specs.Prelude.{◌≡◌, ◌≢◌, ◌⊎◌, ℕ, ◌+◌, ◌<◌, ◌≤◌, Bool, true, false, List, [], ◌∷◌, ◌++◌, length, Option, Result, Ok, Err}
 use Rattle.std.specs.List.{AllByRecursion, flat_map, list_any}
 use Rattle.std.specs.Io.KnownBytes.{Appends, Consumes, IsAtEnd}
 use Rattle.frame_front.specs.Counted.{next_count}
@@ -10,11 +10,11 @@ use Rattle.client.specs.Reading.{NoFrame}
 use Rattle.client.specs.declared.client_error.ClientError.{ClientError}
 use Rattle.client.specs.declared.client_error.ClientError.TheVariants as client
 use Rattle.frame_lines.specs.Encoding.{Gives, EncoderState, Becomes, IsBadLine, NamesUnreadable}
-use Rattle.frame_lines.specs.ReplyForm.{Reply, HasPayload, payload_of}
+use Rattle.frame_lines.specs.ReplyForm.{Reply, payload_of}
 use Rattle.frame_lines.specs.declared.encoder.EncodeError.{EncodeError}
 use Rattle.frame_lines.specs.declared.encoder.EncodeError.TheVariants as lines
 use Rattle.client.specs.Replies.{is_transient, is_refusal, bundles_after, reply_frames, shown, CanBeShown, IsTold}
-use Rattle.client.specs.Asking.{Exchange, IsExchange, IsTransient, AreTold, IsNoReply, HidesLast, IsBroken, NotGreeted, Ends, greeting, lines_of, asked, told, all_shown, is_refused, count_after}
+use Rattle.client.specs.Asking.{Exchange, IsExchange, IsTransient, AreTold, BreaksOff, IsBroken, NotGreeted, Ends, greeting, lines_of, asked, told, all_shown, is_refused, count_after}
 use Rattle.client.specs.declared.asking.Asking.{Asking}
 use Rattle.client.specs.declared.asking.Form.{Form}
 use Rattle.client.specs.declared.fault.AskFault.{AskFault}
@@ -58,14 +58,14 @@ pub record NotGreetedBy (fault : AskFault) (from_old from_new to_old to_new : Op
   pub tells : Consumes from_old from_new torn
   pub why : NotGreeted fault unsent torn from_new
 
--- a request that was asked, and again after so many replies
-pub record AsksUntilTold (retries : ℕ) (request payload : List ℕ) (from_old from_new to_old to_new : Option (List ℕ)) : Type 0 where
+-- a request that was asked again after each transient reply, until this one came
+pub record AsksUntilTold (retries : ℕ) (request : List ℕ) (reply : Reply) (from_old from_new to_old to_new : Option (List ℕ)) : Type 0 where
   pub transient : List Reply
   pub each : AllByRecursion IsTransient transient
   pub few : length transient ≤ retries
-  pub last : (reply : Reply) → HasPayload reply → payload ≡ payload_of reply → is_transient reply ≡ true → length transient ≡ retries
+  pub last : is_transient reply ≡ true → length transient ≡ retries
   pub asks : Appends to_old to_new (flat_map (λ reply. request) transient ++ request)
-  pub tells : Consumes from_old from_new (reply_frames transient ++ frame payload)
+  pub tells : Consumes from_old from_new (reply_frames transient ++ frame (payload_of reply))
 
 -- between two tries
 pub record TriesSoFar (retries left : ℕ) (request : List ℕ) (from_old from_new to_old to_new : Option (List ℕ)) : Type 0 where
@@ -75,41 +75,30 @@ pub record TriesSoFar (retries left : ℕ) (request : List ℕ) (from_old from_n
   pub asks : Appends to_old to_new (flat_map (λ reply. request) transient)
   pub tells : Consumes from_old from_new (reply_frames transient)
 
--- a request of which one try failed
-pub record BreaksAsking (retries : ℕ) (request : List ℕ) (error : ClientError) (from_old from_new to_old to_new : Option (List ℕ)) : Type 0 where
-  pub transient : List Reply
-  pub sent : List ℕ
-  pub unsent : List ℕ
-  pub torn : List ℕ
-  pub each : AllByRecursion IsTransient transient
-  pub few : length transient ≤ retries
-  pub split : request ≡ sent ++ unsent
-  pub whole : IsWhole error unsent
-  pub asks : Appends to_old to_new (flat_map (λ reply. request) transient ++ sent)
-  pub tells : Consumes from_old from_new (reply_frames transient ++ torn)
-  pub why : FailsOnce error torn from_new
-
 -- ---- what is shown
 
-pub record Shows (form : Form) (later : Bool) (payload : List ℕ) (refused : Bool) (bundles : ℕ) (out_old out_new : Option (List ℕ)) : Type 0 where
-  pub reply : Reply
-  pub is : payload ≡ payload_of reply
+-- a reply that may come there is shown
+pub record Shows (form : Form) (later : Bool) (reply : Reply) (refused : Bool) (bundles : ℕ) (out_old out_new : Option (List ℕ)) : Type 0 where
   pub told : IsTold form later reply
   pub shows : Appends out_old out_new (shown form reply)
   pub refused_is : refused ≡ is_refusal reply
   pub bundles_is : bundles ≡ bundles_after reply
+
+-- a request is asked until it is told more than to wait, and the reply is shown
+pub record AsksFirst (how : Asking) (request : List ℕ) (refused : Bool) (bundles : ℕ) (from_old from_new to_old to_new out_old out_new : Option (List ℕ)) : Type 0 where
+  pub reply : Reply
+  pub until : AsksUntilTold how.retries request reply from_old from_new to_old to_new
+  pub first : Shows how.form false reply refused bundles out_old out_new
 
 abbrev pub NotWritten : Form → Reply → AskFault → Option (List ℕ) → Option (List ℕ) → Type 0
 NotWritten form reply (Server client.BadReply) out_old out_new = (out_new ≡ out_old) × (CanBeShown form reply → ⊥)
 NotWritten form reply (Front front.WriteFault) out_old out_new = CanBeShown form reply × WritesFront out_old out_new (shown form reply)
 NotWritten form reply fault out_old out_new = ⊥
 
-abbrev pub NotShown : Form → Bool → List ℕ → AskFault → Option (List ℕ) → Option (List ℕ) → Type 0
-NotShown form later payload (Server client.BadReply) out_old out_new =
-    (out_new ≡ out_old) × ((reply : Reply) → payload ≡ payload_of reply → IsTold form later reply → ⊥)
-NotShown form later payload (Front front.WriteFault) out_old out_new =
-    (reply : Reply) × (payload ≡ payload_of reply) × IsTold form later reply × WritesFront out_old out_new (shown form reply)
-NotShown form later payload fault out_old out_new = ⊥
+abbrev pub NotShown : Form → Bool → Reply → AskFault → Option (List ℕ) → Option (List ℕ) → Type 0
+NotShown form later reply (Server client.BadReply) out_old out_new = (out_new ≡ out_old) × (IsTold form later reply → ⊥)
+NotShown form later reply (Front front.WriteFault) out_old out_new = IsTold form later reply × WritesFront out_old out_new (shown form reply)
+NotShown form later reply fault out_old out_new = ⊥
 
 -- bundles that were shown, as far as they were read
 pub record OthersSoFar (form : Form) (count : ℕ) (from_old from_new out_old out_new : Option (List ℕ)) : Type 0 where
@@ -119,14 +108,7 @@ pub record OthersSoFar (form : Form) (count : ℕ) (from_old from_new out_old ou
   pub tells : Consumes from_old from_new (reply_frames others)
   pub shows : Appends out_old out_new (flat_map (shown form) others)
 
--- why not all of so many bundles are shown
-abbrev pub BreaksAmong : Form → AskFault → ℕ → List Reply → List ℕ → List ℕ → Option (List ℕ) → Type 0
-BreaksAmong form (Server client.BadReply) count others torn hidden left =
-    (length others < count) × (hidden ≡ []) × (payload : List ℕ) × (torn ≡ frame payload) × IsNoReply form true payload
-BreaksAmong form (Server why) count others torn hidden left = (length others < count) × (hidden ≡ []) × NoFrame why torn left
-BreaksAmong form (Front front.WriteFault) count others torn hidden left = HidesLast form others hidden × (torn ≡ [])
-BreaksAmong form fault count others torn hidden left = ⊥
-
+-- not all of so many bundles are shown, behind whatever reply said how many
 pub record BreaksOthers (form : Form) (fault : AskFault) (count : ℕ) (from_old from_new out_old out_new : Option (List ℕ)) : Type 0 where
   pub others : List Reply
   pub torn : List ℕ
@@ -137,7 +119,7 @@ pub record BreaksOthers (form : Form) (fault : AskFault) (count : ℕ) (from_old
   pub split : flat_map (shown form) others ≡ showed ++ hidden
   pub tells : Consumes from_old from_new (reply_frames others ++ torn)
   pub shows : Appends out_old out_new showed
-  pub why : BreaksAmong form fault count others torn hidden from_new
+  pub why : (first : Reply) → count ≡ bundles_after first → BreaksOff form fault (first ∷ others) torn [] hidden from_new
 
 -- ---- one line
 
