@@ -11,7 +11,7 @@ use Rattle.client.specs.declared.client_error.ClientError.TheVariants as client
 use Rattle.frame_lines.specs.ReplyForm.{Reply, Stored, Unchanged, Removed, Appended, Found, All, Bundle, Speaks, Refused, Moved, Held, Worn, Memory, Shut, payload_of}
 use Rattle.client.specs.Asking.{BreaksOff, HidesLast, IsNoReply}
 use Rattle.client.specs.Replies.{IsTold, is_bundle, is_refusal, reply_frames, shown}
-use Rattle.client.specs.Private.Steps.{TriesSoFar, FailsAsking, AsksUntilTold, FailsOnce, IsWhole, Shows, NotShown, BreaksOthers, AsksOne, BreaksOne}
+use Rattle.client.specs.Private.Steps.{TriesSoFar, FailsAsking, AsksUntilTold, Shows, NotShown, BreaksOthers, AsksOne, BreaksOne}
 use Rattle.client.specs.declared.asking.Asking.{Asking}
 use Rattle.client.specs.declared.asking.Form.{Form}
 use Rattle.client.specs.declared.fault.AskFault.{AskFault}
@@ -33,14 +33,6 @@ asks_nothing how request from to out none = record {
   shows = Appends-nil out;
   refused_is = refl;
 }
-
-fails : (form : Form) (error : ClientError) (unsent torn : List ℕ) (left : Option (List ℕ)) → IsWhole error unsent → FailsOnce error torn left → BreaksOff form (Server error) [] torn unsent [] left
-fails form client.Memory unsent torn left whole none = (tt, whole, refl, none)
-fails form client.BadLength unsent torn left whole none = (tt, whole, refl, none)
-fails form client.BadReply unsent torn left whole none = absurd none
-fails form client.Truncated unsent torn left whole none = (tt, whole, refl, none)
-fails form client.ReadFault unsent torn left whole none = (tt, whole, refl, none)
-fails form client.WriteFault unsent torn left whole none = (refl, none)
 
 module _ (how : Asking) (left : ℕ) (request : List ℕ) (from_old from_mid to_old to_mid : Option (List ℕ)) (so : TriesSoFar how.retries left request from_old from_mid to_old to_mid) (some : request ≢ []) (from_new to_new out : Option (List ℕ)) where
   -- one try more, after which no reply came
@@ -73,7 +65,7 @@ module _ (how : Asking) (left : ℕ) (request : List ℕ) (from_old from_mid to_
   }
 
   pub not_told : (error : ClientError) → FailsAsking request error from_mid from_new to_mid to_new → BreaksOne how (Server error) request from_old from_new to_old to_new out out
-  not_told error one = untold error one.sent one.unsent one.torn one.split one.asks one.tells (fails how.form error one.unsent one.torn from_new one.whole one.why)
+  not_told error one = untold error one.sent one.unsent one.torn one.split one.asks one.tells (one.why.1 how.form)
 
   pub bad_reply : (payload : List ℕ) → Appends to_mid to_new request → Consumes from_mid from_new (frame payload) → IsNoReply how.form false payload → BreaksOne how (Server client.BadReply) request from_old from_new to_old to_new out out
   bad_reply payload asks tells none = untold client.BadReply request [] (frame payload) (sym (append-nil request)) asks tells (tt, refl, refl, payload, refl, none)

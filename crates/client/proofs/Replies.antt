@@ -62,7 +62,7 @@ pub begins : (form : Form) (from out : Option (List ℕ)) → OthersSoFar form 0
 begins form from out = record { others = []; long = refl; each = tt; tells = Consumes-nil from; shows = Appends-nil out }
 
 -- no frame is read where a reply is due
-no_frame : (form : Form) (error : ClientError) (replies : List Reply) (torn : List ℕ) (left : Option (List ℕ)) → IsDue replies → NoFrame error torn left → BreaksOff form (Server error) replies torn [] [] left
+pub no_frame : (form : Form) (error : ClientError) (replies : List Reply) (torn : List ℕ) (left : Option (List ℕ)) → IsDue replies → NoFrame error torn left → BreaksOff form (Server error) replies torn [] [] left
 no_frame form client.Memory replies torn left due none = (due, refl, refl, none)
 no_frame form client.BadLength replies torn left due none = (due, refl, refl, none)
 no_frame form client.BadReply replies torn left due none = absurd none

@@ -10,11 +10,13 @@ use Rattle.client.specs.Reading.{NoFrame}
 use Rattle.client.specs.declared.client_error.ClientError.{ClientError}
 use Rattle.client.specs.declared.client_error.ClientError.TheVariants as client
 use Rattle.frame_lines.specs.ReplyForm.{Reply, payload_of}
-use Rattle.client.specs.Asking.{IsTransient, NotGreeted, greeting}
+use Rattle.client.specs.Asking.{IsTransient, BreaksOff, NotGreeted, greeting}
+use Rattle.client.specs.declared.asking.Form.{Form}
+use Rattle.client.specs.declared.asking.Form.TheVariants.{Lines}
 use Rattle.client.specs.declared.fault.AskFault.TheVariants.{Server}
 use Rattle.client.specs.Replies.{is_transient, reply_frames}
-use Rattle.client.specs.Private.Steps.{AsksUntilTold, TriesSoFar, FailsAsking, FailsOnce, IsWhole, NotGreetedBy}
-use Rattle.client.proofs.Replies.{each_append, frames_append, frames_one}
+use Rattle.client.specs.Private.Steps.{AsksUntilTold, TriesSoFar, FailsAsking, NotGreetedBy}
+use Rattle.client.proofs.Replies.{each_append, frames_append, frames_one, no_frame}
 
 pub asked_append : (request : List ℕ) (xs ys : List Reply) → flat_map (λ (reply : Reply). request) (xs ++ ys) ≡ flat_map (λ (reply : Reply). request) xs ++ flat_map (λ (reply : Reply). request) ys
 asked_append request xs ys = flat_map-append (λ (reply : Reply). request) xs ys
@@ -28,19 +30,10 @@ not_sent request from to_old to_new front = record {
   unsent = front.missing;
   torn = [];
   split = front.split;
-  whole = tt;
   asks = front.appends;
   tells = Consumes-nil from;
-  why = refl;
+  why = (λ same. cc same, λ form. (refl, refl));
 }
-
-no_reply : (error : ClientError) (torn : List ℕ) (left : Option (List ℕ)) → NoFrame error torn left → IsWhole error [] × FailsOnce error torn left
-no_reply client.Memory torn left none = (refl, none)
-no_reply client.BadLength torn left none = (refl, none)
-no_reply client.BadReply torn left none = (refl, none)
-no_reply client.Truncated torn left none = (refl, none)
-no_reply client.ReadFault torn left none = (refl, none)
-no_reply client.WriteFault torn left none = absurd none
 
 -- it was sent, and no reply came
 pub not_read : (error : ClientError) (request torn : List ℕ) (from_old from_new to_old to_new : Option (List ℕ)) → Appends to_old to_new request → Consumes from_old from_new torn → NoFrame error torn from_new → FailsAsking request error from_old from_new to_old to_new
@@ -49,10 +42,9 @@ not_read error request torn from_old from_new to_old to_new asks tells none = re
   unsent = [];
   torn = torn;
   split = sym (append-nil request);
-  whole = (no_reply error torn from_new none).0;
   asks = asks;
   tells = tells;
-  why = (no_reply error torn from_new none).1;
+  why = (λ same. subst (λ (e : ClientError). NoFrame e torn from_new) same none, λ form. no_frame form error [] torn from_new tt none);
 }
 
 -- ---- one try after the other
@@ -98,13 +90,13 @@ frame_same : (a b : List ℕ) → frame a ≡ frame b → a ≡ b
 unfolding frame
 frame_same a b same = ap (drop 4) same
 
-why_not_greeted : (error : ClientError) (unsent torn : List ℕ) (left : Option (List ℕ)) → IsWhole error unsent → FailsOnce error torn left → NotGreeted (Server error) unsent torn left
-why_not_greeted client.Memory unsent torn left whole none = (whole, none)
-why_not_greeted client.BadLength unsent torn left whole none = (whole, none)
-why_not_greeted client.BadReply unsent torn left whole none = absurd none
-why_not_greeted client.Truncated unsent torn left whole none = (whole, none)
-why_not_greeted client.ReadFault unsent torn left whole none = (whole, none)
-why_not_greeted client.WriteFault unsent torn left whole none = none
+why_not_greeted : (form : Form) (error : ClientError) (unsent torn : List ℕ) (left : Option (List ℕ)) → (error ≡ client.BadReply → ⊥) → BreaksOff form (Server error) [] torn unsent [] left → NotGreeted (Server error) unsent torn left
+why_not_greeted form client.Memory unsent torn left other why = (why.1, why.3)
+why_not_greeted form client.BadLength unsent torn left other why = (why.1, why.3)
+why_not_greeted form client.BadReply unsent torn left other why = absurd (other refl)
+why_not_greeted form client.Truncated unsent torn left other why = (why.1, why.3)
+why_not_greeted form client.ReadFault unsent torn left other why = (why.1, why.3)
+why_not_greeted form client.WriteFault unsent torn left other why = why.1
 
 pub not_greeted : (error : ClientError) (request : List ℕ) (from_old from_new to_old to_new : Option (List ℕ)) → request ≡ 0 ∷ 0 ∷ 0 ∷ 2 ∷ 86 ∷ 2 ∷ [] → FailsAsking request error from_old from_new to_old to_new → NotGreetedBy (Server error) from_old from_new to_old to_new
 not_greeted error request from_old from_new to_old to_new is one = record {
@@ -114,7 +106,7 @@ not_greeted error request from_old from_new to_old to_new is one = record {
   split = sym (is ∙ greeting_bytes) ∙ one.split;
   asks = one.asks;
   tells = one.tells;
-  why = why_not_greeted error one.unsent one.torn from_new one.whole one.why;
+  why = why_not_greeted Lines error one.unsent one.torn from_new one.why.0 (one.why.1 Lines);
 }
 
 pub other_greeting : (payload : List ℕ) (from_old from_new to_old to_new : Option (List ℕ)) → Appends to_old to_new greeting → Consumes from_old from_new (frame payload) → IsPayload payload → payload ≢ 118 ∷ 2 ∷ [] → NotGreetedBy (Server client.BadReply) from_old from_new to_old to_new

@@ -27,26 +27,15 @@ fault_of lines.Memory = Front front.Memory
 
 -- ---- one request
 
--- why a request has no reply, what was read instead, and what is left
-abbrev pub FailsOnce : ClientError → List ℕ → Option (List ℕ) → Type 0
-FailsOnce client.WriteFault torn left = torn ≡ []
-FailsOnce error torn left = NoFrame error torn left
-
--- it was sent whole, unless the writer failed
-abbrev pub IsWhole : ClientError → List ℕ → Type 0
-IsWhole client.WriteFault unsent = Unit {0}
-IsWhole error unsent = unsent ≡ []
-
 -- one try of a request failed
 pub record FailsAsking (request : List ℕ) (error : ClientError) (from_old from_new to_old to_new : Option (List ℕ)) : Type 0 where
   pub sent : List ℕ
   pub unsent : List ℕ
   pub torn : List ℕ
   pub split : request ≡ sent ++ unsent
-  pub whole : IsWhole error unsent
   pub asks : Appends to_old to_new sent
   pub tells : Consumes from_old from_new torn
-  pub why : FailsOnce error torn from_new
+  pub why : (error ≡ client.BadReply → ⊥) × ((form : Form) → BreaksOff form (Server error) [] torn unsent [] from_new)
 
 -- why the server is not greeted
 pub record NotGreetedBy (fault : AskFault) (from_old from_new to_old to_new : Option (List ℕ)) : Type 0 where
