@@ -1,8 +1,7 @@
 -- What the program does: one of its commands, or a text in place of one.
-use Rattle.std.specs.Prelude.{◌≡◌, ℕ, Bool, true, false, List, map, Result, Ok, Err, ◌⊎◌}
-use Rattle.std.specs.Io.KnownBytes.{Appends}
-use Rattle.frame_front.specs.Output.{WritesFront, End, Tells}
-use Rattle.frame_front.specs.declared.error.FrontError.TheVariants.{Memory, ReadFault, WriteFault}
+use Rattle.std.specs.Prelude.{◌≡◌, ℕ, Bool, true, false, List, map, Result, ◌⊎◌}
+use Rattle.frame_front.specs.Output.{End, Tells}
+use Rattle.frame_front.specs.declared.error.FrontError.TheVariants.{Memory, ReadFault}
 use Rattle.command_line.specs.declared.wanted.Wanted.{Wanted}
 use Rattle.command_line.specs.declared.wanted.Wanted.TheVariants.{Run, Ask, Encode, Decode, Explain, Check, Map, Import, Pem, Diff, Digest, Trace, Migrate, Race, Refresh, Snapshot, Serve}
 use Rattle.commands.specs.declared.fault.Fault.{Fault}
@@ -10,7 +9,7 @@ use Rattle.commands.specs.declared.fault.Fault.TheVariants.{Front}
 use Rattle.commands.specs.Fault.{fault_line}
 use Rattle.command_line.specs.Serving.{stops_at_end}
 use Rattle.command_line.specs.Settings.{AreSettings}
-use Rattle.commands.specs.Streams.{Streams, EndsWith}
+use Rattle.commands.specs.Streams.{Streams, WritesText, EndsWith, well}
 use Rattle.commands.specs.Run.{Runs}
 use Rattle.commands.specs.Encode.{Encodes, Decodes, of_files}
 use Rattle.commands.specs.Explain.{Explains}
@@ -64,18 +63,12 @@ Does (Snapshot wanted) status old new = SnapshotRun status old new
 Does (Serve port load log settings) status old new =
     (stops_at_end settings.connections ≡ false → new.input ≡ old.input) × ServeCommand (ServedAs settings.connections settings.turns) load settings status old.output new.output old.error new.error
 
--- some text is written; a front of it if the writer failed; nothing if memory ran out
-abbrev pub WritesText : Result (Unit {0}) Fault → End → End → Type 0
-WritesText (Ok done) old new = (text : List ℕ) × Appends old.bytes new.bytes text
-WritesText (Err fault) old new =
-    ((fault ≡ Front Memory) × (new ≡ old)) ⊎ ((fault ≡ Front WriteFault) × ((text : List ℕ) × WritesFront old.bytes new.bytes text))
-
 -- Help or the version is written to standard output, and nothing is read. Or memory ran out before that or a command.
 pub record Shows (status : ℕ) (old new : Streams) : Type 0 where
   pub ended : Result (Unit {0}) Fault
-  pub ends : EndsWith ended status old new
+  pub ends : EndsWith well ended status old new
   pub reads : new.input ≡ old.input
-  pub writes : WritesText ended old.output new.output
+  pub writes : WritesText (λ done text. Unit {0}) (λ fault. fault ≡ Front Memory) ended old.output new.output
 
 -- The command line is refused: some text is written to standard error, and nothing else is done.
 pub record Refuses (status : ℕ) (old new : Streams) : Type 0 where

@@ -1,36 +1,25 @@
 -- What the command `race` does to its streams.
-use Rattle.std.specs.Prelude.{◌≡◌, ℕ, ◌==◌, if◌then◌else◌, Result, Ok, Err}
-use Rattle.std.specs.Io.KnownBytes.{Appends}
-use Rattle.frame_front.specs.Output.{WritesFront, End, Tells}
-use Rattle.frame_front.specs.declared.error.FrontError.TheVariants.{WriteFault}
+use Rattle.std.specs.Prelude.{◌≡◌, ℕ, ◌==◌, if◌then◌else◌, List, Option, Some, None, Result}
 use Rattle.commands.specs.declared.fault.Fault.{Fault}
-use Rattle.commands.specs.declared.fault.Fault.TheVariants.{Front}
-use Rattle.commands.specs.Fault.{fault_line}
-use Rattle.commands.specs.Streams.{Streams}
+use Rattle.commands.specs.Streams.{Streams, WritesText, Ends}
 use Rattle.race_demo.specs.declared.report.Findings.{Findings}
 use Rattle.race_demo.specs.Report.{IsHonest, report}
-
-abbrev pub AreHonest : Findings → Type 0
-AreHonest found = IsHonest found.each × IsHonest found.all
 
 -- 0 if no fetch-all showed a map that never was, 1 if one did
 abbrev pub race_status : Findings → ℕ
 race_status found = if found.all.mixed == 0 then 0 else 1
 
--- The report of what was found is written; a front of it if the writer failed. Or there was no race, and nothing is written.
-abbrev pub Raced : Result Findings Fault → End → End → Type 0
-Raced (Ok found) old new = AreHonest found × Appends old.bytes new.bytes (report found)
-Raced (Err (Front WriteFault)) old new = (found : Findings) × AreHonest found × WritesFront old.bytes new.bytes (report found)
-Raced (Err fault) old new = new ≡ old
+abbrev pub IsReport : Findings → List ℕ → Type 0
+IsReport found text = IsHonest found.each × IsHonest found.all × (text ≡ report found)
 
--- after a fault its line is written to standard error, and else nothing
-abbrev pub RaceEnds : Result Findings Fault → ℕ → End → End → Type 0
-RaceEnds (Ok found) status old new = (status ≡ race_status found) × (new ≡ old)
-RaceEnds (Err fault) status old new = (status ≡ 1) × Tells old new (fault_line fault)
+-- the report of what was found
+abbrev pub ReportOf : Option Findings → List ℕ → Type 0
+ReportOf (Some found) text = IsReport found text
+ReportOf None text = (found : Findings) × IsReport found text
 
--- Nothing is read.
+-- Nothing is read. The report is written, or there was no race.
 pub record RaceRun (status : ℕ) (old new : Streams) : Type 0 where
   pub reads : new.input ≡ old.input
   pub ended : Result Findings Fault
-  pub raced : Raced ended old.output new.output
-  pub ends : RaceEnds ended status old.error new.error
+  pub raced : WritesText ReportOf (λ fault. Unit {0}) ended old.output new.output
+  pub ends : Ends race_status ended status old.error new.error

@@ -14,9 +14,9 @@ use crate::snapshotting::snapshot_over;
 use clap::error::ErrorKind;
 use command_line::{Wanted, wanted_by};
 use commands::{
-    Fault, FileTexts, check_over, decode_over, diff_over, digest_over, encode_over, explain_over,
-    import_over, map_over, migrate_over, pem_over, picture_over, run_over, trace_over,
-    write_flushed,
+    Fault, FileTexts, check_over, decode_over, diff_over, digest_over, encode_over, ended,
+    explain_over, import_over, map_over, migrate_over, pem_over, picture_over, run_over,
+    trace_over, write_flushed,
 };
 use dump_views::Profile;
 use frame_front::wire::tell;
@@ -210,10 +210,7 @@ fn show<W: Write, E: Write>(
     if error.use_stderr() {
         return refuse(text.as_bytes(), err);
     }
-    match write_flushed(out, text.as_bytes()) {
-        Ok(()) => 0,
-        Err(fault) => fault.tell(err),
-    }
+    ended(write_flushed(out, text.as_bytes()), err)
 }
 
 fn text_of(alloc: Global, error: &clap::Error) -> Result<String, AllocError> {

@@ -1,9 +1,9 @@
 //! The command `race`: readers beside writers that do not rest.
 ghost use Rattle.std.specs.Prelude.{◌≡◌};
 ghost use Rattle.frame_front.specs.Counted.{faults_in};
-ghost use Rattle.bundled.specs.Race.{RaceRun, Raced, race_status};
+ghost use Rattle.bundled.specs.Race.{RaceRun, ReportOf, race_status};
 ghost use Rattle.frame_front.specs.Output.{end_of};
-ghost use Rattle.commands.specs.Streams.{Source};
+ghost use Rattle.commands.specs.Streams.{Source, WritesText};
 
 use commands::{Fault, RefreshFault, write_flushed};
 use frame_front::{Counted, FrontError};
@@ -44,18 +44,14 @@ fn race<H: Clock + Threads + Sync, W: Write>(
     out: &mut Counted<W>,
     seconds: u64,
 ) -> Result<Findings, Fault>
-    ensures { Raced result (end_of W.contents out.old) (end_of W.contents out.new) }
+    ensures { WritesText ReportOf (λ _. Unit {0}) result (end_of W.contents out.old) (end_of W.contents out.new) }
 {
     let found = match run_race(host, alloc, seconds) {
         Ok(found) => found,
         Err(RaceError::Memory) => return Err(Fault::Front(FrontError::Memory)),
         Err(RaceError::NoClock) => return Err(Fault::Refresh(RefreshFault::NoClock)),
     };
-    let Ok(text) = report_text(alloc, &found) else {
-        return Err(Fault::Front(FrontError::Memory));
-    };
-    match write_flushed(out, text.as_slice()) {
-        Ok(()) => Ok(found),
-        Err(_) => Err(Fault::Front(FrontError::WriteFault)),
-    }
+    let text = report_text(alloc, &found)?;
+    write_flushed(out, text.as_slice())?;
+    Ok(found)
 }

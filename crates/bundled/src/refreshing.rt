@@ -7,7 +7,7 @@ ghost use Rattle.commands.specs.Streams.{Source};
 
 use client::Client;
 use command_line::Refreshing;
-use commands::{Fault, RefreshFault, ServerFault, read_schedule};
+use commands::{Fault, RefreshFault, ServerFault, ended_after, read_schedule};
 use frame_front::{Counted, FrontError};
 use refresh::{Folder, Sender, Server, Times, refresh_each};
 use std::alloc::Global;
@@ -37,17 +37,11 @@ pub fn refresh_over<H: Files + Clock + Net, W: Write, E: Write>(
         (record { input = input; output = end_of W.contents out.new; error = end_of E.contents err.new }) }
 {
     let before = err.faults();
-    match refresh_list(alloc, host, out, err, wanted) {
-        Ok(true) => 0,
-        Ok(false) => 3,
-        Err(fault) => {
-            fault.tell_unless_failed(err, before);
-            1
-        }
-    }
+    let end = refresh_list(alloc, host, out, err, wanted);
+    ended_after(end, err, before)
 }
 
-/// Refreshes each relationship, and says whether all went well.
+/// Refreshes each relationship, and says whether one did not go well.
 fn refresh_list<H: Files + Clock + Net, W: Write, E: Write>(
     alloc: Global,
     host: &H,
@@ -68,7 +62,7 @@ fn refresh_list<H: Files + Clock + Net, W: Write, E: Write>(
     match wanted.port {
         Some(port) => {
             let mut server = connect(alloc, host, port)?;
-            Ok(refresh_each(
+            Ok(!refresh_each(
                 alloc,
                 &mut folder,
                 &mut server,
@@ -80,7 +74,7 @@ fn refresh_list<H: Files + Clock + Net, W: Write, E: Write>(
         }
         None => {
             let mut sender = Sender::new(alloc, out);
-            Ok(refresh_each(
+            Ok(!refresh_each(
                 alloc,
                 &mut folder,
                 &mut sender,

@@ -9,7 +9,7 @@ ghost use Rattle.commands.specs.Fault.{fault_line};
 use crate::refreshing::streams;
 use client::{Client, ClientError};
 use command_line::Snapshotting;
-use commands::{Fault, ServerFault, SnapshotFault, write_flushed};
+use commands::{Fault, ServerFault, SnapshotFault, ended_after, write_flushed};
 use frame_front::{Counted, FrontError};
 use map_core::{AskError, Snapshot};
 use snapshots::{FetchError, FolderError, HostFolder, SnapshotError, fetch, update};
@@ -35,13 +35,8 @@ pub fn snapshot_over<H: Files + Clock + Net, W: Write, E: Write>(
         (record { input = input; output = end_of W.contents out.new; error = end_of E.contents err.new }) }
 {
     let before = err.faults();
-    match repeat(alloc, host, out, err, wanted) {
-        Ok(()) => 0,
-        Err(fault) => {
-            fault.tell_unless_failed(err, before);
-            1
-        }
-    }
+    let end = repeat(alloc, host, out, err, wanted);
+    ended_after(end, err, before)
 }
 
 /// Makes snapshots until a fault comes that is not of the moment; one, if there are no more wanted.
@@ -102,9 +97,7 @@ fn take_and_tell<H: Files + Net, W: Write>(
         Err(error) => return Err(fault_of(error)),
     }
     let (number, count) = (folder.number(), domains.len());
-    let Ok(line) = format!(in alloc; "shown snapshot-{number} domains {count}\n") else {
-        return Err(Fault::Front(FrontError::Memory));
-    };
+    let line = format!(in alloc; "shown snapshot-{number} domains {count}\n")?;
     write_flushed(out, line.as_bytes())?;
     match folder.tidy() {
         Ok(()) => Ok(()),

@@ -16,7 +16,7 @@ use Rattle.commands.specs.declared.fault.Fault.TheVariants.{Front, BadLine, Unre
 use Rattle.commands.specs.declared.fault.ServerFault.TheVariants.{Client}
 use Rattle.commands.specs.Fault.{fault_line}
 use Rattle.frame_front.specs.Output.{End, Tells, end_of}
-use Rattle.commands.specs.Streams.{Streams, Source, Blames}
+use Rattle.commands.specs.Streams.{Streams, Source, EndsWith, three_if}
 
 -- the fault of a command whose asking ended so
 abbrev pub asking_fault : AskFault → Fault
@@ -25,9 +25,9 @@ asking_fault (asking.Unreadable line) = UnreadText line
 asking_fault (asking.Server error) = Server (Client error)
 asking_fault (asking.Front error) = Front error
 
--- 0 if each request was done, and 3 if some reply is a refusal
-abbrev pub ask_status : Bool → ℕ
-ask_status refused = if refused then 3 else 0
+abbrev pub asked : Result Bool AskFault → Result Bool Fault
+asked (Ok refused) = Ok refused
+asked (Err fault) = Err (asking_fault fault)
 
 -- a server's output, of which replies are read, and its input, to which requests are written
 pub record ServerEnds : Type 0 where
@@ -49,17 +49,17 @@ AreQuiet old new server_old server_new =
     (new.input.faults ≡ old.input.faults) × (new.output.faults ≡ old.output.faults)
     × (server_new.from.faults ≡ server_old.from.faults) × (server_new.to.faults ≡ server_old.to.faults)
 
-abbrev pub EndsAsked : Result Bool AskFault → ℕ → Streams → Streams → ServerEnds → ServerEnds → Type 0
-EndsAsked (Ok refused) status old new server_old server_new =
-    (status ≡ ask_status refused) × (new.error ≡ old.error) × AreQuiet old new server_old server_new
-EndsAsked (Err fault) status old new server_old server_new =
-    (status ≡ 1) × Tells old.error new.error (fault_line (asking_fault fault))
-    × Blames (asking_fault fault) old new × BlamesServer (asking_fault fault) server_old server_new
+-- what failed in the meantime: nothing, if each request was asked
+abbrev pub Failed : Result Bool AskFault → Streams → Streams → ServerEnds → ServerEnds → Type 0
+Failed (Ok refused) old new server_old server_new = AreQuiet old new server_old server_new
+Failed (Err fault) old new server_old server_new = BlamesServer (asking_fault fault) server_old server_new
 
--- Lines are asked, with the texts that are given for their names, and the replies are shown.
+-- Lines are asked, with the texts that are given for their names, and the replies are shown; the status is 3 if some reply is a
+-- refusal.
 pub record Asks (gives : Gives) (how : Asking) (status : ℕ) (old new : Streams) (server_old server_new : ServerEnds) : Type 0 where
   pub ended : Result Bool AskFault
-  pub ends_so : EndsAsked ended status old new server_old server_new
+  pub ends_so : EndsWith three_if (asked ended) status old new
+  pub failed : Failed ended old new server_old server_new
   pub asks : AsksStream gives how ended
       (ends old.input.bytes server_old.from.bytes server_old.to.bytes old.output.bytes)
       (ends new.input.bytes server_new.from.bytes server_new.to.bytes new.output.bytes)

@@ -105,13 +105,9 @@ WritesLines (Err (Front WriteFault)) held_old held_new lines = WritesFront held_
 WritesLines ended held_old held_new lines = Appends held_old held_new lines
 
 -- Of documents that are not bundles nothing is told on standard error.
-abbrev pub EndsCheck : Result (Unit {0}) Fault → List Document → ℕ → Streams → Streams → Type 0
-EndsCheck (Ok done) judged status old new = (status ≡ check_status judged) × (new.error ≡ old.error)
-EndsCheck (Err fault) judged status old new = EndsWith {T = Unit {0}} (Err fault) status old new
-
 pub record Checks (gives : Gives) (files : List (List ℕ)) (status : ℕ) (old new : Streams) : Type 0 where
   pub judged : List Document
   pub ended : Result (Unit {0}) Fault
-  pub ends : EndsCheck ended judged status old new
+  pub ends : EndsWith (λ done. check_status judged) ended status old new
   pub judges : Judges gives files ended judged old.input new.input
   pub writes : WritesLines ended old.output.bytes new.output.bytes (lines_of_all judged)

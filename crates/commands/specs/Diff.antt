@@ -1,34 +1,22 @@
 -- What the command `diff` writes.
-use Rattle.std.specs.Prelude.{◌≡◌, ◌⊎◌, ◌≤◌, ℕ, List, [], ◌∷◌, Bool, true, false, Option, Result, Ok, Err}
-use Rattle.std.specs.Io.KnownBytes.{Appends}
+use Rattle.std.specs.Prelude.{◌≡◌, ◌⊎◌, ◌≤◌, ℕ, List, [], ◌∷◌, Bool, true, false, Option, Some, None, Result, Err}
 use Rattle.frame_front.specs.Counted.{reads_since, next_count}
 use Rattle.frame_front.specs.Dump.{Domains}
-use Rattle.frame_front.specs.Output.{WritesFront, End, Tells}
+use Rattle.frame_front.specs.Output.{End}
+use Rattle.frame_front.specs.declared.counted.Counted.{Counted}
 use Rattle.frame_front.specs.declared.error.FrontError.TheVariants.{ReadFault, WriteFault}
 use Rattle.map_core.specs.Name.{Name}
 use Rattle.commands.specs.declared.fault.Fault.{Fault}
 use Rattle.commands.specs.declared.fault.Fault.TheVariants.{Front}
-use Rattle.commands.specs.Fault.{fault_line}
 use Rattle.commands.specs.Input.{ReadsInput, most_reads}
-use Rattle.commands.specs.Streams.{Source}
+use Rattle.commands.specs.Streams.{Source, source_of, WritesText, Ends, three_if}
 use Rattle.dump_views.specs.Changes.{Change, AreChanges}
 use Rattle.dump_views.specs.ChangeLines.{lines_of}
 use Rattle.commands.specs.Reading.{IsRead, Unread}
 
--- 0 if nothing changed, 3 if something did, 1 after a fault
-abbrev pub diff_status : Result Bool Fault → ℕ
-diff_status (Ok false) = 0
-diff_status (Ok true) = 3
-diff_status (Err fault) = 1
-
 abbrev pub is_some_change : List (Name × Change) → Bool
 is_some_change [] = false
 is_some_change (change ∷ changes) = true
-
--- what is told of a fault
-abbrev pub last_line : Result Bool Fault → List ℕ
-last_line (Ok some) = []
-last_line (Err fault) = fault_line fault
 
 -- two readers, before and after
 pub record Inputs : Type 0 where
@@ -36,6 +24,14 @@ pub record Inputs : Type 0 where
   pub old_after : Source
   pub new_before : Source
   pub new_after : Source
+
+abbrev pub inputs : {R S : Type 0} → (R → Option (List ℕ)) → (S → Option (List ℕ)) → Counted R → Counted R → Counted S → Counted S → Inputs
+inputs left_of new_left_of old_before old_after new_before new_after = record {
+  old_before = source_of left_of old_before;
+  old_after = source_of left_of old_after;
+  new_before = source_of new_left_of new_before;
+  new_after = source_of new_left_of new_after;
+}
 
 -- the readers give dumps, and this changed from that of the old one to that of the new one
 pub record Differ (inputs : Inputs) (changes : List (Name × Change)) : Type 0 where
@@ -63,23 +59,19 @@ AreReadFew inputs =
     (reads_since inputs.old_before.reads inputs.old_after.reads ≤ most_reads)
     × (reads_since inputs.new_before.reads inputs.new_after.reads ≤ most_reads)
 
--- the lines of what changed are written; a front of them if the writer failed; nothing if a reader gives no dump
-abbrev pub WritesDiff : Inputs → Result Bool Fault → Option (List ℕ) → Option (List ℕ) → Type 0
-WritesDiff inputs (Ok some) held_old held_new =
-    (changes : List (Name × Change)) × Differ inputs changes × (some ≡ is_some_change changes) × Appends held_old held_new (lines_of changes)
-WritesDiff inputs (Err (Front WriteFault)) held_old held_new =
-    (changes : List (Name × Change)) × Differ inputs changes × WritesFront held_old held_new (lines_of changes)
-WritesDiff inputs (Err fault) held_old held_new = NoDiff inputs fault × (held_new ≡ held_old)
+-- whether something did
+abbrev pub Says : Option Bool → List (Name × Change) → Type 0
+Says (Some some) changes = some ≡ is_some_change changes
+Says None changes = Unit {0}
 
--- 54 is told only if the writer failed in the meantime
-abbrev pub BlamesWriter : Result Bool Fault → End → End → Type 0
-BlamesWriter ended old new = ended ≡ Err (Front WriteFault) → new.faults ≡ next_count old.faults
+-- the lines of what changed
+abbrev pub DiffOf : Inputs → Option Bool → List ℕ → Type 0
+DiffOf inputs value text = (changes : List (Name × Change)) × Differ inputs changes × Says value changes × (text ≡ lines_of changes)
 
--- The whole command.
+-- The whole command: 3 if something changed; 54 is told only if the writer failed in the meantime.
 pub record DiffRun (inputs : Inputs) (status : ℕ) (output_old output_new error_old error_new : End) : Type 0 where
   pub ended : Result Bool Fault
-  pub has_status : status ≡ diff_status ended
+  pub ends : Ends three_if ended status error_old error_new
   pub reads : AreReadFew inputs
-  pub writes : WritesDiff inputs ended output_old.bytes output_new.bytes
-  pub blames : BlamesWriter ended output_old output_new
-  pub tells : Tells error_old error_new (last_line ended)
+  pub writes : WritesText (DiffOf inputs) (NoDiff inputs) ended output_old output_new
+  pub blames : ended ≡ Err (Front WriteFault) → output_new.faults ≡ next_count output_old.faults

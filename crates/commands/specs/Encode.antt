@@ -9,7 +9,7 @@ use Rattle.frame_lines.specs.declared.decode.DecodeError.{DecodeError}
 use Rattle.frame_lines.specs.declared.decode.DecodeError.TheVariants as decoding
 use Rattle.commands.specs.declared.fault.Fault.{Fault}
 use Rattle.commands.specs.declared.fault.Fault.TheVariants.{Front, BadLine, BadFrame, UnreadText}
-use Rattle.commands.specs.Streams.{Streams, EndsWith}
+use Rattle.commands.specs.Streams.{Streams, EndsWith, well}
 
 -- the text of a file is what the host says that it holds, or that it cannot be read
 abbrev pub of_files : Gives
@@ -30,11 +30,11 @@ decoding_fault (Err (decoding.Front error)) = Err (Front error)
 -- Lines are encoded, with the texts that are given for their names.
 pub record Encodes (gives : Gives) (status : ℕ) (old new : Streams) : Type 0 where
   pub ended : Result (Unit {0}) StreamError
-  pub ends : EndsWith (encoding_fault ended) status old new
+  pub ends : EndsWith well (encoding_fault ended) status old new
   pub encodes : EncodesStream gives ended old.input.bytes new.input.bytes old.output.bytes new.output.bytes
 
 -- Frames are decoded.
 pub record Decodes (status : ℕ) (old new : Streams) : Type 0 where
   pub ended : Result (Unit {0}) DecodeError
-  pub ends : EndsWith (decoding_fault ended) status old new
+  pub ends : EndsWith well (decoding_fault ended) status old new
   pub decodes : DecodesStream ended old.input.bytes new.input.bytes old.output.bytes new.output.bytes

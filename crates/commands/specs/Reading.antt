@@ -1,14 +1,14 @@
 -- Dumps that are read whole, and commands that write a text of what they read.
-use Rattle.std.specs.Prelude.{◌≡◌, ℕ, List, Option, Result, Ok, Err}
-use Rattle.std.specs.Io.KnownBytes.{Appends}
+use Rattle.std.specs.Prelude.{◌≡◌, ℕ, List, Option, Result, Err}
+use Rattle.frame_front.specs.Counted.{next_count}
 use Rattle.frame_front.specs.Dump.{Domains, IsDump, IsBadDump}
-use Rattle.frame_front.specs.Output.{WritesFront}
+use Rattle.frame_front.specs.Output.{End}
 use Rattle.frame_front.specs.declared.dump.DumpError.TheVariants as dumps
-use Rattle.frame_front.specs.declared.error.FrontError.TheVariants.{WriteFault}
+use Rattle.frame_front.specs.declared.error.FrontError.TheVariants.{ReadFault, WriteFault}
 use Rattle.commands.specs.declared.fault.Fault.{Fault}
 use Rattle.commands.specs.declared.fault.Fault.TheVariants.{Front, Dump}
 use Rattle.commands.specs.Input.{IsInput, InputFault, ReadsInput}
-use Rattle.commands.specs.Streams.{Streams, EndsWith}
+use Rattle.commands.specs.Streams.{Source, Streams, WritesText, Ends, well}
 
 -- the input is a dump of these domains
 abbrev pub IsRead : Domains → Option (List ℕ) → Option (List ℕ) → Type 0
@@ -27,17 +27,16 @@ TextOf = List ℕ → Option (List ℕ) → Option (List ℕ) → Type 0
 abbrev pub NoText : Type 1
 NoText = Fault → Option (List ℕ) → Option (List ℕ) → Type 0
 
--- The text is written; a front of it if the writer failed; nothing if the input has no text.
-abbrev pub Writes : TextOf → NoText → Result (Unit {0}) Fault → Option (List ℕ) → Option (List ℕ) → Option (List ℕ) → Option (List ℕ) → Type 0
-Writes Of Lacks (Ok done) left_old left_new held_old held_new =
-    (text : List ℕ) × Of text left_old left_new × Appends held_old held_new text
-Writes Of Lacks (Err (Front WriteFault)) left_old left_new held_old held_new =
-    (text : List ℕ) × Of text left_old left_new × WritesFront held_old held_new text
-Writes Of Lacks (Err fault) left_old left_new held_old held_new = Lacks fault left_old left_new × (held_new ≡ held_old)
+-- The input is read whole, and its text is written, or it has none; 53 is told only if the reader failed in the meantime, and 54
+-- only if the writer did.
+pub record Filtered (Of : TextOf) (Lacks : NoText) (ended : Result (Unit {0}) Fault) (input_old input_new : Source) (output_old output_new : End) : Type 0 where
+  pub reads : ReadsInput ended input_old.reads input_new.reads
+  pub writes : WritesText (λ done text. Of text input_old.bytes input_new.bytes) (λ fault. Lacks fault input_old.bytes input_new.bytes) ended output_old output_new
+  pub read_fault : ended ≡ Err (Front ReadFault) → input_new.faults ≡ next_count input_old.faults
+  pub write_fault : ended ≡ Err (Front WriteFault) → output_new.faults ≡ next_count output_old.faults
 
 -- The whole command.
 pub record Filters (Of : TextOf) (Lacks : NoText) (status : ℕ) (old new : Streams) : Type 0 where
   pub ended : Result (Unit {0}) Fault
-  pub ends : EndsWith ended status old new
-  pub reads : ReadsInput ended old.input.reads new.input.reads
-  pub writes : Writes Of Lacks ended old.input.bytes new.input.bytes old.output.bytes new.output.bytes
+  pub ends : Ends well ended status old.error new.error
+  pub filtered : Filtered Of Lacks ended old.input new.input old.output new.output

@@ -9,7 +9,7 @@ use Rattle.step_core.specs.Shards.{ShardsAnswer}
 use Rattle.map_core.specs.PlainMap.{PlainMap}
 use Rattle.commands.specs.declared.fault.Fault.{Fault}
 use Rattle.commands.specs.declared.fault.Fault.TheVariants.{Front}
-use Rattle.commands.specs.Streams.{Streams, EndsWith}
+use Rattle.commands.specs.Streams.{Streams, EndsWith, well}
 
 -- the fault of a command whose session ended so
 abbrev pub session_fault : Result ℕ FrontError → Result ℕ Fault
@@ -20,6 +20,6 @@ session_fault (Err error) = Err (Front error)
 pub record Runs (turns status : ℕ) (old new : Streams) : Type 0 where
   pub ended : Result ℕ FrontError
   pub left : PlainMap
-  pub ends : EndsWith (session_fault ended) status old new
+  pub ends : EndsWith well (session_fault ended) status old new
   pub reads : MakesReads turns (ended ≡ Err TurnsUsed) old.input.reads new.input.reads
   pub session : PlainTranscript ShardsAnswer ended turns old.input.bytes new.input.bytes old.output.bytes new.output.bytes finite.empty left

@@ -1,9 +1,10 @@
 -- Standard input, output and error, or what stands in their place, and what a command that ends tells them.
-use Rattle.std.specs.Prelude.{◌≡◌, ℕ, List, Option, Result, Ok, Err}
+use Rattle.std.specs.Prelude.{◌≡◌, ℕ, List, [], ◌++◌, Bool, true, false, Option, Some, None, Result, Ok, Err, IfErr}
+use Rattle.std.specs.Io.KnownBytes.{Appends}
 use Rattle.frame_front.specs.Counted.{end_in, faults_in, reads_of, next_count}
 use Rattle.frame_front.specs.declared.counted.Counted.{Counted}
 use Rattle.frame_front.specs.declared.error.FrontError.TheVariants.{ReadFault, WriteFault}
-use Rattle.frame_front.specs.Output.{End, Tells, end_of}
+use Rattle.frame_front.specs.Output.{WritesFront, End, Tells, end_of}
 use Rattle.commands.specs.declared.fault.Fault.{Fault}
 use Rattle.commands.specs.declared.fault.Fault.TheVariants.{Front}
 use Rattle.commands.specs.Fault.{fault_line}
@@ -33,8 +34,47 @@ Blames (Front ReadFault) old new = new.input.faults ≡ next_count old.input.fau
 Blames (Front WriteFault) old new = new.output.faults ≡ next_count old.output.faults
 Blames fault old new = Unit {0}
 
--- A command ends so, with this exit status: 0 if all went well, and nothing is written to standard error; 1 after a
--- fault, whose line is written there.
-abbrev pub EndsWith : {T : Type 0} → Result T Fault → ℕ → Streams → Streams → Type 0
-EndsWith (Ok value) status old new = (status ≡ 0) × (new.error ≡ old.error)
-EndsWith (Err fault) status old new = (status ≡ 1) × Tells old.error new.error (fault_line fault) × Blames fault old new
+-- ---- what a command writes
+
+-- A text is written, of the value that the command came to; a front of some text if the writer failed; nothing after any other
+-- fault, for which there is no text.
+abbrev pub WritesText : {T : Type 0} → (Option T → List ℕ → Type 0) → (Fault → Type 0) → Result T Fault → End → End → Type 0
+WritesText IsText HasNone (Ok value) old new = (text : List ℕ) × IsText (Some value) text × Appends old.bytes new.bytes text
+WritesText IsText HasNone (Err (Front WriteFault)) old new = (text : List ℕ) × IsText None text × WritesFront old.bytes new.bytes text
+WritesText IsText HasNone (Err fault) old new = HasNone fault × (new ≡ old)
+
+-- ---- how a command ends
+
+-- whatever it came to, all went well
+abbrev pub well : {T : Type 0} → T → ℕ
+well value = 0
+
+-- 3 if there is something that its caller is to know: a refusal, a change, or a refresh that did not go well
+abbrev pub three_if : Bool → ℕ
+three_if true = 3
+three_if false = 0
+
+-- the exit status: what it says of the value that a command came to, or 1 after a fault
+abbrev pub exit_status : {T : Type 0} → (T → ℕ) → Result T Fault → ℕ
+exit_status status_of (Ok value) = status_of value
+exit_status status_of (Err fault) = 1
+
+-- what comes last on standard error: after a fault its line
+abbrev pub last_line : {T : Type 0} → Result T Fault → List ℕ
+last_line (Ok value) = []
+last_line (Err fault) = fault_line fault
+
+-- A command ends so, with this exit status; if all went well, nothing is written to standard error.
+abbrev pub Ends : {T : Type 0} → (T → ℕ) → Result T Fault → ℕ → End → End → Type 0
+Ends status_of (Ok value) status old new = (status ≡ status_of value) × (new ≡ old)
+Ends status_of (Err fault) status old new = (status ≡ 1) × Tells old new (fault_line fault)
+
+-- And an end is blamed only if it failed.
+abbrev pub EndsWith : {T : Type 0} → (T → ℕ) → Result T Fault → ℕ → Streams → Streams → Type 0
+EndsWith status_of ended status old new = Ends status_of ended status old.error new.error × IfErr ended (λ fault. Blames fault old new)
+
+-- Some lines go to standard error before; once it has failed, no more.
+pub record EndsAfterLines {T : Type 0} (status_of : T → ℕ) (ended : Result T Fault) (status : ℕ) (old new : End) : Type 0 where
+  pub has_status : status ≡ exit_status status_of ended
+  pub lines : List ℕ
+  pub tells : Tells old new (lines ++ last_line ended)

@@ -1,10 +1,11 @@
 //! The command `ask`: requests are asked of a server, and its replies are shown.
 ghost use Rattle.std.specs.Prelude.{◌≡◌, ◌==◌, drop, map, IfOk};
 ghost use Rattle.std.specs.List.{list_any};
-ghost use Rattle.commands.specs.Ask.{Asks, AsksWords, ask_status, server, spaced as with_spaces};
+ghost use Rattle.commands.specs.Ask.{Asks, AsksWords, server, spaced as with_spaces};
 ghost use Rattle.frame_front.specs.Output.{end_of};
 ghost use Rattle.commands.specs.Streams.{streams};
 
+use crate::ending::Outcome;
 use crate::fault::{Fault, ServerFault};
 use client::{AskFault, Asking, Link, ask_stream};
 use frame_front::{Counted, FrontError};
@@ -29,19 +30,12 @@ pub fn ask_over<T: TextSource, R: Read, F: Read, S: Write, W: Write, E: Write>(
         (server F.remaining S.contents link.old) (server F.remaining S.contents link.new) }
 {
     match ask_stream(alloc, how, texts, reader, link, out) {
-        Ok(refused) => status_of(refused),
+        Ok(refused) => refused.status(),
         Err(AskFault::BadLine(line)) => Fault::BadLine(line).tell(err),
         Err(AskFault::Unreadable(line)) => Fault::UnreadText(line).tell(err),
         Err(AskFault::Server(error)) => Fault::Server(ServerFault::Client(error)).tell(err),
         Err(AskFault::Front(error)) => Fault::Front(error).tell(err),
     }
-}
-
-/// The exit status if all requests were asked.
-fn status_of(refused: bool) -> u8
-    ensures { result ≡ ask_status refused }
-{
-    if refused { 3 } else { 0 }
 }
 
 /// Asks the request whose words these are, and shows the reply; answers the exit status. A line feed in a word is a fault, and then

@@ -1,15 +1,14 @@
 //! The command `check`: what documents would give as bundles.
 ghost use Rattle.std.specs.Prelude.{◌≡◌, ◌≢◌, map, Err, OnOk};
 ghost use Rattle.commands.specs.Input.{ReadsInput};
-ghost use Rattle.frame_front.specs.Output.{end_of};
 ghost use Rattle.commands.specs.Streams.{streams};
 ghost use Rattle.commands.specs.declared.fault.Fault.TheVariants.{Front};
-ghost use Rattle.commands.specs.Check.{Checks, status_of};
-ghost use Rattle.commands.specs.Private.Checking.{ChecksFiles, ChecksInput, ChecksOne, Told, given_by, joined};
+ghost use Rattle.commands.specs.Check.{Checks};
+ghost use Rattle.commands.specs.Private.Checking.{ChecksFiles, ChecksInput, ChecksOne, given_by, joined};
 ghost use Rattle.frame_front.specs.Counted.{end_in, faults_in, next_count, reads_of};
 ghost use Rattle.frame_front.specs.declared.error.FrontError.TheVariants.{ReadFault, WriteFault};
 
-use crate::{Fault, read_input, write_flushed};
+use crate::{Fault, Outcome, ended, read_input, write_flushed};
 use doc_report::{DocFault, Report, put_report, report_on};
 use frame_front::{Counted, FrontError};
 use frame_lines::{TextError, TextSource};
@@ -39,10 +38,14 @@ impl Findings {
             ignored: self.ignored || others.ignored,
         }
     }
+}
 
-    fn status(self) -> u8
-        ensures { result ≡ status_of self.no_bundle self.ignored }
-    {
+impl Outcome for Findings {
+    ghost use Rattle.commands.specs.Private.Checking.{status_by};
+
+    ghost status_of = { status_by };
+
+    fn status(&self) -> u8 {
         if self.no_bundle {
             1
         } else if self.ignored {
@@ -70,20 +73,9 @@ pub fn check_over<T: TextSource, R: Read, W: Write, E: Write>(
     ensures silent { result ≢ 1 → err.new ≡ err.old }
 {
     if files.is_empty() {
-        return tell(check_input(alloc, reader, out), err);
+        return ended(check_input(alloc, reader, out), err);
     }
-    tell(check_files(alloc, texts, files, out), err)
-}
-
-/// Tells a fault, and answers the exit status.
-fn tell<E: Write>(checked: Result<Findings, Fault>, err: &mut Counted<E>) -> u8
-    ensures tells { Told checked result (end_of E.contents err.old) (end_of E.contents err.new) }
-    ensures silent { result ≢ 1 → err.new ≡ err.old }
-{
-    match checked {
-        Ok(findings) => findings.status(),
-        Err(fault) => fault.tell(err),
-    }
+    ended(check_files(alloc, texts, files, out), err)
 }
 
 /// Judges the input.
@@ -157,13 +149,9 @@ fn check_document<W: Write>(
         return Err(Fault::Front(FrontError::Memory));
     }
     let mut lines = Vec::new(alloc);
-    if let Err(_) = put_report(name, &outcome, &mut lines) {
-        return Err(Fault::Front(FrontError::Memory));
-    }
-    match write_flushed(out, lines.as_slice()) {
-        Ok(()) => Ok(findings_of(&outcome)),
-        Err(fault) => Err(fault),
-    }
+    put_report(name, &outcome, &mut lines)?;
+    write_flushed(out, lines.as_slice())?;
+    Ok(findings_of(&outcome))
 }
 
 /// What was found of a document by its report.

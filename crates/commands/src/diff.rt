@@ -1,17 +1,17 @@
 //! The command `diff`: what changed from one dump to another.
 ghost use Rattle.std.specs.Prelude.{◌≡◌, List, Err, IfOk, IfErr};
+ghost use Rattle.commands.specs.Streams.{WritesText};
 ghost use Rattle.frame_front.specs.Output.{end_of};
-ghost use Rattle.commands.specs.Streams.{source_of};
 ghost use Rattle.commands.specs.declared.fault.Fault.TheVariants.{Front};
-ghost use Rattle.commands.specs.Diff.{AreReadFew, Differ, DiffRun, NoDiff, WritesDiff};
+ghost use Rattle.commands.specs.Diff.{AreReadFew, Differ, DiffOf, DiffRun, NoDiff, inputs};
 ghost use Rattle.dump_views.specs.ChangeLines.{lines_of};
 ghost use Rattle.dump_views.specs.Changes.{Change};
-ghost use Rattle.frame_front.specs.Counted.{end_in, faults_in, next_count};
+ghost use Rattle.frame_front.specs.Counted.{faults_in, next_count};
 ghost use Rattle.frame_front.specs.declared.error.FrontError.TheVariants.{WriteFault};
 ghost use Rattle.map_core.specs.Name.{Name};
 
 use crate::reading::read_domains;
-use crate::{Fault, write_flushed};
+use crate::{Fault, ended, write_flushed};
 use dump_views::put_diff;
 use frame_front::{Counted, FrontError};
 use std::alloc::{AllocError, Global};
@@ -26,20 +26,10 @@ pub fn diff_over<R: Read, S: Read, W: Write, E: Write>(
     out: &mut Counted<W>,
     err: &mut Counted<E>,
 ) -> u8
-    ensures { DiffRun
-        (record {
-          old_before = source_of R.remaining old.old;
-          old_after = source_of R.remaining old.new;
-          new_before = source_of S.remaining new.old;
-          new_after = source_of S.remaining new.new;
-        })
-        result (end_of W.contents out.old) (end_of W.contents out.new) (end_of E.contents err.old) (end_of E.contents err.new) }
+    ensures { DiffRun (inputs R.remaining S.remaining old.old old.new new.old new.new) result
+        (end_of W.contents out.old) (end_of W.contents out.new) (end_of E.contents err.old) (end_of E.contents err.new) }
 {
-    match diff_inputs(alloc, old, new, out) {
-        Ok(false) => 0,
-        Ok(true) => 3,
-        Err(fault) => fault.tell(err),
-    }
+    ended(diff_inputs(alloc, old, new, out), err)
 }
 
 /// Writes what changed, and says whether something did.
@@ -49,21 +39,9 @@ fn diff_inputs<R: Read, S: Read, W: Write>(
     new: &mut Counted<S>,
     out: &mut Counted<W>,
 ) -> Result<bool, Fault>
-    ensures writes { WritesDiff
-        (record {
-          old_before = source_of R.remaining old.old;
-          old_after = source_of R.remaining old.new;
-          new_before = source_of S.remaining new.old;
-          new_after = source_of S.remaining new.new;
-        })
-        result (W.contents (end_in out.old)) (W.contents (end_in out.new)) }
-    ensures reads { AreReadFew
-        (record {
-          old_before = source_of R.remaining old.old;
-          old_after = source_of R.remaining old.new;
-          new_before = source_of S.remaining new.old;
-          new_after = source_of S.remaining new.new;
-        }) }
+    ensures writes { let dumps = inputs R.remaining S.remaining old.old old.new new.old new.new in
+        WritesText (DiffOf dumps) (NoDiff dumps) result (end_of W.contents out.old) (end_of W.contents out.new) }
+    ensures reads { AreReadFew (inputs R.remaining S.remaining old.old old.new new.old new.new) }
     ensures write_fault { result ≡ Err (Front WriteFault) → faults_in out.new ≡ next_count (faults_in out.old) }
 {
     let lines = match lines_between(alloc, old, new) {
@@ -83,27 +61,10 @@ fn lines_between<R: Read, S: Read>(
     old: &mut Counted<R>,
     new: &mut Counted<S>,
 ) -> Result<Vec<u8>, Fault>
-    ensures ok { IfOk result (λ lines. (changes : List (Name × Change)) × Differ
-        (record {
-          old_before = source_of R.remaining old.old;
-          old_after = source_of R.remaining old.new;
-          new_before = source_of S.remaining new.old;
-          new_after = source_of S.remaining new.new;
-        }) changes × (lines.items ≡ lines_of changes)) }
-    ensures err { IfErr result (λ fault. NoDiff
-        (record {
-          old_before = source_of R.remaining old.old;
-          old_after = source_of R.remaining old.new;
-          new_before = source_of S.remaining new.old;
-          new_after = source_of S.remaining new.new;
-        }) fault) }
-    ensures reads { AreReadFew
-        (record {
-          old_before = source_of R.remaining old.old;
-          old_after = source_of R.remaining old.new;
-          new_before = source_of S.remaining new.old;
-          new_after = source_of S.remaining new.new;
-        }) }
+    ensures ok { IfOk result (λ lines. (changes : List (Name × Change))
+        × Differ (inputs R.remaining S.remaining old.old old.new new.old new.new) changes × (lines.items ≡ lines_of changes)) }
+    ensures err { IfErr result (λ fault. NoDiff (inputs R.remaining S.remaining old.old old.new new.old new.new) fault) }
+    ensures reads { AreReadFew (inputs R.remaining S.remaining old.old old.new new.old new.new) }
     ensures no_write_fault { result ≡ Err (Front WriteFault) → ⊥ }
 {
     let olds = match read_domains(alloc, old) {

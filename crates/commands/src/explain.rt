@@ -4,6 +4,7 @@ ghost use Rattle.commands.specs.Explain.{Explains};
 ghost use Rattle.frame_front.specs.Output.{end_of};
 ghost use Rattle.commands.specs.Streams.{Source};
 
+use crate::ending::ended;
 use crate::output::write_flushed;
 use frame_front::Counted;
 use std::io::Write;
@@ -19,8 +20,5 @@ pub fn explain_over<W: Write, E: Write>(
         (record { input = input; output = end_of W.contents out.new; error = end_of E.contents err.new }) }
     ensures silent { result ≡ 0 → err.new ≡ err.old }
 {
-    match write_flushed(out, text.as_bytes()) {
-        Ok(()) => 0,
-        Err(fault) => fault.tell(err),
-    }
+    ended(write_flushed(out, text.as_bytes()), err)
 }

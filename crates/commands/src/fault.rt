@@ -1,7 +1,7 @@
 //! Faults of commands.
-ghost use Rattle.std.specs.Prelude.{◌≡◌, ◌≤◌, ◌+◌, ◌++◌, length};
+ghost use Rattle.std.specs.Prelude.{◌≡◌, ◌≤◌, ◌+◌, ◌∷◌, ◌++◌, length};
 ghost use Rattle.frame_front.specs.Counted.{faults_in};
-ghost use Rattle.commands.specs.Fault.{asking_numbers, fault_number, fault_numbers, fault_line, number_text, numbers_text, refresh_number, refresh_numbers, server_number, snapshot_number, snapshot_numbers};
+ghost use Rattle.commands.specs.Fault.{asking_numbers, fault_line, fault_number, fault_numbers, number_text, numbers_text};
 ghost use Rattle.frame_front.specs.Output.{Tells, TellsUnlessFailed, end_of};
 
 use arrayvec::ArrayVec;
@@ -12,6 +12,7 @@ use itoa::Buffer;
 use map_core::AskError;
 use refresh::{RefreshError, RelationError};
 use shard_store::CloseError;
+use std::alloc::AllocError;
 use std::io::Write;
 use thiserror::Error;
 
@@ -19,6 +20,9 @@ use thiserror::Error;
 const LINE_BYTES: usize = 73;
 
 type Line = ArrayVec<u8, LINE_BYTES>;
+
+/// What a fault carries: at most three numbers.
+type Carried = ArrayVec<u64, 3>;
 
 /// Why a command ends with status 1. It is told as one line: `fault`, its number, and the numbers that say where and why.
 #[derive(Clone, Copy, Debug, PartialEq, Eq, Error)]
@@ -67,6 +71,40 @@ pub enum Fault {
     Close(CloseError),
 }
 
+impl From<FrontError> for Fault {
+    ghost use Rattle.std.specs.Prelude.{◌≡◌};
+    ghost use Rattle.commands.specs.declared.fault.Fault.TheVariants.{Front};
+
+    ghost from_gives = { λ error fault. fault ≡ Front error };
+
+    fn from(error: FrontError) -> Fault {
+        Fault::Front(error)
+    }
+}
+
+impl From<AllocError> for Fault {
+    ghost use Rattle.std.specs.Prelude.{◌≡◌};
+    ghost use Rattle.commands.specs.declared.fault.Fault.TheVariants.{Front};
+    ghost use Rattle.frame_front.specs.declared.error.FrontError.TheVariants.{Memory};
+
+    ghost from_gives = { λ _ fault. fault ≡ Front Memory };
+
+    fn from(_refused: AllocError) -> Fault {
+        Fault::Front(FrontError::Memory)
+    }
+}
+
+impl From<DumpError> for Fault {
+    ghost use Rattle.std.specs.Prelude.{◌≡◌};
+    ghost use Rattle.commands.specs.declared.fault.Fault.TheVariants.{Dump};
+
+    ghost from_gives = { λ error fault. fault ≡ Dump error };
+
+    fn from(error: DumpError) -> Fault {
+        Fault::Dump(error)
+    }
+}
+
 impl From<RefreshError> for Fault {
     ghost use Rattle.std.specs.Prelude.{◌≡◌};
     ghost use Rattle.commands.specs.Fault.{refresh_fault};
@@ -92,17 +130,6 @@ pub enum ServerFault {
     NoConnection,
 }
 
-impl ServerFault {
-    fn number(&self) -> u8
-        ensures { result ≡ server_number self.now }
-    {
-        match self {
-            ServerFault::Client(error) => error.number(),
-            ServerFault::NoConnection => 78,
-        }
-    }
-}
-
 /// Why relationships cannot be refreshed.
 #[derive(Clone, Copy, Debug, PartialEq, Eq, Error)]
 pub enum RefreshFault {
@@ -112,31 +139,6 @@ pub enum RefreshFault {
     /// The clock cannot be read.
     #[error("the clock cannot be read")]
     NoClock,
-}
-
-impl RefreshFault {
-    fn number(&self) -> u8
-        ensures { result ≡ refresh_number self.now }
-    {
-        match self {
-            RefreshFault::BadRelationship(_, _) => 79,
-            RefreshFault::NoClock => 72,
-        }
-    }
-
-    /// Adds what it carries.
-    fn push_numbers(&self, line: &mut Line)
-        requires { length line.old.items ≤ 9 }
-        ensures pushed { line.new.items ≡ line.old.items ++ numbers_text (refresh_numbers self.now) }
-        ensures short { length line.new.items ≤ 72 }
-    {
-        match self {
-            RefreshFault::BadRelationship(error, number) => {
-                push_each(line, &[*number, u64::from(error.number())]);
-            }
-            RefreshFault::NoClock => push_each(line, &[]),
-        }
-    }
 }
 
 /// Why no snapshot is written, or why it is not shown.
@@ -153,81 +155,57 @@ pub enum SnapshotFault {
     BadFolder,
 }
 
-impl SnapshotFault {
-    fn number(&self) -> u8
-        ensures { result ≡ snapshot_number self.now }
-    {
-        match self {
-            SnapshotFault::Refused(error) => error.number(),
-            SnapshotFault::LongName(_) => 73,
-            SnapshotFault::BadFolder => 74,
-        }
-    }
-
-    /// Adds what it carries.
-    fn push_numbers(&self, line: &mut Line)
-        requires { length line.old.items ≤ 9 }
-        ensures pushed { line.new.items ≡ line.old.items ++ numbers_text (snapshot_numbers self.now) }
-        ensures short { length line.new.items ≤ 72 }
-    {
-        match self {
-            SnapshotFault::Refused(error) => push_asking(line, error),
-            SnapshotFault::LongName(domain) => push_each(line, &[*domain]),
-            SnapshotFault::BadFolder => push_each(line, &[]),
-        }
-    }
-}
-
 impl Fault {
     pub fn number(&self) -> u8
         ensures { result ≡ fault_number self.now }
     {
-        match self {
-            Fault::Front(error) => error.number(),
-            Fault::Dump(error) => error.number(),
-            Fault::BadLine(_) => 70,
-            Fault::BadFrame(_) => 76,
-            Fault::UnreadText(_) => 77,
-            Fault::NotInDump(_) => 75,
-            Fault::BadMap => 64,
-            Fault::BadMember(_) => 65,
-            Fault::InputTooLong => 71,
-            Fault::Server(fault) => fault.number(),
-            Fault::Refresh(fault) => fault.number(),
-            Fault::Snapshot(fault) => fault.number(),
-            Fault::Listen => 57,
-            Fault::Close(error) => error.number(),
-        }
+        let (number, _) = self.numbers();
+        number
     }
 
-    /// Adds what it carries: a frame or a member, from 0, a line, a name, a domain or a file, from 1, or a shard.
-    fn push_numbers(&self, line: &mut Line)
-        requires { length line.old.items ≤ 9 }
-        ensures pushed { line.new.items ≡ line.old.items ++ numbers_text (fault_numbers self.now) }
-        ensures short { length line.new.items ≤ 72 }
+    /// Its number, and what it carries: a frame or a member, from 0, a line, a name, a domain or a file, from 1, or a shard.
+    fn numbers(&self) -> (u8, Carried)
+        ensures { result.0 ∷ result.1.items ≡ fault_numbers self.now }
     {
         match self {
-            Fault::Dump(DumpError::BadDump(frame)) => push_each(line, &[*frame]),
-            Fault::BadLine(number) => push_each(line, &[*number]),
-            Fault::BadFrame(frame) => push_each(line, &[*frame]),
-            Fault::UnreadText(number) => push_each(line, &[*number]),
-            Fault::NotInDump(name) => push_each(line, &[*name]),
-            Fault::BadMember(member) => push_each(line, &[*member]),
-            Fault::Refresh(fault) => fault.push_numbers(line),
-            Fault::Snapshot(fault) => fault.push_numbers(line),
-            Fault::Close(CloseError::HeldAtEnd(shard)) => push_each(line, &[*shard as u64]),
-            _ => push_each(line, &[]),
+            Fault::Front(error) => (error.number(), carried(&[])),
+            Fault::Dump(DumpError::BadDump(frame)) => {
+                (DumpError::BadDump(*frame).number(), carried(&[*frame]))
+            }
+            Fault::Dump(error) => (error.number(), carried(&[])),
+            Fault::BadLine(line) => (70, carried(&[*line])),
+            Fault::BadFrame(frame) => (76, carried(&[*frame])),
+            Fault::UnreadText(line) => (77, carried(&[*line])),
+            Fault::NotInDump(name) => (75, carried(&[*name])),
+            Fault::BadMap => (64, carried(&[])),
+            Fault::BadMember(member) => (65, carried(&[*member])),
+            Fault::InputTooLong => (71, carried(&[])),
+            Fault::Server(ServerFault::Client(error)) => (error.number(), carried(&[])),
+            Fault::Server(ServerFault::NoConnection) => (78, carried(&[])),
+            Fault::Refresh(RefreshFault::BadRelationship(error, line)) => {
+                (79, carried(&[*line, u64::from(error.number())]))
+            }
+            Fault::Refresh(RefreshFault::NoClock) => (72, carried(&[])),
+            Fault::Snapshot(SnapshotFault::Refused(error)) => (error.number(), asked(error)),
+            Fault::Snapshot(SnapshotFault::LongName(domain)) => (73, carried(&[*domain])),
+            Fault::Snapshot(SnapshotFault::BadFolder) => (74, carried(&[])),
+            Fault::Listen => (57, carried(&[])),
+            Fault::Close(CloseError::HeldAtEnd(shard)) => {
+                (CloseError::HeldAtEnd(*shard).number(), carried(&[*shard as u64]))
+            }
+            Fault::Close(error) => (error.number(), carried(&[])),
         }
     }
 
     fn line(&self) -> Line
         ensures { result.items ≡ fault_line self.now }
     {
+        let (number, carried) = self.numbers();
         let mut line = ArrayVec::new();
         let mut digits = Buffer::new();
         let _fits = line.try_extend_from_slice(b"fault ");
-        let _fits = line.try_extend_from_slice(digits.format(self.number()).as_bytes());
-        self.push_numbers(&mut line);
+        let _fits = line.try_extend_from_slice(digits.format(number).as_bytes());
+        push_each(&mut line, carried.as_slice());
         let _fits = line.try_extend_from_slice(b"\n");
         line
     }
@@ -253,22 +231,29 @@ impl Fault {
     }
 }
 
-/// Adds the shard of a request that was given up, and its revisions.
-fn push_asking(line: &mut Line, error: &AskError)
-    requires { length line.old.items ≤ 9 }
-    ensures pushed { line.new.items ≡ line.old.items ++ numbers_text (asking_numbers error.now) }
-    ensures short { length line.new.items ≤ 72 }
+/// The shard of a request that was given up, and its revisions.
+fn asked(error: &AskError) -> Carried
+    ensures { result.items ≡ asking_numbers error.now }
 {
     match error {
-        AskError::Worn { shard } => push_each(line, &[*shard as u64]),
+        AskError::Worn { shard } => carried(&[*shard as u64]),
         AskError::Moved {
             shard,
             first,
             second,
-        } => push_each(line, &[*shard as u64, *first, *second]),
-        AskError::Held { shard, revision } => push_each(line, &[*shard as u64, *revision]),
-        AskError::Memory | AskError::GateShut => push_each(line, &[]),
+        } => carried(&[*shard as u64, *first, *second]),
+        AskError::Held { shard, revision } => carried(&[*shard as u64, *revision]),
+        AskError::Memory | AskError::GateShut => carried(&[]),
     }
+}
+
+fn carried(numbers: &[u64]) -> Carried
+    requires { length numbers.now ≤ 3 }
+    ensures { result.items ≡ numbers.now }
+{
+    let mut carried = ArrayVec::new();
+    let _fits = carried.try_extend_from_slice(numbers);
+    carried
 }
 
 /// Adds numbers, at most three, each behind a space.

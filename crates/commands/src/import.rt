@@ -1,14 +1,12 @@
 //! The command `import`: a bundle map becomes requests.
-ghost use Rattle.std.specs.Prelude.{◌≡◌, Err, IfOk, IfErr};
-ghost use Rattle.commands.specs.Input.{ReadsInput};
-ghost use Rattle.commands.specs.Streams.{streams};
+ghost use Rattle.std.specs.Prelude.{◌≡◌, Err};
+ghost use Rattle.commands.specs.Streams.{source_of, streams};
 ghost use Rattle.commands.specs.declared.fault.Fault.TheVariants.{Front};
 ghost use Rattle.commands.specs.Import.{NoRequests, RequestsOf};
-ghost use Rattle.commands.specs.Reading.{Filters, Writes};
-ghost use Rattle.frame_front.specs.Counted.{end_in, faults_in, next_count, reads_of};
-ghost use Rattle.frame_front.specs.declared.error.FrontError.TheVariants.{ReadFault, WriteFault};
+ghost use Rattle.commands.specs.Reading.{Filtered, Filters};
+ghost use Rattle.frame_front.specs.Output.{end_of};
 
-use crate::{Fault, read_input, write_flushed};
+use crate::{Fault, ended, read_input, write_flushed};
 use dump_views::{MapError, requests_of_map};
 use frame_front::{Counted, FrontError};
 use std::alloc::Global;
@@ -26,10 +24,7 @@ pub fn import_over<R: Read, W: Write, E: Write>(
         (streams R.remaining W.contents E.contents reader.new out.new err.new) }
     ensures silent { result ≡ 0 → err.new ≡ err.old }
 {
-    match import_input(alloc, reader, out) {
-        Ok(()) => 0,
-        Err(fault) => fault.tell(err),
-    }
+    ended(import_input(alloc, reader, out), err)
 }
 
 fn import_input<R: Read, W: Write>(
@@ -37,11 +32,8 @@ fn import_input<R: Read, W: Write>(
     reader: &mut Counted<R>,
     out: &mut Counted<W>,
 ) -> Result<(), Fault>
-    ensures imports { Writes RequestsOf NoRequests result
-        (R.remaining (end_in reader.old)) (R.remaining (end_in reader.new)) (W.contents (end_in out.old)) (W.contents (end_in out.new)) }
-    ensures reads { ReadsInput result (reads_of reader.old) (reads_of reader.new) }
-    ensures read_fault { result ≡ Err (Front ReadFault) → faults_in reader.new ≡ next_count (faults_in reader.old) }
-    ensures write_fault { result ≡ Err (Front WriteFault) → faults_in out.new ≡ next_count (faults_in out.old) }
+    ensures { Filtered RequestsOf NoRequests result (source_of R.remaining reader.old) (source_of R.remaining reader.new)
+        (end_of W.contents out.old) (end_of W.contents out.new) }
 {
     let input = read_input(alloc, reader)?;
     let requests = match requests_of_map(alloc, input.as_slice()) {

@@ -1,18 +1,19 @@
 //! The command `map`: a dump becomes one bundle map.
-ghost use Rattle.std.specs.Prelude.{◌≡◌, ◌++◌, ◌∷◌, [], ℕ, map, Err, IfOk, IfErr};
-ghost use Rattle.dump_views.specs.Choice.{AreThere, IsFirstMissing};
+ghost use Rattle.std.specs.Prelude.{◌≡◌, ◌++◌, ◌∷◌, [], map, Err, IfOk, IfErr};
+ghost use Rattle.dump_views.specs.Choice.{AreThere};
 ghost use Rattle.dump_views.specs.Map.{map_text, shown};
 ghost use Rattle.commands.specs.Input.{ReadsInput};
-ghost use Rattle.commands.specs.Streams.{streams};
+ghost use Rattle.commands.specs.Streams.{source_of, streams};
 ghost use Rattle.commands.specs.declared.fault.Fault.TheVariants.{Front, NotInDump};
 ghost use Rattle.commands.specs.Map.{MapOf, NoMap, wanted as wanted_of};
 ghost use Rattle.commands.specs.Private.Choosing.{NotWanted};
-ghost use Rattle.commands.specs.Reading.{Filters, Writes};
+ghost use Rattle.commands.specs.Reading.{Filtered, Filters};
 ghost use Rattle.frame_front.specs.Counted.{end_in, faults_in, next_count, reads_of};
+ghost use Rattle.frame_front.specs.Output.{end_of};
 ghost use Rattle.frame_front.specs.declared.error.FrontError.TheVariants.{Memory, ReadFault, WriteFault};
 
 use crate::reading::read_domains;
-use crate::{Fault, write_flushed};
+use crate::{Fault, ended, write_flushed};
 use dump_views::{ChoiceError, Profile, choose, write_map};
 use frame_front::{Counted, FrontError};
 use map_core::Snapshot;
@@ -34,10 +35,7 @@ pub fn map_over<R: Read, W: Write, E: Write>(
         (streams R.remaining W.contents E.contents reader.new out.new err.new) }
     ensures silent { result ≡ 0 → err.new ≡ err.old }
 {
-    match map_input(alloc, names, profile, reader, out) {
-        Ok(()) => 0,
-        Err(fault) => fault.tell(err),
-    }
+    ended(map_input(alloc, names, profile, reader, out), err)
 }
 
 fn map_input<R: Read, W: Write>(
@@ -47,11 +45,8 @@ fn map_input<R: Read, W: Write>(
     reader: &mut Counted<R>,
     out: &mut Counted<W>,
 ) -> Result<(), Fault>
-    ensures maps { Writes (MapOf names.now profile) (NoMap names.now) result
-        (R.remaining (end_in reader.old)) (R.remaining (end_in reader.new)) (W.contents (end_in out.old)) (W.contents (end_in out.new)) }
-    ensures reads { ReadsInput result (reads_of reader.old) (reads_of reader.new) }
-    ensures read_fault { result ≡ Err (Front ReadFault) → faults_in reader.new ≡ next_count (faults_in reader.old) }
-    ensures write_fault { result ≡ Err (Front WriteFault) → faults_in out.new ≡ next_count (faults_in out.old) }
+    ensures { Filtered (MapOf names.now profile) (NoMap names.now) result (source_of R.remaining reader.old) (source_of R.remaining reader.new)
+        (end_of W.contents out.old) (end_of W.contents out.new) }
 {
     let text = map_of(alloc, names, profile, reader)?;
     write_flushed(out, text.as_slice())
@@ -72,10 +67,7 @@ fn map_of<R: Read>(
 {
     let domains = read_domains(alloc, reader)?;
     let domains = wanted(alloc, domains, names)?;
-    match map_line(alloc, domains.pairs(), profile) {
-        Ok(text) => Ok(text),
-        Err(AllocError) => Err(Fault::Front(FrontError::Memory)),
-    }
+    Ok(map_line(alloc, domains.pairs(), profile)?)
 }
 
 /// The domains of these names; all of them, if there are no names.

@@ -1,13 +1,11 @@
 //! The command `migrate`: a dump of version 1 becomes requests of version 2.
-ghost use Rattle.std.specs.Prelude.{◌≡◌, Err};
-ghost use Rattle.frame_front.specs.Counted.{end_in, faults_in, next_count, reads_of};
-ghost use Rattle.frame_front.specs.declared.error.FrontError.TheVariants.{ReadFault, WriteFault};
-ghost use Rattle.commands.specs.Input.{ReadsInput};
+ghost use Rattle.std.specs.Prelude.{◌≡◌};
+ghost use Rattle.frame_front.specs.Output.{end_of};
 ghost use Rattle.commands.specs.Migrate.{MigrationOf};
-ghost use Rattle.commands.specs.Reading.{Filters, Unread, Writes};
-ghost use Rattle.commands.specs.Streams.{streams};
-ghost use Rattle.commands.specs.declared.fault.Fault.TheVariants.{Front};
+ghost use Rattle.commands.specs.Reading.{Filtered, Filters, Unread};
+ghost use Rattle.commands.specs.Streams.{source_of, streams};
 
+use crate::ending::ended;
 use crate::fault::Fault;
 use crate::input::read_input;
 use crate::output::write_flushed;
@@ -27,10 +25,7 @@ pub fn migrate_over<R: Read, W: Write, E: Write>(
         (streams R.remaining W.contents E.contents reader.new out.new err.new) }
     ensures silent { result ≡ 0 → err.new ≡ err.old }
 {
-    match migrate_input(alloc, reader, out) {
-        Ok(()) => 0,
-        Err(fault) => fault.tell(err),
-    }
+    ended(migrate_input(alloc, reader, out), err)
 }
 
 fn migrate_input<R: Read, W: Write>(
@@ -38,16 +33,10 @@ fn migrate_input<R: Read, W: Write>(
     reader: &mut Counted<R>,
     out: &mut Counted<W>,
 ) -> Result<(), Fault>
-    ensures migrates { Writes MigrationOf Unread result
-        (R.remaining (end_in reader.old)) (R.remaining (end_in reader.new)) (W.contents (end_in out.old)) (W.contents (end_in out.new)) }
-    ensures reads { ReadsInput result (reads_of reader.old) (reads_of reader.new) }
-    ensures read_fault { result ≡ Err (Front ReadFault) → faults_in reader.new ≡ next_count (faults_in reader.old) }
-    ensures write_fault { result ≡ Err (Front WriteFault) → faults_in out.new ≡ next_count (faults_in out.old) }
+    ensures { Filtered MigrationOf Unread result (source_of R.remaining reader.old) (source_of R.remaining reader.new)
+        (end_of W.contents out.old) (end_of W.contents out.new) }
 {
     let input = read_input(alloc, reader)?;
-    let stream = match migrate(alloc, input.as_slice()) {
-        Ok(stream) => stream,
-        Err(error) => return Err(Fault::Dump(error)),
-    };
+    let stream = migrate(alloc, input.as_slice())?;
     write_flushed(out, stream.as_slice())
 }

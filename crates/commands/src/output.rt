@@ -17,8 +17,5 @@ pub fn write_flushed<W: Write>(writer: &mut Counted<W>, bytes: &[u8]) -> Result<
     ensures failed { OnErr result (faults_in writer.new ≡ next_count (faults_in writer.old)) }
     ensures front { WritesFront (W.contents (end_in writer.old)) (W.contents (end_in writer.new)) bytes.now }
 {
-    match wire::write_flushed(writer, bytes) {
-        Ok(()) => Ok(()),
-        Err(error) => Err(Fault::Front(error)),
-    }
+    Ok(wire::write_flushed(writer, bytes)?)
 }

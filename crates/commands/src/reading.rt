@@ -24,8 +24,5 @@ pub(crate) fn read_domains<R: Read>(
     ensures no_write_fault { result ≡ Err (Front WriteFault) → ⊥ }
 {
     let input = read_input(alloc, reader)?;
-    match read_dump(alloc, input.as_slice()) {
-        Ok(domains) => Ok(domains),
-        Err(error) => Err(Fault::Dump(error)),
-    }
+    Ok(read_dump(alloc, input.as_slice())?)
 }

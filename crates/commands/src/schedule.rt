@@ -7,7 +7,7 @@ use crate::fault::{Fault, RefreshFault};
 use crate::input::read_input;
 use frame_front::{Counted, FrontError};
 use refresh::{ListError, Schedule, read_list};
-use std::alloc::{AllocError, Global};
+use std::alloc::Global;
 use std::fs::{File, Files};
 use std::io::Read;
 
@@ -32,10 +32,7 @@ fn schedule_of<R: Read>(alloc: Global, reader: &mut Counted<R>) -> Result<Schedu
         Ok(listed) => listed,
         Err(error) => return Err(fault_of(error)),
     };
-    match Schedule::new(alloc, relationships) {
-        Ok(schedule) => Ok(schedule),
-        Err(AllocError) => Err(Fault::Front(FrontError::Memory)),
-    }
+    Ok(Schedule::new(alloc, relationships)?)
 }
 
 /// The fault of a list that is refused.

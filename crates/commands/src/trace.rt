@@ -2,16 +2,17 @@
 ghost use Rattle.std.specs.Prelude.{◌≡◌, ◌<◌, List, ℕ, true, false, Err, length, OnOk, IfOk, IfErr};
 ghost use Rattle.std.specs.Io.KnownBytes.{Appends};
 ghost use Rattle.frame_front.specs.Counted.{end_in, faults_in, next_count, reads_of};
-ghost use Rattle.frame_front.specs.Output.{WritesFront};
+ghost use Rattle.frame_front.specs.Output.{WritesFront, end_of};
 ghost use Rattle.frame_front.specs.declared.error.FrontError.TheVariants.{ReadFault, WriteFault};
 ghost use Rattle.step_core.specs.declared.event.Event.{Event};
 ghost use Rattle.trace_lines.specs.Events.{lines_in, AreEvents};
 ghost use Rattle.commands.specs.Input.{IsInput, ReadsInput};
-ghost use Rattle.commands.specs.Streams.{streams};
-ghost use Rattle.commands.specs.Reading.{Filters, Writes};
+ghost use Rattle.commands.specs.Streams.{source_of, streams};
+ghost use Rattle.commands.specs.Reading.{Filtered, Filters};
 ghost use Rattle.commands.specs.Trace.{IsTraceOf, NoRun, RunOf, printed};
 ghost use Rattle.commands.specs.declared.fault.Fault.TheVariants.{Front};
 
+use crate::ending::ended;
 use crate::fault::Fault;
 use crate::input::read_input;
 use frame_front::{Counted, FrontError};
@@ -38,7 +39,7 @@ pub fn trace_over<R: Read, W: Write, E: Write>(
         (streams R.remaining W.contents E.contents reader.new out.new err.new) }
     ensures silent { result ≡ 0 → err.new ≡ err.old }
 {
-    show_over(alloc, reader, out, err, shards, rounds, false)
+    ended(trace_input(alloc, reader, out, shards, rounds, false), err)
 }
 
 /// Does the same, and draws the run above these lines.
@@ -57,32 +58,10 @@ pub fn picture_over<R: Read, W: Write, E: Write>(
         (streams R.remaining W.contents E.contents reader.new out.new err.new) }
     ensures silent { result ≡ 0 → err.new ≡ err.old }
 {
-    show_over(alloc, reader, out, err, shards, rounds, true)
+    ended(trace_input(alloc, reader, out, shards, rounds, true), err)
 }
 
-/// Shows the run of the events, as a picture too or not.
-fn show_over<R: Read, W: Write, E: Write>(
-    alloc: Global,
-    reader: &mut Counted<R>,
-    out: &mut Counted<W>,
-    err: &mut Counted<E>,
-    shards: usize,
-    rounds: usize,
-    picture: bool,
-) -> u8
-    requires shards { 0 < shards }
-    requires rounds { 0 < rounds }
-    ensures traces { Filters (RunOf shards rounds picture) NoRun result
-        (streams R.remaining W.contents E.contents reader.old out.old err.old)
-        (streams R.remaining W.contents E.contents reader.new out.new err.new) }
-    ensures silent { result ≡ 0 → err.new ≡ err.old }
-{
-    match trace_input(alloc, reader, out, shards, rounds, picture) {
-        Ok(()) => 0,
-        Err(fault) => fault.tell(err),
-    }
-}
-
+/// Writes the run of the events, as a picture too or not.
 fn trace_input<R: Read, W: Write>(
     alloc: Global,
     reader: &mut Counted<R>,
@@ -93,17 +72,11 @@ fn trace_input<R: Read, W: Write>(
 ) -> Result<(), Fault>
     requires shards { 0 < shards }
     requires rounds { 0 < rounds }
-    ensures traces { Writes (RunOf shards rounds picture) NoRun result
-        (R.remaining (end_in reader.old)) (R.remaining (end_in reader.new)) (W.contents (end_in out.old)) (W.contents (end_in out.new)) }
-    ensures reads { ReadsInput result (reads_of reader.old) (reads_of reader.new) }
-    ensures read_fault { result ≡ Err (Front ReadFault) → faults_in reader.new ≡ next_count (faults_in reader.old) }
-    ensures write_fault { result ≡ Err (Front WriteFault) → faults_in out.new ≡ next_count (faults_in out.old) }
+    ensures { Filtered (RunOf shards rounds picture) NoRun result (source_of R.remaining reader.old) (source_of R.remaining reader.new)
+        (end_of W.contents out.old) (end_of W.contents out.new) }
 {
     let (events, trace) = traced(alloc, reader, shards, rounds)?;
-    match print(out, picture, events, &trace) {
-        Ok(()) => Ok(()),
-        Err(_) => Err(Fault::Front(FrontError::WriteFault)),
-    }
+    Ok(print(out, picture, events, &trace)?)
 }
 
 /// Prints a run of so many events.
@@ -146,8 +119,6 @@ fn traced<R: Read>(
         Err(LinesError::BadLine(line)) => return Err(Fault::BadLine(line)),
         Err(LinesError::Memory) => return Err(Fault::Front(FrontError::Memory)),
     };
-    match run_events(alloc, shards, rounds, events.as_slice()) {
-        Ok(trace) => Ok((events.len(), trace)),
-        Err(_) => Err(Fault::Front(FrontError::Memory)),
-    }
+    let trace = run_events(alloc, shards, rounds, events.as_slice())?;
+    Ok((events.len(), trace))
 }

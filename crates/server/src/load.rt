@@ -20,8 +20,5 @@ pub fn requests_of<H: Files>(alloc: Global, host: &H, load: Option<&str>) -> Res
         return Err(Fault::Front(FrontError::ReadFault));
     };
     let dump = read_input(alloc, &mut Counted::new(file))?;
-    match migrate(alloc, dump.as_slice()) {
-        Ok(requests) => Ok(requests),
-        Err(error) => Err(Fault::Dump(error)),
-    }
+    Ok(migrate(alloc, dump.as_slice())?)
 }

@@ -2,14 +2,13 @@
 use Rattle.std.specs.Prelude.{◌≡◌, ◌⊎◌, ℕ, List, [], ◌∷◌, ◌==◌, length, take, not, true, false, ◌||◌, Option, Result, Ok, Err, IfOk}
 use Rattle.std.specs.List.{list_any}
 use Rattle.std.specs.Io.KnownBytes.{Appends}
-use Rattle.frame_front.specs.Output.{WritesFront, End, Tells}
+use Rattle.frame_front.specs.Output.{WritesFront}
 use Rattle.frame_front.specs.declared.error.FrontError.TheVariants.{Memory, WriteFault}
 use Rattle.frame_lines.specs.Encoding.{Gives}
 use Rattle.doc_report.specs.declared.fault.DocFault.{DocFault}
 use Rattle.doc_report.specs.declared.report.Report.{Report}
 use Rattle.commands.specs.declared.fault.Fault.{Fault}
 use Rattle.commands.specs.declared.fault.Fault.TheVariants.{Front}
-use Rattle.commands.specs.Fault.{fault_line}
 use Rattle.commands.specs.declared.check.Findings.{Findings}
 use Rattle.commands.specs.Check.{Document, lines_of, lines_of_all, gives_no_bundle, gives_part, names_of, AreGiven, JudgesFiles, JudgesInput, WritesLines, status_of}
 
@@ -23,6 +22,10 @@ given_by (Err fault) = record { no_bundle = true; ignored = false }
 
 abbrev pub findings_of : List Document → Findings
 findings_of documents = record { no_bundle = list_any gives_no_bundle documents; ignored = list_any gives_part documents }
+
+-- what they come to
+abbrev pub status_by : Findings → ℕ
+status_by findings = status_of findings.no_bundle findings.ignored
 
 -- how it ended
 abbrev pub ended_by : Result Findings Fault → Result (Unit {0}) Fault
@@ -55,8 +58,3 @@ pub record SoFar (gives : Gives) (files : List (List ℕ)) (place : ℕ) (findin
   pub given : AreGiven gives judged
   pub appends : Appends held_old held_new (lines_of_all judged)
   pub found : findings ≡ findings_of judged
-
--- what is told at the end
-abbrev pub Told : Result Findings Fault → ℕ → End → End → Type 0
-Told (Ok findings) status old new = (status ≡ status_of findings.no_bundle findings.ignored) × (new ≡ old)
-Told (Err fault) status old new = (status ≡ 1) × Tells old new (fault_line fault)

@@ -6,7 +6,7 @@ use Rattle.bundled.proofs.command.show.Goals as goal
 pub returns-in_default-clause-shows : goal.returns-in_default-clause-shows
 returns-in_default-clause-shows g c = λ input. inl record {
   ended = Err (Front Memory);
-  ends = (c.tell.ensures.status, c.tell.ensures.tells, tt);
+  ends = ((c.tell.ensures.status, c.tell.ensures.tells), tt);
   reads = refl;
-  writes = inl (refl, refl);
+  writes = (refl, refl);
 }

@@ -1,23 +1,13 @@
 use Rattle.std.proofs.Common.{◌≡◌, Err, refl, ap, ◌∙◌}
 use Rattle.frame_front.specs.Counted.{next_count}
-use Rattle.frame_front.specs.declared.error.FrontError.{FrontError}
-use Rattle.frame_front.specs.declared.error.FrontError.TheVariants.{Memory, BadLength, Truncated, ReadFault, WriteFault, TurnsUsed}
 use Rattle.client.specs.declared.client_error.ClientError.{ClientError}
 use Rattle.client.specs.declared.client_error.ClientError.TheVariants as client
 use Rattle.client.specs.declared.fault.AskFault.TheVariants as asking
-use Rattle.commands.specs.declared.fault.Fault.TheVariants.{Front, Server}
+use Rattle.commands.specs.declared.fault.Fault.TheVariants.{Server}
 use Rattle.commands.specs.declared.fault.ServerFault.TheVariants.{Client}
 use Rattle.commands.specs.Ask.{ServerEnds, BlamesServer}
-use Rattle.commands.specs.Streams.{Streams, Blames}
+use Rattle.commands.proofs.Telling.{blames_a_session}
 use Rattle.commands.proofs.ask.ask_over.Goals as goal
-
-blames : (error : FrontError) (old new : Streams) → (asking.Front error ≡ asking.Front ReadFault → new.input.faults ≡ next_count old.input.faults) → (asking.Front error ≡ asking.Front WriteFault → new.output.faults ≡ next_count old.output.faults) → Blames (Front error) old new
-blames ReadFault old new read write = read refl
-blames WriteFault old new read write = write refl
-blames Memory old new read write = tt
-blames BadLength old new read write = tt
-blames Truncated old new read write = tt
-blames TurnsUsed old new read write = tt
 
 -- an end of the server is blamed only if it failed
 blames_server : (error : ClientError) (old new : ServerEnds) → (asking.Server error ≡ asking.Server client.ReadFault → new.from.faults ≡ next_count old.from.faults) → (asking.Server error ≡ asking.Server client.WriteFault → new.to.faults ≡ next_count old.to.faults)
@@ -35,12 +25,8 @@ returns-in-Err-Server g c =
     let is = c.in-Err-Server.field-0-is in
     record {
       ended = Err (asking.Server error);
-      ends_so = (
-        c.tell-in-Err-Server.ensures.status,
-        c.tell-in-Err-Server.ensures.tells,
-        tt,
-        blames_server error _ _ (λ e. c.in-Err-Server.ensures.server_read_fault (ap Err (is ∙ e))) (λ e. c.in-Err-Server.ensures.server_write_fault (ap Err (is ∙ e))),
-      );
+      ends_so = ((c.tell-in-Err-Server.ensures.status, c.tell-in-Err-Server.ensures.tells), tt);
+      failed = blames_server error _ _ (λ e. c.in-Err-Server.ensures.server_read_fault (ap Err (is ∙ e))) (λ e. c.in-Err-Server.ensures.server_write_fault (ap Err (is ∙ e)));
       asks = rw is at c.in-Err-Server.ensures.asks;
     }
 
@@ -51,10 +37,9 @@ returns-in-Err-Front g c =
     record {
       ended = Err (asking.Front error);
       ends_so = (
-        c.tell-in-Err-Front.ensures.status,
-        c.tell-in-Err-Front.ensures.tells,
-        blames error _ _ (λ e. c.in-Err-Front.ensures.read_fault (ap Err (is ∙ e))) (λ e. c.in-Err-Front.ensures.write_fault (ap Err (is ∙ e))),
-        tt,
+        (c.tell-in-Err-Front.ensures.status, c.tell-in-Err-Front.ensures.tells),
+        blames_a_session error _ _ (λ e. c.in-Err-Front.ensures.read_fault (ap Err (is ∙ ap asking.Front e))) (λ e. c.in-Err-Front.ensures.write_fault (ap Err (is ∙ ap asking.Front e))),
       );
+      failed = tt;
       asks = rw is at c.in-Err-Front.ensures.asks;
     }

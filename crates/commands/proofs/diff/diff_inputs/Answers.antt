@@ -1,8 +1,5 @@
-use Rattle.std.proofs.Common.{◌≡◌, arith, ℕ, List, [], ◌∷◌, drop, length, true, not, ◌==◌, refl, ap, subst, ◌∙◌}
+use Rattle.std.proofs.Common.{◌≡◌, arith, ℕ, List, [], ◌∷◌, drop, length, true, not, ◌==◌, refl, ap, ◌∙◌}
 use Rattle.std.proofs.lemmas.Bool.Decides.{nat_tests}
-use Rattle.std.specs.Io.KnownBytes.{Appends}
-use Rattle.frame_front.specs.Counted.{end_in}
-use Rattle.frame_front.specs.Output.{WritesFront}
 use Rattle.map_core.specs.Name.{Name}
 use Rattle.dump_views.specs.Changes.{Change, Added, Removed, Changed}
 use Rattle.dump_views.specs.ChangeLines.{line_of, lines_of}
@@ -25,10 +22,10 @@ returns-in-Ok-write_flushed-clause-writes g c =
     let put = c.in-Ok.ensures.ok in
     let lines : c.as_slice-text.result.now ≡ lines_of put.0 = c.as_slice-text.ensures.value ∙ put.2 in
     let some = ap not (c.is_empty.ensures ∙ ap (λ (t : List ℕ). length t == 0) lines) ∙ told put.0 in
-    (put.0, put.1, some, subst (Appends (g.W.Write.contents (end_in c.args.out.now)) (g.W.Write.contents (end_in c.write_flushed.new.writer))) lines c.in-Ok-write_flushed.ensures.ok)
+    (c.as_slice-text.result.now, (put.0, put.1, some, lines), c.in-Ok-write_flushed.ensures.ok)
 
 pub returns-clause-writes : goal.returns-clause-writes
 returns-clause-writes g c =
     let put = c.in-Ok.ensures.ok in
     let lines : c.as_slice-text.result.now ≡ lines_of put.0 = c.as_slice-text.ensures.value ∙ put.2 in
-    rw c.in-Err-write_flushed.ensures.fault (put.0, put.1, subst (WritesFront (g.W.Write.contents (end_in c.args.out.now)) (g.W.Write.contents (end_in c.write_flushed.new.writer))) lines c.in-Err-write_flushed.ensures.front)
+    rw c.in-Err-write_flushed.ensures.fault (c.as_slice-text.result.now, (put.0, put.1, tt, lines), c.in-Err-write_flushed.ensures.front)

@@ -12,8 +12,7 @@ returns-in-Err-clause-runs g c =
       ended = Err c.in-Err.error;
       left = c.in-Err.ensures.session.0;
       ends = (
-        c.tell.ensures.status,
-        c.tell.ensures.tells,
+        (c.tell.ensures.status, c.tell.ensures.tells),
         blames_a_session c.in-Err.error old new
             (λ e. c.in-Err.ensures.read_fault (ap (λ error. Err error) e)) (λ e. c.in-Err.ensures.write_fault (ap (λ error. Err error) e)),
       );
