@@ -20,9 +20,6 @@ pub goes_on : {E P : Type 0} (arrival : Arrival E) → IsStop arrival ⊎ P → 
 goes_on arrival (inl stop) other = absurd (other (stop_is arrival stop))
 goes_on arrival (inr p) other = p
 
-pub no_stop : {E : Type 0} (arrival : Arrival E) → (arrival ≡ Stops → ⊥) → IsStop arrival → ⊥
-no_stop arrival other stop = other (stop_is arrival stop)
-
 module _ {E V : Type 0} (start : E → ConnectionView) (comes : V → ℕ → Arrival E → V → Type 0) where
   comes_then : (xs ys : List (ℕ × Arrival E)) (a b c : V) → ComesAll comes xs a b → ComesAll comes ys b c → ComesAll comes (xs ++ ys) a c
   comes_then [] ys a b c p q = subst (λ (v : V). ComesAll comes ys v c) p q

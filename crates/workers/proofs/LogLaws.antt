@@ -39,15 +39,6 @@ pub stood_before : (before : Option Expect) (copy op : Op) (answer : Result Repl
 stood_before before copy op answer old mid new is looked last =
     told_of before op answer (StoodBefore op answer old new) (λ how domain after named. (mid, looked domain (ap changed_name is ∙ named), last))
 
--- an error tells of no change
-pub error_told : (before : Option Expect) (op : Op) (e : AskError) → None ≡ change_told before op (Err e)
-error_told before (Set d b) e = refl
-error_told before (SetIf d expect b) e = refl
-error_told before (Append d a) e = refl
-error_told before (Remove d) e = refl
-error_told before (Get d) e = refl
-error_told before FetchAll e = refl
-
 module _ {L : Type 0} (tells : L → ℕ → ChangeView → L → Type 0) (worker : ℕ) (old new : L) where
   -- a log that is off is told of nothing
   off_told : (wanted : Bool) (change : Option ChangeView) → false ≡ wanted → new ≡ old → IsTold tells wanted worker change old new

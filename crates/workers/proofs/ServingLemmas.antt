@@ -11,7 +11,7 @@ use Rattle.map_core.specs.declared.reply.Reply.{Reply}
 use Rattle.map_core.specs.declared.reply.AskError.{AskError}
 use Rattle.frame_front.specs.declared.error.FrontError.{FrontError}
 use Rattle.workers.specs.Connection.{Owes, StopsFor, Turn, opened, told, turn_rounds}
-use Rattle.workers.specs.Stream.{May}
+use Rattle.workers.specs.Stream.{StreamLimits}
 use Rattle.workers.specs.declared.turn_end.TurnEnd.{TurnEnd}
 use Rattle.workers.specs.declared.turn_end.TurnEnd.TheVariants.{Over}
 use Rattle.workers.specs.AtPort.{PortAnswer}
@@ -134,7 +134,7 @@ module _ {S : Type 0} (answers : S → Op → Result Reply AskError → S → Ty
       (record { steps = l.steps; are = l.are; takes = given_up_anywhere l.steps mid.places new.places s l.are l.takes; waits = l.waits; notes = l.notes; limited = l.limited })
 
   -- a free place is taken
-  pub take_serves : (place : ℕ) (may : May) (left held : Option (List ℕ)) (reads_only : Bool) (old new : Work) (s : S) → old.places place ≡ None
+  pub take_serves : (place : ℕ) (may : StreamLimits) (left held : Option (List ℕ)) (reads_only : Bool) (old new : Work) (s : S) → old.places place ≡ None
       → new.places place ≡ Some (record { connection = opened limits.turns may left held; reads_only = reads_only; silent = 0 }) → OthersStay place old.places new.places
       → new.waiting ≡ old.waiting ++ place ∷ [] → new.kept ≡ old.kept → Serves answers limits (Follows (NewClient place (opened limits.turns may left held) reads_only)) old new s s
   take_serves place may left held reads_only old new s free taken others waits kept =

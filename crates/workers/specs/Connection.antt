@@ -10,7 +10,7 @@ use Rattle.frame_front.specs.Frame.{IsUnfinished, IsBadLength}
 use Rattle.frame_front.specs.Decoder.{BeginsWithFrame}
 use Rattle.frame_front.specs.Live.{LiveView, live_start, most_frames, reply_limit, waiting}
 use Rattle.frame_front.specs.LiveCalls.{LiveCall, Feed, DoesAll, fed, sent, frames_of}
-use Rattle.workers.specs.Stream.{May}
+use Rattle.workers.specs.Stream.{StreamLimits}
 use Rattle.workers.specs.Reads.{reads_for, reads_of}
 use Rattle.workers.specs.declared.turn_end.TurnEnd.{TurnEnd}
 use Rattle.workers.specs.declared.turn_end.TurnEnd.TheVariants.{Waits, Again, Over}
@@ -25,12 +25,12 @@ pub record ConnectionView : Type 0 where
   pub has_ended : Bool
   pub has_lost : Bool
   pub is_closing : Bool
-  pub may : May
+  pub may : StreamLimits
   pub left : Option (List ℕ)
   pub held : Option (List ℕ)
 
 -- a new connection over a stream, which may make so many reads
-abbrev pub opened : (turns : ℕ) → May → (left held : Option (List ℕ)) → ConnectionView
+abbrev pub opened : (turns : ℕ) → StreamLimits → (left held : Option (List ℕ)) → ConnectionView
 opened turns may left held = record {
   live = live_start;
   answered = 0;

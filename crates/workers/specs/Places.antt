@@ -6,7 +6,7 @@ use Rattle.map_core.specs.declared.reply.Reply.{Reply}
 use Rattle.map_core.specs.declared.reply.AskError.{AskError}
 use Rattle.frame_front.specs.declared.error.FrontError.{FrontError}
 use Rattle.workers.specs.Connection.{ConnectionView, LastTurn, Owes, StopsFor, Turn, counted, opened, told, turn_rounds}
-use Rattle.workers.specs.Stream.{May}
+use Rattle.workers.specs.Stream.{StreamLimits}
 use Rattle.workers.specs.declared.turn_end.TurnEnd.{TurnEnd}
 use Rattle.workers.specs.declared.turn_end.TurnEnd.TheVariants.{Again, Over}
 use Rattle.workers.specs.Arrivals.{News, NewClient, IsReady, HasTicked, HasFailed, IsQuiet, IsToStop}
@@ -51,7 +51,7 @@ pub data Step : Type 0 where
 -- how far a step may go with a client: a new connection has done nothing yet and may make so many reads; a client is given up only
 -- after so many ticks
 abbrev pub GoesSoFar : (most_silent turns : ℕ) → Step → Type 0
-GoesSoFar most_silent turns (Opens place start reads_only) = (may : May) × (left : Option (List ℕ)) × (held : Option (List ℕ)) × (start ≡ opened turns may left held)
+GoesSoFar most_silent turns (Opens place start reads_only) = (may : StreamLimits) × (left : Option (List ℕ)) × (held : Option (List ℕ)) × (start ≡ opened turns may left held)
 GoesSoFar most_silent turns (GivesUp place ticks error) = most_silent ≤ ticks
 GoesSoFar most_silent turns step = ⊤
 

@@ -9,7 +9,7 @@ ghost use Rattle.workers.specs.Private.Numbers.{AreNumbered};
 use crate::arrivals::Arrivals;
 use crate::at_port::AtPort;
 use crate::serving::serve_arrivals;
-use crate::worker::{Crew, Worker};
+use crate::worker::{SharedByWorkers, Worker};
 use crate::{Gate, Gated, Log, Logged, Worked};
 use shard_store::{Pass, Store};
 use std::alloc::{AllocError, Global};
@@ -27,26 +27,26 @@ struct Task<V> {
 
 /// Serves the connections of one worker.
 fn work<H: Clock, V: Arrivals + Drop, G: Gate, L: Log + Copy>(
-    crew: &Crew<'_, H, L>,
+    common: &SharedByWorkers<'_, H, L>,
     store: &Store,
     gate: &G,
     task: Task<V>,
 ) -> Result<Worked, AllocError>
     requires own { IsOf task.pass store.now }
-    ensures { IfOk result (λ worked. HasFollowed (G.opens gate.now) crew.now.limits.most_silent crew.now.limits.turns (λ end. opened crew.now.limits.turns (V.End.may end) (V.End.left end) (V.End.held end)) V.comes store.now task.number task.pass task.arrivals worked) }
+    ensures { IfOk result (λ worked. HasFollowed (G.opens gate.now) common.now.limits.most_silent common.now.limits.turns (λ end. opened common.now.limits.turns (V.End.may end) (V.End.left end) (V.End.held end)) V.comes store.now task.number task.pass task.arrivals worked) }
 {
     let Task {
         number,
         pass,
         mut arrivals,
     } = task;
-    let limits = crew.limits;
-    let logged = Logged::new(store, pass, crew.rt, limits.retries, *crew.log, number);
+    let limits = common.limits;
+    let logged = Logged::new(store, pass, common.rt, limits.retries, *common.log, number);
     let mut port = AtPort::new(Gated::new(logged, gate, number), false);
     let worker = Worker {
         number,
-        alloc: crew.alloc,
-        log: crew.log,
+        alloc: common.alloc,
+        log: common.log,
         limits,
     };
     let ends = serve_arrivals(&worker, &mut arrivals, &mut port)?;
@@ -129,7 +129,7 @@ pub fn run_arrivals<
     G: Gate + Sync,
     L: Log + Copy + Sync,
 >(
-    crew: &Crew<'_, H, L>,
+    common: &SharedByWorkers<'_, H, L>,
     store: &Store,
     passes: Vec<Pass>,
     arrivals: Vec<V>,
@@ -137,14 +137,14 @@ pub fn run_arrivals<
 ) -> Result<Vec<Worked>, AllocError>
     requires same { vec_len passes ≡ vec_len arrivals }
     requires own { All (λ pass. IsOf pass store.now) passes.items }
-    ensures served { IfOk result (λ all. AllServed (G.opens gate.now) crew.now.limits.most_silent crew.now.limits.turns store.now 0 passes.items all.items) }
-    ensures followed { IfOk result (λ all. AllFollowed (G.opens gate.now) crew.now.limits.most_silent crew.now.limits.turns (λ end. opened crew.now.limits.turns (V.End.may end) (V.End.left end) (V.End.held end)) V.comes store.now passes.items arrivals.items all.items) }
+    ensures served { IfOk result (λ all. AllServed (G.opens gate.now) common.now.limits.most_silent common.now.limits.turns store.now 0 passes.items all.items) }
+    ensures followed { IfOk result (λ all. AllFollowed (G.opens gate.now) common.now.limits.most_silent common.now.limits.turns (λ end. opened common.now.limits.turns (V.End.may end) (V.End.left end) (V.End.held end)) V.comes store.now passes.items arrivals.items all.items) }
 {
-    let tasks = tasks_of(crew.alloc, passes, arrivals)?;
+    let tasks = tasks_of(common.alloc, passes, arrivals)?;
     let run = |task: Task<V>| -> Result<Worked, AllocError>
         requires { IsOf task.pass store.now }
-        ensures { IfOk result (λ worked. HasFollowed (G.opens gate.entry.now) crew.entry.now.limits.most_silent crew.entry.now.limits.turns (λ end. opened crew.entry.now.limits.turns (V.End.may end) (V.End.left end) (V.End.held end)) V.comes store.entry.now task.number task.pass task.arrivals worked) }
-    { work(crew, store, gate, task) };
-    let given = thread::map_vec(crew.rt, tasks, &run)?;
-    all_worked(crew.alloc, given)
+        ensures { IfOk result (λ worked. HasFollowed (G.opens gate.entry.now) common.entry.now.limits.most_silent common.entry.now.limits.turns (λ end. opened common.entry.now.limits.turns (V.End.may end) (V.End.left end) (V.End.held end)) V.comes store.entry.now task.number task.pass task.arrivals worked) }
+    { work(common, store, gate, task) };
+    let given = thread::map_vec(common.rt, tasks, &run)?;
+    all_worked(common.alloc, given)
 }

@@ -59,4 +59,4 @@ pub use session::Session;
 pub use sessions::{ListenFault, Sessions};
 pub use stream::Stream;
 pub use turn_end::TurnEnd;
-pub use worker::{Crew, Worker};
+pub use worker::{SharedByWorkers, Worker};

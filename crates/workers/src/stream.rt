@@ -7,7 +7,7 @@ pub trait Stream {
     ghost use Rattle.std.specs.Prelude.{◌≡◌, ℕ, List, Option, length};
     ghost use Rattle.std.specs.Io.{ReadsAtMost, WritesAtMost};
     ghost use Rattle.std.specs.Io.KnownBytes.{ReadConsumes, WriteAppends};
-    ghost use Rattle.workers.specs.Stream.{May, ReadsAs, WritesAs};
+    ghost use Rattle.workers.specs.Stream.{StreamLimits, ReadsAs, WritesAs};
 
     // The bytes that are left to be read, where they are known.
     ghost left: { Self → Option (List ℕ) };
@@ -16,7 +16,7 @@ pub trait Stream {
     ghost held: { Self → Option (List ℕ) };
 
     // What its calls may come to.
-    ghost may: { Self → May };
+    ghost may: { Self → StreamLimits };
 
     /// As `Read::read`.
     fn read(&mut self, buf: &mut [u8]) -> io::Result<usize>

@@ -5,7 +5,7 @@ use std::alloc::Global;
 /// What the workers of a server have in common: the system that gives them threads and the time, its memory, the log that
 /// they tell, and how far they go with their clients.
 #[derive(Drop)]
-pub struct Crew<'c, H, L> {
+pub struct SharedByWorkers<'c, H, L> {
     pub rt: &'c H,
     pub alloc: Global,
     pub log: &'c L,

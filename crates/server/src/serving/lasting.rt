@@ -29,7 +29,7 @@ use std::io::{Read, Write};
 use std::thread;
 use std::thread::Threads;
 use std::time::Clock;
-use workers::{Crew, Limits, Log, Open, Worked, run_arrivals};
+use workers::{Limits, Log, Open, SharedByWorkers, Worked, run_arrivals};
 
 /// A server that listens, and whose store is set up.
 #[derive(Drop)]
@@ -108,7 +108,7 @@ fn run<H: Threads + Clock + Sync, L: Log + Copy + Sync>(
     ensures { IfOk result (λ all. ServedBeside work.now.lasting work.now.settings.turns work.now.store.now passes.items all.items) }
 {
     let (host, settings) = (work.host, work.settings);
-    let crew = Crew {
+    let common = SharedByWorkers {
         rt: host.rt,
         alloc: host.alloc,
         log: host.log,
@@ -118,7 +118,7 @@ fn run<H: Threads + Clock + Sync, L: Log + Copy + Sync>(
             turns: settings.turns,
         },
     };
-    run_arrivals(&crew, work.store, passes, incoming, &Open)
+    run_arrivals(&common, work.store, passes, incoming, &Open)
 }
 
 /// Runs the workers, and beside them waits for the end of the input: then they are to stop.

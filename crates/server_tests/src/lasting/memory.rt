@@ -6,7 +6,7 @@ use std::io;
 use std::io::{Read, Write};
 use std::thread::Threads;
 use std::time::Clock;
-use workers::{Arrival, Arrivals, Crew, Gate, Log, Quiet, SessionFault, Stream, run_arrivals};
+use workers::{Arrival, Arrivals, Gate, Log, Quiet, SessionFault, SharedByWorkers, Stream, run_arrivals};
 
 /// A client in memory that gives all that it has, and then its end, and takes all.
 #[derive(Drop)]
@@ -120,13 +120,13 @@ pub(super) fn run_two_noted<R: Threads + Clock + Sync, G: Gate + Sync, L: Log + 
     let mut arrivals = Vec::new(alloc);
     arrivals.push(one_client(inputs.0, &mut first, failures))?;
     arrivals.push(one_client(inputs.1, &mut second, failures))?;
-    let crew = Crew {
+    let common = SharedByWorkers {
         rt,
         alloc,
         log,
         limits: LIMITS,
     };
-    let worked = run_arrivals(&crew, &store, passes, arrivals, gate)?;
+    let worked = run_arrivals(&common, &store, passes, arrivals, gate)?;
     let mut begun: u64 = 0;
     let mut have_come = true;
     let mut faults = Vec::new(alloc);

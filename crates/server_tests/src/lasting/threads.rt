@@ -12,7 +12,7 @@ use std::sync::atomic::{AtomicU64, Ordering};
 use std::test::Fail;
 use std::thread::Threads;
 use std::time::Clock;
-use workers::{Arrival, Arrivals, Crew, Open, Quiet, Stream, Worked, run_arrivals};
+use workers::{Arrival, Arrivals, Open, Quiet, SharedByWorkers, Stream, Worked, run_arrivals};
 
 /// A set of `a` and a get of it.
 const SET_AND_GET: &[u8] = b"\x00\x00\x00\x0eS\x01a{\"keys\":[]}\x00\x00\x00\x03G\x01a";
@@ -122,13 +122,13 @@ fn run_two<R: Threads + Clock + Sync>(
     let mut arrivals = Vec::new(alloc);
     arrivals.push(queue_of(clients, taken))?;
     arrivals.push(queue_of(clients, taken))?;
-    let crew = Crew {
+    let common = SharedByWorkers {
         rt,
         alloc,
         log: &Quiet,
         limits: LIMITS,
     };
-    let worked = run_arrivals(&crew, &store, passes, arrivals, &Open)?;
+    let worked = run_arrivals(&common, &store, passes, arrivals, &Open)?;
     Ok(count_ends(worked.as_slice()))
 }
 

@@ -16,7 +16,7 @@ pub returns : goal.returns
 returns g c =
     let opens = g.G.Gate.opens c.args.gate.now in
     let number = c.args.task.number in
-    let limits = c.args.crew.now.limits in
+    let limits = c.args.common.now.limits in
     let begun = c.new-port.result.ask in
     let is = c.new-port.ensures.ask in
     let begun_ask = ap (λ gated. gated.ask) is ∙ c.new.ensures.ask in
