@@ -3,7 +3,7 @@ use client::Client;
 use frame_front::{Counted, FaultyWriter, FrontError};
 use map_core::{Ask, AskError, MapRefusal, Op, Reply};
 use refresh::{
-    ListError, RefreshError, RelationError, Remark, Sender, Server, Target, Told, What,
+    LineDetails, ListError, RefreshError, RelationError, Remark, Sender, Server, Target, What,
     outcome_line, read_list,
 };
 use spiffe_doc::{DocError, NameError, TrustDomain, read_document};
@@ -253,7 +253,7 @@ static LINES: [Row; 18] = [
 fn lines(rt: HostRuntime) -> Result<(), Fail> {
     let domain = TrustDomain::parse(rt.alloc(), "a.example")?;
     for &(came, is_sent, has_emptied, remark, wanted) in &LINES {
-        let told = Told {
+        let told = LineDetails {
             time: 1000,
             due: 1300,
             domain: &domain,

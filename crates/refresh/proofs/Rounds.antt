@@ -16,7 +16,7 @@ use Rattle.refresh.specs.Schedule.{ScheduleValue}
 use Rattle.refresh.specs.declared.each.Times.{Times}
 use Rattle.refresh.specs.declared.outcome_lines.Remark.{Remark}
 use Rattle.refresh.specs.Due.{due_not_before}
-use Rattle.refresh.specs.OutcomeLine.{Telling, outcome_line}
+use Rattle.refresh.specs.OutcomeLine.{Details, outcome_line}
 use Rattle.refresh.specs.Each.{Scene, TellsPlace, TellsFrom, all_are_good, is_good}
 
 and_true : (b : Bool) → (b && true) ≡ b
@@ -49,8 +49,8 @@ one_more outcomes one place is = grind (arith, common_steps)
 -- what a line tells, part by part
 pub same_telling : (time due due' : ℕ) (domain domain' : Name) (is_sent is_sent' has_emptied has_emptied' : Bool) (remark remark' : Option Remark)
     → due ≡ due' → domain ≡ domain' → is_sent ≡ is_sent' → has_emptied ≡ has_emptied' → remark ≡ remark'
-    → (let a : Telling = record { time = time; due = due; domain = domain; is_sent = is_sent; has_emptied = has_emptied; remark = remark } in a)
-    ≡ (let b : Telling = record { time = time; due = due'; domain = domain'; is_sent = is_sent'; has_emptied = has_emptied'; remark = remark' } in b)
+    → (let a : Details = record { time = time; due = due; domain = domain; is_sent = is_sent; has_emptied = has_emptied; remark = remark } in a)
+    ≡ (let b : Details = record { time = time; due = due'; domain = domain'; is_sent = is_sent'; has_emptied = has_emptied'; remark = remark' } in b)
 same_telling time due due' domain domain' is_sent is_sent' has_emptied has_emptied' remark remark' e f g h i = cc
 
 -- who stands at a place of a schedule does so after a refresh
@@ -102,7 +102,7 @@ module _ {S T : Type 0} (fetches : S → RelationshipValue → Option (List ℕ)
         relationship = r;
         refreshed = record { at_place = at; refreshes = refreshes; due = moved };
         goes_on = goes_on;
-        told = subst (λ (t : Telling). TellsUnlessFailed before old.lines new.lines (outcome_line t outcome.what))
+        told = subst (λ (t : Details). TellsUnlessFailed before old.lines new.lines (outcome_line t outcome.what))
             (same_telling times.time due (due_not_before times.time times.at_least outcome.due) domain r.domain is_sent only_sends
             has_emptied (empties_in new.target) remark (remark_in new.source) due_is
             (domain_is ∙ same_domain place r found old.schedule new.schedule at there (ap (λ (s : ScheduleValue). s.relationships) moved))

@@ -19,7 +19,7 @@ use Rattle.refresh.specs.Schedule.{ScheduleValue}
 use Rattle.refresh.specs.declared.each.Times.{Times}
 use Rattle.refresh.specs.declared.outcome_lines.Remark.{Remark}
 use Rattle.refresh.specs.Due.{due_not_before}
-use Rattle.refresh.specs.OutcomeLine.{Telling, outcome_line}
+use Rattle.refresh.specs.OutcomeLine.{Details, outcome_line}
 
 -- where documents come from, who is asked, when what is due, and where lines go
 pub record Scene (S T : Type 0) : Type 0 where
@@ -52,8 +52,8 @@ module _ {S T : Type 0} (fetches : S → RelationshipValue → Option (List ℕ)
         (λ error. new.schedule ≡ old.schedule)
 
   -- what the line of an outcome tells, if this is left after it
-  abbrev pub telling_of : RelationshipValue → Outcome → Scene S T → Telling
-  telling_of r outcome left = record {
+  abbrev pub details_of : RelationshipValue → Outcome → Scene S T → Details
+  details_of r outcome left = record {
     time = times.time;
     due = due_not_before times.time times.at_least outcome.due;
     domain = r.domain;
@@ -67,7 +67,7 @@ module _ {S T : Type 0} (fetches : S → RelationshipValue → Option (List ℕ)
     pub relationship : RelationshipValue
     pub refreshed : RefreshesPlace place relationship (Ok outcome) old new
     pub goes_on : fault_in new.target ≡ None
-    pub told : TellsUnlessFailed before old.lines new.lines (outcome_line (telling_of relationship outcome new) outcome.what)
+    pub told : TellsUnlessFailed before old.lines new.lines (outcome_line (details_of relationship outcome new) outcome.what)
 
   -- The relationships from this place on are refreshed so, one after the other, with these outcomes.
   abbrev pub TellsFrom : ℕ → List Outcome → Scene S T → Scene S T → Type 0

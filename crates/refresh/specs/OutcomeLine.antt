@@ -14,10 +14,10 @@ use Rattle.refresh.specs.declared.outcome.What.{What}
 use Rattle.refresh.specs.declared.outcome.What.TheVariants.{Taken, BadDocument, NoAnswer, Asked}
 use Rattle.refresh.specs.declared.outcome_lines.Remark.{Remark}
 use Rattle.refresh.specs.declared.outcome_lines.Remark.TheVariants as why
-use Rattle.refresh.specs.declared.outcome_lines.Told.{Told}
+use Rattle.refresh.specs.declared.outcome_lines.LineDetails.{LineDetails}
 
 -- what a line tells besides what the refresh came to
-pub record Telling : Type 0 where
+pub record Details : Type 0 where
   pub time : ℕ
   pub due : ℕ
   pub domain : Name
@@ -26,14 +26,14 @@ pub record Telling : Type 0 where
   pub remark : Option Remark
 
 -- the same, wherever its name lies
-abbrev pub telling : Told → Telling
-telling told = record {
-  time = told.time;
-  due = told.due;
-  domain = told.domain.now;
-  is_sent = told.is_sent;
-  has_emptied = told.has_emptied;
-  remark = told.remark;
+abbrev pub details_of : LineDetails → Details
+details_of details = record {
+  time = details.time;
+  due = details.due;
+  domain = details.domain.now;
+  is_sent = details.is_sent;
+  has_emptied = details.has_emptied;
+  remark = details.remark;
 }
 
 abbrev pub remark_text : Remark → List ℕ
@@ -50,11 +50,11 @@ stored_words false true = codes "stored empty"
 stored_words false false = codes "stored"
 
 -- a refusal is told as by a session; no other reply comes to a Set
-abbrev pub taken_words : Telling → Reply → List ℕ
-taken_words told Stored = stored_words told.is_sent told.has_emptied
-taken_words told Unchanged = codes "unchanged"
-taken_words told (Refused refusal) = line_of (refusal_form refusal)
-taken_words told reply = codes "answered"
+abbrev pub taken_words : Details → Reply → List ℕ
+taken_words details Stored = stored_words details.is_sent details.has_emptied
+taken_words details Unchanged = codes "unchanged"
+taken_words details (Refused refusal) = line_of (refusal_form refusal)
+taken_words details reply = codes "answered"
 
 -- the entry of the document, from 0
 abbrev pub place_words : Option ℕ → List ℕ
@@ -69,11 +69,11 @@ abbrev pub error_words : AskError → List ℕ
 error_words GateShut = codes "given up refused 56"
 error_words error = codes "given up " ++ line_of (error_form error)
 
-abbrev pub what_words : Telling → What → List ℕ
-what_words told (Taken reply) = taken_words told reply
-what_words told (BadDocument error) = bad_document_words error
-what_words told NoAnswer = codes "no answer"
-what_words told (Asked error) = error_words error
+abbrev pub what_words : Details → What → List ℕ
+what_words details (Taken reply) = taken_words details reply
+what_words details (BadDocument error) = bad_document_words error
+what_words details NoAnswer = codes "no answer"
+what_words details (Asked error) = error_words error
 
 abbrev pub reason_words : Option Remark → List ℕ
 reason_words None = []
@@ -85,7 +85,7 @@ remark_words NoAnswer remark = reason_words remark
 remark_words what remark = []
 
 -- The time, the domain, what the refresh came to, and when the next one is due.
-abbrev pub outcome_line : Telling → What → List ℕ
-outcome_line told what =
-    decimal told.time ++ codes " " ++ told.domain ++ codes " " ++ what_words told what
-    ++ codes " due " ++ decimal told.due ++ remark_words what told.remark ++ 10 ∷ []
+abbrev pub outcome_line : Details → What → List ℕ
+outcome_line details what =
+    decimal details.time ++ codes " " ++ details.domain ++ codes " " ++ what_words details what
+    ++ codes " due " ++ decimal details.due ++ remark_words what details.remark ++ 10 ∷ []

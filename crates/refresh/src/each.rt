@@ -9,7 +9,7 @@ ghost use Rattle.refresh.specs.Folder.{FetchesFile};
 use crate::error::RefreshError;
 use crate::folder::Folder;
 use crate::outcome::{Outcome, What};
-use crate::outcome_lines::Told;
+use crate::outcome_lines::LineDetails;
 use crate::report::write_line;
 use crate::schedule::{Schedule, refresh_at};
 use crate::target::Target;
@@ -62,7 +62,7 @@ pub fn refresh_each<H: Files, T: Target, L: Write>(
         if let Some(fault) = target.fault() {
             return Err(fault);
         }
-        let told = Told {
+        let details = LineDetails {
             time: times.time,
             due: times.due(&outcome),
             domain: schedule.relationship(place).domain(),
@@ -70,7 +70,7 @@ pub fn refresh_each<H: Files, T: Target, L: Write>(
             has_emptied: target.has_emptied(),
             remark: folder.remark(),
         };
-        let is_taken = write_line(lines, before, &outcome.what, &told);
+        let is_taken = write_line(lines, before, &outcome.what, &details);
         if is_output && !is_taken {
             return Err(RefreshError::Front(FrontError::WriteFault));
         }

@@ -28,7 +28,7 @@ pub use error::{RefreshError, RelationError};
 pub use folder::Folder;
 pub use list::{ListError, read_list};
 pub use outcome::{Outcome, What, refresh_once};
-pub use outcome_lines::{LINE_BYTES, Line, Remark, Told, outcome_line};
+pub use outcome_lines::{LINE_BYTES, Line, LineDetails, Remark, outcome_line};
 pub use relationship::{Profile, Relationship};
 pub use schedule::{Schedule, refresh_at};
 pub use source::{Source, SourceFault};

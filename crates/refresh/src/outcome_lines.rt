@@ -2,7 +2,7 @@
 ghost use Rattle.std.specs.Prelude.{◌≡◌, ◌+◌, ◌≤◌, ◌++◌, [], codes, decimal, length};
 ghost use Rattle.arrayvec.specs.ArrayVec.{array_vec_len};
 ghost use Rattle.frame_lines.specs.ReplyForm.{reply, line_of, text_of, IsLined};
-ghost use Rattle.refresh.specs.OutcomeLine.{bad_document_words, error_words, outcome_line as line_of_outcome, place_words, reason_words, remark_text, remark_words, stored_words, taken_words, telling, what_words};
+ghost use Rattle.refresh.specs.OutcomeLine.{bad_document_words, details_of, error_words, outcome_line as line_of_outcome, place_words, reason_words, remark_text, remark_words, stored_words, taken_words, what_words};
 
 use crate::outcome::What;
 use arrayvec::ArrayVec;
@@ -48,7 +48,7 @@ impl Remark {
 
 /// What a line tells besides what the refresh came to.
 #[derive(Drop)]
-pub struct Told<'a> {
+pub struct LineDetails<'a> {
     /// When the refresh was made, and when the next is due, in seconds.
     pub time: u64,
     pub due: u64,
@@ -80,43 +80,43 @@ fn put_number(line: &mut Line, number: u64)
 }
 
 /// The line of an outcome: the time, the domain, what it came to and when the next refresh is due.
-pub fn outcome_line(what: &What, told: &Told<'_>) -> Line
-    ensures { result.items ≡ line_of_outcome (telling told.now) what.now }
+pub fn outcome_line(what: &What, details: &LineDetails<'_>) -> Line
+    ensures { result.items ≡ line_of_outcome (details_of details.now) what.now }
 {
     let mut line = ArrayVec::new();
-    put_number(&mut line, told.time);
+    put_number(&mut line, details.time);
     put(&mut line, b" ");
-    put(&mut line, told.domain.as_str().as_bytes());
+    put(&mut line, details.domain.as_str().as_bytes());
     put(&mut line, b" ");
-    put_what(&mut line, what, told);
+    put_what(&mut line, what, details);
     put(&mut line, b" due ");
-    put_number(&mut line, told.due);
-    put_remark(&mut line, what, told.remark);
+    put_number(&mut line, details.due);
+    put_remark(&mut line, what, details.remark);
     put(&mut line, b"\n");
     line
 }
 
 /// Adds what the refresh came to.
-fn put_what(line: &mut Line, what: &What, told: &Told<'_>)
+fn put_what(line: &mut Line, what: &What, details: &LineDetails<'_>)
     requires { array_vec_len line.old ≤ 300 }
-    ensures items { line.new.items ≡ line.old.items ++ what_words (telling told.now) what.now }
+    ensures items { line.new.items ≡ line.old.items ++ what_words (details_of details.now) what.now }
     ensures few { array_vec_len line.new ≤ array_vec_len line.old + 300 }
 {
     match what {
-        What::Taken(reply) => put_taken(line, reply, told),
+        What::Taken(reply) => put_taken(line, reply, details),
         What::BadDocument(error) => put_bad_document(line, error),
         What::NoAnswer => put(line, b"no answer"),
         What::Asked(error) => put_error(line, error),
     }
 }
 
-fn put_taken(line: &mut Line, reply: &Reply, told: &Told<'_>)
+fn put_taken(line: &mut Line, reply: &Reply, details: &LineDetails<'_>)
     requires { array_vec_len line.old ≤ 300 }
-    ensures items { line.new.items ≡ line.old.items ++ taken_words (telling told.now) reply.now }
+    ensures items { line.new.items ≡ line.old.items ++ taken_words (details_of details.now) reply.now }
     ensures few { array_vec_len line.new ≤ array_vec_len line.old + 300 }
 {
     match reply {
-        Reply::Stored => put_stored(line, told.is_sent, told.has_emptied),
+        Reply::Stored => put_stored(line, details.is_sent, details.has_emptied),
         Reply::Unchanged => put(line, b"unchanged"),
         Reply::Refused(refusal) => put_form(line, &ReplyForm::of_refusal(refusal)),
         // No other reply comes to a Set.

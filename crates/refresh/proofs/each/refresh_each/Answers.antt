@@ -5,7 +5,7 @@ use Rattle.frame_front.proofs.OutputLemmas.{tells_nothing, tells_more}
 use Rattle.refresh.specs.Schedule.{ScheduleValue}
 use Rattle.refresh.specs.Each.{Scene, RefreshesPlace, TellsPlace, all_are_good}
 use Rattle.refresh.specs.Folder.{FetchesFile, FolderState}
-use Rattle.refresh.specs.OutcomeLine.{Telling, outcome_line}
+use Rattle.refresh.specs.OutcomeLine.{Details, outcome_line}
 use Rattle.refresh.proofs.Rounds.{all_and_one, and_else, and_then, not_taken, one_more, taken_is, tells_next, tells_place}
 use Rattle.refresh.proofs.each.refresh_each.Goals as goal
 use Rattle.refresh.proofs.each.refresh_each.Goals.{else-is_output-via-then-is_output+else-not-is_taken, else-is_output-via-else-is_output, then-all_went_well, else-all_went_well}
@@ -60,7 +60,7 @@ pub returns-then-not-is_taken-clause-tells : goal.returns-then-not-is_taken-clau
 returns-then-not-is_taken-clause-tells g c =
     let old = end_of g.L.Write.contents c.loop-place.lines in
     let new = end_of g.L.Write.contents c.write_line-is_taken.new.end in
-    let telling : Telling = record {
+    let details : Details = record {
       time = c.args.times.now.time;
       due = c.due.result;
       domain = c.domain.result.now;
@@ -68,7 +68,7 @@ returns-then-not-is_taken-clause-tells g c =
       has_emptied = c.has_emptied.result;
       remark = c.remark.result;
     } in
-    let line = outcome_line telling c.in-Ok.outcome.what in
+    let line = outcome_line details c.in-Ok.outcome.what in
     let follows : TellsUnlessFailed (faults_in c.args.lines.now) old new line =
     subst (λ (before : ℕ). TellsUnlessFailed before old new line) c.faults-before.ensures c.write_line-is_taken.ensures.tells in
     (c.loop-place.invariant.6.0 ++ line, tells_more _ old new c.loop-place.invariant.6.0 line c.requires c.loop-place.invariant.6.1 follows)
@@ -83,7 +83,7 @@ returns-then-not-is_taken-clause-each g c =
     record { source = c.loop-place.folder; target = c.loop-place.target; schedule = c.loop-place.schedule; lines = old } in
     let new : Scene FolderState g.row.T.Denot =
     record { source = c.refresh_at.new.source; target = c.refresh_at.new.ask; schedule = c.refresh_at.new.schedule; lines = left } in
-    let telling : Telling = record {
+    let details : Details = record {
       time = c.args.times.now.time;
       due = c.due.result;
       domain = c.domain.result.now;
@@ -91,7 +91,7 @@ returns-then-not-is_taken-clause-each g c =
       has_emptied = c.has_emptied.result;
       remark = c.remark.result;
     } in
-    let line = outcome_line telling c.in-Ok.outcome.what in
+    let line = outcome_line details c.in-Ok.outcome.what in
     let follows : TellsUnlessFailed (faults_in c.args.lines.now) old left line =
     subst (λ (before : ℕ). TellsUnlessFailed before old left line) c.faults-before.ensures c.write_line-is_taken.ensures.tells in
     let goes_on : g.T.Target.fault_in c.refresh_at.new.ask ≡ None = (cc) in
@@ -127,7 +127,7 @@ loop-place-preserved g c =
     record { source = c.loop-place.folder; target = c.loop-place.target; schedule = c.loop-place.schedule; lines = old } in
     let new : Scene FolderState g.row.T.Denot =
     record { source = c.refresh_at.new.source; target = c.refresh_at.new.ask; schedule = c.refresh_at.new.schedule; lines = left } in
-    let telling : Telling = record {
+    let details : Details = record {
       time = c.args.times.now.time;
       due = c.due.result;
       domain = c.domain.result.now;
@@ -135,7 +135,7 @@ loop-place-preserved g c =
       has_emptied = c.has_emptied.result;
       remark = c.remark.result;
     } in
-    let line = outcome_line telling c.in-Ok.outcome.what in
+    let line = outcome_line details c.in-Ok.outcome.what in
     let follows : TellsUnlessFailed (faults_in c.args.lines.now) old left line =
     subst (λ (before : ℕ). TellsUnlessFailed before old left line) c.faults-before.ensures c.write_line-is_taken.ensures.tells in
     let goes_on : g.T.Target.fault_in c.refresh_at.new.ask ≡ None = (cc) in
