@@ -4,7 +4,7 @@ use Rattle.command_line.specs.declared.wanted.Inquiry.{Inquiry}
 use Rattle.commands.specs.Ask.{Asks, AsksWords, ServerEnds}
 use Rattle.commands.specs.Encode.{of_files}
 use Rattle.commands.specs.Fault.{fault_line}
-use Rattle.frame_front.specs.Output.{Tells}
+use Rattle.wire.specs.Output.{Tells}
 use Rattle.commands.specs.Streams.{Streams}
 use Rattle.commands.specs.declared.fault.Fault.TheVariants.{Server}
 use Rattle.commands.specs.declared.fault.ServerFault.TheVariants.{NoConnection}

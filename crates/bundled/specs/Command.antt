@@ -1,7 +1,7 @@
 -- What the program does: one of its commands, or a text in place of one.
 use Rattle.std.specs.Prelude.{◌≡◌, ℕ, Bool, true, false, List, map, Result, ◌⊎◌}
-use Rattle.frame_front.specs.Output.{End, Tells}
-use Rattle.frame_front.specs.declared.error.FrontError.TheVariants.{Memory, ReadFault}
+use Rattle.wire.specs.Output.{End, Tells}
+use Rattle.wire.specs.declared.error.FrontError.TheVariants.{Memory, ReadFault}
 use Rattle.command_line.specs.declared.wanted.Wanted.{Wanted}
 use Rattle.command_line.specs.declared.wanted.Wanted.TheVariants.{Run, Ask, Encode, Decode, Explain, Check, Map, Import, Pem, Diff, Digest, Trace, Migrate, Race, Refresh, Snapshot, Serve}
 use Rattle.commands.specs.declared.fault.Fault.{Fault}

@@ -1,6 +1,6 @@
 //! The command `ask`: a client of a server that listens on this machine.
 ghost use Rattle.std.specs.Prelude.{◌≡◌};
-ghost use Rattle.frame_front.specs.Counted.{faults_in};
+ghost use Rattle.wire.specs.Counted.{faults_in};
 ghost use Rattle.bundled.specs.Ask.{AskRun, form};
 ghost use Rattle.commands.specs.Streams.{streams};
 
@@ -8,11 +8,11 @@ use crate::refreshing::streams;
 use client::{Asking, Form, Link};
 use command_line::Inquiry;
 use commands::{Fault, FileTexts, ServerFault, ask_over, ask_words_over};
-use frame_front::Counted;
 use std::alloc::Global;
 use std::fs::Files;
 use std::io::{Read, Write};
 use std::net::Net;
+use wire::Counted;
 
 /// Asks the server at a port of this machine, and answers the exit status: 0 if each request was done, 3 if some reply is a
 /// refusal, 1 after a fault.

@@ -1,9 +1,9 @@
 //! The program, from its arguments to its exit status.
 ghost use Rattle.std.specs.Prelude.{◌≡◌, ◌<◌, ◌-◌, ◌^◌, ◌⊎◌};
-ghost use Rattle.frame_front.specs.Counted.{faults_in};
+ghost use Rattle.wire.specs.Counted.{faults_in};
 ghost use Rattle.bundled.specs.Command.{Commands, DiffFiles, Does, Refuses, Shows, profile};
 ghost use Rattle.command_line.specs.Settings.{AreSettings};
-ghost use Rattle.frame_front.specs.Output.{Tells, end_of};
+ghost use Rattle.wire.specs.Output.{Tells, end_of};
 ghost use Rattle.commands.specs.Streams.{Source, Streams, streams};
 
 use crate::asking::ask_server;
@@ -19,8 +19,6 @@ use commands::{
     trace_over, write_flushed,
 };
 use dump_views::Profile;
-use frame_front::wire::tell;
-use frame_front::{Counted, FrontError};
 use server::LineLog;
 use std::alloc::{AllocError, Global};
 use std::env::{Args, Env};
@@ -30,6 +28,7 @@ use std::net::{Net, TcpListener, TcpStream};
 use std::thread::Threads;
 use std::time::Clock;
 use std::{env, io};
+use wire::{Counted, FrontError, tell};
 
 const NOT_TEXT: &[u8] = b"error: an argument is not UTF-8\n\nFor more information, try '--help'.\n";
 

@@ -9,8 +9,8 @@ mod serving;
 mod snapshotting;
 
 use command::command_over;
-use frame_front::Counted;
 use std::process::ExitCode;
+use wire::Counted;
 
 fn main(rt: HostRuntime) -> ExitCode {
     let mut reader = Counted::new(rt.stdin());

@@ -1,17 +1,17 @@
 //! The command `race`: readers beside writers that do not rest.
 ghost use Rattle.std.specs.Prelude.{◌≡◌};
-ghost use Rattle.frame_front.specs.Counted.{faults_in};
+ghost use Rattle.wire.specs.Counted.{faults_in};
 ghost use Rattle.bundled.specs.Race.{RaceRun, ReportOf, race_status};
-ghost use Rattle.frame_front.specs.Output.{end_of};
+ghost use Rattle.wire.specs.Output.{end_of};
 ghost use Rattle.commands.specs.Streams.{Source, WritesText};
 
 use commands::{Fault, RefreshFault, write_flushed};
-use frame_front::{Counted, FrontError};
 use race_demo::{Findings, RaceError, report_text, run_race};
 use std::alloc::Global;
 use std::io::Write;
 use std::thread::Threads;
 use std::time::Clock;
+use wire::{Counted, FrontError};
 
 /// Lets writers and readers run beside each other for so many seconds, writes what that has shown, and answers the exit
 /// status: 0 if no fetch-all showed a map that never was.

@@ -1,14 +1,13 @@
 //! The command `refresh`: sets the bundles of a list of relationships, out of a folder of documents.
 ghost use Rattle.std.specs.Prelude.{◌<◌, ◌-◌, ◌^◌, List, ℕ};
-ghost use Rattle.frame_front.specs.Counted.{faults_in};
+ghost use Rattle.wire.specs.Counted.{faults_in};
 ghost use Rattle.bundled.specs.Refresh.{RefreshRun};
-ghost use Rattle.frame_front.specs.Output.{Tells, end_of};
+ghost use Rattle.wire.specs.Output.{Tells, end_of};
 ghost use Rattle.commands.specs.Streams.{Source};
 
 use client::Client;
 use command_line::Refreshing;
 use commands::{Fault, RefreshFault, ServerFault, ended_after, read_schedule};
-use frame_front::{Counted, FrontError};
 use refresh::{Folder, Sender, Server, Times, refresh_each};
 use std::alloc::Global;
 use std::fs::Files;
@@ -16,6 +15,7 @@ use std::io;
 use std::io::Write;
 use std::net::{Ipv4Addr, Net, OpenStream, SocketAddr};
 use std::time::{Clock, Duration};
+use wire::{Counted, FrontError};
 
 /// How long one read or write of a server's stream may wait, in seconds.
 const PATIENCE: u64 = 30;

@@ -1,8 +1,8 @@
 //! The command `snapshot`: the bundles of a server as files in a folder.
 ghost use Rattle.std.specs.Prelude.{◌≡◌, ◌<◌, ◌-◌, ◌^◌, ◌++◌, List, ℕ};
-ghost use Rattle.frame_front.specs.Counted.{faults_in};
+ghost use Rattle.wire.specs.Counted.{faults_in};
 ghost use Rattle.bundled.specs.Snapshot.{SnapshotRun};
-ghost use Rattle.frame_front.specs.Output.{Tells, TellsUnlessFailed, end_of};
+ghost use Rattle.wire.specs.Output.{Tells, TellsUnlessFailed, end_of};
 ghost use Rattle.commands.specs.Streams.{Source};
 ghost use Rattle.commands.specs.Fault.{fault_line};
 
@@ -10,7 +10,6 @@ use crate::refreshing::streams;
 use client::{Client, ClientError};
 use command_line::Snapshotting;
 use commands::{Fault, ServerFault, SnapshotFault, ended_after, write_flushed};
-use frame_front::{Counted, FrontError};
 use map_core::{AskError, Snapshot};
 use snapshots::{FetchError, FolderError, HostFolder, SnapshotError, fetch, update};
 use std::alloc::Global;
@@ -19,6 +18,7 @@ use std::io::Write;
 use std::net::Net;
 use std::thread;
 use std::time::{Clock, Duration};
+use wire::{Counted, FrontError};
 
 /// Writes what a server holds into the folder, once or again and again, and answers the exit status: 0 if that is done, 1
 /// after a fault. A line for each snapshot that is shown goes to standard output.

@@ -16,15 +16,14 @@ use Rattle.map_core.specs.declared.reply.MapRefusal.{MapRefusal}
 use Rattle.map_core.specs.declared.reply.MapRefusal.TheVariants.{NoDomain, Stale, KidTaken, TooMany, TooLong, SequenceFull, NotExpected}
 use Rattle.map_core.specs.declared.reply.AskError.TheVariants as error
 use Rattle.frame_front.specs.Dump.{Domains}
-use Rattle.frame_front.specs.Frame.{IsPayload, IsUnfinished, frame}
-use Rattle.frame_front.specs.Reply.{answer_frames, code_of}
-use Rattle.frame_front.proofs.FrameLemmas.{frame_first, none_at_end}
+use Rattle.wire.specs.Frame.{IsPayload, IsUnfinished, frame}
+use Rattle.wire.specs.Answers.{answer_frames, code_of, answer_form, bundle_form, bundles_of, shard_number}
+use Rattle.wire.proofs.FrameLemmas.{frame_first, none_at_end}
 use Rattle.frame_front.proofs.ReplyLemmas.{not_both}
-use Rattle.frame_lines.specs.declared.reply.Detail.TheVariants.{Nothing, SequenceOf, Expected}
-use Rattle.frame_lines.specs.declared.reply.ReplyForm.{ReplyForm}
-use Rattle.frame_lines.specs.ReplyForm.{Reply, Stored, Unchanged, Removed, Appended, Found, All, Refused, Moved, Held, Worn, Memory, Shut, HasPayload, kind_of, payload_of, reply as said}
-use Rattle.frame_lines.specs.Answers.{answer_form, bundle_form, bundles_of, shard_number}
-use Rattle.frame_lines.proofs.AnswerLines.{answers_are_frames}
+use Rattle.wire.specs.declared.reply.Detail.TheVariants.{Nothing, SequenceOf, Expected}
+use Rattle.wire.specs.declared.reply.ReplyForm.{ReplyForm}
+use Rattle.wire.specs.ReplyForm.{Reply, Stored, Unchanged, Removed, Appended, Found, All, Refused, Moved, Held, Worn, Memory, Shut, HasPayload, kind_of, payload_of, reply as said}
+use Rattle.wire.proofs.AnswerLines.{answers_are_frames}
 use Rattle.client.specs.Answer.{Answer, MayAnswer, IsValidAnswer, is_code_for}
 use Rattle.client.specs.Client.{BeginsNoReply, NoReply}
 use Rattle.client.specs.Private.Answers.{first_of, refusal_of, error_of, found_of, if_canonical, Says, IsWholeAnswer, Begins}

@@ -9,8 +9,8 @@ use Rattle.map_core.specs.Name.{Name}
 use Rattle.map_core.specs.declared.op.Op.{Op}
 use Rattle.map_core.specs.declared.op.Op.TheVariants.{Set, SetIf, Append, Remove, Get, FetchAll}
 use Rattle.map_core.specs.declared.op.Expect.{Expect}
-use Rattle.frame_front.specs.Frame.{IsPayload, HasFrames, frame}
-use Rattle.frame_front.specs.Reply.{answer_frames}
+use Rattle.wire.specs.Frame.{IsPayload, HasFrames, frame}
+use Rattle.wire.specs.Answers.{answer_frames}
 use Rattle.client.specs.Request.{request_bytes}
 use Rattle.client.specs.Reading.{CountsFault}
 use Rattle.client.specs.Reading.{NoFrame}
@@ -18,7 +18,7 @@ use Rattle.client.specs.Answer.{Answer, MayAnswer, IsValidAnswer}
 use Rattle.client.specs.Client.{Breaks, BeginsNoReply, reply_preface, reply_bytes, ends, Exchange}
 use Rattle.client.specs.declared.client_error.ClientError.{ClientError}
 use Rattle.client.specs.declared.client_error.ClientError.TheVariants.{Memory, BadLength, BadReply, Truncated, ReadFault, WriteFault}
-use Rattle.frame_front.proofs.FrameLemmas.{frame_first, none_at_end}
+use Rattle.wire.proofs.FrameLemmas.{frame_first, none_at_end}
 use Rattle.client.proofs.AnswerLemmas.{unfinished_reply}
 
 -- if no frame was read, no reply was

@@ -13,9 +13,11 @@ use Rattle.spiffe_doc.specs.Name.{IsName}
 use Rattle.map_core.specs.Name.{Name}
 use Rattle.map_core.specs.declared.op.Op.{Op}
 use Rattle.map_core.specs.declared.reply.Reply.TheVariants.{All}
-use Rattle.frame_front.specs.Frame.{IsPayload, IsUnfinished, frame}
-use Rattle.frame_front.specs.Reply.{answer_frames, item_frame}
-use Rattle.frame_front.specs.Dump.{Domains, AreValid, item_of, unless_refused}
+use Rattle.wire.specs.Frame.{IsPayload, IsUnfinished, frame}
+use Rattle.wire.specs.Answers.{answer_frames, item_frame}
+use Rattle.frame_front.specs.Dump.{Domains, AreValid}
+use Rattle.spiffe_doc.specs.Text.{text_of}
+use Rattle.wire.specs.Items.{item_in, item_of, unless_refused}
 use Rattle.map_core.specs.Laws.{IsAfter, Ascends}
 use Rattle.client.specs.Reading.{NoFrame}
 use Rattle.client.specs.Answer.{Answer, MayAnswer, IsValidAnswer, is_code_for}
@@ -24,10 +26,11 @@ use Rattle.client.specs.Private.Answers.{IsCountOfAll}
 use Rattle.client.specs.Private.Listing.{NoListing, BreaksListing}
 use Rattle.client.specs.declared.client_error.ClientError.{ClientError}
 use Rattle.client.specs.declared.client_error.ClientError.TheVariants.{Memory, BadLength, BadReply, Truncated, ReadFault, WriteFault}
-use Rattle.frame_front.proofs.FrameLemmas.{frame_first, none_at_end}
+use Rattle.wire.proofs.FrameLemmas.{frame_first, none_at_end}
 use Rattle.frame_front.specs.Private.Refusals.{last_of}
 use Rattle.frame_front.proofs.DomainLists.{last_of-one, Ascends-one, some_item, none_item}
-use Rattle.client.proofs.RequestLaws.{named_bundle-item}
+use Rattle.wire.proofs.RequestPayloads.{named_read}
+use Rattle.wire.proofs.Readings.{named_bundle-item}
 use Rattle.frame_front.proofs.DumpTexts.{item_payload, IsPayload-item, same_item}
 use Rattle.client.proofs.MapAnswers.{first_code}
 
@@ -105,7 +108,7 @@ joined_parts bytes first others same =
 -- the payload of a valid domain is read as that domain
 item_of-payload : (y : Name × BundleValue) → IsName y.0 → IsBundle y.1 → item_of (item_payload y) ≡ Some y
 unfolding item_of
-item_of-payload y name sound = ap unless_refused (named_bundle-item y.0 y.1 name sound)
+item_of-payload y name sound = ap item_in (named_read y.0 (text_of y.1)) ∙ ap unless_refused (named_bundle-item y.0 y.1 name sound)
 
 -- if no domain is read, none stands
 pub no_item_read : (payload : List ℕ) → item_of payload ≡ None → (y : Name × BundleValue) → IsName y.0 → IsBundle y.1 → payload ≢ item_payload y

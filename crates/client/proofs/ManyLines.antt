@@ -6,14 +6,14 @@ use Rattle.std.specs.Io.KnownBytes.{Appends, Consumes, IsAtEnd}
 use Rattle.std.proofs.KnownBytes.{Appends-nil, Appends-trans, Consumes-nil, Consumes-trans}
 use Rattle.std.proofs.lemmas.List.Concat.{flat_map-append}
 use Rattle.std.proofs.lemmas.List.Folds.{list_any-append}
-use Rattle.frame_front.specs.Counted.{next_count}
-use Rattle.frame_front.specs.Frame.{frame}
-use Rattle.frame_front.specs.declared.error.FrontError.TheVariants as front
-use Rattle.frame_lines.specs.Encoding.{EncoderState, Gives, Becomes, EncodesNext, IsFrameOf, NamesUnreadable, IsBadLine, BeginsWith, BeginsLong, StopsAt, is_comment}
-use Rattle.frame_lines.specs.RequestForm.{IsOneLine}
-use Rattle.frame_lines.specs.declared.encoder.EncodeError.{EncodeError}
-use Rattle.frame_lines.specs.declared.encoder.EncodeError.TheVariants as encoding
-use Rattle.frame_lines.specs.ReplyForm.{Reply}
+use Rattle.wire.specs.Counted.{next_count}
+use Rattle.wire.specs.Frame.{frame}
+use Rattle.wire.specs.declared.error.FrontError.TheVariants as front
+use Rattle.wire.specs.Encoding.{EncoderState, Gives, Becomes, EncodesNext, IsFrameOf, NamesUnreadable, IsBadLine, BeginsWith, BeginsLong, StopsAt, is_comment}
+use Rattle.wire.specs.RequestForm.{IsOneLine}
+use Rattle.wire.specs.declared.encoder.EncodeError.{EncodeError}
+use Rattle.wire.specs.declared.encoder.EncodeError.TheVariants as encoding
+use Rattle.wire.specs.ReplyForm.{Reply}
 use Rattle.client.specs.Asking.{Exchange, Ends, ends, IsExchange, IsAsked, AsksLines, BecomesNext, EndsAsking, UsesTurns, asked, asked_of, told, told_of, all_shown, shown_of, lines_of, count_after, is_refused}
 use Rattle.client.specs.Private.Steps.{AsksOne, BreaksOne, AsksLast, IsSilent, IsTaken, ReadsMore, StreamSoFar, fault_of}
 use Rattle.client.specs.declared.asking.Asking.{Asking}

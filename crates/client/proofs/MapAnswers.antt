@@ -18,8 +18,8 @@ use Rattle.map_core.specs.Name.{Name}
 use Rattle.map_core.specs.Op.{expect_eq}
 use Rattle.map_core.specs.Table.{meaning, keep, store, store_after, is_lower, set, expectation, append, append_to, append_refusal, remove, get}
 use Rattle.map_core.specs.PlainMap.{PlainMap, ask}
-use Rattle.frame_front.specs.Frame.{frame}
-use Rattle.frame_front.specs.Reply.{code_of}
+use Rattle.wire.specs.Frame.{frame}
+use Rattle.wire.specs.Answers.{code_of}
 use Rattle.client.specs.Answer.{MayAnswer, is_code_for}
 
 pub one_code : (code : ℕ) (rest : List ℕ) → code_of (frame (code ∷ rest)) ≡ code

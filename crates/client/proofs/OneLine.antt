@@ -4,11 +4,11 @@ use Rattle.std.specs.Prelude.{◌||◌}
 use Rattle.std.specs.List.{AllByRecursion, flat_map, list_any}
 use Rattle.std.specs.Io.KnownBytes.{Appends, Consumes, Keeps}
 use Rattle.std.proofs.KnownBytes.{Appends-nil, Appends-trans, Consumes-nil, Consumes-trans}
-use Rattle.frame_front.specs.Frame.{IsPayload, frame}
-use Rattle.frame_front.specs.declared.error.FrontError.TheVariants as front
+use Rattle.wire.specs.Frame.{IsPayload, frame}
+use Rattle.wire.specs.declared.error.FrontError.TheVariants as front
 use Rattle.client.specs.declared.client_error.ClientError.{ClientError}
 use Rattle.client.specs.declared.client_error.ClientError.TheVariants as client
-use Rattle.frame_lines.specs.ReplyForm.{Reply, Stored, Unchanged, Removed, Appended, Found, All, Bundle, Speaks, Refused, Moved, Held, Worn, Memory, Shut, payload_of}
+use Rattle.wire.specs.ReplyForm.{Reply, Stored, Unchanged, Removed, Appended, Found, All, Bundle, Speaks, Refused, Moved, Held, Worn, Memory, Shut, payload_of}
 use Rattle.client.specs.Asking.{BreaksOff, HidesLast, IsNoReply}
 use Rattle.client.specs.Replies.{IsTold, is_bundle, is_refusal, reply_frames, shown}
 use Rattle.client.specs.Private.Steps.{TriesSoFar, FailsAsking, AsksUntilTold, Shows, NotShown, BreaksOthers, AsksOne, BreaksOne}

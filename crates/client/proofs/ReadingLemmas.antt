@@ -3,7 +3,7 @@ use Rattle.std.proofs.Common.{◌≡◌, ℕ, ◌<◌, ◌≤◌, List, ◌++◌
 use Rattle.std.specs.Prelude.{Option}
 use Rattle.std.proofs.lemmas.List.{take_at, take_all}
 use Rattle.std.specs.Int.{w32, to_be_bytes, from_be_bytes}
-use Rattle.frame_front.specs.Frame.{IsUnfinished, frame, length_field, most_payload}
+use Rattle.wire.specs.Frame.{IsUnfinished, frame, length_field, most_payload}
 use Rattle.client.specs.Private.Stops.{StopsShort}
 use Rattle.client.specs.Reading.{NoFrame}
 use Rattle.client.specs.declared.client_error.ClientError.{ClientError}

@@ -4,12 +4,12 @@ use Rattle.std.specs.List.{AllByRecursion, flat_map}
 use Rattle.std.specs.Io.KnownBytes.{Appends, Consumes, Keeps}
 use Rattle.std.proofs.KnownBytes.{Appends-nil, Appends-trans, Consumes-nil, Consumes-trans}
 use Rattle.std.proofs.lemmas.List.Concat.{flat_map-append}
-use Rattle.frame_front.specs.Frame.{IsPayload, frame}
-use Rattle.frame_front.specs.declared.error.FrontError.TheVariants as front
+use Rattle.wire.specs.Frame.{IsPayload, frame}
+use Rattle.wire.specs.declared.error.FrontError.TheVariants as front
 use Rattle.client.specs.Reading.{NoFrame}
 use Rattle.client.specs.declared.client_error.ClientError.{ClientError}
 use Rattle.client.specs.declared.client_error.ClientError.TheVariants as client
-use Rattle.frame_lines.specs.ReplyForm.{Reply, HasPayload, payload_of}
+use Rattle.wire.specs.ReplyForm.{Reply, HasPayload, payload_of}
 use Rattle.client.specs.Asking.{BreaksOff, IsDue, IsNoReply}
 use Rattle.client.specs.Replies.{IsTold, reply_frames, shown}
 use Rattle.client.specs.Private.Steps.{Shows, NotShown, OthersSoFar, BreaksOthers}

@@ -3,8 +3,8 @@ use Rattle.std.proofs.Common.{◌≡◌, ℕ, ◌≤◌, List, [], ◌∷◌, �
 use Rattle.std.specs.Int.{w32, to_be_bytes}
 use Rattle.map_core.specs.declared.op.Expect.{Expect}
 use Rattle.map_core.specs.declared.op.Expect.TheVariants.{Absent, Sequence, Unnumbered}
-use Rattle.frame_front.specs.Frame.{frame}
-use Rattle.frame_front.specs.Reply.{expect_bytes}
+use Rattle.wire.specs.Frame.{frame}
+use Rattle.wire.specs.Fields.{expect_bytes}
 
 expect_few : (expect : Expect) → length (expect_bytes expect) ≤ 9
 expect_few Absent = omega arith

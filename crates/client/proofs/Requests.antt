@@ -4,12 +4,12 @@ use Rattle.std.specs.List.{flat_map}
 use Rattle.std.specs.Io.KnownBytes.{Appends, Consumes}
 use Rattle.std.proofs.KnownBytes.{Appends-nil, Appends-trans, Consumes-nil, Consumes-trans}
 use Rattle.std.proofs.lemmas.List.Concat.{flat_map-append}
-use Rattle.frame_front.specs.Frame.{IsPayload, frame}
-use Rattle.frame_front.specs.Output.{WritesFront}
+use Rattle.wire.specs.Frame.{IsPayload, frame}
+use Rattle.wire.specs.Output.{WritesFront}
 use Rattle.client.specs.Reading.{NoFrame}
 use Rattle.client.specs.declared.client_error.ClientError.{ClientError}
 use Rattle.client.specs.declared.client_error.ClientError.TheVariants as client
-use Rattle.frame_lines.specs.ReplyForm.{Reply, payload_of}
+use Rattle.wire.specs.ReplyForm.{Reply, payload_of}
 use Rattle.client.specs.Asking.{IsTransient, BreaksOff, NotGreeted, greeting}
 use Rattle.client.specs.declared.asking.Form.{Form}
 use Rattle.client.specs.declared.asking.Form.TheVariants.{Lines}

@@ -6,7 +6,8 @@ use Rattle.map_core.specs.declared.op.Op.TheVariants.{Set, SetIf, Append, Remove
 use Rattle.map_core.specs.declared.reply.Reply.{Reply}
 use Rattle.map_core.specs.declared.reply.Reply.TheVariants.{Found, All}
 use Rattle.map_core.specs.declared.reply.AskError.{AskError}
-use Rattle.frame_front.specs.Reply.{answer_frames, code_of, is_error_code}
+use Rattle.wire.specs.Answers.{answer_frames, code_of}
+use Rattle.wire.specs.ReplyForm.{is_error_code}
 use Rattle.frame_front.specs.Dump.{AreValid}
 use Rattle.map_core.specs.Laws.{Ascends}
 

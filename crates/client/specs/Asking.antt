@@ -2,14 +2,14 @@
 use Rattle.std.specs.Prelude.{◌≡◌, ◌≢◌, ◌⊎◌, ℕ, ◌+◌, ◌-◌, ◌^◌, ◌<◌, ◌≤◌, Bool, true, false, ◌||◌, List, [], ◌∷◌, ◌++◌, length, Option, Result, Ok, Err}
 use Rattle.std.specs.List.{AllByRecursion, flat_map, list_any}
 use Rattle.std.specs.Io.KnownBytes.{Appends, Consumes, IsAtEnd}
-use Rattle.frame_front.specs.Counted.{next_count}
-use Rattle.frame_front.specs.Frame.{IsPayload, frame}
-use Rattle.frame_front.specs.declared.error.FrontError.TheVariants as front
+use Rattle.wire.specs.Counted.{next_count}
+use Rattle.wire.specs.Frame.{IsPayload, frame}
+use Rattle.wire.specs.declared.error.FrontError.TheVariants as front
 use Rattle.client.specs.Reading.{NoFrame}
 use Rattle.client.specs.declared.client_error.ClientError.TheVariants as client
-use Rattle.frame_lines.specs.Encoding.{Gives, IsFrameOf, IsBadLine, NamesUnreadable, BeginsWith, BeginsLong, is_comment}
-use Rattle.frame_lines.specs.ReplyForm.{Reply, payload_of}
-use Rattle.frame_lines.specs.RequestForm.{IsOneLine}
+use Rattle.wire.specs.Encoding.{Gives, IsFrameOf, IsBadLine, NamesUnreadable, BeginsWith, BeginsLong, is_comment}
+use Rattle.wire.specs.ReplyForm.{Reply, payload_of}
+use Rattle.wire.specs.RequestForm.{IsOneLine}
 use Rattle.client.specs.Replies.{is_transient, is_refusal, bundles_after, reply_frames, shown, IsTold}
 use Rattle.client.specs.declared.asking.Asking.{Asking}
 use Rattle.client.specs.declared.asking.Form.{Form}

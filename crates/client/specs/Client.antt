@@ -1,16 +1,16 @@
 -- What a client writes and reads when it is asked.
 use Rattle.std.specs.Prelude.{◌≡◌, ◌≢◌, ◌⊎◌, ℕ, List, ◌++◌, true, false, Option, Some, None, Result, Ok, Err, []}
 use Rattle.std.specs.Io.KnownBytes.{Appends, Consumes, IsAtEnd}
-use Rattle.frame_front.specs.Counted.{next_count}
+use Rattle.wire.specs.Counted.{next_count}
 use Rattle.map_core.specs.declared.op.Op.{Op}
 use Rattle.map_core.specs.declared.op.Op.TheVariants.{SetIf}
 use Rattle.map_core.specs.declared.reply.AskError.TheVariants as error
-use Rattle.frame_front.specs.declared.request.Version.TheVariants.{Two}
+use Rattle.wire.specs.declared.version.Version.TheVariants.{Two}
 use Rattle.client.specs.declared.client_error.ClientError.{ClientError}
 use Rattle.client.specs.declared.client_error.ClientError.TheVariants.{Memory, BadLength, BadReply, Truncated, ReadFault, WriteFault}
-use Rattle.frame_front.specs.Frame.{HasFrames, IsBadLength}
-use Rattle.frame_front.specs.Reply.{answer_frames, version_frame}
-use Rattle.frame_front.specs.Output.{WritesFront}
+use Rattle.wire.specs.Frame.{HasFrames, IsBadLength}
+use Rattle.wire.specs.Answers.{answer_frames, version_frame}
+use Rattle.wire.specs.Output.{WritesFront}
 use Rattle.client.specs.Request.{request_bytes, is_written}
 use Rattle.client.specs.Reading.{CountsFault}
 use Rattle.client.specs.Answer.{Answer, MayAnswer, IsValidAnswer}

@@ -1,8 +1,8 @@
 -- Where the reading of a frame stops short.
 use Rattle.std.specs.Prelude.{◌≡◌, ℕ, List, length, Option}
 use Rattle.std.specs.Io.KnownBytes.{IsAtEnd}
-use Rattle.frame_front.specs.Counted.{next_count}
-use Rattle.frame_front.specs.Frame.{IsUnfinished, IsBadLength}
+use Rattle.wire.specs.Counted.{next_count}
+use Rattle.wire.specs.Frame.{IsUnfinished, IsBadLength}
 use Rattle.client.specs.declared.client_error.ClientError.{ClientError}
 use Rattle.client.specs.declared.client_error.ClientError.TheVariants.{BadLength, Truncated, ReadFault}
 

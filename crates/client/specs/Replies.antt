@@ -1,8 +1,8 @@
 -- Replies as a client takes and shows them.
 use Rattle.std.specs.Prelude.{◌≡◌, ℕ, Bool, true, false, List, [], ◌∷◌, ◌++◌}
 use Rattle.std.specs.List.{flat_map}
-use Rattle.frame_front.specs.Frame.{frame}
-use Rattle.frame_lines.specs.ReplyForm.{Reply, All, Bundle, Refused, Moved, Held, Worn, Memory, Shut, HasPayload, IsLined, line_of, payload_of}
+use Rattle.wire.specs.Frame.{frame}
+use Rattle.wire.specs.ReplyForm.{Reply, All, Bundle, Refused, Moved, Held, Worn, Memory, Shut, HasPayload, IsLined, line_of, payload_of}
 use Rattle.client.specs.declared.asking.Form.{Form}
 use Rattle.client.specs.declared.asking.Form.TheVariants.{Lines, Frames}
 

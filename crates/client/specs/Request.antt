@@ -8,9 +8,9 @@ use Rattle.map_core.specs.declared.op.Op.{Op}
 use Rattle.map_core.specs.declared.op.Op.TheVariants.{Set, SetIf, Append, Remove, Get, FetchAll}
 use Rattle.client.specs.declared.request.RequestError.{RequestError}
 use Rattle.client.specs.declared.request.RequestError.TheVariants.{Memory, TooLong, WriteFault}
-use Rattle.frame_front.specs.Frame.{frame}
-use Rattle.frame_lines.specs.RequestForm as form
-use Rattle.frame_lines.specs.RequestForm.{Request, IsExpect, payload_of}
+use Rattle.wire.specs.Frame.{frame}
+use Rattle.wire.specs.RequestForm as form
+use Rattle.wire.specs.RequestForm.{Request, IsExpect, payload_of}
 
 -- the request that says an operation
 abbrev pub request_form : Op → Request

@@ -2,20 +2,18 @@
 ghost use Rattle.std.specs.Prelude.{◌≡◌, ◌⊎◌, ℕ, List, Option, IfOk, IfErr, IfSome};
 ghost use Rattle.spiffe_doc.specs.Bundle.{IsBundle};
 ghost use Rattle.spiffe_doc.specs.Text.{text_of};
-ghost use Rattle.frame_front.specs.Frame.{IsPayload, frame};
-ghost use Rattle.frame_front.specs.Reply.{answer_frames};
-ghost use Rattle.frame_lines.specs.ReplyForm.{Refused, reply as said};
-ghost use Rattle.frame_lines.specs.Answers.{refusal_form, error_form};
+ghost use Rattle.wire.specs.Frame.{IsPayload, frame};
+ghost use Rattle.wire.specs.Answers.{answer_frames, refusal_form, error_form};
+ghost use Rattle.wire.specs.ReplyForm.{Refused, reply as said};
 ghost use Rattle.client.specs.Answer.{is_code_for as code_for};
 ghost use Rattle.client.specs.Client.{Breaks};
 ghost use Rattle.client.specs.Private.Answers.{refusal_of, error_of, found_of, first_of, Says, Begins};
 
 use crate::ClientError;
-use frame_front::wire::is_error_code;
-use frame_lines::{Detail, ReplyForm, reply_of_payload};
 use map_core::{AskError, MapRefusal, Op, Reply};
 use spiffe_doc::{Bundle, DocError, read_document};
 use std::alloc::{AllocError, Global};
+use wire::{Detail, ReplyForm, is_error_code, reply_of_payload};
 
 /// What the first reply to a request says.
 #[derive(Drop)]

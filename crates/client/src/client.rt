@@ -1,9 +1,9 @@
 //! A client: asks whoever serves the other end of a stream.
 ghost use Rattle.std.specs.Prelude.{◌≡◌, ◌≤◌, ◌++◌, ◌∷◌, [], ◌≢◌, ℕ, List, true, false, None, length, Err, OnOk, IfOk, IfErr};
 ghost use Rattle.std.specs.Io.KnownBytes.{Consumes};
-ghost use Rattle.frame_front.specs.Counted.{end_in, faults_in};
+ghost use Rattle.wire.specs.Counted.{end_in, faults_in};
 ghost use Rattle.client.specs.Reading.{CountsFault};
-ghost use Rattle.frame_front.specs.Reply.{answer_frames};
+ghost use Rattle.wire.specs.Answers.{answer_frames};
 ghost use Rattle.client.specs.Answer.{MayAnswer, IsValidAnswer};
 ghost use Rattle.client.specs.Private.Requests.{document_part};
 ghost use Rattle.client.specs.Client.{Asks, Breaks, reply_preface, reply_bytes, Exchange, ends};
@@ -13,12 +13,11 @@ use crate::answer::{First, judge_payload};
 use crate::listing::read_listing;
 use crate::reading::read_frame;
 use crate::request::{request_document, send_request};
-use frame_front::Counted;
-use frame_front::wire::MAX_PAYLOAD;
 use map_core::{Ask, AskError, Op, Reply, Snapshot};
 use std::alloc::{AllocError, Global};
 use std::io::{Read, Write};
 use std::marker::Model;
+use wire::{Counted, MAX_PAYLOAD};
 
 /// Asks a map whose session is served at the other end of a stream: each operation is one request, and
 /// its reply is read before the next. Documents are sent and taken as canonical texts only. An append of an
@@ -42,7 +41,7 @@ pub struct Client<R: Read, W: Write> {
 
 impl<R: Read, W: Write> Model for Client<R, W> {
     ghost use Rattle.std.specs.Prelude.{◌≡◌, None};
-    ghost use Rattle.frame_front.specs.Counted.{end_in, faults_in};
+    ghost use Rattle.wire.specs.Counted.{end_in, faults_in};
     ghost use Rattle.client.specs.Client.{ClientState, ends};
 
     ghost Value = { ClientState };

@@ -1,9 +1,9 @@
 //! Asking one request.
 ghost use Rattle.std.specs.Prelude.{◌≡◌, ◌≢◌, ◌∷◌, [], true, false, length, take, Err, OnOk, IfOk, IfErr};
 ghost use Rattle.std.specs.Io.KnownBytes.{Appends, Consumes};
-ghost use Rattle.frame_front.specs.Counted.{end_in, faults_in, next_count};
-ghost use Rattle.frame_front.specs.Frame.{IsPayload, frame as frame_of};
-ghost use Rattle.frame_front.specs.Output.{WritesFront};
+ghost use Rattle.wire.specs.Counted.{end_in, faults_in, next_count};
+ghost use Rattle.wire.specs.Frame.{IsPayload, frame as frame_of};
+ghost use Rattle.wire.specs.Output.{WritesFront};
 ghost use Rattle.client.specs.declared.client_error.ClientError.TheVariants.{ReadFault, WriteFault};
 ghost use Rattle.client.specs.Asking.{greeting, greeted};
 ghost use Rattle.client.specs.declared.fault.AskFault.TheVariants.{Server};
@@ -12,9 +12,8 @@ ghost use Rattle.client.specs.Private.Steps.{FailsAsking, NotGreetedBy};
 use crate::fault::AskFault;
 use crate::link::Link;
 use crate::{ClientError, read_frame};
-use frame_front::Counted;
-use frame_front::wire::write_flushed;
 use std::io::{Read, Write};
+use wire::{Counted, write_flushed};
 
 /// Sends all of the bytes, and sees that the writer keeps nothing back.
 fn send<W: Write>(to: &mut Counted<W>, bytes: &[u8]) -> Result<(), ClientError>

@@ -3,9 +3,8 @@ ghost use Rattle.std.specs.Prelude.{◌≡◌};
 ghost use Rattle.client.specs.Private.Steps.{fault_of as fault_of_line};
 
 use crate::ClientError;
-use frame_front::FrontError;
-use frame_lines::EncodeError;
 use thiserror::Error;
+use wire::{EncodeError, FrontError};
 
 /// Why lines are not asked to their end.
 #[derive(Clone, Copy, Debug, PartialEq, Eq, Error)]

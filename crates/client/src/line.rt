@@ -1,7 +1,7 @@
 //! Asking one line.
 ghost use Rattle.std.specs.Prelude.{◌≡◌, ◌≢◌, [], length, OnOk, IfOk, IfErr, Err};
-ghost use Rattle.frame_front.specs.Counted.{end_in, faults_in, next_count};
-ghost use Rattle.frame_front.specs.declared.error.FrontError.TheVariants.{WriteFault, ReadFault};
+ghost use Rattle.wire.specs.Counted.{end_in, faults_in, next_count};
+ghost use Rattle.wire.specs.declared.error.FrontError.TheVariants.{WriteFault, ReadFault};
 ghost use Rattle.client.specs.declared.client_error.ClientError.TheVariants as server;
 ghost use Rattle.client.specs.Private.Steps.{AsksFirst, AsksOne, BreaksOne};
 ghost use Rattle.client.specs.declared.fault.AskFault.TheVariants.{Front, Server};
@@ -13,9 +13,8 @@ use crate::fault::AskFault;
 use crate::link::Link;
 use crate::reply::is_asked_again;
 use crate::showing::{Shown, show, show_others};
-use frame_front::{Counted, FrontError};
-use frame_lines::reply_of_payload;
 use std::io::{Read, Write};
+use wire::{Counted, FrontError, reply_of_payload};
 
 /// Asks a request, again after each transient reply, at most so often, and shows the first reply of what is told.
 fn ask_until_told<R: Read, W: Write, O: Write>(

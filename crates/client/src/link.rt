@@ -1,5 +1,5 @@
 //! The two ends that lead to a server.
-use frame_front::Counted;
+use wire::Counted;
 
 /// What a server is told and heard by.
 #[derive(Drop)]

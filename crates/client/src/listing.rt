@@ -7,10 +7,10 @@ ghost use Rattle.spiffe_doc.specs.Bundle.{IsBundle};
 ghost use Rattle.spiffe_doc.specs.Name.{IsName};
 ghost use Rattle.spiffe_doc.specs.Text.{text_of};
 ghost use Rattle.map_core.specs.Name.{Name};
-ghost use Rattle.frame_front.specs.Counted.{end_in, faults_in};
-ghost use Rattle.frame_front.specs.Frame.{frame};
+ghost use Rattle.wire.specs.Counted.{end_in, faults_in};
+ghost use Rattle.wire.specs.Frame.{frame};
 ghost use Rattle.client.specs.Reading.{CountsFault};
-ghost use Rattle.frame_front.specs.Reply.{item_frame};
+ghost use Rattle.wire.specs.Answers.{item_frame};
 ghost use Rattle.frame_front.specs.Dump.{AreValid};
 ghost use Rattle.map_core.specs.Laws.{IsAfter, Ascends};
 ghost use Rattle.client.specs.Private.Listing.{BreaksListing};
@@ -18,11 +18,10 @@ ghost use Rattle.client.specs.Private.Listing.{BreaksListing};
 use crate::ClientError;
 use crate::reading::read_frame;
 use arrayvec::ArrayVec;
-use frame_front::Counted;
-use frame_front::wire::{ITEM_HEAD_BYTES, canonical_text, is_after, read_item};
 use spiffe_doc::{Bundle, TrustDomain};
 use std::alloc::{AllocError, Global};
 use std::io::Read;
+use wire::{Counted, ITEM_HEAD_BYTES, canonical_text, is_after, read_item};
 
 /// Whether the bytes are the first and then the others.
 fn is_joined(bytes: &[u8], first: &[u8], others: &[u8]) -> bool

@@ -1,15 +1,14 @@
 //! Reading one frame, and no byte beyond it.
 ghost use Rattle.std.specs.Prelude.{◌≡◌, ◌<◌, ℕ, List, length, take, OnOk, IfOk, IfErr};
 ghost use Rattle.std.specs.Io.KnownBytes.{Consumes};
-ghost use Rattle.frame_front.specs.Counted.{end_in, faults_in};
-ghost use Rattle.frame_front.specs.Frame.{IsPayload, frame};
+ghost use Rattle.wire.specs.Counted.{end_in, faults_in};
+ghost use Rattle.wire.specs.Frame.{IsPayload, frame};
 ghost use Rattle.client.specs.Reading.{CountsFault, NoFrame};
 ghost use Rattle.client.specs.Private.Stops.{StopsShort};
 
 use crate::ClientError;
-use frame_front::Counted;
-use frame_front::wire::{LENGTH_BYTES, MAX_PAYLOAD, length_field};
 use std::io::Read;
+use wire::{Counted, LENGTH_BYTES, MAX_PAYLOAD, length_field};
 
 /// Reads until the buffer is full.
 fn fill<R: Read>(reader: &mut Counted<R>, buffer: &mut [u8]) -> Result<(), ClientError>

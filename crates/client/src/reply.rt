@@ -1,9 +1,9 @@
 //! What replies are to a client.
 ghost use Rattle.std.specs.Prelude.{◌≡◌, ◌⊎◌, ◌≤◌, true, false};
-ghost use Rattle.frame_lines.specs.ReplyForm.{reply as said};
+ghost use Rattle.wire.specs.ReplyForm.{reply as said};
 ghost use Rattle.client.specs.Replies.{bundles_after as bundles_of, is_bundle as bundle, is_transient as again, is_refusal as refusal};
 
-use frame_lines::ReplyForm;
+use wire::ReplyForm;
 
 /// After such a reply the request is asked again.
 fn is_transient(reply: &ReplyForm<'_>) -> bool

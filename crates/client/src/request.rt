@@ -2,22 +2,20 @@
 ghost use Rattle.std.specs.Prelude.{◌≡◌, ◌⊎◌, ◌<◌, ◌≤◌, ◌++◌, true, false, length, Ok, None, OnOk, IfOk, IfErr, IfSome};
 ghost use Rattle.std.specs.Io.KnownBytes.{Appends};
 ghost use Rattle.std.specs.Cow.{cow_slice_items};
-ghost use Rattle.frame_front.specs.Counted.{end_in, faults_in, next_count};
-ghost use Rattle.frame_lines.specs.RequestForm.{request, IsFramed};
-ghost use Rattle.frame_front.specs.Output.{WritesFront};
+ghost use Rattle.wire.specs.Counted.{end_in, faults_in, next_count};
+ghost use Rattle.wire.specs.RequestForm.{request, IsFramed};
+ghost use Rattle.wire.specs.Output.{WritesFront};
 ghost use Rattle.client.specs.Request.{request_bytes, request_form as form_of, is_append, is_written as can_be_written, IsUnwritable};
 ghost use Rattle.client.specs.Private.Requests.{document_part};
 
-use frame_front::wire::{canonical_text, write_both};
-use frame_front::{Counted, FrontError};
-use frame_lines::RequestForm;
-use frame_lines::head::{Head, head_of, put};
 use map_core::Op;
 use spiffe_doc::{TrustDomain, write_entry};
 use std::alloc::{AllocError, Global};
 use std::borrow::CowSlice;
 use std::io::Write;
 use thiserror::Error;
+use wire::head::{Head, head_of, put};
+use wire::{Counted, FrontError, RequestForm, canonical_text, write_both};
 
 /// Why a request was not written, or not whole.
 #[derive(Clone, Copy, Debug, PartialEq, Eq, Error)]

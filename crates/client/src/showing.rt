@@ -2,12 +2,12 @@
 ghost use Rattle.std.specs.Prelude.{◌≡◌, ◌++◌, ◌∷◌, [], ℕ, List, true, length, Err, OnOk, IfOk, IfErr};
 ghost use Rattle.std.specs.List.{AllByRecursion, flat_map};
 ghost use Rattle.std.specs.Io.KnownBytes.{Appends, Consumes};
-ghost use Rattle.frame_front.specs.Counted.{end_in, faults_in, next_count};
-ghost use Rattle.frame_front.specs.Frame.{IsPayload, frame as frame_of};
-ghost use Rattle.frame_front.specs.Output.{WritesFront};
-ghost use Rattle.frame_front.specs.declared.error.FrontError.TheVariants.{WriteFault};
+ghost use Rattle.wire.specs.Counted.{end_in, faults_in, next_count};
+ghost use Rattle.wire.specs.Frame.{IsPayload, frame as frame_of};
+ghost use Rattle.wire.specs.Output.{WritesFront};
+ghost use Rattle.wire.specs.declared.error.FrontError.TheVariants.{WriteFault};
 ghost use Rattle.client.specs.declared.client_error.ClientError.TheVariants.{ReadFault};
-ghost use Rattle.frame_lines.specs.ReplyForm.{Reply, HasPayload, payload_of, reply as said};
+ghost use Rattle.wire.specs.ReplyForm.{Reply, HasPayload, payload_of, reply as said};
 ghost use Rattle.client.specs.Replies.{CanBeShown, IsTold, reply_frames, shown};
 ghost use Rattle.client.specs.Private.Steps.{Shows, NotShown, NotWritten, BreaksOthers};
 ghost use Rattle.client.specs.declared.fault.AskFault.TheVariants.{Front, Server};
@@ -16,10 +16,8 @@ use crate::asking::Form;
 use crate::fault::AskFault;
 use crate::reply::{bundles_after, is_bundle, is_refusal};
 use crate::{ClientError, read_frame};
-use frame_front::wire::{write_both, write_whole};
-use frame_front::{Counted, FrontError};
-use frame_lines::{ReplyForm, reply_of_payload};
 use std::io::{Read, Write};
+use wire::{Counted, FrontError, ReplyForm, reply_of_payload, write_both, write_whole};
 
 /// What a reply that was shown says to the client.
 #[derive(Clone, Copy)]
@@ -78,7 +76,7 @@ fn write_reply<O: Write>(
     }
 }
 
-#[tactic(auto, unfolding(frame_front::specs::Frame::frame))]
+#[tactic(auto, unfolding(wire::specs::Frame::frame))]
 fn write_frame<O: Write>(payload: &[u8], out: &mut Counted<O>) -> Result<(), AskFault>
     requires good { IsPayload payload.now }
     ensures ok { OnOk result (Appends (O.contents (end_in out.old)) (O.contents (end_in out.new)) (frame_of payload.now)) }

@@ -1,11 +1,11 @@
 //! Asking a stream of lines.
 ghost use Rattle.std.specs.Prelude.{◌≡◌, ◌++◌, [], ℕ, List, Bool, true, false, length, Err, OnOk, IfOk, IfErr};
 ghost use Rattle.std.specs.Io.KnownBytes.{Consumes, IsAtEnd};
-ghost use Rattle.frame_front.specs.Counted.{end_in, faults_in, next_count};
-ghost use Rattle.frame_front.specs.declared.error.FrontError.TheVariants.{ReadFault, WriteFault};
+ghost use Rattle.wire.specs.Counted.{end_in, faults_in, next_count};
+ghost use Rattle.wire.specs.declared.error.FrontError.TheVariants.{ReadFault, WriteFault};
 ghost use Rattle.client.specs.declared.client_error.ClientError.{ClientError};
 ghost use Rattle.client.specs.declared.client_error.ClientError.TheVariants as server;
-ghost use Rattle.frame_lines.specs.RequestForm.{IsOneLine};
+ghost use Rattle.wire.specs.RequestForm.{IsOneLine};
 ghost use Rattle.client.specs.Asking.{AsksStream, AsksLines, ends};
 ghost use Rattle.client.specs.Private.Steps.{AsksLast, ReadsMore};
 ghost use Rattle.client.specs.declared.fault.AskFault.TheVariants.{Front, Server};
@@ -15,11 +15,9 @@ use crate::exchange::greet;
 use crate::fault::{AskFault, fault_of};
 use crate::line::ask_line;
 use crate::link::Link;
-use frame_front::wire::MAX_PAYLOAD;
-use frame_front::{Counted, FrontError};
-use frame_lines::{Encoder, TextSource};
 use std::alloc::{AllocError, Global};
 use std::io::{Read, Write};
+use wire::{Counted, Encoder, FrontError, MAX_PAYLOAD, TextSource};
 
 /// The most bytes of one read of the lines.
 const PIECE_BYTES: usize = 4096;

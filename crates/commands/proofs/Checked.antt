@@ -6,10 +6,10 @@ use Rattle.std.proofs.KnownBytes.{Appends-nil, Appends-trans}
 use Rattle.std.proofs.lemmas.List.{take_more, get_or-map, length-map, take-append-drop}
 use Rattle.std.proofs.lemmas.List.Concat.{flat_map-append}
 use Rattle.std.proofs.lemmas.List.Folds.{list_any-append}
-use Rattle.frame_front.specs.Output.{WritesFront}
-use Rattle.frame_front.proofs.OutputLemmas.{WritesFront-then}
-use Rattle.frame_front.specs.declared.error.FrontError.TheVariants.{Memory}
-use Rattle.frame_lines.specs.Encoding.{Gives}
+use Rattle.wire.specs.Output.{WritesFront}
+use Rattle.wire.proofs.OutputLemmas.{WritesFront-then}
+use Rattle.wire.specs.declared.error.FrontError.TheVariants.{Memory}
+use Rattle.wire.specs.Encoding.{Gives}
 use Rattle.commands.specs.declared.fault.Fault.{Fault}
 use Rattle.commands.specs.declared.fault.Fault.TheVariants.{Front, UnreadText}
 use Rattle.commands.specs.Input.{IsInput}

@@ -1,10 +1,10 @@
 -- Whose fault is told, and what is told before it.
 use Rattle.std.proofs.Common.{◌≡◌, ◌<◌, ◌-◌, ◌^◌, ℕ, List, Result, refl, subst}
-use Rattle.frame_front.specs.Counted.{next_count}
-use Rattle.frame_front.specs.declared.error.FrontError.{FrontError}
-use Rattle.frame_front.specs.declared.error.FrontError.TheVariants.{BadLength, Truncated, ReadFault, WriteFault, TurnsUsed, Memory}
-use Rattle.frame_front.specs.Output.{End, Tells, TellsUnlessFailed}
-use Rattle.frame_front.proofs.OutputLemmas.{tells_more}
+use Rattle.wire.specs.Counted.{next_count}
+use Rattle.wire.specs.declared.error.FrontError.{FrontError}
+use Rattle.wire.specs.declared.error.FrontError.TheVariants.{BadLength, Truncated, ReadFault, WriteFault, TurnsUsed, Memory}
+use Rattle.wire.specs.Output.{End, Tells, TellsUnlessFailed}
+use Rattle.wire.proofs.OutputLemmas.{tells_more}
 use Rattle.commands.specs.declared.fault.Fault.{Fault}
 use Rattle.commands.specs.declared.fault.Fault.TheVariants.{Front}
 use Rattle.commands.specs.Streams.{Streams, Blames, EndsAfterLines, exit_status, last_line}

@@ -1,10 +1,10 @@
 -- What the command `ask` does to its streams, and to those of the server.
 use Rattle.std.specs.Prelude.{◌≡◌, ◌⊎◌, ℕ, Bool, if◌then◌else◌, List, ◌∷◌, drop, Option, Some, Result, Ok, Err}
 use Rattle.std.specs.List.{flat_map}
-use Rattle.frame_front.specs.Counted.{next_count}
-use Rattle.frame_lines.specs.Encoding.{Gives}
-use Rattle.frame_lines.specs.RequestForm.{IsOneLine}
-use Rattle.frame_front.specs.declared.error.FrontError.TheVariants.{Memory}
+use Rattle.wire.specs.Counted.{next_count}
+use Rattle.wire.specs.Encoding.{Gives}
+use Rattle.wire.specs.RequestForm.{IsOneLine}
+use Rattle.wire.specs.declared.error.FrontError.TheVariants.{Memory}
 use Rattle.client.specs.declared.client_error.ClientError.TheVariants.{ReadFault, WriteFault}
 use Rattle.client.specs.Asking.{AsksStream, ends}
 use Rattle.client.specs.declared.asking.Asking.{Asking}
@@ -15,7 +15,7 @@ use Rattle.commands.specs.declared.fault.Fault.{Fault}
 use Rattle.commands.specs.declared.fault.Fault.TheVariants.{Front, BadLine, UnreadText, Server}
 use Rattle.commands.specs.declared.fault.ServerFault.TheVariants.{Client}
 use Rattle.commands.specs.Fault.{fault_line}
-use Rattle.frame_front.specs.Output.{End, Tells, end_of}
+use Rattle.wire.specs.Output.{End, Tells, end_of}
 use Rattle.commands.specs.Streams.{Streams, Source, EndsWith, three_if}
 
 -- the fault of a command whose asking ended so

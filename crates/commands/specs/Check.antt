@@ -2,9 +2,9 @@
 use Rattle.std.specs.Prelude.{◌≡◌, ◌+◌, ◌==◌, ℕ, List, [], ◌∷◌, ◌++◌, length, map, flat_map, codes, Bool, true, false, not, Option, Some, None, Result, Ok, Err}
 use Rattle.std.specs.List.{AllByRecursion, list_any}
 use Rattle.std.specs.Io.KnownBytes.{Appends}
-use Rattle.frame_front.specs.Output.{WritesFront}
-use Rattle.frame_front.specs.declared.error.FrontError.TheVariants.{Memory, WriteFault}
-use Rattle.frame_lines.specs.Encoding.{Gives}
+use Rattle.wire.specs.Output.{WritesFront}
+use Rattle.wire.specs.declared.error.FrontError.TheVariants.{Memory, WriteFault}
+use Rattle.wire.specs.Encoding.{Gives}
 use Rattle.doc_report.specs.declared.fault.DocFault.{DocFault}
 use Rattle.doc_report.specs.Report.{ReportValue, report_of}
 use Rattle.doc_report.specs.Lines.{told_lines, fault_line}

@@ -1,10 +1,10 @@
 -- What the command `diff` writes.
 use Rattle.std.specs.Prelude.{◌≡◌, ◌⊎◌, ◌≤◌, ℕ, List, [], ◌∷◌, Bool, true, false, Option, Some, None, Result, Err}
-use Rattle.frame_front.specs.Counted.{reads_since, next_count}
+use Rattle.wire.specs.Counted.{reads_since, next_count}
 use Rattle.frame_front.specs.Dump.{Domains}
-use Rattle.frame_front.specs.Output.{End}
-use Rattle.frame_front.specs.declared.counted.Counted.{Counted}
-use Rattle.frame_front.specs.declared.error.FrontError.TheVariants.{ReadFault, WriteFault}
+use Rattle.wire.specs.Output.{End}
+use Rattle.wire.specs.declared.counted.Counted.{Counted}
+use Rattle.wire.specs.declared.error.FrontError.TheVariants.{ReadFault, WriteFault}
 use Rattle.map_core.specs.Name.{Name}
 use Rattle.commands.specs.declared.fault.Fault.{Fault}
 use Rattle.commands.specs.declared.fault.Fault.TheVariants.{Front}

@@ -1,12 +1,12 @@
 -- What the commands `encode` and `decode` do to their input and their output.
 use Rattle.std.specs.Prelude.{ℕ, Result, Ok, Err}
-use Rattle.frame_lines.specs.Encoding.{Gives}
-use Rattle.frame_lines.specs.EncodedStream.{EncodesStream}
-use Rattle.frame_lines.specs.DecodedStream.{DecodesStream}
-use Rattle.frame_lines.specs.declared.stream.StreamError.{StreamError}
-use Rattle.frame_lines.specs.declared.stream.StreamError.TheVariants as encoding
-use Rattle.frame_lines.specs.declared.decode.DecodeError.{DecodeError}
-use Rattle.frame_lines.specs.declared.decode.DecodeError.TheVariants as decoding
+use Rattle.wire.specs.Encoding.{Gives}
+use Rattle.wire.specs.EncodedStream.{EncodesStream}
+use Rattle.wire.specs.DecodedStream.{DecodesStream}
+use Rattle.wire.specs.declared.stream.StreamError.{StreamError}
+use Rattle.wire.specs.declared.stream.StreamError.TheVariants as encoding
+use Rattle.wire.specs.declared.decode.DecodeError.{DecodeError}
+use Rattle.wire.specs.declared.decode.DecodeError.TheVariants as decoding
 use Rattle.commands.specs.declared.fault.Fault.{Fault}
 use Rattle.commands.specs.declared.fault.Fault.TheVariants.{Front, BadLine, BadFrame, UnreadText}
 use Rattle.commands.specs.Streams.{Streams, EndsWith, well}

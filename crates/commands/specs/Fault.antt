@@ -1,6 +1,6 @@
 -- The numbers of faults, and the lines that tell them.
 use Rattle.std.specs.Prelude.{ℕ, List, [], ◌∷◌, ◌++◌, codes, decimal, slice_index}
-use Rattle.frame_front.specs.Error.{front_number}
+use Rattle.wire.specs.Error.{front_number}
 use Rattle.frame_front.specs.Dump.{dump_number}
 use Rattle.client.specs.ClientError.{client_number}
 use Rattle.shard_store.specs.Close.{close_number}

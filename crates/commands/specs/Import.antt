@@ -1,6 +1,6 @@
 -- What the command `import` writes: the requests that set each bundle of a bundle map.
 use Rattle.std.specs.Prelude.{◌≡◌, ℕ, List, [], map, Option}
-use Rattle.frame_front.specs.Frame.{stream_of}
+use Rattle.wire.specs.Frame.{stream_of}
 use Rattle.frame_front.specs.Dump.{Domains}
 use Rattle.commands.specs.declared.fault.Fault.{Fault}
 use Rattle.commands.specs.declared.fault.Fault.TheVariants.{BadMap, BadMember}

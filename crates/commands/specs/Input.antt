@@ -1,8 +1,8 @@
 -- Input that is read whole before it is judged.
 use Rattle.std.specs.Prelude.{◌≡◌, ℕ, ◌<◌, ◌≤◌, List, length, Option, Result, Err}
 use Rattle.std.specs.Io.KnownBytes.{Consumes, IsAtEnd}
-use Rattle.frame_front.specs.Counted.{MakesReads}
-use Rattle.frame_front.specs.declared.error.FrontError.TheVariants.{ReadFault, TurnsUsed, Memory}
+use Rattle.wire.specs.Counted.{MakesReads}
+use Rattle.wire.specs.declared.error.FrontError.TheVariants.{ReadFault, TurnsUsed, Memory}
 use Rattle.commands.specs.declared.fault.Fault.{Fault}
 use Rattle.commands.specs.declared.fault.Fault.TheVariants.{Front, InputTooLong}
 

@@ -1,6 +1,6 @@
 -- What the command `map` writes: the bundle map of a dump.
 use Rattle.std.specs.Prelude.{◌≡◌, ℕ, List, [], ◌∷◌, ◌++◌, map, Option}
-use Rattle.frame_front.specs.Counted.{next_count}
+use Rattle.wire.specs.Counted.{next_count}
 use Rattle.frame_front.specs.Dump.{Domains}
 use Rattle.commands.specs.declared.fault.Fault.{Fault}
 use Rattle.commands.specs.declared.fault.Fault.TheVariants.{NotInDump}

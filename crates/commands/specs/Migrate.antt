@@ -1,6 +1,6 @@
 -- What the command `migrate` writes: the requests that store a dump again.
 use Rattle.std.specs.Prelude.{◌≡◌, ℕ, List, [], Option}
-use Rattle.frame_front.specs.Frame.{stream_of}
+use Rattle.wire.specs.Frame.{stream_of}
 use Rattle.frame_front.specs.Dump.{Domains, requests_for}
 use Rattle.commands.specs.Reading.{IsRead}
 

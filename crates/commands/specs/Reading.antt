@@ -1,10 +1,10 @@
 -- Dumps that are read whole, and commands that write a text of what they read.
 use Rattle.std.specs.Prelude.{◌≡◌, ℕ, List, Option, Result, Err}
-use Rattle.frame_front.specs.Counted.{next_count}
+use Rattle.wire.specs.Counted.{next_count}
 use Rattle.frame_front.specs.Dump.{Domains, IsDump, IsBadDump}
-use Rattle.frame_front.specs.Output.{End}
+use Rattle.wire.specs.Output.{End}
 use Rattle.frame_front.specs.declared.dump.DumpError.TheVariants as dumps
-use Rattle.frame_front.specs.declared.error.FrontError.TheVariants.{ReadFault, WriteFault}
+use Rattle.wire.specs.declared.error.FrontError.TheVariants.{ReadFault, WriteFault}
 use Rattle.commands.specs.declared.fault.Fault.{Fault}
 use Rattle.commands.specs.declared.fault.Fault.TheVariants.{Front, Dump}
 use Rattle.commands.specs.Input.{IsInput, InputFault, ReadsInput}

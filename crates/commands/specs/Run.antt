@@ -1,9 +1,9 @@
 -- What the command `run` does: one session over an empty store.
 use Rattle.std.specs.Prelude.{◌≡◌, ℕ, Result, Ok, Err}
 use Rattle.std.specs.FinMap as finite
-use Rattle.frame_front.specs.Counted.{MakesReads}
-use Rattle.frame_front.specs.declared.error.FrontError.{FrontError}
-use Rattle.frame_front.specs.declared.error.FrontError.TheVariants.{TurnsUsed}
+use Rattle.wire.specs.Counted.{MakesReads}
+use Rattle.wire.specs.declared.error.FrontError.{FrontError}
+use Rattle.wire.specs.declared.error.FrontError.TheVariants.{TurnsUsed}
 use Rattle.frame_front.specs.PlainSession.{PlainTranscript}
 use Rattle.step_core.specs.Shards.{ShardsAnswer}
 use Rattle.map_core.specs.PlainMap.{PlainMap}

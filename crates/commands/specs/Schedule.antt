@@ -1,6 +1,6 @@
 -- Schedules of the lists that the command `refresh` reads.
 use Rattle.std.specs.Prelude.{◌≡◌, ℕ, List, length, replicate, Option}
-use Rattle.frame_front.specs.declared.error.FrontError.TheVariants.{Memory}
+use Rattle.wire.specs.declared.error.FrontError.TheVariants.{Memory}
 use Rattle.refresh.specs.declared.list.ListError.{ListError}
 use Rattle.refresh.specs.declared.list.ListError.TheVariants as listing
 use Rattle.refresh.specs.List.{lines_of, AreListed, IsListFault}

@@ -1,10 +1,10 @@
 -- Standard input, output and error, or what stands in their place, and what a command that ends tells them.
 use Rattle.std.specs.Prelude.{◌≡◌, ℕ, List, [], ◌++◌, Bool, true, false, Option, Some, None, Result, Ok, Err, IfErr}
 use Rattle.std.specs.Io.KnownBytes.{Appends}
-use Rattle.frame_front.specs.Counted.{end_in, faults_in, reads_of, next_count}
-use Rattle.frame_front.specs.declared.counted.Counted.{Counted}
-use Rattle.frame_front.specs.declared.error.FrontError.TheVariants.{ReadFault, WriteFault}
-use Rattle.frame_front.specs.Output.{WritesFront, End, Tells, end_of}
+use Rattle.wire.specs.Counted.{end_in, faults_in, reads_of, next_count}
+use Rattle.wire.specs.declared.counted.Counted.{Counted}
+use Rattle.wire.specs.declared.error.FrontError.TheVariants.{ReadFault, WriteFault}
+use Rattle.wire.specs.Output.{WritesFront, End, Tells, end_of}
 use Rattle.commands.specs.declared.fault.Fault.{Fault}
 use Rattle.commands.specs.declared.fault.Fault.TheVariants.{Front}
 use Rattle.commands.specs.Fault.{fault_line}

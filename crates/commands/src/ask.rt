@@ -2,16 +2,15 @@
 ghost use Rattle.std.specs.Prelude.{◌≡◌, ◌==◌, drop, map, IfOk};
 ghost use Rattle.std.specs.List.{list_any};
 ghost use Rattle.commands.specs.Ask.{Asks, AsksWords, server, spaced as with_spaces};
-ghost use Rattle.frame_front.specs.Output.{end_of};
+ghost use Rattle.wire.specs.Output.{end_of};
 ghost use Rattle.commands.specs.Streams.{streams};
 
 use crate::ending::Outcome;
 use crate::fault::{Fault, ServerFault};
 use client::{AskFault, Asking, Link, ask_stream};
-use frame_front::{Counted, FrontError};
-use frame_lines::TextSource;
 use std::alloc::{AllocError, Global};
 use std::io::{Read, Write};
+use wire::{Counted, FrontError, TextSource};
 
 /// Asks the requests that the input has a line each of, with the texts that they name, and shows the replies; answers the exit
 /// status: 0 if each request was done, 3 if some reply is a refusal, 1 after a fault.

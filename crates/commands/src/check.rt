@@ -5,16 +5,15 @@ ghost use Rattle.commands.specs.Streams.{streams};
 ghost use Rattle.commands.specs.declared.fault.Fault.TheVariants.{Front};
 ghost use Rattle.commands.specs.Check.{Checks};
 ghost use Rattle.commands.specs.Private.Checking.{ChecksFiles, ChecksInput, ChecksOne, given_by, joined};
-ghost use Rattle.frame_front.specs.Counted.{end_in, faults_in, next_count, reads_of};
-ghost use Rattle.frame_front.specs.declared.error.FrontError.TheVariants.{ReadFault, WriteFault};
+ghost use Rattle.wire.specs.Counted.{end_in, faults_in, next_count, reads_of};
+ghost use Rattle.wire.specs.declared.error.FrontError.TheVariants.{ReadFault, WriteFault};
 
 use crate::{Fault, Outcome, ended, read_input, write_flushed};
 use doc_report::{DocFault, Report, put_report, report_on};
-use frame_front::{Counted, FrontError};
-use frame_lines::{TextError, TextSource};
 use spiffe_doc::DocError;
 use std::alloc::Global;
 use std::io::{Read, Write};
+use wire::{Counted, FrontError, TextError, TextSource};
 
 /// The name of a document that is the input.
 const INPUT: &str = "-";

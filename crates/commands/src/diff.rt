@@ -1,21 +1,21 @@
 //! The command `diff`: what changed from one dump to another.
 ghost use Rattle.std.specs.Prelude.{◌≡◌, List, Err, IfOk, IfErr};
 ghost use Rattle.commands.specs.Streams.{WritesText};
-ghost use Rattle.frame_front.specs.Output.{end_of};
+ghost use Rattle.wire.specs.Output.{end_of};
 ghost use Rattle.commands.specs.declared.fault.Fault.TheVariants.{Front};
 ghost use Rattle.commands.specs.Diff.{AreReadFew, Differ, DiffOf, DiffRun, NoDiff, inputs};
 ghost use Rattle.dump_views.specs.ChangeLines.{lines_of};
 ghost use Rattle.dump_views.specs.Changes.{Change};
-ghost use Rattle.frame_front.specs.Counted.{faults_in, next_count};
-ghost use Rattle.frame_front.specs.declared.error.FrontError.TheVariants.{WriteFault};
+ghost use Rattle.wire.specs.Counted.{faults_in, next_count};
+ghost use Rattle.wire.specs.declared.error.FrontError.TheVariants.{WriteFault};
 ghost use Rattle.map_core.specs.Name.{Name};
 
 use crate::reading::read_domains;
 use crate::{Fault, ended, write_flushed};
 use dump_views::put_diff;
-use frame_front::{Counted, FrontError};
 use std::alloc::{AllocError, Global};
 use std::io::{Read, Write};
+use wire::{Counted, FrontError};
 
 /// Writes what changed from the dump of the old reader to that of the new one; answers the exit status: 0 if nothing changed,
 /// 3 if something did, 1 after a fault. The new one is read only if the old one is a dump.

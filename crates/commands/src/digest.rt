@@ -3,13 +3,13 @@ ghost use Rattle.std.specs.Prelude.{◌≡◌};
 ghost use Rattle.commands.specs.Streams.{source_of, streams};
 ghost use Rattle.commands.specs.Pem.{DigestOf};
 ghost use Rattle.commands.specs.Reading.{Filtered, Filters, Unread};
-ghost use Rattle.frame_front.specs.Output.{end_of};
+ghost use Rattle.wire.specs.Output.{end_of};
 
 use crate::{Fault, ended, read_input, write_flushed};
 use dump_views::dump_digest_line;
-use frame_front::Counted;
 use std::alloc::Global;
 use std::io::{Read, Write};
+use wire::Counted;
 
 /// Reads a dump and writes its SHA-256; answers the exit status.
 pub fn digest_over<R: Read, W: Write, E: Write>(

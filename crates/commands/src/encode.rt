@@ -4,10 +4,9 @@ ghost use Rattle.commands.specs.Encode.{Decodes, Encodes};
 ghost use Rattle.commands.specs.Streams.{streams};
 
 use crate::fault::Fault;
-use frame_front::Counted;
-use frame_lines::{DecodeError, StreamError, TextSource, decode_stream, encode_stream};
 use std::alloc::Global;
 use std::io::{Read, Write};
+use wire::{Counted, DecodeError, StreamError, TextSource, decode_stream, encode_stream};
 
 /// Writes the frames of the requests that the input has a line each of, with the texts that they name; answers the exit status.
 pub fn encode_over<T: TextSource, R: Read, W: Write, E: Write>(

@@ -1,11 +1,11 @@
 //! How commands end.
 ghost use Rattle.std.specs.Prelude.{◌≡◌, ◌≢◌};
 ghost use Rattle.commands.specs.Streams.{Ends, exit_status, last_line};
-ghost use Rattle.frame_front.specs.Output.{TellsUnlessFailed, end_of};
+ghost use Rattle.wire.specs.Output.{TellsUnlessFailed, end_of};
 
 use crate::fault::Fault;
-use frame_front::Counted;
 use std::io::Write;
+use wire::Counted;
 
 /// What a command comes to, if no fault ends it.
 pub trait Outcome {
@@ -52,7 +52,7 @@ pub fn ended<T: Outcome + Drop, E: Write>(end: Result<T, Fault>, err: &mut Count
 }
 
 /// The same after other lines: nothing is told if a call of the writer has failed since `before` of them had failed.
-#[tactic(auto, using(frame_front::proofs::OutputLemmas::told_nothing))]
+#[tactic(auto, using(wire::proofs::OutputLemmas::told_nothing))]
 pub fn ended_after<T: Outcome + Drop, E: Write>(
     end: Result<T, Fault>,
     err: &mut Counted<E>,

@@ -1,13 +1,13 @@
 //! The command `explain`: writes a text that is known beforehand.
 ghost use Rattle.std.specs.Prelude.{◌≡◌};
 ghost use Rattle.commands.specs.Explain.{Explains};
-ghost use Rattle.frame_front.specs.Output.{end_of};
+ghost use Rattle.wire.specs.Output.{end_of};
 ghost use Rattle.commands.specs.Streams.{Source};
 
 use crate::ending::ended;
 use crate::output::write_flushed;
-use frame_front::Counted;
 use std::io::Write;
+use wire::Counted;
 
 /// Writes the explanation, and answers the exit status.
 pub fn explain_over<W: Write, E: Write>(

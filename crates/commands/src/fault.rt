@@ -1,13 +1,12 @@
 //! Faults of commands.
 ghost use Rattle.std.specs.Prelude.{◌≡◌, ◌≤◌, ◌+◌, ◌∷◌, ◌++◌, length};
-ghost use Rattle.frame_front.specs.Counted.{faults_in};
+ghost use Rattle.wire.specs.Counted.{faults_in};
 ghost use Rattle.commands.specs.Fault.{asking_numbers, fault_line, fault_number, fault_numbers, number_text, numbers_text};
-ghost use Rattle.frame_front.specs.Output.{Tells, TellsUnlessFailed, end_of};
+ghost use Rattle.wire.specs.Output.{Tells, TellsUnlessFailed, end_of};
 
 use arrayvec::ArrayVec;
 use client::ClientError;
-use frame_front::wire::tell;
-use frame_front::{Counted, DumpError, FrontError};
+use frame_front::DumpError;
 use itoa::Buffer;
 use map_core::AskError;
 use refresh::{RefreshError, RelationError};
@@ -15,6 +14,7 @@ use shard_store::CloseError;
 use std::alloc::AllocError;
 use std::io::Write;
 use thiserror::Error;
+use wire::{Counted, FrontError, tell};
 
 /// The most bytes of a fault's line: `fault`, a number of 3 digits, three of 20, four spaces and a line feed.
 const LINE_BYTES: usize = 73;
@@ -85,7 +85,7 @@ impl From<FrontError> for Fault {
 impl From<AllocError> for Fault {
     ghost use Rattle.std.specs.Prelude.{◌≡◌};
     ghost use Rattle.commands.specs.declared.fault.Fault.TheVariants.{Front};
-    ghost use Rattle.frame_front.specs.declared.error.FrontError.TheVariants.{Memory};
+    ghost use Rattle.wire.specs.declared.error.FrontError.TheVariants.{Memory};
 
     ghost from_gives = { λ _ fault. fault ≡ Front Memory };
 
@@ -191,7 +191,10 @@ impl Fault {
             Fault::Snapshot(SnapshotFault::BadFolder) => (74, carried(&[])),
             Fault::Listen => (57, carried(&[])),
             Fault::Close(CloseError::HeldAtEnd(shard)) => {
-                (CloseError::HeldAtEnd(*shard).number(), carried(&[*shard as u64]))
+                (
+                    CloseError::HeldAtEnd(*shard).number(),
+                    carried(&[*shard as u64]),
+                )
             }
             Fault::Close(error) => (error.number(), carried(&[])),
         }

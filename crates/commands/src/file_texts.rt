@@ -1,9 +1,9 @@
 //! Texts that are files.
-use frame_lines::{TextError, TextSource};
 use std::alloc::Global;
 use std::fs::{File, Files};
 use std::io;
 use std::io::{ErrorKind, Read};
+use wire::{TextError, TextSource};
 
 /// The most bytes that are read of a file: one more than a frame carries, so that a longer one is seen to be too long.
 const MAX_TEXT: u64 = 1_049_001;

@@ -4,13 +4,13 @@ ghost use Rattle.commands.specs.Streams.{source_of, streams};
 ghost use Rattle.commands.specs.declared.fault.Fault.TheVariants.{Front};
 ghost use Rattle.commands.specs.Import.{NoRequests, RequestsOf};
 ghost use Rattle.commands.specs.Reading.{Filtered, Filters};
-ghost use Rattle.frame_front.specs.Output.{end_of};
+ghost use Rattle.wire.specs.Output.{end_of};
 
 use crate::{Fault, ended, read_input, write_flushed};
 use dump_views::{MapError, requests_of_map};
-use frame_front::{Counted, FrontError};
 use std::alloc::Global;
 use std::io::{Read, Write};
+use wire::{Counted, FrontError};
 
 /// Reads a bundle map and writes the requests that set each of its bundles; answers the exit status.
 pub fn import_over<R: Read, W: Write, E: Write>(

@@ -1,14 +1,14 @@
 //! Input that is read whole before it is judged.
 ghost use Rattle.std.specs.Prelude.{◌≡◌, Err, IfOk, IfErr};
-ghost use Rattle.frame_front.specs.Counted.{end_in, faults_in, next_count, reads_of};
-ghost use Rattle.frame_front.specs.declared.error.FrontError.TheVariants.{ReadFault};
+ghost use Rattle.wire.specs.Counted.{end_in, faults_in, next_count, reads_of};
+ghost use Rattle.wire.specs.declared.error.FrontError.TheVariants.{ReadFault};
 ghost use Rattle.commands.specs.Input.{IsInput, InputFault, ReadsInput};
 ghost use Rattle.commands.specs.declared.fault.Fault.TheVariants.{Front};
 
 use crate::fault::Fault;
-use frame_front::{Counted, FrontError};
 use std::alloc::Global;
 use std::io::Read;
+use wire::{Counted, FrontError};
 
 /// The most bytes of an input.
 pub const MAX_INPUT: usize = 16_777_216;

@@ -8,18 +8,18 @@ ghost use Rattle.commands.specs.declared.fault.Fault.TheVariants.{Front, NotInDu
 ghost use Rattle.commands.specs.Map.{MapOf, NoMap, wanted as wanted_of};
 ghost use Rattle.commands.specs.Private.Choosing.{NotWanted};
 ghost use Rattle.commands.specs.Reading.{Filtered, Filters};
-ghost use Rattle.frame_front.specs.Counted.{end_in, faults_in, next_count, reads_of};
-ghost use Rattle.frame_front.specs.Output.{end_of};
-ghost use Rattle.frame_front.specs.declared.error.FrontError.TheVariants.{Memory, ReadFault, WriteFault};
+ghost use Rattle.wire.specs.Counted.{end_in, faults_in, next_count, reads_of};
+ghost use Rattle.wire.specs.Output.{end_of};
+ghost use Rattle.wire.specs.declared.error.FrontError.TheVariants.{Memory, ReadFault, WriteFault};
 
 use crate::reading::read_domains;
 use crate::{Fault, ended, write_flushed};
 use dump_views::{ChoiceError, Profile, choose, write_map};
-use frame_front::{Counted, FrontError};
 use map_core::Snapshot;
 use spiffe_doc::{Bundle, TrustDomain};
 use std::alloc::{AllocError, Global};
 use std::io::{Read, Write};
+use wire::{Counted, FrontError};
 
 /// Reads a dump and writes the bundle map of the domains of these names, of all if there are no names; answers the exit status.
 pub fn map_over<R: Read, W: Write, E: Write>(

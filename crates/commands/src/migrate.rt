@@ -1,6 +1,6 @@
 //! The command `migrate`: a dump of version 1 becomes requests of version 2.
 ghost use Rattle.std.specs.Prelude.{◌≡◌};
-ghost use Rattle.frame_front.specs.Output.{end_of};
+ghost use Rattle.wire.specs.Output.{end_of};
 ghost use Rattle.commands.specs.Migrate.{MigrationOf};
 ghost use Rattle.commands.specs.Reading.{Filtered, Filters, Unread};
 ghost use Rattle.commands.specs.Streams.{source_of, streams};
@@ -9,9 +9,10 @@ use crate::ending::ended;
 use crate::fault::Fault;
 use crate::input::read_input;
 use crate::output::write_flushed;
-use frame_front::{Counted, migrate};
+use frame_front::migrate;
 use std::alloc::Global;
 use std::io::{Read, Write};
+use wire::Counted;
 
 /// Reads a dump and writes the requests that store it again; answers the exit status.
 pub fn migrate_over<R: Read, W: Write, E: Write>(

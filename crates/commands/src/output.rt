@@ -1,13 +1,13 @@
 //! Output that is written whole.
 ghost use Rattle.std.specs.Prelude.{◌≡◌, OnOk, IfErr, OnErr};
 ghost use Rattle.std.specs.Io.KnownBytes.{Appends};
-ghost use Rattle.frame_front.specs.Counted.{end_in, faults_in, next_count};
-ghost use Rattle.frame_front.specs.Output.{WritesFront};
+ghost use Rattle.wire.specs.Counted.{end_in, faults_in, next_count};
+ghost use Rattle.wire.specs.Output.{WritesFront};
 ghost use Rattle.commands.specs.declared.fault.Fault.TheVariants.{Front};
 
 use crate::fault::Fault;
-use frame_front::{Counted, FrontError, wire};
 use std::io::Write;
+use wire::{Counted, FrontError};
 
 /// Writes all of the bytes, and sees that the writer keeps nothing back.
 pub fn write_flushed<W: Write>(writer: &mut Counted<W>, bytes: &[u8]) -> Result<(), Fault>

@@ -4,14 +4,15 @@ ghost use Rattle.commands.specs.Streams.{source_of, streams};
 ghost use Rattle.commands.specs.declared.fault.Fault.TheVariants.{Front};
 ghost use Rattle.commands.specs.Pem.{NoPem, PemOf};
 ghost use Rattle.commands.specs.Reading.{Filtered, Filters};
-ghost use Rattle.frame_front.specs.Output.{end_of};
+ghost use Rattle.wire.specs.Output.{end_of};
 
 use crate::{Fault, ended, read_input, write_flushed};
 use dump_views::{PemError, put_dump_pem};
-use frame_front::{Counted, DumpError, FrontError};
+use frame_front::DumpError;
 use spiffe_doc::TrustDomain;
 use std::alloc::Global;
 use std::io::{Read, Write};
+use wire::{Counted, FrontError};
 
 /// Reads a dump and writes the X.509 authorities of the domain of this name as PEM; answers the exit status.
 pub fn pem_over<R: Read, W: Write, E: Write>(

@@ -3,14 +3,15 @@ ghost use Rattle.std.specs.Prelude.{◌≡◌, Err, IfOk, IfErr};
 ghost use Rattle.commands.specs.Input.{ReadsInput};
 ghost use Rattle.commands.specs.declared.fault.Fault.TheVariants.{Front};
 ghost use Rattle.commands.specs.Reading.{IsRead, Unread};
-ghost use Rattle.frame_front.specs.Counted.{end_in, faults_in, next_count, reads_of};
-ghost use Rattle.frame_front.specs.declared.error.FrontError.TheVariants.{ReadFault, WriteFault};
+ghost use Rattle.wire.specs.Counted.{end_in, faults_in, next_count, reads_of};
+ghost use Rattle.wire.specs.declared.error.FrontError.TheVariants.{ReadFault, WriteFault};
 
 use crate::{Fault, read_input};
-use frame_front::{Counted, read_dump};
+use frame_front::read_dump;
 use map_core::Snapshot;
 use std::alloc::Global;
 use std::io::Read;
+use wire::Counted;
 
 /// The domains of the dump that is the input.
 pub(crate) fn read_domains<R: Read>(

@@ -1,20 +1,21 @@
 //! The command `run`: one session over an empty store.
 ghost use Rattle.std.specs.Prelude.{◌≡◌, ◌≤◌, ◌<◌, Err};
 ghost use Rattle.std.specs.FinMap as finite;
-ghost use Rattle.frame_front.specs.Counted.{MakesReads, end_in, faults_in, next_count, reads_of};
+ghost use Rattle.wire.specs.Counted.{MakesReads, end_in, faults_in, next_count, reads_of};
 ghost use Rattle.frame_front.specs.PlainSession.{PlainTranscript};
-ghost use Rattle.frame_front.specs.declared.error.FrontError.TheVariants.{ReadFault, WriteFault, TurnsUsed};
+ghost use Rattle.wire.specs.declared.error.FrontError.TheVariants.{ReadFault, WriteFault, TurnsUsed};
 ghost use Rattle.map_core.specs.PlainMap.{PlainMap};
 ghost use Rattle.step_core.specs.Shards.{ShardsAnswer};
 ghost use Rattle.commands.specs.Run.{Runs};
 ghost use Rattle.commands.specs.Streams.{streams};
 
 use crate::fault::Fault;
-use frame_front::{Counted, FrontError, serve};
+use frame_front::serve;
 use std::alloc::Global;
 use std::io::{Read, Write};
 use std::mem::forget;
 use step_core::Shards;
+use wire::{Counted, FrontError};
 
 /// Serves one session over an empty store of so many shards, of at most so many reads, and answers the exit status.
 pub fn run_over<R: Read, W: Write, E: Write>(

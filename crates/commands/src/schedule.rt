@@ -1,15 +1,15 @@
 //! Schedules of the lists that the command `refresh` reads.
 ghost use Rattle.std.specs.Prelude.{◌≡◌, ℕ, List, Option, IfOk, IfErr};
-ghost use Rattle.frame_front.specs.Counted.{end_in};
+ghost use Rattle.wire.specs.Counted.{end_in};
 ghost use Rattle.commands.specs.Schedule.{list_fault, NoSchedule, Schedules};
 
 use crate::fault::{Fault, RefreshFault};
 use crate::input::read_input;
-use frame_front::{Counted, FrontError};
 use refresh::{ListError, Schedule, read_list};
 use std::alloc::Global;
 use std::fs::{File, Files};
 use std::io::Read;
+use wire::{Counted, FrontError};
 
 /// The relationships of the list that is the file of this path, each due at 0.
 pub fn read_schedule<H: Files>(alloc: Global, host: &H, list: &str) -> Result<Schedule, Fault>

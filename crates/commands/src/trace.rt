@@ -1,9 +1,9 @@
 //! The command `trace`: a run of the machine over a list of events.
 ghost use Rattle.std.specs.Prelude.{◌≡◌, ◌<◌, List, ℕ, true, false, Err, length, OnOk, IfOk, IfErr};
 ghost use Rattle.std.specs.Io.KnownBytes.{Appends};
-ghost use Rattle.frame_front.specs.Counted.{end_in, faults_in, next_count, reads_of};
-ghost use Rattle.frame_front.specs.Output.{WritesFront, end_of};
-ghost use Rattle.frame_front.specs.declared.error.FrontError.TheVariants.{ReadFault, WriteFault};
+ghost use Rattle.wire.specs.Counted.{end_in, faults_in, next_count, reads_of};
+ghost use Rattle.wire.specs.Output.{WritesFront, end_of};
+ghost use Rattle.wire.specs.declared.error.FrontError.TheVariants.{ReadFault, WriteFault};
 ghost use Rattle.step_core.specs.declared.event.Event.{Event};
 ghost use Rattle.trace_lines.specs.Events.{lines_in, AreEvents};
 ghost use Rattle.commands.specs.Input.{IsInput, ReadsInput};
@@ -15,11 +15,11 @@ ghost use Rattle.commands.specs.declared.fault.Fault.TheVariants.{Front};
 use crate::ending::ended;
 use crate::fault::Fault;
 use crate::input::read_input;
-use frame_front::{Counted, FrontError};
 use std::alloc::Global;
 use std::io::{Read, Write};
 use step_core::{Trace, run_events};
 use trace_lines::{LinesError, put_picture, put_trace, read_events};
+use wire::{Counted, FrontError};
 
 /// Reads events, a line each, runs them over so many shards, a fetch-all in so many rounds, and writes a line for each
 /// operation and one for their order; answers the exit status. A line that is not an event is a fault, and then nothing is

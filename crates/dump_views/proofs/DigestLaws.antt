@@ -11,8 +11,8 @@ use Rattle.sha2.specs.Sha256.{sha256, digest_bytes, final_hash, initial_hash_256
 use Rattle.map_core.specs.declared.reply.Reply.TheVariants.{All}
 use Rattle.map_core.specs.PlainMap.{PlainMap}
 use Rattle.frame_front.specs.Dump.{Domains, IsDump, ReadsItems, dump_of}
-use Rattle.frame_front.specs.Reply.{reply_frames}
-use Rattle.frame_front.proofs.FrameLemmas.{frames_unique}
+use Rattle.wire.specs.Answers.{reply_frames}
+use Rattle.wire.proofs.FrameLemmas.{frames_unique}
 use Rattle.frame_front.proofs.DomainLists.{cons_tail, some_item}
 use Rattle.frame_front.proofs.DumpTexts.{same_dump}
 use Rattle.dump_views.specs.Digest.{digest_line_of}

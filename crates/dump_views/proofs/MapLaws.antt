@@ -1,5 +1,5 @@
 -- The laws of bundle maps.
-use Rattle.std.proofs.Common.{◌≡◌, ℕ, zero, suc, ◌<◌, List, [], ◌∷◌, ◌++◌, length, get_or, bytes_eq, codes, Bool, false, Some, None, Result, Ok, Err, refl, sym, ap, subst, ◌∙◌, arith}
+use Rattle.std.proofs.Common.{◌≡◌, ℕ, zero, suc, ◌<◌, List, [], ◌∷◌, ◌++◌, length, get_or, bytes_eq, codes, Bool, false, Some, None, Result, Ok, Err, refl, sym, subst, ◌∙◌, arith}
 use Rattle.std.specs.Prelude.{option_and_then}
 use Rattle.std.specs.List.{AllByRecursion, All}
 use Rattle.std.proofs.lemmas.List.Elements.{All-from_recursion}
@@ -13,13 +13,13 @@ use Rattle.spiffe_doc.proofs.NameLemmas.{trust_domain-IsName}
 use Rattle.spiffe_doc.proofs.DocumentLaws.{IsBundle-document}
 use Rattle.map_core.specs.Name.{Name}
 use Rattle.map_core.specs.declared.op.Op.TheVariants.{Set}
-use Rattle.frame_front.specs.declared.refusal.Refusal.{Refusal}
-use Rattle.frame_front.specs.declared.request.Version.TheVariants.{One}
-use Rattle.frame_front.specs.declared.request.Request.{Request}
-use Rattle.frame_front.specs.declared.request.Request.TheVariants.{Ask}
-use Rattle.frame_front.specs.Request.{◌>>=◌, parse_name, parse_bundle, named_bundle, set_of, request_of}
+use Rattle.wire.specs.declared.version.Version.TheVariants.{One}
+use Rattle.wire.specs.declared.judge.Request.TheVariants.{Ask}
+use Rattle.wire.specs.RequestForm as form
+use Rattle.wire.specs.Judge.{request_of}
+use Rattle.wire.proofs.JudgeLemmas.{request_read}
+use Rattle.wire.proofs.Readings.{set_asks}
 use Rattle.frame_front.specs.Dump.{Domains, AreValid}
-use Rattle.frame_front.proofs.MigrationLemmas.{split_name-name, name_of-name, bundle_of-text}
 use Rattle.dump_views.specs.declared.error.MapError.{MapError}
 use Rattle.dump_views.specs.declared.error.MapError.TheVariants.{NotMap, BadMember, Memory}
 use Rattle.dump_views.specs.declared.error.MemberFault.{MemberFault}
@@ -119,16 +119,8 @@ valid_members (i ∷ is) (e ∷ es) are =
 pub valid_map : (file : List ℕ) (items : Domains) → IsMap file items → AreValid items
 valid_map file items is = valid_members items is.0 is.2.are
 
-abbrev as_set : Result (Name × BundleValue) Refusal → Result Request Refusal
-as_set read = read >>= (λ item. Ok (Ask (Set item.0 item.1)))
-
 set_read : (item : Name × BundleValue) → IsName item.0 → IsBundle item.1 → request_of One (set_request item) ≡ Ok (Ask (Set item.0 item.1))
-unfolding request_of set_of named_bundle
-set_read item is valid =
-    ap (λ (r : Result (List ℕ × List ℕ) Refusal). as_set (r >>= (λ parts. parse_name parts.0 >>= (λ name. parse_bundle parts.1 >>= (λ bundle. Ok (name, bundle))))))
-    (split_name-name item.0 (text_of item.1))
-    ∙ ap (λ (r : Result Name Refusal). as_set (r >>= (λ name. parse_bundle (text_of item.1) >>= (λ bundle. Ok (name, bundle))))) (name_of-name item.0 is)
-    ∙ ap (λ (r : Result BundleValue Refusal). as_set (r >>= (λ bundle. Ok (item.0, bundle)))) (bundle_of-text item.1 valid)
+set_read item is valid = request_read One (form.Set item.0 (text_of item.1)) (omega (arith, is.short)) ∙ set_asks One item.0 item.1 is valid
 
 sets_read : (items : Domains) → AreValid items → AllByRecursion (λ item. request_of One (set_request item) ≡ Ok (Ask (Set item.0 item.1))) items
 sets_read [] valid = tt

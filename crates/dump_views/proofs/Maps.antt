@@ -63,12 +63,6 @@ json_none file none = elim (cases_Bool (is_utf8 file)) [
 pub listed_is : (file : List ℕ) (j : Json) (ms : Members) → json_of file ≡ Some j → domains_in j ≡ Some ms → listed file ≡ Some (member_list ms)
 listed_is file j ms reads is = ap (λ t. option_map member_list (option_and_then domains_in t)) reads ∙ ap (option_map member_list) is
 
-pub not_listed : (file : List ℕ) → json_of file ≡ None → listed file ≡ None
-not_listed file reads = ap (λ t. option_map member_list (option_and_then domains_in t)) reads
-
-pub none_listed : (file : List ℕ) (j : Json) → json_of file ≡ Some j → domains_in j ≡ None → listed file ≡ None
-none_listed file j reads is = ap (λ t. option_map member_list (option_and_then domains_in t)) reads ∙ ap (option_map member_list) is
-
 pub fault_of_map : (file : List ℕ) (entries : List Member) (error : MapError) → listed file ≡ Some entries → FaultOfMembers entries error → FaultOfMap error file
 fault_of_map file entries NotMap lists bad = absurd bad
 fault_of_map file entries (BadMember place fault) lists bad = (entries, lists, bad)

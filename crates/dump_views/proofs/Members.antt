@@ -11,7 +11,7 @@ use Rattle.json.specs.Tree.{HasNumbers, MembersHaveNumbers}
 use Rattle.spiffe_doc.specs.Name.{IsName}
 use Rattle.spiffe_doc.specs.Authority.{BundleValue}
 use Rattle.map_core.specs.Name.{Name}
-use Rattle.frame_front.specs.Frame.{frame, stream_of}
+use Rattle.wire.specs.Frame.{frame, stream_of}
 use Rattle.frame_front.specs.Dump.{Domains}
 use Rattle.frame_front.proofs.DomainLists.{stream-more}
 use Rattle.spiffe_doc.proofs.NameLemmas.{trust_domain-IsName}
@@ -24,14 +24,6 @@ use Rattle.dump_views.specs.Import.{Member, member_list, member_names, StandOnce
 use Rattle.dump_views.specs.Private.Names.{has}
 use Rattle.dump_views.specs.Private.Reading.{member_of, map_error, NameFault, BundleFault, IsMapFault, FaultOfMembers}
 use Rattle.dump_views.proofs.Choices.{is_named-one}
-
--- a name and a value that are not read are faults of their member
-pub bad_name : (place : ℕ) (again : Bool) (entry : Member) (fault : Option MemberFault) → NameFault fault entry.0
-    → IsMapFault place (IsFaultOf again entry) (map_error place fault)
-bad_name place again entry None bad = tt
-bad_name place again entry (Some (BadName fault)) bad = (refl, bad)
-bad_name place again entry (Some Twice) bad = absurd bad
-bad_name place again entry (Some (BadBundle fault)) bad = absurd bad
 
 pub bad_value : (place : ℕ) (again : Bool) (entry : Member) (fault : Option MemberFault) → IsName entry.0 → again ≡ false → BundleFault fault entry.1
     → IsMapFault place (IsFaultOf again entry) (map_error place fault)

@@ -1,15 +1,12 @@
 -- The text of a bundle map in pieces.
-use Rattle.std.proofs.Common.{◌≡◌, ℕ, suc, ◌+◌, ◌<◌, take, get_or, List, [], ◌∷◌, ◌++◌, append_assoc, append-nil, length, ◌==◌, Bool, true, false, not, cond, codes, None, refl, sym, ap, ◌∙◌, arith}
+use Rattle.std.proofs.Common.{◌≡◌, ℕ, suc, List, [], ◌∷◌, ◌++◌, append_assoc, append-nil, length, ◌==◌, Bool, true, false, not, codes, None, refl, sym, ap, ◌∙◌, arith}
 use Rattle.std.proofs.lemmas.Bool.Decides.{nat_tests}
-use Rattle.std.proofs.lemmas.List.{length_push}
-use Rattle.std.proofs.lemmas.List.Elements.{filter_more}
-use Rattle.std.specs.List.{filter}
 use Rattle.json.specs.Print.{quoted}
 use Rattle.serde_json.specs.Written.{comma_if, members_text}
 use Rattle.serde_json.proofs.OnLiterals.{serde_json_on_literals}
 use Rattle.spiffe_doc.specs.Authority.{BundleValue}
 use Rattle.spiffe_doc.specs.Name.{IsName}
-use Rattle.spiffe_doc.specs.Text.{entry_text, text_of}
+use Rattle.spiffe_doc.specs.Text.{text_of}
 use Rattle.spiffe_doc.specs.declared.authority.Authority.{Authority}
 use Rattle.spiffe_doc.specs.Private.Writing.{entry_texts, front_text, rest_text, number_text}
 use Rattle.spiffe_doc.proofs.TextLemmas.{rest_text-pieces, text_of-pieces}

@@ -1,6 +1,6 @@
 //! The requests that a bundle map becomes.
 ghost use Rattle.std.specs.Prelude.{◌≡◌, map, [], IfOk, IfErr};
-ghost use Rattle.frame_front.specs.Frame.{stream_of};
+ghost use Rattle.wire.specs.Frame.{stream_of};
 ghost use Rattle.frame_front.specs.Dump.{Domains};
 ghost use Rattle.json.specs.Value.{members_view};
 ghost use Rattle.json.specs.Tree.{MembersHaveNumbers};
@@ -11,11 +11,11 @@ use crate::error::MapError;
 use crate::member::read_member;
 use crate::name_set::insert_name;
 use crate::tree::{Members, domain_members, read_tree};
-use frame_front::wire::put_request;
 use json::Scratch;
 use spiffe_doc::DocumentReader;
 use std::alloc::Global;
 use std::collections::BTreeSet;
+use wire::put_request;
 
 /// The requests of version 1 that set each bundle of a bundle map, in the order of its members. An error tells the first
 /// member that is bad; a name that stands twice is bad, and no member is left out.

@@ -1,8 +1,8 @@
 -- Lemmas on the texts of which a byte is written.
 use Rattle.std.proofs.Common.{◌≡◌, ℕ, zero, suc, ◌-◌, ◌<◌, ◌≤◌, List, [], ◌∷◌, ◌++◌, length, length-append, arith, refl, false}
 use Rattle.std.specs.List.{AllByRecursion, concat}
-use Rattle.frame_front.specs.Frame.{IsPayload}
-use Rattle.frame_front.specs.Reply.{is_error_reply}
+use Rattle.wire.specs.Frame.{IsPayload}
+use Rattle.wire.specs.Answers.{is_error_reply}
 use Rattle.frame_front.specs.PlainSession.{texts_within}
 
 -- none of these texts tells an error

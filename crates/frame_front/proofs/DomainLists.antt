@@ -5,8 +5,9 @@ use Rattle.std.specs.List.{flat_map, slice_get}
 use Rattle.spiffe_doc.specs.Authority.{BundleValue}
 use Rattle.spiffe_doc.specs.Bundle.{IsBundle}
 use Rattle.map_core.specs.Name.{Name}
-use Rattle.frame_front.specs.Frame.{frame, stream_of}
-use Rattle.frame_front.specs.Dump.{Domains, HaveValidBundles, item_of, ReadsItems, request_for}
+use Rattle.wire.specs.Frame.{frame, stream_of}
+use Rattle.frame_front.specs.Dump.{Domains, HaveValidBundles, ReadsItems, request_for}
+use Rattle.wire.specs.Items.{item_of}
 use Rattle.frame_front.specs.Private.Refusals.{last_of}
 use Rattle.map_core.specs.Laws.{IsAfter, Ascends}
 use Rattle.frame_front.proofs.SessionLemmas.{stream_of-append}

@@ -5,15 +5,16 @@ use Rattle.std.specs.List.{AllByRecursion, flat_map}
 use Rattle.spiffe_doc.specs.Authority.{BundleValue}
 use Rattle.spiffe_doc.specs.Bundle.{IsBundle}
 use Rattle.map_core.specs.Name.{Name}
-use Rattle.frame_front.specs.Frame.{IsPayload, HasFrames, frame, stream_of}
-use Rattle.frame_front.specs.Dump.{Domains, HaveValidBundles, count_of, item_of, ReadsItems, IsDump, IsDumpFront, IsBadDump}
+use Rattle.wire.specs.Frame.{IsPayload, HasFrames, frame, stream_of}
+use Rattle.frame_front.specs.Dump.{Domains, HaveValidBundles, count_of, ReadsItems, IsDump, IsDumpFront, IsBadDump}
+use Rattle.wire.specs.Items.{item_of}
 use Rattle.frame_front.specs.Private.Refusals.{NoItem, NoCount, last_of}
 use Rattle.map_core.specs.Laws.{IsAfter, Ascends}
 use Rattle.std.proofs.Math.Seq.{drop-append_seam}
 use Rattle.std.proofs.lemmas.Bool.Decides.{nat_tests}
 use Rattle.std.specs.Prelude.{◌==◌, true, false}
-use Rattle.frame_front.proofs.FrameLemmas.{frames_unique, frame_first}
-use Rattle.frame_front.proofs.FramesExist.{frames, has_frames}
+use Rattle.wire.proofs.FrameLemmas.{frames_unique, frame_first}
+use Rattle.wire.proofs.FramesExist.{frames, has_frames}
 use Rattle.frame_front.proofs.SessionLemmas.{stream_of-append, each-append, fewer_than_bytes}
 use Rattle.frame_front.proofs.DomainLists.{cons_head, cons_tail, ReadsItems-length, ReadsItems-one, Ascends-one, valid-one, stream-one}
 

@@ -5,7 +5,7 @@ use Rattle.std.proofs.lemmas.Bool.{cases_lt}
 use Rattle.map_core.specs.Name.{Name}
 use Rattle.frame_front.specs.Dump.{Domains, ReadsItems, IsDumpFront, IsBadDump}
 use Rattle.map_core.specs.Laws.{Ascends}
-use Rattle.frame_front.proofs.FrameLemmas.{frames_unique}
+use Rattle.wire.proofs.FrameLemmas.{frames_unique}
 use Rattle.frame_front.proofs.DomainLists.{cons_head, cons_tail}
 
 -- the first of some domains that ascend

@@ -11,10 +11,10 @@ use Rattle.spiffe_doc.proofs.RoundTrip.{text_of-injective}
 use Rattle.map_core.specs.declared.reply.Reply.TheVariants.{All}
 use Rattle.map_core.specs.Name.{Name}
 use Rattle.map_core.specs.PlainMap.{PlainMap, bundles}
-use Rattle.frame_front.specs.Frame.{IsPayload, frame}
-use Rattle.frame_front.specs.Reply.{reply_frames, item_frame}
+use Rattle.wire.specs.Frame.{IsPayload, frame}
+use Rattle.wire.specs.Answers.{reply_frames, item_frame}
 use Rattle.frame_front.specs.Dump.{Domains, AreValid, dump_of}
-use Rattle.frame_front.proofs.FrameLemmas.{frame_first, length-frame}
+use Rattle.wire.proofs.FrameLemmas.{frame_first, length-frame}
 use Rattle.frame_front.proofs.DomainLists.{cons_head, cons_tail}
 
 -- the payload of a domain's frame

@@ -9,14 +9,14 @@ use Rattle.map_core.specs.Name.{Name}
 use Rattle.map_core.specs.declared.op.Op.{Op}
 use Rattle.map_core.specs.declared.reply.Reply.{Reply}
 use Rattle.map_core.specs.declared.reply.AskError.{AskError}
-use Rattle.frame_front.specs.Frame.{IsUnfinished}
+use Rattle.wire.specs.Frame.{IsUnfinished}
 use Rattle.frame_front.specs.Live.{LiveView, LiveAnswers, ComeBelowLimit, Feeds, StopsAt, live_view, reply_limit, room_of, waiting}
-use Rattle.frame_front.specs.Reply.{item_frame}
+use Rattle.wire.specs.Answers.{item_frame}
 use Rattle.frame_front.specs.Session.{Serves}
 use Rattle.frame_front.specs.declared.answered.Answered.{Answered}
 use Rattle.frame_front.specs.Private.Pending.{items_left}
 use Rattle.frame_front.specs.Private.Steps.{AnswersFrame, Stays}
-use Rattle.frame_front.proofs.FrameLemmas.{longer_by_frame}
+use Rattle.wire.proofs.FrameLemmas.{longer_by_frame}
 use Rattle.frame_front.proofs.SessionLemmas.{Serves-none, Serves-one, Serves-then, concat-one}
 
 -- if not all domains are stored, some bytes are left
@@ -40,11 +40,6 @@ on_err (Err error) holds = holds
 pub some_left : (head text more body : List ℕ) → body ≡ text ++ more → 0 < length (head ++ text) → head ++ body ≢ []
 some_left head text more body is some = λ none.
     omega (arith, some, ap length none, ap length is, length-append head body, length-append head text, length-append text more)
-
--- with room left, all is stored
-pub stored_whole : {n : ℕ} (left : List ℕ) → (left ≡ []) ⊎ (reply_limit ≤ n) → n < reply_limit → left ≡ []
-stored_whole left (inl none) few = none
-stored_whole left (inr full) few = absurd (omega (arith, full, few))
 
 -- Of what was kept these payloads were answered, and their texts wait after what waited.
 pub record Answering {S : Type 0} (answers : S → Op → Result Reply AskError → S → Type 0)

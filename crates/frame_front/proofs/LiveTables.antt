@@ -8,9 +8,9 @@ use Rattle.map_core.specs.declared.reply.Reply.{Reply}
 use Rattle.map_core.specs.declared.reply.AskError.{AskError}
 use Rattle.map_core.specs.PlainMap.{PlainMap}
 use Rattle.map_core.specs.Ask.{AnswersPlainly}
-use Rattle.frame_front.specs.declared.error.FrontError.{FrontError}
-use Rattle.frame_front.specs.declared.error.FrontError.TheVariants.{BadLength, Truncated, ReadFault, WriteFault, TurnsUsed, Memory}
-use Rattle.frame_front.specs.declared.request.Version.TheVariants.{One}
+use Rattle.wire.specs.declared.error.FrontError.{FrontError}
+use Rattle.wire.specs.declared.error.FrontError.TheVariants.{BadLength, Truncated, ReadFault, WriteFault, TurnsUsed, Memory}
+use Rattle.wire.specs.declared.version.Version.TheVariants.{One}
 use Rattle.frame_front.specs.declared.answered.Answered.{Answered}
 use Rattle.frame_front.specs.Session.{SessionState, AnswersAll, Session, EndsAt, Writes}
 use Rattle.frame_front.specs.PlainSession.{TellsError}

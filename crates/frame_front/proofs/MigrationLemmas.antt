@@ -1,15 +1,12 @@
 -- A migrated dump is stored.
-use Rattle.std.proofs.Common.{◌≡◌, ℕ, ◌+◌, List, [], ◌∷◌, ◌++◌, length, map, take, drop, append-nil, append_assoc, length-append, arith, refl, sym, ap, ◌∙◌, inl, subst, Result, Ok, Err, Some, None, Bool, true, false, cond}
-use Rattle.std.specs.Prelude.{Option, nat_le}
+use Rattle.std.proofs.Common.{◌≡◌, ℕ, ◌+◌, List, [], ◌∷◌, ◌++◌, length, map, append-nil, append_assoc, length-append, arith, refl, sym, ap, ◌∙◌, inl, subst, Result, Ok, Err, Some, None, Bool, true, false, cond}
+use Rattle.std.specs.Prelude.{Option}
 use Rattle.std.specs.List.{AllByRecursion}
 use Rattle.std.specs.FinMap as finite
 use Rattle.std.specs.FinMap.{find, slice_cmp-IsAntisymmetric, nat_cmp-IsAntisymmetric, get-from_entries, from_entries_push, entries-insert, len-entries, len-empty}
 use Rattle.std.specs.Ordering.{is_eq, ordering_reverse}
 use Rattle.std.specs.Cmp.Lexicographic.{nat_list_cmp_total}
 use Rattle.std.specs.declared.cmp.Ordering.TheVariants.{Less, Greater}
-use Rattle.std.proofs.lemmas.Bool.Decides.{nat_tests}
-use Rattle.std.proofs.lemmas.List.{take_at}
-use Rattle.std.proofs.Math.Seq.{drop-append_seam}
 use Rattle.spiffe_doc.specs.Authority.{BundleValue}
 use Rattle.spiffe_doc.specs.Bundle.{IsBundle}
 use Rattle.spiffe_doc.specs.Name.{IsName, trust_domain}
@@ -17,8 +14,7 @@ use Rattle.spiffe_doc.specs.Text.{text_of}
 use Rattle.spiffe_doc.specs.Document.{document}
 use Rattle.spiffe_doc.specs.declared.error.DocError.{DocError}
 use Rattle.spiffe_doc.specs.declared.name.NameError.{NameError}
-use Rattle.spiffe_doc.proofs.NameLemmas.{trust_domain-IsName, IsName-trust_domain}
-use Rattle.spiffe_doc.proofs.RoundTrip.{document-text_of}
+use Rattle.spiffe_doc.proofs.NameLemmas.{trust_domain-IsName}
 use Rattle.spiffe_doc.proofs.DocumentLaws.{IsBundle-document}
 use Rattle.map_core.specs.declared.held.Holding.{Holding}
 use Rattle.map_core.specs.declared.held.Holding.TheVariants.{Published}
@@ -28,17 +24,21 @@ use Rattle.map_core.specs.declared.reply.Reply.TheVariants.{Stored}
 use Rattle.map_core.specs.Name.{Name, name_cmp}
 use Rattle.map_core.specs.Table.{meaning, set_if}
 use Rattle.map_core.specs.PlainMap.{PlainMap, put, ask, bundles, bundles_among}
-use Rattle.frame_front.specs.declared.request.Version.TheVariants.{One, Two}
-use Rattle.frame_front.specs.declared.request.Request.TheVariants.{Ask, SetVersion}
-use Rattle.frame_front.specs.declared.refusal.Refusal.{Refusal}
-use Rattle.frame_front.specs.declared.refusal.Refusal.TheVariants.{BadRequest}
-use Rattle.frame_front.specs.Frame.{IsPayload, HasFrames, stream_of}
-use Rattle.frame_front.specs.Refusal.{name_refusal, document_refusal}
-use Rattle.frame_front.specs.Request.{◌>>=◌, split_name, split_expect, name_or_refusal, parse_name, parse_bundle, named_bundle, set_if_of, version_of, request_of}
-use Rattle.frame_front.specs.Request as requests
-use Rattle.frame_front.specs.Reply.{reply_frames, version_frame}
+use Rattle.wire.specs.declared.version.Version.TheVariants.{One, Two}
+use Rattle.wire.specs.declared.judge.Request.TheVariants.{Ask, SetVersion}
+use Rattle.wire.specs.declared.refusal.Refusal.{Refusal}
+use Rattle.wire.specs.Frame.{IsPayload, HasFrames, stream_of}
+use Rattle.wire.specs.Refusal.{name_refusal, document_refusal}
+use Rattle.wire.specs.RequestForm as form
+use Rattle.wire.specs.PayloadReading.{split_named}
+use Rattle.wire.specs.Judge.{◌>>=◌, name_or_refusal, parse_name, parse_bundle, named_bundle, judged, request_of}
+use Rattle.wire.specs.Judge as requests
+use Rattle.wire.specs.Answers.{reply_frames, version_frame}
 use Rattle.frame_front.specs.PlainSession.{text_for, state_for, answers_to, state_after}
-use Rattle.frame_front.specs.Dump.{Domains, unless_refused, item_of, ReadsItems, IsDump, AreValid, request_for, requests_for, held_of, map_of}
+use Rattle.frame_front.specs.Dump.{Domains, ReadsItems, IsDump, AreValid, request_for, requests_for, held_of, map_of}
+use Rattle.wire.specs.Items.{unless_refused, item_in, item_of}
+use Rattle.wire.proofs.JudgeLemmas.{request_read}
+use Rattle.wire.proofs.Readings.{set_if_asks}
 use Rattle.map_core.specs.Laws.{IsAfter, Ascends}
 use Rattle.frame_front.specs.Private.Refusals.{last_of}
 use Rattle.frame_front.proofs.DomainLists.{last_of-one, Ascends-one, some_item, none_item}
@@ -68,37 +68,37 @@ bundle_read : (bytes : List ℕ) (bundle : BundleValue) → parse_bundle bytes �
 unfolding parse_bundle
 bundle_read bytes bundle same = published_bundle bytes bundle (document bytes) refl same
 
--- the parts of what was read
-parts_read : (parts : Result (List ℕ × List ℕ) Refusal) (item : Name × BundleValue)
-    → (parts >>= (λ p. parse_name p.0 >>= (λ name. parse_bundle p.1 >>= (λ bundle. Ok (name, bundle))))) ≡ Ok item → IsName item.0 × IsBundle item.1
-parts_read (Err refusal) item same = absurd (no_ok refusal item same)
-parts_read (Ok p) item same = of_name (parse_name p.0) refl same
+-- a name and a document that are read are valid
+named_read : (name text : List ℕ) (item : Name × BundleValue) → named_bundle name text ≡ Ok item → IsName item.0 × IsBundle item.1
+unfolding named_bundle
+named_read name text item same = of_name (parse_name name) refl same
   where
-    of_bundle : (name : Name) (b : Result BundleValue Refusal) → parse_bundle p.1 ≡ b → (b >>= (λ bundle. Ok (name, bundle))) ≡ Ok item
-        → (name ≡ item.0) × IsBundle item.1
-    of_bundle name (Err refusal) is same = absurd (no_ok refusal item same)
-    of_bundle name (Ok bundle) is same =
-        let read = same_ok (name, bundle) item same in
-        (ap (λ (i : Name × BundleValue). i.0) read, subst IsBundle (ap (λ (i : Name × BundleValue). i.1) read) (bundle_read p.1 bundle is))
+    of_bundle : (domain : Name) (b : Result BundleValue Refusal) → parse_bundle text ≡ b → (b >>= (λ bundle. Ok (domain, bundle))) ≡ Ok item
+        → (domain ≡ item.0) × IsBundle item.1
+    of_bundle domain (Err refusal) is same = absurd (no_ok refusal item same)
+    of_bundle domain (Ok bundle) is same =
+        let read = same_ok (domain, bundle) item same in
+        (ap (λ (i : Name × BundleValue). i.0) read, subst IsBundle (ap (λ (i : Name × BundleValue). i.1) read) (bundle_read text bundle is))
 
-    of_name : (n : Result Name Refusal) → parse_name p.0 ≡ n → (n >>= (λ name. parse_bundle p.1 >>= (λ bundle. Ok (name, bundle)))) ≡ Ok item
+    of_name : (n : Result Name Refusal) → parse_name name ≡ n → (n >>= (λ domain. parse_bundle text >>= (λ bundle. Ok (domain, bundle)))) ≡ Ok item
         → IsName item.0 × IsBundle item.1
     of_name (Err refusal) is same = absurd (no_ok refusal item same)
-    of_name (Ok name) is same =
-        let parts = of_bundle name (parse_bundle p.1) refl same in (subst IsName parts.0 (name_read p.0 name is), parts.1)
+    of_name (Ok domain) is same =
+        let parts = of_bundle domain (parse_bundle text) refl same in (subst IsName parts.0 (name_read name domain is), parts.1)
 
 item_read : (read : Result (Name × BundleValue) Refusal) (item : Name × BundleValue) → unless_refused read ≡ Some item → read ≡ Ok item
 item_read (Ok i) item same = ap Ok (some_item i item same)
 item_read (Err refusal) item same = absurd (none_item item same)
 
-item_coded : (b : Bool) (read : Result (Name × BundleValue) Refusal) (item : Name × BundleValue) → cond b (unless_refused read) None ≡ Some item → read ≡ Ok item
-item_coded true read item same = item_read read item same
-item_coded false read item same = absurd (none_item item same)
+item_valid : (b : Bool) (parts : Option (List ℕ × List ℕ)) (item : Name × BundleValue) → cond b (item_in parts) None ≡ Some item → IsName item.0 × IsBundle item.1
+item_valid true None item same = absurd (none_item item same)
+item_valid true (Some parts) item same = named_read parts.0 parts.1 item (item_read (named_bundle parts.0 parts.1) item same)
+item_valid false parts item same = absurd (none_item item same)
 
 valid_item : (payload : List ℕ) (item : Name × BundleValue) → item_of payload ≡ Some item → IsName item.0 × IsBundle item.1
-unfolding item_of named_bundle
+unfolding item_of
 valid_item [] item reads = absurd (none_item item reads)
-valid_item (code ∷ bytes) item reads = parts_read (split_name bytes) item (item_coded _ (named_bundle bytes) item reads)
+valid_item (code ∷ bytes) item reads = item_valid _ (split_named bytes) item reads
 
 valid_items : (payloads : List (List ℕ)) (items : Domains) → ReadsItems payloads items → AreValid items
 valid_items [] [] reads = tt
@@ -108,30 +108,9 @@ valid_items (p ∷ ps) (i ∷ is) reads = (valid_item p i reads.0, valid_items p
 
 -- ---- its request is read
 
-chosen_parts : (b : Bool) (name rest : List ℕ) → b ≡ nat_le (length name) (length (name ++ rest))
-    → (let r : Result (List ℕ × List ℕ) Refusal = cond b (Ok (take (length name) (name ++ rest), drop (length name) (name ++ rest))) (Err BadRequest) in r) ≡ Ok (name, rest)
-chosen_parts true name rest test = ap (λ (t : List ℕ). Ok (t, drop (length name) (name ++ rest))) (take_at name rest (length name) refl) ∙ ap (λ (d : List ℕ). Ok (name, d)) (drop-append_seam name rest)
-chosen_parts false name rest test = absurd (grind (arith, nat_tests, test, length-append name rest))
-
-pub split_name-name : (name rest : List ℕ) → split_name (length name ∷ name ++ rest) ≡ Ok (name, rest)
-unfolding split_name
-split_name-name name rest = chosen_parts (nat_le (length name) (length (name ++ rest))) name rest refl
-
-pub name_of-name : (name : Name) → IsName name → parse_name name ≡ Ok name
-unfolding parse_name
-name_of-name name is = ap name_or_refusal (IsName-trust_domain name name refl is)
-
-pub bundle_of-text : (b : BundleValue) → IsBundle b → parse_bundle (text_of b) ≡ Ok b
-unfolding parse_bundle
-bundle_of-text b is = ap requests.bundle_or_refusal (document-text_of b is)
-
-request_read : (item : Name × BundleValue) → IsName item.0 → IsBundle item.1 → request_of Two (request_for item) ≡ Ok (Ask (SetIf item.0 Absent item.1))
-unfolding request_of set_if_of split_expect
-request_read item is valid =
-    ap (λ (r : Result (List ℕ × List ℕ) Refusal). r >>= (λ parts. split_expect parts.1 >>= (λ expected. parse_name parts.0 >>= (λ name. parse_bundle expected.1 >>= (λ bundle. Ok (Ask (SetIf name expected.0 bundle)))))))
-    (split_name-name item.0 (0 ∷ text_of item.1))
-    ∙ ap (λ (r : Result Name Refusal). r >>= (λ name. parse_bundle (text_of item.1) >>= (λ bundle. Ok (Ask (SetIf name Absent bundle))))) (name_of-name item.0 is)
-    ∙ ap (λ (r : Result BundleValue Refusal). r >>= (λ bundle. Ok (Ask (SetIf item.0 Absent bundle)))) (bundle_of-text item.1 valid)
+set_read : (item : Name × BundleValue) → IsName item.0 → IsBundle item.1 → request_of Two (request_for item) ≡ Ok (Ask (SetIf item.0 Absent item.1))
+set_read item is valid =
+    request_read Two (form.SetIf item.0 Absent (text_of item.1)) (omega (arith, is.short), tt) ∙ set_if_asks item.0 Absent item.1 is valid
 
 -- ---- it is stored, and stands last
 
@@ -171,7 +150,7 @@ all_stored : (items m : Domains) → AreValid items → Ascends None m → Ascen
     × (state_after (Two, map_of m) (map request_for items) ≡ (Two, map_of (m ++ items)))
 all_stored [] m valid below ascending = (refl, ap (λ n. (Two, map_of n)) (sym (append-nil m)))
 all_stored (item ∷ items) m valid below ascending =
-    let read = request_read item valid.0.0 valid.0.1 in
+    let read = set_read item valid.0.0 valid.0.1 in
     let text : text_for (Two, map_of m) (request_of Two (request_for item)) ≡ reply_frames Stored = ap (text_for (Two, map_of m)) read ∙ ap reply_frames (stored_reply item m below ascending.0) in
     let state : state_for (Two, map_of m) (request_of Two (request_for item)) ≡ (Two, map_of (m ++ item ∷ [])) = ap (state_for (Two, map_of m)) read ∙ ap (λ n. (Two, n)) (stored_map item m below ascending.0) in
     let others = all_stored items (m ++ item ∷ []) valid.1 (Ascends-one None m item below ascending.0) (subst (λ l. Ascends l items) (sym (last_of-one None m item)) ascending.1) in (
@@ -211,8 +190,8 @@ are_payloads (item ∷ items) valid =
     ((omega (arith, size), omega (arith, size, valid.0.0.short, valid.0.1.short)), are_payloads items valid.1)
 
 version_read : request_of One (86 ∷ 2 ∷ []) ≡ Ok (SetVersion Two)
-unfolding request_of version_of
-version_read = refl
+unfolding judged
+version_read = request_read One (form.Speak Two) tt
 
 pub migration : (dump : List ℕ) (items : Domains) → IsDump dump items
     → AreValid items

@@ -11,15 +11,15 @@ use Rattle.map_core.specs.declared.reply.Reply.{Reply}
 use Rattle.map_core.specs.declared.reply.AskError.{AskError}
 use Rattle.map_core.specs.PlainMap.{PlainMap}
 use Rattle.map_core.specs.Ask.{AnswersPlainly}
-use Rattle.frame_front.specs.Frame.{IsPayload, frame, stream_of}
-use Rattle.frame_front.specs.declared.error.FrontError.{FrontError}
-use Rattle.frame_front.specs.declared.error.FrontError.TheVariants.{BadLength, Truncated, ReadFault, WriteFault, TurnsUsed, Memory}
-use Rattle.frame_front.specs.declared.request.Version.TheVariants.{One}
-use Rattle.frame_front.specs.declared.request.Request.{Request}
-use Rattle.frame_front.specs.declared.request.Request.TheVariants.{Ask, SetVersion}
-use Rattle.frame_front.specs.declared.refusal.Refusal.{Refusal}
-use Rattle.frame_front.specs.Request.{request_of}
-use Rattle.frame_front.specs.Reply.{is_error_reply}
+use Rattle.wire.specs.Frame.{IsPayload, frame, stream_of}
+use Rattle.wire.specs.declared.error.FrontError.{FrontError}
+use Rattle.wire.specs.declared.error.FrontError.TheVariants.{BadLength, Truncated, ReadFault, WriteFault, TurnsUsed, Memory}
+use Rattle.wire.specs.declared.version.Version.TheVariants.{One}
+use Rattle.wire.specs.declared.judge.Request.{Request}
+use Rattle.wire.specs.declared.judge.Request.TheVariants.{Ask, SetVersion}
+use Rattle.wire.specs.declared.refusal.Refusal.{Refusal}
+use Rattle.wire.specs.Judge.{request_of}
+use Rattle.wire.specs.Answers.{is_error_reply}
 use Rattle.frame_front.specs.Session.{SessionState, AnswersRequest, Answers, AnswersAll}
 use Rattle.frame_front.specs.Transcript.{Transcript}
 use Rattle.frame_front.specs.PlainSession.{text_for, state_for, answers_to, state_after, TellsError, PlainTranscript, texts_within, WritesTexts}

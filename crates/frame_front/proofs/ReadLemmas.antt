@@ -1,6 +1,6 @@
 -- Reads, and the count of them.
 use Rattle.std.proofs.Common.{◌≡◌, ℕ, ◌+◌, ◌^◌, ◌<◌, ◌≤◌, subst, sym, arith}
-use Rattle.frame_front.specs.Counted.{next_read, reads_since, MakesReads}
+use Rattle.wire.specs.Counted.{next_read, reads_since, MakesReads}
 
 -- so many reads led from one count to the other
 pub record HasRead (old now n : ℕ) : Type 0 where

@@ -14,15 +14,16 @@ use Rattle.map_core.specs.Reply.{is_change}
 use Rattle.map_core.specs.PlainMap.{PlainMap, ask}
 use Rattle.map_core.specs.Ask.{PlainAnswer, ContentsAnswer}
 use Rattle.map_core.proofs.MapLaws.{ask_keeps}
-use Rattle.frame_front.specs.declared.request.Version.{Version}
-use Rattle.frame_front.specs.declared.request.Version.TheVariants.{One, Two}
-use Rattle.frame_front.specs.declared.request.Request.{Request}
-use Rattle.frame_front.specs.declared.request.Request.TheVariants.{Ask, SetVersion}
-use Rattle.frame_front.specs.declared.refusal.Refusal.{Refusal}
-use Rattle.frame_front.specs.declared.refusal.Refusal.TheVariants.{BadRequest, BadName, BadDocument, PassedOver, Memory}
-use Rattle.frame_front.specs.Frame.{frame}
-use Rattle.frame_front.specs.Request.{request_of}
-use Rattle.frame_front.specs.Reply.{answer_frames, reply_frames, GoesOut, memory_frame, refusal_frame, version_frame, is_error_code, is_error_reply}
+use Rattle.wire.specs.declared.version.Version.{Version}
+use Rattle.wire.specs.declared.version.Version.TheVariants.{One, Two}
+use Rattle.wire.specs.declared.judge.Request.{Request}
+use Rattle.wire.specs.declared.judge.Request.TheVariants.{Ask, SetVersion}
+use Rattle.wire.specs.declared.refusal.Refusal.{Refusal}
+use Rattle.wire.specs.declared.refusal.Refusal.TheVariants.{BadRequest, BadName, BadDocument, PassedOver, Memory}
+use Rattle.wire.specs.Frame.{frame}
+use Rattle.wire.specs.Judge.{request_of}
+use Rattle.wire.specs.Answers.{answer_frames, reply_frames, GoesOut, memory_frame, refusal_frame, version_frame, is_error_reply}
+use Rattle.wire.specs.ReplyForm.{is_error_code}
 use Rattle.frame_front.specs.Session.{SessionState, AnswersRequest, Answers}
 use Rattle.frame_front.specs.PlainSession.{TellsError}
 

@@ -9,16 +9,16 @@ use Rattle.std.proofs.lemmas.List.Folds.{concat-append}
 use Rattle.map_core.specs.declared.op.Op.{Op}
 use Rattle.map_core.specs.declared.reply.Reply.{Reply}
 use Rattle.map_core.specs.declared.reply.AskError.{AskError}
-use Rattle.frame_front.specs.Frame.{IsPayload, frame, stream_of}
+use Rattle.wire.specs.Frame.{IsPayload, frame, stream_of}
 use Rattle.frame_front.specs.Live.{LiveView, StopsAt, live_view, waiting}
-use Rattle.frame_front.specs.Output.{WritesFront}
+use Rattle.wire.specs.Output.{WritesFront}
 use Rattle.frame_front.specs.Session.{SessionState, Answers, AnswersAll, Serves, Writes}
 use Rattle.frame_front.specs.Private.Round.{Round, RoundEndsAt}
 use Rattle.frame_front.specs.Private.Steps.{AnswersFrame, Stays}
-use Rattle.frame_front.specs.declared.error.FrontError.{FrontError}
-use Rattle.frame_front.specs.declared.error.FrontError.TheVariants.{BadLength, Truncated, ReadFault, WriteFault, TurnsUsed, Memory}
+use Rattle.wire.specs.declared.error.FrontError.{FrontError}
+use Rattle.wire.specs.declared.error.FrontError.TheVariants.{BadLength, Truncated, ReadFault, WriteFault, TurnsUsed, Memory}
 use Rattle.frame_front.proofs.BegunTexts.{NoErrors, no_errors-append}
-use Rattle.frame_front.proofs.FrameLemmas.{longer_by_frame}
+use Rattle.wire.proofs.FrameLemmas.{longer_by_frame}
 
 pub each-append : (ps qs : List (List ℕ)) → AllByRecursion IsPayload ps → AllByRecursion IsPayload qs → AllByRecursion IsPayload (ps ++ qs)
 each-append [] qs a b = b

@@ -10,34 +10,35 @@ use Rattle.map_core.specs.declared.op.Op.TheVariants.{Get}
 use Rattle.map_core.specs.declared.reply.Reply.{Reply}
 use Rattle.map_core.specs.declared.reply.Reply.TheVariants.{Found}
 use Rattle.map_core.specs.declared.reply.AskError.{AskError}
-use Rattle.frame_front.specs.declared.refusal.Refusal.{Refusal}
-use Rattle.frame_front.specs.declared.request.Request.{Request}
-use Rattle.frame_front.specs.declared.request.Request.TheVariants.{Ask}
-use Rattle.frame_front.specs.declared.request.Version.{Version}
+use Rattle.wire.specs.declared.refusal.Refusal.{Refusal}
+use Rattle.wire.specs.declared.judge.Request.{Request}
+use Rattle.wire.specs.declared.judge.Request.TheVariants.{Ask}
+use Rattle.wire.specs.declared.version.Version.{Version}
 use Rattle.frame_front.specs.Live.{most_part}
-use Rattle.frame_front.specs.Reply.{reply_frames}
-use Rattle.frame_front.specs.Request.{request_of, get_of, only_name}
+use Rattle.wire.specs.Answers.{reply_frames}
+use Rattle.wire.specs.RequestForm as form
+use Rattle.wire.specs.Judge.{parse_name, judged}
 use Rattle.frame_front.specs.Session.{AnswersRequest}
 use Rattle.frame_front.specs.Private.Pending.{AnswersLater, stores_found}
-use Rattle.frame_front.proofs.FrameLemmas.{length-frame}
+use Rattle.wire.proofs.FrameLemmas.{length-frame}
 use Rattle.frame_front.proofs.ReplyLemmas.{reply_answers}
 
 -- a get of a name
-request_get : (version : Version) (bytes : List ℕ) (d : Name) → only_name bytes ≡ Ok d → request_of version (71 ∷ bytes) ≡ Ok (Ask (Get d))
-unfolding request_of get_of
-request_get version bytes d is = rw is refl
+request_get : (version : Version) (name : List ℕ) (d : Name) → parse_name name ≡ Ok d → judged version (form.Get name) ≡ Ok (Ask (Get d))
+unfolding judged
+request_get version name d is = rw is refl
 
 module _ {S : Type 0} (answers : S → Op → Result Reply AskError → S → Type 0) (old new : S) (d : Name) (ready ready_new left : List ℕ) (shown : Option Reply) where
   shown_none : shown ≡ None → ShowsGet {E = AskError} stores_found (λ (answer : Result Reply AskError). answers old (Get d) answer new) ready (Ok shown) ready_new
       → (b : BundleValue) × answers old (Get d) (Ok (Found b)) new × stores_found ready b ready_new
   shown_none none shows = subst (λ (o : Option Reply). ShowsGet {E = AskError} stores_found (λ (answer : Result Reply AskError). answers old (Get d) answer new) ready (Ok o) ready_new) none shows
 
-  pub shown_late : (version : Version) (bytes : List ℕ) → only_name bytes ≡ Ok d → shown ≡ None
+  pub shown_late : (version : Version) (name : List ℕ) → parse_name name ≡ Ok d → shown ≡ None
       → ShowsGet {E = AskError} stores_found (λ (answer : Result Reply AskError). answers old (Get d) answer new) ready (Ok shown) ready_new → left ≡ []
-      → AnswersLater answers false (version, old) (71 ∷ bytes) (version, new) ready ready_new left
-  shown_late version bytes is none shows nothing = let s = shown_none none shows in let text : List ℕ = 102 ∷ text_of s.0 in (
+      → AnswersLater answers false (version, old) (judged version (form.Get name)) (version, new) ready ready_new left
+  shown_late version name is none shows nothing = let s = shown_none none shows in let text : List ℕ = 102 ∷ text_of s.0 in (
     reply_frames (Found s.0),
-    inl (subst (λ (r : Result Request Refusal). AnswersRequest answers r (version, old) (reply_frames (Found s.0)) (version, new)) (sym (request_get version bytes d is)) (Ok (Found s.0), s.1, inl refl, refl)),
+    inl (subst (λ (r : Result Request Refusal). AnswersRequest answers r (version, old) (reply_frames (Found s.0)) (version, new)) (sym (request_get version name d is)) (Ok (Found s.0), s.1, inl refl, refl)),
     omega (arith, length-frame text [], ap length (append-nil (reply_frames (Found s.0)))),
     sym (reply_answers (Found s.0)),
     ap (λ l. ready_new ++ l) nothing ∙ append-nil ready_new ∙ s.2.0,

@@ -8,11 +8,11 @@ use Rattle.std.proofs.lemmas.List.Folds.{concat-append}
 use Rattle.map_core.specs.declared.op.Op.{Op}
 use Rattle.map_core.specs.declared.reply.Reply.{Reply}
 use Rattle.map_core.specs.declared.reply.AskError.{AskError}
-use Rattle.frame_front.specs.declared.error.FrontError.{FrontError}
-use Rattle.frame_front.specs.declared.error.FrontError.TheVariants.{BadLength, Truncated, ReadFault, WriteFault, TurnsUsed, Memory}
-use Rattle.frame_front.specs.declared.request.Version.{Version}
-use Rattle.frame_front.specs.declared.request.Version.TheVariants.{One}
-use Rattle.frame_front.specs.Frame.{IsUnfinished}
+use Rattle.wire.specs.declared.error.FrontError.{FrontError}
+use Rattle.wire.specs.declared.error.FrontError.TheVariants.{BadLength, Truncated, ReadFault, WriteFault, TurnsUsed, Memory}
+use Rattle.wire.specs.declared.version.Version.{Version}
+use Rattle.wire.specs.declared.version.Version.TheVariants.{One}
+use Rattle.wire.specs.Frame.{IsUnfinished}
 use Rattle.frame_front.specs.Session.{SessionState, Serves, EndsAt, Writes}
 use Rattle.frame_front.specs.Private.Round.{Round, RoundEndsAt}
 use Rattle.frame_front.specs.Transcript.{Transcript, EndsInput, UsesTurns, IsReadIn}
@@ -62,15 +62,6 @@ Round-used TurnsUsed n turns bytes rest kept h = absurd h
 
 abbrev pub ended_by : FrontError → Result ℕ FrontError
 ended_by fault = Err fault
-
--- no round uses up the turns
-pub round_leaves_turns : (fault : FrontError) (n : ℕ) (rest kept : List ℕ) → RoundEndsAt (Err fault) n rest kept → ended_by fault ≡ ended_by TurnsUsed → ⊥
-round_leaves_turns BadLength n rest kept h never = cc never
-round_leaves_turns WriteFault n rest kept h never = cc never
-round_leaves_turns Memory n rest kept h never = cc never
-round_leaves_turns Truncated n rest kept h never = h
-round_leaves_turns ReadFault n rest kept h never = h
-round_leaves_turns TurnsUsed n rest kept h never = h
 
 more_bytes : (result : Result ℕ FrontError) (turns a b : ℕ) → a ≤ b → UsesTurns result turns a → UsesTurns result turns b
 more_bytes (Ok count) turns a b le h = tt

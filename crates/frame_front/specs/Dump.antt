@@ -1,5 +1,5 @@
 -- Dumps: the frames of a reply to a fetch-all, and the requests that store again what they hold.
-use Rattle.std.specs.Prelude.{◌≡◌, ℕ, ◌≤◌, List, ◌∷◌, ◌++◌, length, ◌==◌, ◌&&◌, map, if◌then◌else◌, Option, Some, None, Result, Ok, Err, []}
+use Rattle.std.specs.Prelude.{◌≡◌, ℕ, ◌≤◌, List, ◌∷◌, ◌++◌, length, ◌==◌, ◌&&◌, map, if◌then◌else◌, Option, Some, None, []}
 use Rattle.std.specs.Int.{w64, from_be_bytes}
 use Rattle.std.specs.List.{AllByRecursion}
 use Rattle.std.specs.FinMap as finite
@@ -13,12 +13,11 @@ use Rattle.map_core.specs.Name.{Name}
 use Rattle.map_core.specs.Laws.{Ascends}
 use Rattle.map_core.specs.declared.reply.Reply.TheVariants.{All}
 use Rattle.map_core.specs.PlainMap.{PlainMap, bundles}
-use Rattle.frame_front.specs.declared.refusal.Refusal.{Refusal}
 use Rattle.frame_front.specs.declared.dump.DumpError.{DumpError}
 use Rattle.frame_front.specs.declared.dump.DumpError.TheVariants.{BadDump, Memory}
-use Rattle.frame_front.specs.Frame.{HasFrames}
-use Rattle.frame_front.specs.Request.{named_bundle}
-use Rattle.frame_front.specs.Reply.{reply_frames}
+use Rattle.wire.specs.Frame.{HasFrames}
+use Rattle.wire.specs.Items.{item_of}
+use Rattle.wire.specs.Answers.{reply_frames}
 
 -- trust domains with their bundles
 abbrev pub Domains : Type 0
@@ -28,15 +27,6 @@ Domains = List (Name × BundleValue)
 abbrev pub count_of : List ℕ → Option ℕ
 count_of [] = None
 count_of (code ∷ digits) = if (code == 97) && (length digits == 8) then Some (from_be_bytes w64 digits) else None
-
-abbrev pub unless_refused : Result (Name × BundleValue) Refusal → Option (Name × BundleValue)
-unless_refused (Ok item) = Some item
-unless_refused (Err refusal) = None
-
--- the code i, a name, and a document of its bundle
-unfoldable pub item_of : List ℕ → Option (Name × BundleValue)
-item_of [] = None
-item_of (code ∷ bytes) = if code == 105 then unless_refused (named_bundle bytes) else None
 
 -- each payload is one of these domains
 abbrev pub ReadsItems : List (List ℕ) → Domains → Type 0

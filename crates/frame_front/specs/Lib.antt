@@ -1,11 +1,3 @@
-pub mod Frame
-pub mod Counted
-pub mod Error
-pub mod Decoder
-pub mod Refusal
-pub mod Request
-pub mod Reply
-pub mod Output
 pub mod Session
 pub mod Transcript
 pub mod Live

@@ -4,15 +4,15 @@ use Rattle.std.specs.List.{concat}
 use Rattle.map_core.specs.declared.op.Op.{Op}
 use Rattle.map_core.specs.declared.reply.Reply.{Reply}
 use Rattle.map_core.specs.declared.reply.AskError.{AskError}
-use Rattle.frame_front.specs.declared.error.FrontError.{FrontError}
-use Rattle.frame_front.specs.declared.error.FrontError.TheVariants.{BadLength, Truncated, Memory}
-use Rattle.frame_front.specs.declared.request.Version.{Version}
-use Rattle.frame_front.specs.declared.request.Version.TheVariants.{One}
+use Rattle.wire.specs.declared.error.FrontError.{FrontError}
+use Rattle.wire.specs.declared.error.FrontError.TheVariants.{BadLength, Truncated, Memory}
+use Rattle.wire.specs.declared.version.Version.{Version}
+use Rattle.wire.specs.declared.version.Version.TheVariants.{One}
 use Rattle.frame_front.specs.declared.answered.Wants.{Wants}
 use Rattle.frame_front.specs.declared.answered.Wants.TheVariants.{Read, Write}
 use Rattle.frame_front.specs.declared.answered.Answered.{Answered}
-use Rattle.frame_front.specs.Frame.{IsUnfinished, IsBadLength, most_payload}
-use Rattle.frame_front.specs.Decoder.{BeginsWithFrame}
+use Rattle.wire.specs.Frame.{IsUnfinished, IsBadLength, most_payload}
+use Rattle.wire.specs.Decoder.{BeginsWithFrame}
 use Rattle.frame_front.specs.Session.{Serves}
 
 -- A session between two calls: the bytes of its input that belong to no frame answered, its version, the bytes of

@@ -5,9 +5,9 @@ use Rattle.map_core.specs.declared.op.Op.{Op}
 use Rattle.map_core.specs.declared.reply.Reply.{Reply}
 use Rattle.map_core.specs.declared.reply.AskError.{AskError}
 use Rattle.map_core.specs.PlainMap.{PlainMap}
-use Rattle.frame_front.specs.declared.request.Version.TheVariants.{One}
+use Rattle.wire.specs.declared.version.Version.TheVariants.{One}
 use Rattle.frame_front.specs.declared.answered.Answered.{Answered}
-use Rattle.frame_front.specs.Frame.{IsPayload, stream_of}
+use Rattle.wire.specs.Frame.{IsPayload, stream_of}
 use Rattle.frame_front.specs.Session.{Serves}
 use Rattle.frame_front.specs.PlainSession.{TellsError, answers_to, state_after}
 use Rattle.frame_front.specs.Live.{LiveView, LiveAnswers, Feeds, Sends, waiting}

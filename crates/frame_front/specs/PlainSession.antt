@@ -6,15 +6,15 @@ use Rattle.map_core.specs.declared.op.Op.{Op}
 use Rattle.map_core.specs.declared.reply.Reply.{Reply}
 use Rattle.map_core.specs.declared.reply.AskError.{AskError}
 use Rattle.map_core.specs.PlainMap.{PlainMap, ask}
-use Rattle.frame_front.specs.declared.error.FrontError.{FrontError}
-use Rattle.frame_front.specs.declared.error.FrontError.TheVariants.{WriteFault}
-use Rattle.frame_front.specs.declared.request.Version.TheVariants.{One}
-use Rattle.frame_front.specs.declared.request.Request.{Request}
-use Rattle.frame_front.specs.declared.request.Request.TheVariants.{Ask, SetVersion}
-use Rattle.frame_front.specs.declared.refusal.Refusal.{Refusal}
-use Rattle.frame_front.specs.Frame.{stream_of, IsPayload}
-use Rattle.frame_front.specs.Request.{request_of}
-use Rattle.frame_front.specs.Reply.{answer_frames, reply_frames, memory_frame, refusal_frame, version_frame}
+use Rattle.wire.specs.declared.error.FrontError.{FrontError}
+use Rattle.wire.specs.declared.error.FrontError.TheVariants.{WriteFault}
+use Rattle.wire.specs.declared.version.Version.TheVariants.{One}
+use Rattle.wire.specs.declared.judge.Request.{Request}
+use Rattle.wire.specs.declared.judge.Request.TheVariants.{Ask, SetVersion}
+use Rattle.wire.specs.declared.refusal.Refusal.{Refusal}
+use Rattle.wire.specs.Frame.{stream_of, IsPayload}
+use Rattle.wire.specs.Judge.{request_of}
+use Rattle.wire.specs.Answers.{answer_frames, reply_frames, memory_frame, refusal_frame, version_frame}
 use Rattle.frame_front.specs.Session.{SessionState, EndsAt}
 use Rattle.frame_front.specs.Transcript.{EndsInput, UsesTurns, IsReadIn}
 

@@ -4,15 +4,15 @@ use Rattle.std.specs.List.{concat, AllByRecursion}
 use Rattle.map_core.specs.declared.op.Op.{Op}
 use Rattle.map_core.specs.declared.reply.Reply.{Reply}
 use Rattle.map_core.specs.declared.reply.AskError.{AskError}
-use Rattle.frame_front.specs.declared.error.FrontError.{FrontError}
-use Rattle.frame_front.specs.declared.error.FrontError.TheVariants.{BadLength, Truncated, ReadFault, WriteFault, TurnsUsed, Memory}
-use Rattle.frame_front.specs.declared.request.Version.{Version}
-use Rattle.frame_front.specs.declared.request.Request.{Request}
-use Rattle.frame_front.specs.declared.request.Request.TheVariants.{Ask, SetVersion}
-use Rattle.frame_front.specs.declared.refusal.Refusal.{Refusal}
-use Rattle.frame_front.specs.Frame.{stream_of, IsPayload, IsUnfinished, IsBadLength}
-use Rattle.frame_front.specs.Request.{request_of}
-use Rattle.frame_front.specs.Reply.{refusal_frame, version_frame, memory_frame, is_error_reply, GoesOut}
+use Rattle.wire.specs.declared.error.FrontError.{FrontError}
+use Rattle.wire.specs.declared.error.FrontError.TheVariants.{BadLength, Truncated, ReadFault, WriteFault, TurnsUsed, Memory}
+use Rattle.wire.specs.declared.version.Version.{Version}
+use Rattle.wire.specs.declared.judge.Request.{Request}
+use Rattle.wire.specs.declared.judge.Request.TheVariants.{Ask, SetVersion}
+use Rattle.wire.specs.declared.refusal.Refusal.{Refusal}
+use Rattle.wire.specs.Frame.{stream_of, IsPayload, IsUnfinished, IsBadLength}
+use Rattle.wire.specs.Judge.{request_of}
+use Rattle.wire.specs.Answers.{refusal_frame, version_frame, memory_frame, is_error_reply, GoesOut}
 
 -- the state of a session: its version, and the state of the map that it asks
 abbrev pub SessionState : Type 0 → Type 0

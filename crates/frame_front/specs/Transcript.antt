@@ -4,10 +4,10 @@ use Rattle.std.specs.Io.KnownBytes.{Appends, Consumes, IsAtEnd}
 use Rattle.map_core.specs.declared.op.Op.{Op}
 use Rattle.map_core.specs.declared.reply.Reply.{Reply}
 use Rattle.map_core.specs.declared.reply.AskError.{AskError}
-use Rattle.frame_front.specs.declared.error.FrontError.{FrontError}
-use Rattle.frame_front.specs.declared.error.FrontError.TheVariants.{Truncated, TurnsUsed}
-use Rattle.frame_front.specs.declared.request.Version.{Version}
-use Rattle.frame_front.specs.declared.request.Version.TheVariants.{One}
+use Rattle.wire.specs.declared.error.FrontError.{FrontError}
+use Rattle.wire.specs.declared.error.FrontError.TheVariants.{Truncated, TurnsUsed}
+use Rattle.wire.specs.declared.version.Version.{Version}
+use Rattle.wire.specs.declared.version.Version.TheVariants.{One}
 use Rattle.frame_front.specs.Session.{Session}
 
 -- at these ends of a session the reader has no byte left

@@ -1,5 +1,5 @@
 //! What a session without ends did, and what it wants then.
-use crate::FrontError;
+use wire::FrontError;
 
 /// What a session wants before it answers on.
 #[derive(Clone, Copy, Debug, PartialEq, Eq)]

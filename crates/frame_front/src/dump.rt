@@ -2,23 +2,17 @@
 ghost use Rattle.std.specs.Prelude.{◌≡◌, ◌≤◌, ◌++◌, ℕ, length, List, [], ◌∷◌, Some, None, true, false, IfOk, IfErr, IfSome, IfNone, OnOk};
 ghost use Rattle.spiffe_doc.specs.Bundle.{IsBundle};
 ghost use Rattle.spiffe_doc.specs.Text.{text_of};
-ghost use Rattle.frame_front.specs.Frame.{IsPayload, frame, stream_of};
-ghost use Rattle.frame_front.specs.Dump.{Domains, IsDump, HaveValidBundles, FaultOfDump, count_of, item_of, requests_for, dump_number};
+ghost use Rattle.wire.specs.Frame.{IsPayload, frame, stream_of};
+ghost use Rattle.frame_front.specs.Dump.{Domains, IsDump, HaveValidBundles, FaultOfDump, count_of, requests_for, dump_number};
+ghost use Rattle.wire.specs.Items.{item_of};
 ghost use Rattle.frame_front.specs.Private.Refusals.{NoItem, NoCount, last_of};
 ghost use Rattle.map_core.specs.Laws.{IsAfter};
 
-use crate::frame::{LENGTH_BYTES, first_frame, put_frame};
-use crate::refusal::Refusal;
-use crate::reply::canonical_text;
-use crate::request::read_named_bundle;
-use arrayvec::ArrayVec;
 use map_core::Snapshot;
 use spiffe_doc::{Bundle, DocumentReader, Memory, TrustDomain};
 use std::alloc::{AllocError, Global};
 use thiserror::Error;
-
-/// A letter, a length, the longest name and an expectation.
-const HEAD_BYTES: usize = 258;
+use wire::{LENGTH_BYTES, first_frame, put_frame, put_request, read_item};
 
 /// Why a dump is not read.
 #[derive(Clone, Copy, Debug, PartialEq, Eq, Error)]
@@ -136,42 +130,12 @@ fn first_count(dump: &[u8]) -> Option<(u64, &[u8])>
     }
 }
 
-/// A domain and its bundle, if the payload is one.
-#[tactic(auto, unfolding(crate::specs::Dump::item_of))]
-pub fn read_item(alloc: Global, payload: &[u8]) -> Result<Option<(TrustDomain, Bundle)>, Memory>
-    ensures { IfOk result (λ item. item_of payload.now ≡ item) }
-{
-    let Some((code, bytes)) = payload.split_first() else {
-        return Ok(None);
-    };
-    if *code != b'i' {
-        return Ok(None);
-    }
-    let mut documents = DocumentReader::new(alloc);
-    match read_named_bundle(alloc, &mut documents, bytes) {
-        Ok(item) => Ok(Some(item)),
-        Err(Refusal::Memory) => Err(AllocError),
-        Err(_) => Ok(None),
-    }
-}
-
 /// A domain of a dump, and what follows it.
 #[derive(Drop)]
 struct Item<'a> {
     domain: TrustDomain,
     bundle: Bundle,
     rest: &'a [u8],
-}
-
-/// Whether a domain may follow the last one, if there is one: names ascend along a dump.
-pub fn is_after(last: &Option<TrustDomain>, domain: &TrustDomain) -> bool
-    ensures after { result ≡ true → IsAfter last.now domain.now }
-    ensures not_after { result ≡ false → ¬ (IsAfter last.now domain.now) }
-{
-    match last {
-        Some(before) => before < domain,
-        None => true,
-    }
 }
 
 /// The next domain, whose name comes after that of the last one.
@@ -213,26 +177,4 @@ fn follows(domains: &[(TrustDomain, Bundle)], domain: &TrustDomain) -> bool
         Some(last) => last.0 < *domain,
         None => true,
     }
-}
-
-/// Adds a request that ends with a document: its letter, the domain's name, an expectation of no byte or one, and the
-/// canonical text of the bundle.
-pub fn put_request(
-    stream: &mut Vec<u8>,
-    letter: u8,
-    domain: &TrustDomain,
-    expectation: &[u8],
-    bundle: &Bundle,
-) -> Result<(), Memory>
-    requires { length expectation.now ≤ 1 }
-    ensures { OnOk result (stream.new.items
-        ≡ stream.old.items ++ frame (letter ∷ length domain.now ∷ domain.now ++ (expectation.now ++ text_of bundle.now))) }
-{
-    let name = domain.as_str().as_bytes();
-    let text = canonical_text(bundle);
-    let mut front = ArrayVec::<u8, HEAD_BYTES>::new();
-    let _fits = front.try_extend_from_slice(&[letter, name.len() as u8]);
-    let _fits = front.try_extend_from_slice(name);
-    let _fits = front.try_extend_from_slice(expectation);
-    put_frame(stream, front.as_slice(), text)
 }

@@ -2,57 +2,30 @@
 ghost use Rattle.std.specs.Prelude.{◌≡◌, ◌↔◌, ℕ, ◌≤◌, Result, List, [], ◌∷◌, ◌++◌, ◌<◌, map, slice_index, Ok, Err, Some, true};
 ghost use Rattle.map_core.specs.Ask.{ContentsAnswer};
 ghost use Rattle.map_core.specs.PlainMap.{PlainMap, bundles, ask};
-ghost use Rattle.frame_front.specs.Frame.{HasFrames, IsUnfinished, stream_of};
-ghost use Rattle.frame_front.specs.declared.request.Version.{Version};
+ghost use Rattle.wire.specs.Frame.{HasFrames, IsUnfinished, stream_of};
+ghost use Rattle.wire.specs.declared.version.Version.{Version};
 ghost use Rattle.std.specs.FinMap as finite;
 ghost use Rattle.map_core.specs.declared.reply.Reply.TheVariants.{Stored};
-ghost use Rattle.frame_front.specs.declared.request.Version.TheVariants.{One, Two};
-ghost use Rattle.frame_front.specs.declared.refusal.Refusal.{Refusal};
-ghost use Rattle.frame_front.specs.Refusal.{refusal_place};
-ghost use Rattle.frame_front.specs.Request.{request_of};
-ghost use Rattle.frame_front.specs.declared.request.Request.TheVariants.{Ask, SetVersion};
+ghost use Rattle.wire.specs.declared.version.Version.TheVariants.{One, Two};
 ghost use Rattle.map_core.specs.declared.op.Op.{Op};
+ghost use Rattle.map_core.specs.declared.reply.Reply.{Reply};
+ghost use Rattle.map_core.specs.declared.reply.AskError.{AskError};
+ghost use Rattle.wire.specs.Laws.{IsAnswer, HaveLines};
 ghost use Rattle.std.specs.List.{concat};
-ghost use Rattle.std.specs.Int.{w32, to_be_bytes};
-ghost use Rattle.frame_front.specs.Reply.{reply_frames, place_bytes, version_frame, memory_frame, is_error_reply};
+ghost use Rattle.wire.specs.Answers.{reply_frames, version_frame, memory_frame, is_error_reply};
 ghost use Rattle.frame_front.specs.PlainSession.{TellsError, answers_to, state_after};
 ghost use Rattle.frame_front.specs.Dump.{Domains, IsDump, IsBadDump, AreValid, requests_for, map_of, dump_of};
 ghost use Rattle.frame_front.specs.Session.{Answers, EndsAt, Session};
-ghost use Rattle.frame_front.specs.declared.error.FrontError.{FrontError};
+ghost use Rattle.wire.specs.declared.error.FrontError.{FrontError};
 ghost use Rattle.frame_front.specs.Live.{LiveView, live_start, room_of, waiting};
 ghost use Rattle.frame_front.specs.LiveCalls.{LiveCall, LivePlainTable, LiveTable, DoesAll, fed, sent, frames_of};
 
 use map_core::Ask;
 
-/// A stream has no other frames and no other rest.
-pub fn frames_of_a_stream_are_one()
-    ensures { (stream : List ℕ) (ps qs : List (List ℕ)) (r s : List ℕ) →
-        HasFrames stream ps r → HasFrames stream qs s → (ps ≡ qs) × (r ≡ s) }
-{}
-
-/// The frames of a longer stream are those of its front, and those of what the front left with what
-/// follows: so it doesn't matter how a stream is cut.
-pub fn frames_follow()
-    ensures { (front more rest end : List ℕ) (ps qs : List (List ℕ)) →
-        HasFrames front ps rest → HasFrames (rest ++ more) qs end → HasFrames (front ++ more) (ps ++ qs) end }
-{}
-
-/// Each stream of bytes has its frames.
-pub fn each_stream_has_frames()
-    ensures { (stream : List ℕ) → ((i : ℕ) → slice_index stream i < 256)
-        → (payloads : List (List ℕ)) × (rest : List ℕ) × HasFrames stream payloads rest }
-{}
-
 /// A reply that tells an error says that nothing changed: the map shown and the version are as they were.
 pub fn errors_change_nothing<A: Ask>()
     ensures { (version next : Version) (old new : A) (payload text : List ℕ) (m : PlainMap) → A.shows old ≡ Some m
         → Answers A.answers (version, old) payload text (next, new) → is_error_reply text ≡ true → (A.shows new ≡ Some m) × (next ≡ version) }
-{}
-
-/// A place that the refusal of a request names is below 1,048,576, so the 4 bytes of a reply spell it.
-pub fn places_are_coded_exactly()
-    ensures { (version : Version) (payload : List ℕ) (refusal : Refusal) (place : ℕ) → request_of version payload ≡ Err refusal
-        → refusal_place refusal ≡ Some place → (place < 1048576) × (place_bytes place ≡ to_be_bytes w32 place) }
 {}
 
 /// Over one map the only reply that tells an error is the one that says that memory ran out.
@@ -99,4 +72,11 @@ pub fn live_sessions_are_sessions<A: Ask>()
 /// A session without ends that waits for input has room for 4,096 bytes of it.
 pub fn live_sessions_have_room()
     ensures { (live : LiveView) → IsUnfinished live.kept → 4096 ≤ room_of live }
+{}
+
+/// Whatever a session answers to a payload has lines, if whoever it asks answers as a map can.
+pub fn sessions_have_lines<A: Ask>()
+    ensures { (version next : Version) (old new : A) (payload text : List ℕ) → ((i : ℕ) → slice_index payload i < 256)
+        → ((op : Op) (answer : Result Reply AskError) → A.answers old op answer new → IsAnswer answer)
+        → Answers A.answers (version, old) payload text (next, new) → HaveLines text }
 {}

@@ -1,21 +1,20 @@
 //! Sessions without ends: bytes come in, bytes go out, and whoever has the ends says when.
 ghost use Rattle.std.specs.Prelude.{◌≡◌, ◌≢◌, ◌≤◌, ◌++◌, [], length, take, drop, min, IfOk, IfErr, OnOk, OnErr};
 ghost use Rattle.std.specs.Io.KnownBytes.{Appends};
-ghost use Rattle.frame_front.specs.Counted.{end_in, faults_in, next_count};
+ghost use Rattle.wire.specs.Counted.{end_in, faults_in, next_count};
 ghost use Rattle.frame_front.specs.Live.{LiveAnswers, FinishesAt, Feeds, Sends, live_start, most_frames, most_kept, most_ready, room_of, live_view, waiting};
-ghost use Rattle.frame_front.specs.Output.{WritesFront};
+ghost use Rattle.wire.specs.Output.{WritesFront};
 ghost use Rattle.frame_front.specs.Private.Steps.{Steps};
 
 use crate::answered::{Answered, Wants};
-use crate::frame::{LENGTH_BYTES, MAX_PAYLOAD};
 use crate::pending::REPLY_LIMIT;
 use crate::replies::Replies;
-use crate::{Counted, Decoder, FrontError};
 use map_core::Ask;
 use spiffe_doc::{DocumentReader, Memory};
 use std::alloc::Global;
 use std::io::Write;
 use std::marker::Model;
+use wire::{Counted, Decoder, FrontError, LENGTH_BYTES, MAX_PAYLOAD};
 
 /// The most bytes of input that are kept: a frame, and a piece.
 const MOST_KEPT: usize = LENGTH_BYTES + MAX_PAYLOAD + 4096;

@@ -2,22 +2,22 @@
 ghost use Rattle.std.specs.Prelude.{◌≡◌, ◌≢◌, ◌⊎◌, ◌+◌, ◌<◌, ◌≤◌, ◌++◌, [], length, true, false, OnOk, OnErr, IfErr};
 ghost use Rattle.std.specs.Io.KnownBytes.{Appends};
 ghost use Rattle.spiffe_doc.specs.Text.{text_of};
-ghost use Rattle.frame_front.specs.Reply.{item_frame};
-ghost use Rattle.frame_front.specs.Counted.{end_in, faults_in, next_count};
+ghost use Rattle.wire.specs.Answers.{item_frame};
+ghost use Rattle.wire.specs.Counted.{end_in, faults_in, next_count};
 ghost use Rattle.frame_front.specs.Live.{most_part, most_ready, reply_limit};
-ghost use Rattle.frame_front.specs.Output.{WritesFront};
+ghost use Rattle.wire.specs.Output.{WritesFront};
 ghost use Rattle.frame_front.specs.Private.Gathered.{Takes};
 ghost use Rattle.frame_front.specs.Private.Pending.{HasNoText, body_left, domains_left, reply_left, items_left};
 
-use crate::frame::LENGTH_BYTES;
-use crate::output::{write_both, write_flushed, write_whole};
-use crate::reply::{Body, HEAD_BYTES, ReplyBytes, canonical_text, item_front};
-use crate::{Counted, FrontError};
-use arrayvec::ArrayVec;
+use crate::reply::{Body, ReplyBytes};
 use bytes::BytesMut;
 use spiffe_doc::{Bundle, TrustDomain};
 use std::alloc::AllocError;
 use std::io::Write;
+use wire::{
+    Counted, FrontError, LENGTH_BYTES, ReplyFront, canonical_text, item_front, write_both,
+    write_flushed, write_whole,
+};
 
 /// With so many bytes ready, no further part of a reply is stored.
 pub(crate) const REPLY_LIMIT: usize = 196_608;
@@ -25,7 +25,7 @@ pub(crate) const REPLY_LIMIT: usize = 196_608;
 /// What is left to store of a reply: its first bytes, what follows them, and how many of its domains are stored.
 #[derive(Drop)]
 pub(crate) struct PendingReply {
-    head: ArrayVec<u8, HEAD_BYTES>,
+    head: ReplyFront,
     body: Body,
     stored: usize,
 }
@@ -36,7 +36,7 @@ impl PendingReply {
         ensures { reply_left result ≡ [] }
     {
         PendingReply {
-            head: ArrayVec::new(),
+            head: ReplyFront::new(),
             body: Body::Empty,
             stored: 0,
         }

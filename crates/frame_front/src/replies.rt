@@ -1,28 +1,30 @@
 //! Payloads answered, and the replies to them until they are sent.
 ghost use Rattle.std.specs.Prelude.{◌≡◌, ◌≢◌, ◌⊎◌, ◌+◌, ◌≤◌, ◌++◌, ◌∷◌, [], drop, length, OnOk, OnErr, IfErr, IfSome};
 ghost use Rattle.frame_front.specs.Live.{most_part, most_ready, reply_limit};
-ghost use Rattle.frame_front.specs.Reply.{is_error_reply};
-ghost use Rattle.frame_front.specs.Session.{Answers};
-ghost use Rattle.frame_front.specs.declared.request.Version.{Version as Spoken};
-ghost use Rattle.frame_front.specs.declared.request.Version.TheVariants.{One};
-ghost use Rattle.frame_front.specs.Private.Pending.{AnswersLater, reply_left, waits_in};
+ghost use Rattle.wire.specs.Answers.{is_error_reply};
+ghost use Rattle.wire.specs.Judge.{judged, request_of};
+ghost use Rattle.wire.specs.RequestForm.{Get, request};
+ghost use Rattle.wire.specs.declared.version.Version.{Version as Spoken};
+ghost use Rattle.wire.specs.declared.version.Version.TheVariants.{One};
+ghost use Rattle.frame_front.specs.Private.Pending.{AnswersLater, AnswersRead, reply_left, waits_in};
 
 use crate::pending::{PendingReply, REPLY_LIMIT, store_both};
-use crate::reply::{
-    HEAD_BYTES, ReplyBytes, answer_reply, canonical_text, found_head, refusal_reply, version_reply,
-};
-use crate::request::{Request, Version, read_next_request, read_only_name};
+use crate::reply::{ReplyBytes, answer_reply, refusal_reply, version_reply};
 use bytes::BytesMut;
 use map_core::{Ask, Viewer};
 use spiffe_doc::{Bundle, DocumentReader, Memory};
 use std::alloc::{AllocError, Global};
+use wire::{
+    FRONT_BYTES, Refusal, Request, RequestForm, Version, canonical_text, found_front, read_name,
+    request_of_payload,
+};
 
 /// The most memory for replies that is held while no byte needs it. Room that doubles as it grows seldom passes twice their
 /// limit, so it is not made anew each round.
 const MOST_HELD: usize = 2 * REPLY_LIMIT;
 
 /// The room that a session with both its ends takes before it reads: what may wait, and a reply without a text.
-const ROOM: usize = REPLY_LIMIT + HEAD_BYTES;
+const ROOM: usize = REPLY_LIMIT + FRONT_BYTES;
 
 /// The replies that are ready to be sent. The bundle that a get finds is stored among them where it is shown.
 #[derive(Drop)]
@@ -39,8 +41,8 @@ impl Viewer for ReplyBuffer {
 
     fn see(&mut self, bundle: &Bundle) -> Result<(), Memory> {
         let text = canonical_text(bundle);
-        let head = found_head(text);
-        store_both(&mut self.bytes, head.as_slice(), text)
+        let front = found_front(text);
+        store_both(&mut self.bytes, front.as_slice(), text)
     }
 }
 
@@ -73,6 +75,7 @@ impl Replies {
     /// Answers a payload, and says whether the reply is an error of whoever was asked. The reply comes after what is ready; what
     /// is left to store of it is pending.
     #[inline(always)]
+    #[tactic(auto, unfolding(wire::specs::Judge::request_of))]
     pub(crate) fn answer<A: Ask>(
         &mut self,
         documents: &mut DocumentReader,
@@ -80,27 +83,28 @@ impl Replies {
         payload: &[u8],
     ) -> bool
         requires { reply_left self.old.pending ≡ [] }
-        ensures answers { AnswersLater A.answers result (self.old.version, ask.old) payload.now (self.new.version, ask.new) self.old.ready.bytes.items self.new.ready.bytes.items (reply_left self.new.pending) }
+        ensures answers { AnswersLater A.answers result (self.old.version, ask.old) (request_of self.old.version payload.now) (self.new.version, ask.new) self.old.ready.bytes.items self.new.ready.bytes.items (reply_left self.new.pending) }
         ensures few { length self.new.ready.bytes.items ≤ length self.old.ready.bytes.items + most_part }
     {
-        match after_get(payload) {
-            Some(bytes) => self.show_get(ask, bytes),
-            None => {
-                let reply = answer_any(self.alloc, documents, &mut self.version, ask, payload);
+        match request_of_payload(payload) {
+            Some(RequestForm::Get(name)) => self.show_get(ask, name),
+            Some(form) => {
+                let reply = answer_form(self.alloc, documents, &mut self.version, ask, &form);
                 self.keep(reply)
             }
+            None => self.keep(refusal_reply(Refusal::BadRequest)),
         }
     }
 
-    /// Answers a get, whose name follows its letter. Of a bundle that was shown nothing is left, so what is pending is not
+    /// Answers a get of a name. Of a bundle that was shown nothing is left, so what is pending is not
     /// touched. Most requests are gets, so one pays for no other request.
-    #[tactic(auto, unfolding(crate::specs::Request::request_of, crate::specs::Request::get_of))]
-    fn show_get<A: Ask>(&mut self, ask: &mut A, bytes: &[u8]) -> bool
+    #[tactic(auto, unfolding(wire::specs::Judge::judged))]
+    fn show_get<A: Ask>(&mut self, ask: &mut A, name: &[u8]) -> bool
         requires { reply_left self.old.pending ≡ [] }
-        ensures answers { AnswersLater A.answers result (self.old.version, ask.old) (71 ∷ bytes.now) (self.new.version, ask.new) self.old.ready.bytes.items self.new.ready.bytes.items (reply_left self.new.pending) }
+        ensures answers { AnswersLater A.answers result (self.old.version, ask.old) (judged self.old.version (Get name.now)) (self.new.version, ask.new) self.old.ready.bytes.items self.new.ready.bytes.items (reply_left self.new.pending) }
         ensures few { length self.new.ready.bytes.items ≤ length self.old.ready.bytes.items + most_part }
     {
-        let domain = match read_only_name(self.alloc, bytes) {
+        let domain = match read_name(self.alloc, name) {
             Ok(domain) => domain,
             Err(refusal) => return self.keep(refusal_reply(refusal)),
         };
@@ -176,28 +180,18 @@ impl Replies {
     }
 }
 
-/// What follows the letter of a get, if the payload begins with it.
-fn after_get(payload: &[u8]) -> Option<&[u8]>
-    ensures { IfSome result (λ bytes. payload.now ≡ 71 ∷ bytes.now) }
-{
-    match payload {
-        [b'G', bytes @ ..] => Some(bytes),
-        _ => None,
-    }
-}
-
-/// Answers a payload of any letter.
+/// Answers a request.
 #[inline(never)]
-fn answer_any<A: Ask>(
+fn answer_form<A: Ask>(
     alloc: Global,
     documents: &mut DocumentReader,
     version: &mut Version,
     ask: &mut A,
-    payload: &[u8],
+    form: &RequestForm<'_>,
 ) -> ReplyBytes
-    ensures { Answers A.answers (version.old, ask.old) payload.now result (version.new, ask.new) }
+    ensures { AnswersRead A.answers (version.old, ask.old) (judged version.old (request form.now)) result (version.new, ask.new) }
 {
-    match read_next_request(alloc, documents, *version, payload) {
+    match form.judge(alloc, documents, *version) {
         Ok(Request::Ask(op)) => answer_reply(ask.ask(op)),
         Ok(Request::SetVersion(wanted)) => {
             *version = wanted;

@@ -1,20 +1,21 @@
 //! Sessions: requests come in, replies go out.
 ghost use Rattle.std.specs.Prelude.{◌≡◌, ◌≤◌, ℕ, List, [], Err, Some, OnOk};
 ghost use Rattle.std.specs.Io.KnownBytes.{Appends};
-ghost use Rattle.frame_front.specs.Counted.{MakesReads, end_in, faults_in, next_count, reads_of};
+ghost use Rattle.wire.specs.Counted.{MakesReads, end_in, faults_in, next_count, reads_of};
 ghost use Rattle.frame_front.specs.Live.{waiting};
 ghost use Rattle.frame_front.specs.Private.Round.{Round};
 ghost use Rattle.frame_front.specs.Transcript.{Transcript};
 ghost use Rattle.frame_front.specs.PlainSession.{PlainTranscript};
 ghost use Rattle.map_core.specs.PlainMap.{PlainMap};
 
+use crate::LiveSession;
 use crate::answered::Wants;
 use crate::live::Step;
-use crate::{Counted, FrontError, LiveSession};
 use map_core::Ask;
 use spiffe_doc::DocumentReader;
 use std::alloc::Global;
 use std::io::{Read, Write};
+use wire::{Counted, FrontError};
 
 /// The most bytes of one read.
 const PIECE_BYTES: usize = 4096;

@@ -9,12 +9,11 @@ mod imports;
 
 use commands::{check_over, diff_over, digest_over, import_over, map_over, pem_over};
 use dump_views::Profile;
-use frame_front::Counted;
-use frame_lines::{TextError, TextSource};
 use spiffe_doc::TrustDomain;
 use std::alloc::Global;
 use std::test::Fail;
 use test_kit::ends::{Left, Sink, Source};
+use wire::{Counted, TextError, TextSource};
 
 /// A command, with what its command line names.
 #[derive(Clone, Copy)]

@@ -3,7 +3,6 @@ ghost use Rattle.std.specs.Prelude.{◌≡◌, IfErr};
 ghost use Rattle.snapshots.specs.declared.error.FolderError.TheVariants.{Unusable};
 
 use client::{Client, ClientError};
-use frame_front::Counted;
 use map_core::AskError;
 use snapshots::{FetchError, Folder, FolderError, SnapshotError, fetch, update};
 use spiffe_doc::{Bundle, TrustDomain, read_document};
@@ -11,6 +10,7 @@ use std::alloc::{AllocError, Global};
 use std::io;
 use std::test::Fail;
 use test_kit::{holds_at, is_equal_at};
+use wire::Counted;
 
 /// A folder that keeps a line for each deed, and refuses one after so many.
 #[derive(Drop)]

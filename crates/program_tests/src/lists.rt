@@ -1,6 +1,5 @@
 //! Lists of relationships, and the lines of refreshes.
 use client::Client;
-use frame_front::{Counted, FaultyWriter, FrontError};
 use map_core::{Ask, AskError, MapRefusal, Op, Reply};
 use refresh::{
     LineDetails, ListError, RefreshError, RelationError, Remark, Sender, Server, Target, What,
@@ -11,6 +10,7 @@ use std::alloc::Global;
 use std::fmt::Debug;
 use std::process::Abort;
 use std::test::Fail;
+use wire::{Counted, FaultyWriter, FrontError};
 
 /// What was found in this case is what is wanted.
 fn is_equal_at<T: PartialEq + Debug, C: Debug>(rt: &impl Abort, found: &T, wanted: &T, case: &C) {

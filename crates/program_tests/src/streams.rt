@@ -8,11 +8,10 @@ mod traces;
 use commands::{
     decode_over, encode_over, explain_over, migrate_over, picture_over, run_over, trace_over,
 };
-use frame_front::Counted;
-use frame_lines::{TextError, TextSource};
 use std::alloc::{AllocError, Global};
 use std::test::Fail;
 use test_kit::ends::{Left, Sink, Source};
+use wire::{Counted, TextError, TextSource};
 
 /// A command, with its settings.
 #[derive(Clone, Copy)]

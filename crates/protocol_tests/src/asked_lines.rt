@@ -1,13 +1,12 @@
 //! Lines are asked of a server whose replies are written down beforehand.
 use client::{AskFault, Asking, ClientError, Form, Link, ask_stream};
-use frame_front::{Counted, FrontError};
-use frame_lines::{TextError, TextSource};
 use std::alloc::{AllocError, Global};
 use std::io;
 use std::io::Write;
 use std::test::Fail;
 use test_kit::protocol::{ABSENT, FETCH_ALL, FOUND, GET, SET, STORED};
 use test_kit::{holds_at, is_equal, is_equal_at};
+use wire::{Counted, FrontError, TextError, TextSource};
 
 /// The text `doc` is the empty document.
 struct OneText;

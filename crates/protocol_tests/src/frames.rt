@@ -15,13 +15,14 @@ mod replies;
 mod rounds;
 mod sessions;
 
-use frame_front::{Counted, FrontError, serve};
+use frame_front::serve;
 use map_core::Contents;
 use std::alloc::Global;
 use std::io::{Read, Write};
 use std::test::Fail;
 use test_kit::is_equal_at;
 use test_kit::protocol::Pieces;
+use wire::{Counted, FrontError};
 
 /// A set of `a` and a get of it, and the replies.
 const SET_AND_GET: &[u8] = b"\x00\x00\x00\x0eS\x01a{\"keys\":[]}\x00\x00\x00\x03G\x01a";

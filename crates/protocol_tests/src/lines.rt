@@ -5,8 +5,8 @@ mod replies;
 mod requests;
 mod streams;
 
-use frame_lines::{TextError, TextSource};
 use std::alloc::{AllocError, Global};
+use wire::{TextError, TextSource};
 
 /// One text, whose name is `doc`, one that is longer than a frame, `long`, and one for which there is no memory, `huge`.
 #[derive(Drop)]

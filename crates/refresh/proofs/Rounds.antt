@@ -7,7 +7,7 @@ use Rattle.map_core.specs.Name.{Name}
 use Rattle.map_core.specs.declared.op.Op.{Op}
 use Rattle.map_core.specs.declared.reply.Reply.{Reply}
 use Rattle.map_core.specs.declared.reply.AskError.{AskError}
-use Rattle.frame_front.specs.Output.{TellsUnlessFailed}
+use Rattle.wire.specs.Output.{TellsUnlessFailed}
 use Rattle.refresh.specs.declared.error.RefreshError.{RefreshError}
 use Rattle.refresh.specs.declared.outcome.Outcome.{Outcome}
 use Rattle.refresh.specs.Refresh.{Refreshes}

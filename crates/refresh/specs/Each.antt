@@ -6,8 +6,8 @@ use Rattle.map_core.specs.declared.op.Op.{Op}
 use Rattle.map_core.specs.declared.reply.Reply.{Reply}
 use Rattle.map_core.specs.declared.reply.Reply.TheVariants.{Stored, Unchanged}
 use Rattle.map_core.specs.declared.reply.AskError.{AskError}
-use Rattle.frame_front.specs.declared.error.FrontError.TheVariants.{Memory, WriteFault}
-use Rattle.frame_front.specs.Output.{End, TellsUnlessFailed}
+use Rattle.wire.specs.declared.error.FrontError.TheVariants.{Memory, WriteFault}
+use Rattle.wire.specs.Output.{End, TellsUnlessFailed}
 use Rattle.refresh.specs.declared.error.RefreshError.{RefreshError}
 use Rattle.refresh.specs.declared.error.RefreshError.TheVariants.{Front}
 use Rattle.refresh.specs.declared.outcome.Outcome.{Outcome}

@@ -8,8 +8,8 @@ use Rattle.map_core.specs.declared.reply.Reply.{Reply}
 use Rattle.map_core.specs.declared.reply.Reply.TheVariants.{Stored, Unchanged, Refused}
 use Rattle.map_core.specs.declared.reply.AskError.{AskError}
 use Rattle.map_core.specs.declared.reply.AskError.TheVariants.{GateShut}
-use Rattle.frame_lines.specs.Answers.{refusal_form, error_form}
-use Rattle.frame_lines.specs.ReplyForm.{line_of}
+use Rattle.wire.specs.Answers.{refusal_form, error_form}
+use Rattle.wire.specs.ReplyForm.{line_of}
 use Rattle.refresh.specs.declared.outcome.What.{What}
 use Rattle.refresh.specs.declared.outcome.What.TheVariants.{Taken, BadDocument, NoAnswer, Asked}
 use Rattle.refresh.specs.declared.outcome_lines.Remark.{Remark}

@@ -12,8 +12,8 @@ use Rattle.map_core.specs.declared.reply.AskError.TheVariants.{GateShut, Memory}
 use Rattle.client.specs.Request.{request_bytes}
 use Rattle.client.specs.Client.{ClientState, Asks}
 use Rattle.client.specs.declared.client_error.ClientError.{ClientError}
-use Rattle.frame_front.specs.Output.{WritesFront}
-use Rattle.frame_front.specs.declared.error.FrontError.TheVariants.{WriteFault}
+use Rattle.wire.specs.Output.{WritesFront}
+use Rattle.wire.specs.declared.error.FrontError.TheVariants.{WriteFault}
 use Rattle.refresh.specs.declared.error.RefreshError.{RefreshError}
 use Rattle.refresh.specs.declared.error.RefreshError.TheVariants.{Front, Client}
 

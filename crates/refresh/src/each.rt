@@ -1,7 +1,7 @@
 //! Each relationship refreshed once, and what is said of it.
 ghost use Rattle.std.specs.Prelude.{◌≡◌, ◌<◌, ◌-◌, ◌^◌, List, ℕ};
-ghost use Rattle.frame_front.specs.Counted.{faults_in};
-ghost use Rattle.frame_front.specs.Output.{Tells, end_of};
+ghost use Rattle.wire.specs.Counted.{faults_in};
+ghost use Rattle.wire.specs.Output.{Tells, end_of};
 ghost use Rattle.refresh.specs.Due.{due_not_before};
 ghost use Rattle.refresh.specs.Each.{RefreshesEach, is_good as good};
 ghost use Rattle.refresh.specs.Folder.{FetchesFile};
@@ -13,11 +13,11 @@ use crate::outcome_lines::LineDetails;
 use crate::report::write_line;
 use crate::schedule::{Schedule, refresh_at};
 use crate::target::Target;
-use frame_front::{Counted, FrontError};
 use map_core::Reply;
 use std::alloc::Global;
 use std::fs::Files;
 use std::io::Write;
+use wire::{Counted, FrontError};
 
 /// The time of the refreshes, and how long a relationship is not due again, in seconds.
 #[derive(Clone, Copy)]

@@ -3,9 +3,9 @@ ghost use Rattle.std.specs.Prelude.{◌≡◌};
 ghost use Rattle.refresh.specs.Number.{relation_number};
 
 use client::ClientError;
-use frame_front::FrontError;
 use spiffe_doc::{IdError, NameError};
 use thiserror::Error;
+use wire::FrontError;
 
 /// Why texts are not a federation relationship (SPIFFE Federation, section 5.2).
 #[derive(Clone, Copy, Debug, PartialEq, Eq, Drop, Error)]

@@ -1,16 +1,15 @@
 //! Outcomes of refreshes as lines: what the command `refresh` prints.
 ghost use Rattle.std.specs.Prelude.{◌≡◌, ◌+◌, ◌≤◌, ◌++◌, [], codes, decimal, length};
 ghost use Rattle.arrayvec.specs.ArrayVec.{array_vec_len};
-ghost use Rattle.frame_lines.specs.ReplyForm.{reply, line_of, text_of, IsLined};
+ghost use Rattle.wire.specs.ReplyForm.{reply, line_of, text_of, IsLined};
 ghost use Rattle.refresh.specs.OutcomeLine.{bad_document_words, details_of, error_words, outcome_line as line_of_outcome, place_words, reason_words, remark_text, remark_words, stored_words, taken_words, what_words};
 
 use crate::outcome::What;
 use arrayvec::ArrayVec;
-use frame_front::Refusal;
-use frame_lines::ReplyForm;
 use itoa::Buffer;
 use map_core::{AskError, Reply};
 use spiffe_doc::{DocError, TrustDomain};
+use wire::{Refusal, ReplyForm};
 
 /// The most bytes of a line; none comes near it. The longest parts are a name of 255 bytes and the line of a reply.
 pub const LINE_BYTES: usize = 1024;

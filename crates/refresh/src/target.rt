@@ -1,16 +1,16 @@
 //! Where the bundles that were read go: to a server, or as frames to standard output.
 ghost use Rattle.std.specs.Prelude.{◌≡◌, false, option_copied};
-ghost use Rattle.frame_front.specs.Counted.{end_in, faults_in};
+ghost use Rattle.wire.specs.Counted.{end_in, faults_in};
 ghost use Rattle.refresh.specs.Target.{Looks, SenderState, Sends, ServerState, emptied_by, has_authorities as reply_has_authorities};
 
 use crate::error::RefreshError;
 use client::{Client, write_request};
-use frame_front::{Counted, FrontError};
 use map_core::{Ask, AskError, Op, Reply};
 use spiffe_doc::TrustDomain;
 use std::alloc::Global;
 use std::io::{Read, Write};
 use std::marker::Model;
+use wire::{Counted, FrontError};
 
 /// Whoever is asked to set a bundle.
 pub trait Target: Ask {
@@ -110,7 +110,7 @@ impl<'a, W: Write> Sender<'a, W> {
 
 impl<'a, W: Write> Model for Sender<'a, W> {
     ghost use Rattle.std.specs.Prelude.{◌≡◌, false};
-    ghost use Rattle.frame_front.specs.Counted.{end_in, faults_in};
+    ghost use Rattle.wire.specs.Counted.{end_in, faults_in};
     ghost use Rattle.refresh.specs.Target.{SenderState};
 
     ghost Value = { SenderState };

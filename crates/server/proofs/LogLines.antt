@@ -4,7 +4,7 @@ use Rattle.std.specs.Prelude.{codes, decimal}
 use Rattle.std.specs.Io.KnownBytes.{Appends}
 use Rattle.std.proofs.KnownBytes.{Appends-trans}
 use Rattle.std.proofs.lemmas.List.{take-append-drop}
-use Rattle.frame_front.specs.Output.{WritesFront}
+use Rattle.wire.specs.Output.{WritesFront}
 use Rattle.workers.specs.Ended.{session_number}
 use Rattle.workers.specs.Log.{ChangeView}
 use Rattle.workers.specs.declared.ended.SessionFault.{SessionFault}

@@ -1,6 +1,6 @@
 -- What becomes of the log of a server that is told a change.
 use Rattle.std.specs.Prelude.{◌≡◌, ℕ, List, Bool, Option}
-use Rattle.frame_front.specs.Output.{End}
+use Rattle.wire.specs.Output.{End}
 use Rattle.workers.specs.Log.{ChangeView}
 use Rattle.server.specs.declared.log.LineLog.{LineLog}
 use Rattle.server.specs.LogLine.{change_line}

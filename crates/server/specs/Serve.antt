@@ -2,13 +2,13 @@
 use Rattle.std.specs.Prelude.{◌≡◌, ◌⊎◌, ℕ, ◌+◌, ◌&&◌, min, if◌then◌else◌, List, [], ◌∷◌, ◌++◌, length, codes, decimal, Bool, true, false, Option, Some, None, Result, Ok, Err}
 use Rattle.std.specs.List.{All, flat_map}
 use Rattle.std.specs.Io.KnownBytes.{Appends}
-use Rattle.frame_front.specs.Counted.{next_count}
-use Rattle.frame_front.specs.Output.{WritesFront, End, Tells, TellsUnlessFailed}
+use Rattle.wire.specs.Counted.{next_count}
+use Rattle.wire.specs.Output.{WritesFront, End, Tells, TellsUnlessFailed}
 use Rattle.frame_front.specs.Dump.{Domains as AllDomains, IsDump, HaveValidBundles, FaultOfDump, requests_for}
-use Rattle.frame_front.specs.Frame.{stream_of}
+use Rattle.wire.specs.Frame.{stream_of}
 use Rattle.frame_front.specs.declared.dump.DumpError.{DumpError}
-use Rattle.frame_front.specs.declared.error.FrontError.{FrontError}
-use Rattle.frame_front.specs.declared.error.FrontError.TheVariants.{Memory, WriteFault}
+use Rattle.wire.specs.declared.error.FrontError.{FrontError}
+use Rattle.wire.specs.declared.error.FrontError.TheVariants.{Memory, WriteFault}
 use Rattle.map_core.specs.PlainMap.{PlainMap, bundles}
 use Rattle.shard_store.specs.declared.change.Seen.{Seen}
 use Rattle.shard_store.specs.Pass.{StoreView, PassView}

@@ -3,7 +3,7 @@ use Rattle.std.specs.Prelude.{◌≡◌, ℕ, ◌+◌, ◌*◌, ◌<◌, min, Li
 use Rattle.std.specs.List.{All}
 use Rattle.std.specs.declared.net.TcpStream.{TcpStream}
 use Rattle.workers.specs.Connection.{counted}
-use Rattle.frame_front.specs.declared.counted.Counted.{Counted}
+use Rattle.wire.specs.declared.counted.Counted.{Counted}
 use Rattle.shard_store.specs.Pass.{StoreView, PassView}
 use Rattle.workers.specs.Run.{AllWorked, kept}
 use Rattle.workers.specs.declared.ended.Worked.{Worked}

@@ -4,14 +4,14 @@ ghost use Rattle.std.specs.List.{All, flat_map};
 ghost use Rattle.shard_store.specs.Pass.{IsOf};
 ghost use Rattle.workers.specs.Closing.{AreAll};
 ghost use Rattle.server.specs.Serve.{Reports};
-ghost use Rattle.frame_front.specs.Output.{end_of};
+ghost use Rattle.wire.specs.Output.{end_of};
 
 use crate::lines::{ServerLine, count_begun, say, tell_faults};
 use commands::Fault;
-use frame_front::Counted;
 use shard_store::Store;
 use std::io::Write;
 use std::mem::forget;
+use wire::Counted;
 use workers::{Worked, close_store};
 
 fn status_of(all_went_well: bool) -> u8

@@ -2,13 +2,13 @@
 ghost use Rattle.std.specs.Prelude.{◌≡◌, ◌<◌, ◌≤◌, ◌-◌, ◌+◌, ◌^◌, ◌++◌, ◌∷◌, [], min, length, decimal, Some};
 ghost use Rattle.server.specs.declared.lines.ServerLine.TheVariants.{Listening};
 ghost use Rattle.server.specs.Serve.{IsOffered, said_line, write_fault, begun_by, have_all_come, session_lines, faults_by};
-ghost use Rattle.frame_front.specs.Output.{TellsUnlessFailed, end_of};
+ghost use Rattle.wire.specs.Output.{TellsUnlessFailed, end_of};
 
 use arrayvec::ArrayVec;
 use commands::{Fault, write_flushed};
-use frame_front::Counted;
 use itoa::Buffer;
 use std::io::Write;
+use wire::Counted;
 use workers::{SessionFault, Worked};
 
 /// The most bytes of a line: two words of 9 letters, two numbers of 20 digits, three spaces and a line feed.
@@ -81,7 +81,7 @@ fn ports_line(port: u16, read_port: u16) -> ArrayVec<u8, LINE_BYTES>
 
 /// Writes a line, and sees that the writer keeps nothing back. If the line is not taken, that is told as a fault.
 /// Answers whether it was taken.
-#[tactic(auto, using(frame_front::proofs::OutputLemmas::told_nothing))]
+#[tactic(auto, using(wire::proofs::OutputLemmas::told_nothing))]
 pub fn say<W: Write, E: Write>(
     out: &mut Counted<W>,
     err: &mut Counted<E>,

@@ -3,9 +3,10 @@ ghost use Rattle.std.specs.Prelude.{◌≢◌, None, IfOk, IfErr};
 ghost use Rattle.server.specs.Serve.{IsLoad, IsLoadFault};
 
 use commands::{Fault, read_input};
-use frame_front::{Counted, FrontError, migrate};
+use frame_front::migrate;
 use std::alloc::Global;
 use std::fs::{File, Files};
+use wire::{Counted, FrontError};
 
 /// The requests that store again what the dump of the file holds; none without a file.
 pub fn requests_of<H: Files>(alloc: Global, host: &H, load: Option<&str>) -> Result<Vec<u8>, Fault>

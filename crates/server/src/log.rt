@@ -2,7 +2,7 @@
 ghost use Rattle.std.specs.Prelude.{◌≡◌, IfSome, OnOk};
 ghost use Rattle.std.specs.Bool.{OnTrue};
 ghost use Rattle.std.specs.Io.KnownBytes.{Appends};
-ghost use Rattle.frame_front.specs.Output.{WritesFront};
+ghost use Rattle.wire.specs.Output.{WritesFront};
 ghost use Rattle.server.specs.LogLine.{before_word, change_line, end_line, how_word, state_word};
 ghost use Rattle.workers.specs.Log.{change_view};
 

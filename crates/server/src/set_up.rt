@@ -6,9 +6,9 @@ ghost use Rattle.workers.specs.Workers.{IsFurther};
 ghost use Rattle.server.specs.Serve.{Filled, IsSetUp, NotFilled, NotSetUp};
 
 use command_line::Settings;
-use frame_front::FrontError;
 use shard_store::{Pass, Store};
 use std::alloc::Global;
+use wire::FrontError;
 use workers::{FillError, fill_store, passes_of};
 
 /// A store, and a pass of it for each worker.

@@ -7,8 +7,8 @@ use Rattle.map_core.specs.declared.reply.MapRefusal.{MapRefusal}
 use Rattle.map_core.specs.declared.reply.MapRefusal.TheVariants.{NoDomain, Stale, KidTaken, TooMany, TooLong, SequenceFull, NotExpected}
 use Rattle.map_core.specs.declared.reply.AskError.{AskError}
 use Rattle.map_core.specs.declared.reply.AskError.TheVariants as error
-use Rattle.frame_front.specs.Frame.{frame}
-use Rattle.frame_front.specs.Reply.{code_of, map_detail}
+use Rattle.wire.specs.Frame.{frame}
+use Rattle.wire.specs.Answers.{code_of}
 use Rattle.frame_front.specs.Dump.{Domains}
 use Rattle.frame_front.proofs.ReplyLemmas.{not_both}
 use Rattle.client.specs.declared.client_error.ClientError.{ClientError}
@@ -23,12 +23,12 @@ other_code code rest other may = not_both _ may (ap (is_code_for FetchAll) (one_
 
 not_refused : (why : MapRefusal) → MayAnswer FetchAll (Ok (Refused why)) → ⊥
 not_refused NoDomain may = other_code 30 [] refl may
-not_refused (Stale sequence) may = other_code 31 (map_detail (Stale sequence)) refl may
+not_refused (Stale sequence) may = other_code 31 _ refl may
 not_refused KidTaken may = other_code 32 [] refl may
 not_refused TooMany may = other_code 33 [] refl may
 not_refused TooLong may = other_code 34 [] refl may
 not_refused SequenceFull may = other_code 35 [] refl may
-not_refused (NotExpected expect) may = other_code 36 (map_detail (NotExpected expect)) refl may
+not_refused (NotExpected expect) may = other_code 36 _ refl may
 
 -- a reply to a fetch-all has domains
 pub only_all : (reply : Reply) → MayAnswer FetchAll (Ok reply) → ((items : Domains) → reply ≢ All items) → ⊥

@@ -1,5 +1,5 @@
 -- An event is read from its line, and from no other.
-use Rattle.std.proofs.Common.{◌≡◌, inl, inr, ℕ, ◌<◌, ◌^◌, arith, true, List, [], ◌∷◌, Option, Some, None, refl, sym, ap, subst, ◌∙◌}
+use Rattle.std.proofs.Common.{◌≡◌, inl, inr, ℕ, ◌<◌, ◌^◌, arith, Bool, true, nat_lt, List, [], ◌∷◌, Option, Some, None, refl, sym, ap, subst, ◌∙◌}
 use Rattle.std.specs.Prelude.{codes, decimal, bytes_eq, if◌then◌else◌, IfSome, MatchOption}
 use Rattle.std.proofs.lemmas.Option.{same_Some, none-some}
 use Rattle.map_core.specs.declared.op.Op.{Op}
@@ -7,22 +7,36 @@ use Rattle.step_core.specs.declared.event.Event.{Event}
 use Rattle.step_core.specs.declared.event.Event.TheVariants.{Begin, Step, Quit, End}
 use Rattle.step_core.specs.declared.event.Why.{Why}
 use Rattle.step_core.specs.declared.event.Why.TheVariants.{Held, Memory}
-use Rattle.frame_lines.specs.declared.request.RequestForm.{RequestForm}
-use Rattle.frame_lines.specs.RequestForm.{Request, request, line_of, HasLine, IsWord, ◌then◌}
-use Rattle.frame_lines.specs.Private.RequestReading.{◌>>=◌, split_word, number_of, read_line}
-use Rattle.frame_lines.specs.Private.ReplyReading.{number_below}
-use Rattle.frame_lines.proofs.Words.{split_found, split_then, split_alone}
-use Rattle.frame_lines.proofs.Numbers.{number_found, number_of-decimal}
-use Rattle.frame_lines.proofs.Cases.{bind_some, bind_cases, if_some, same_bytes}
-use Rattle.frame_lines.proofs.Fields.{decimal_is_word}
-use Rattle.frame_lines.proofs.RequestLines.{line_found, line_read}
-use Rattle.frame_lines.proofs.ReplyLines.{below_found, below_read}
+use Rattle.wire.specs.declared.request.RequestForm.{RequestForm}
+use Rattle.wire.specs.RequestForm.{Request, request, line_of, HasLine, IsWord, ◌then◌}
+use Rattle.wire.specs.PayloadReading.{◌>>=◌}
+use Rattle.wire.specs.Private.RequestReading.{split_word, number_of, read_line}
+use Rattle.wire.proofs.Words.{split_found, split_then, split_alone}
+use Rattle.wire.proofs.Numbers.{number_found, number_of-decimal}
+use Rattle.wire.proofs.Cases.{bind_some, bind_cases, if_some, same_bytes}
+use Rattle.wire.proofs.Fields.{decimal_is_word}
+use Rattle.wire.proofs.RequestLines.{line_found, line_read}
 use Rattle.trace_lines.specs.EventLine.{IsCaller, IsEventOf, WhyFits, why_words}
 use Rattle.trace_lines.specs.Events.{AreEvents}
-use Rattle.trace_lines.specs.Private.EventReading.{operation_of, caller_of, held_of, why_by_split, why_of, begin_of, step_of, end_of, quit_of, event_by_verb, event_of}
+use Rattle.trace_lines.specs.Private.EventReading.{number_below, operation_of, caller_of, held_of, why_by_split, why_of, begin_of, step_of, end_of, quit_of, event_by_verb, event_of}
 use Rattle.trace_lines.proofs.Operations.{operation_found, operation_read}
 
 -- ---- callers and reasons
+
+pub below_found : (limit : ℕ) (word : List ℕ) (n : ℕ) → number_below limit word ≡ Some n → (n < limit) × (word ≡ decimal n)
+unfolding number_below
+below_found limit word n is =
+    let b = bind_some (number_of word) (λ m. if nat_lt m limit then Some m else None) n is in
+    elim (if_some (nat_lt b.0 limit) (Some b.0) None n b.2) [
+      | inl h ↦ let low : b.0 < limit = grind (arith, h.0) in subst (λ (m : ℕ). (m < limit) × (word ≡ decimal m)) (same_Some b.0 n h.1) (low, (number_found word b.0 b.1).1)
+      | inr h ↦ absurd (none-some n h.1)
+    ]
+
+pub below_read : (limit n : ℕ) → n < limit → n < 2 ^ 64 → number_below limit (decimal n) ≡ Some n
+unfolding number_below
+below_read limit n low fits =
+    let lower : nat_lt n limit ≡ true = grind (arith, low) in
+    ap (λ o. o >>= λ m. if nat_lt m limit then Some m else None) (number_of-decimal n fits) ∙ ap (λ (b : Bool). if b then Some n else None) lower
 
 caller_found : (word : List ℕ) (n : ℕ) → caller_of word ≡ Some n → IsCaller n × (word ≡ decimal n)
 unfolding caller_of

@@ -3,8 +3,8 @@ use Rattle.std.proofs.Common.{◌≡◌, ℕ, ◌+◌, ◌-◌, ◌<◌, arith, 
 use Rattle.std.specs.Prelude.{◌==◌, ◌||◌, if◌then◌else◌}
 use Rattle.std.specs.List.{list_any}
 use Rattle.memchr.specs.Find.{IsFirstByte, is_byte}
-use Rattle.frame_lines.specs.RequestForm.{IsOneLine}
-use Rattle.frame_lines.proofs.Lines.{no_line, line_at}
+use Rattle.wire.specs.RequestForm.{IsOneLine}
+use Rattle.wire.proofs.Lines.{no_line, line_at}
 use Rattle.trace_lines.specs.Events.{lines_in, with_byte}
 
 plain_parts : (byte : ℕ) (bytes : List ℕ) → IsOneLine (byte ∷ bytes) → ((byte == 10) ≡ false) × IsOneLine bytes

@@ -4,11 +4,12 @@ use Rattle.std.specs.Prelude.{OnOk, IfErr}
 use Rattle.std.specs.Result.{IsErr, IsErrAnd}
 use Rattle.std.specs.Io.KnownBytes.{Appends}
 use Rattle.std.proofs.KnownBytes.{Appends-nil, Appends-trans}
-use Rattle.frame_front.specs.Counted.{next_count}
-use Rattle.frame_front.specs.Output.{WritesFront}
-use Rattle.frame_front.specs.declared.error.FrontError.{FrontError}
-use Rattle.frame_front.specs.declared.error.FrontError.TheVariants.{WriteFault}
-use Rattle.frame_front.proofs.OutputLemmas.{WritesFront-longer, WritesFront-then, Takes-whole, Takes-then, Takes-cut, Takes-unsent}
+use Rattle.wire.specs.Counted.{next_count}
+use Rattle.wire.specs.Output.{WritesFront}
+use Rattle.wire.specs.declared.error.FrontError.{FrontError}
+use Rattle.wire.specs.declared.error.FrontError.TheVariants.{WriteFault}
+use Rattle.wire.proofs.OutputLemmas.{WritesFront-longer, WritesFront-then}
+use Rattle.frame_front.proofs.GatheredLemmas.{Takes-whole, Takes-then, Takes-cut, Takes-unsent}
 use Rattle.trace_lines.specs.Private.Puts.{Out, Puts, PutsAll, PutsFront}
 
 pub puts_nothing : (out : Out) → PutsAll out out []

@@ -1,29 +1,18 @@
 -- Events of a run as lines of text.
-use Rattle.std.specs.Prelude.{◌≡◌, ℕ, ◌<◌, ◌^◌, List, codes, decimal, Some, Ok}
-use Rattle.spiffe_doc.specs.Authority.{BundleValue}
-use Rattle.spiffe_doc.specs.Document.{document, entry}
-use Rattle.spiffe_doc.specs.Name.{trust_domain}
-use Rattle.spiffe_doc.specs.declared.authority.Authority.{Authority}
-use Rattle.map_core.specs.Name.{Name}
+use Rattle.std.specs.Prelude.{◌≡◌, ℕ, ◌<◌, ◌^◌, List, codes, decimal, Ok}
 use Rattle.map_core.specs.declared.op.Op.{Op}
-use Rattle.map_core.specs.declared.op.Op.TheVariants as op
 use Rattle.step_core.specs.declared.event.Event.{Event}
 use Rattle.step_core.specs.declared.event.Event.TheVariants.{Begin, Step, Quit, End}
 use Rattle.step_core.specs.declared.event.Why.{Why}
 use Rattle.step_core.specs.declared.event.Why.TheVariants.{Held, Memory}
-use Rattle.frame_lines.specs.RequestForm.{Request, Set, SetIf, Append, Remove, Get, Fetch, Speak, HasLine, line_of, ◌then◌}
+use Rattle.wire.specs.declared.judge.Request.TheVariants.{Ask}
+use Rattle.wire.specs.declared.version.Version.TheVariants.{Two}
+use Rattle.wire.specs.Judge.{judged}
+use Rattle.wire.specs.RequestForm.{Request, HasLine, line_of, ◌then◌}
 
--- A request asks for an operation: its name is a trust domain's, its document a bundle's, its JWK an authority's. One that
--- only sets the version asks for none.
+-- A request asks for an operation as in a session of version 2. One that only sets the version asks for none.
 abbrev pub AsksFor : Request → Op → Type 0
-AsksFor (Set name text) asked = (domain : Name) × (bundle : BundleValue) × (trust_domain name ≡ Ok domain) × (document text ≡ Ok bundle) × (asked ≡ op.Set domain bundle)
-AsksFor (SetIf name expect text) asked =
-    (domain : Name) × (bundle : BundleValue) × (trust_domain name ≡ Ok domain) × (document text ≡ Ok bundle) × (asked ≡ op.SetIf domain expect bundle)
-AsksFor (Append name jwk) asked = (domain : Name) × (authority : Authority) × (trust_domain name ≡ Ok domain) × (entry jwk ≡ Ok (Some authority)) × (asked ≡ op.Append domain authority)
-AsksFor (Remove name) asked = (domain : Name) × (trust_domain name ≡ Ok domain) × (asked ≡ op.Remove domain)
-AsksFor (Get name) asked = (domain : Name) × (trust_domain name ≡ Ok domain) × (asked ≡ op.Get domain)
-AsksFor Fetch asked = asked ≡ op.FetchAll
-AsksFor (Speak version) asked = ⊥
+AsksFor request asked = judged Two request ≡ Ok (Ask asked)
 
 -- why an operation is given up: memory ran out, or another caller held the shard at this revision
 abbrev pub why_words : Why → List ℕ

@@ -7,9 +7,9 @@ use Rattle.map_core.specs.Name.{Name}
 use Rattle.map_core.specs.declared.reply.Reply.{Reply}
 use Rattle.map_core.specs.declared.reply.AskError.{AskError}
 use Rattle.step_core.specs.declared.trace.OpRecord.{OpRecord}
-use Rattle.frame_lines.specs.RequestForm.{◌then◌}
-use Rattle.frame_lines.specs.ReplyForm.{line_of}
-use Rattle.frame_lines.specs.Answers.{answer_form, bundles_of}
+use Rattle.wire.specs.RequestForm.{◌then◌}
+use Rattle.wire.specs.ReplyForm.{line_of}
+use Rattle.wire.specs.Answers.{answer_form, bundles_of}
 
 -- one of all bundles, behind what stands before it: its name and its canonical text
 abbrev pub bundle_words : Name × BundleValue → List ℕ

@@ -1,15 +1,14 @@
 //! One event, read from its line.
 ghost use Rattle.std.specs.Prelude.{◌≡◌, ◌^◌, None, Some, MatchOption};
-ghost use Rattle.frame_lines.specs.RequestForm.{request};
-ghost use Rattle.frame_lines.specs.Private.RequestReading.{read_line};
-ghost use Rattle.frame_lines.specs.Private.ReplyReading.{number_below};
-ghost use Rattle.trace_lines.specs.Private.EventReading.{Reads, caller_of, held_of, why_of, begin_of, step_of, end_of, quit_of, event_by_verb, event_of};
+ghost use Rattle.wire.specs.RequestForm.{request};
+ghost use Rattle.wire.specs.Private.RequestReading.{read_line};
+ghost use Rattle.trace_lines.specs.Private.EventReading.{number_below, Reads, caller_of, held_of, why_of, begin_of, step_of, end_of, quit_of, event_by_verb, event_of};
 
 use crate::operation::{LineError, read_operation};
-use frame_lines::word::{read_number, split_word};
-use frame_lines::{RequestForm, request_of_line};
 use std::alloc::Global;
 use step_core::{Event, Why};
+use wire::word::{read_number, split_word};
+use wire::{RequestForm, request_of_line};
 
 /// The event of a line, without its line feed: a verb, a caller, and what the verb takes, with single spaces between.
 #[tactic(auto, unfolding(crate::specs::Private::EventReading::event_of))]
@@ -96,7 +95,7 @@ fn read_quit(bytes: &[u8]) -> Option<Event>
     Some(Event::Quit(caller, read_why(why)?))
 }
 
-#[tactic(auto, unfolding(crate::specs::Private::EventReading::caller_of, frame_lines::specs::Private::ReplyReading::number_below))]
+#[tactic(auto, unfolding(crate::specs::Private::EventReading::caller_of, crate::specs::Private::EventReading::number_below))]
 fn read_caller(word: &[u8]) -> Option<u32>
     ensures { result ≡ caller_of word.now }
 {
@@ -132,7 +131,7 @@ fn read_held(bytes: &[u8]) -> Option<Why>
     })
 }
 
-#[tactic(auto, unfolding(frame_lines::specs::Private::ReplyReading::number_below))]
+#[tactic(auto, unfolding(crate::specs::Private::EventReading::number_below))]
 fn read_shard(word: &[u8]) -> Option<usize>
     ensures { result ≡ number_below 256 word.now }
 {

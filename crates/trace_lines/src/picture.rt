@@ -2,8 +2,8 @@
 ghost use Rattle.std.specs.Prelude.{◌≡◌, ◌≤◌, ◌<◌, ◌*◌, ◌++◌, [], ◌∷◌, take, codes, OnOk, IfErr};
 ghost use Rattle.std.specs.Io.KnownBytes.{Appends};
 ghost use Rattle.std.specs.List.{flat_map};
-ghost use Rattle.frame_front.specs.Counted.{end_in, faults_in, next_count};
-ghost use Rattle.frame_front.specs.Output.{WritesFront};
+ghost use Rattle.wire.specs.Counted.{end_in, faults_in, next_count};
+ghost use Rattle.wire.specs.Output.{WritesFront};
 ghost use Rattle.trace_lines.specs.TraceText.{ended};
 ghost use Rattle.trace_lines.specs.Picture.{callers_of, with_caller, caller_line as line_of_caller, event_line as line_of_events, order_row as row_of_order, numbered_band, bands_text, legend, picture_text};
 ghost use Rattle.trace_lines.specs.Private.Puts.{Puts, out_of};
@@ -12,9 +12,9 @@ use crate::picture_row::{caller_line, drawn, event_line, order_row};
 use crate::trace_text::put_text;
 use crate::write_buffer::WriteBuffer;
 use arrayvec::ArrayVec;
-use frame_front::{Counted, FrontError};
 use std::io::Write;
 use step_core::{OpRecord, Trace};
+use wire::{Counted, FrontError};
 
 /// How many columns stand in one band.
 const BAND: usize = 60;

@@ -4,9 +4,9 @@ ghost use Rattle.arrayvec.specs.ArrayVec.{array_vec_len};
 ghost use Rattle.trace_lines.specs.Picture as drawing;
 
 use crate::picture::{COLUMNS, LABEL};
-use frame_lines::Head;
-use frame_lines::head::{head_of, put, put_number};
 use step_core::OpRecord;
+use wire::Head;
+use wire::head::{head_of, put, put_number};
 
 /// Every how many events one is numbered.
 const TICK: usize = 10;

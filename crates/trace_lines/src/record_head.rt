@@ -4,9 +4,9 @@ ghost use Rattle.arrayvec.specs.ArrayVec.{array_vec_len};
 ghost use Rattle.trace_lines.specs.TraceText.{event_word};
 ghost use Rattle.trace_lines.specs.Private.Puts.{record_words};
 
-use frame_lines::Head;
-use frame_lines::head::{head_of, put, put_number};
 use step_core::OpRecord;
+use wire::Head;
+use wire::head::{head_of, put, put_number};
 
 /// The number of the operation, who began it, and its first and its last event.
 pub(crate) fn record_head(number: usize, entry: &OpRecord) -> Head

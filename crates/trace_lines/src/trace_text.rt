@@ -2,22 +2,21 @@
 ghost use Rattle.std.specs.Prelude.{◌≡◌, ◌++◌, OnOk, IfErr};
 ghost use Rattle.std.specs.Io.KnownBytes.{Appends};
 ghost use Rattle.std.specs.List.{flat_map};
-ghost use Rattle.frame_front.specs.Counted.{end_in, faults_in, next_count};
-ghost use Rattle.frame_front.specs.Output.{WritesFront};
-ghost use Rattle.frame_lines.specs.Answers.{bundles_of};
-ghost use Rattle.frame_lines.specs.ReplyForm.{reply as said, line_of, IsLined};
+ghost use Rattle.wire.specs.Counted.{end_in, faults_in, next_count};
+ghost use Rattle.wire.specs.Output.{WritesFront};
+ghost use Rattle.wire.specs.Answers.{bundles_of};
+ghost use Rattle.wire.specs.ReplyForm.{reply as said, line_of, IsLined};
 ghost use Rattle.trace_lines.specs.TraceText.{trace_text, records_text, record_line, reply_words, answer_words, bundle_words, order_line, number_word, ended};
 ghost use Rattle.trace_lines.specs.Private.Puts.{Puts, out_of};
 
 use crate::record_head::record_head;
 use crate::write_buffer::WriteBuffer;
-use frame_front::{Counted, FrontError};
-use frame_lines::ReplyForm;
-use frame_lines::head::{head_of, put, put_number};
 use map_core::{AskError, Reply};
 use spiffe_doc::{Bundle, TrustDomain};
 use std::io::Write;
 use step_core::{OpRecord, Trace};
+use wire::head::{head_of, put, put_number};
+use wire::{Counted, FrontError, ReplyForm};
 
 /// Writes a line for each operation of a run, and one for the order that explains their replies. It takes no memory. If the
 /// writer fails, a front of these lines is written.

@@ -1,15 +1,14 @@
 //! Bytes gathered for few writes.
 ghost use Rattle.std.specs.Prelude.{◌≡◌, ◌++◌, [], true, false, OnOk, IfErr};
 ghost use Rattle.std.specs.Io.KnownBytes.{Appends};
-ghost use Rattle.frame_front.specs.Counted.{end_in, faults_in, next_count};
-ghost use Rattle.frame_front.specs.Output.{WritesFront};
+ghost use Rattle.wire.specs.Counted.{end_in, faults_in, next_count};
+ghost use Rattle.wire.specs.Output.{WritesFront};
 ghost use Rattle.trace_lines.specs.Private.Puts.{Puts, out_of};
 
 use arrayvec::ArrayVec;
-use frame_front::wire::write_both;
-use frame_front::{Counted, FrontError};
 use std::io::Write;
 use std::marker::Model;
+use wire::{Counted, FrontError, write_both};
 
 /// The bytes that are gathered for one write.
 const ROOM: usize = 4096;

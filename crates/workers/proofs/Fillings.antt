@@ -3,11 +3,11 @@ use Rattle.std.proofs.Common.{◌≡◌, ◌+◌, ℕ, zero, suc, List, [], ◌+
 use Rattle.std.specs.Prelude.{Option, Some, Result, Ok, Err}
 use Rattle.std.proofs.lemmas.List.{append_cancel_left}
 use Rattle.map_core.specs.declared.reply.Reply.TheVariants.{Stored}
-use Rattle.frame_front.specs.Reply.{reply_frames, version_frame}
-use Rattle.frame_front.specs.declared.request.Version.TheVariants.{Two}
+use Rattle.wire.specs.Answers.{reply_frames, version_frame}
+use Rattle.wire.specs.declared.version.Version.TheVariants.{Two}
 use Rattle.frame_front.specs.Transcript.{Transcript}
-use Rattle.frame_front.specs.declared.error.FrontError.{FrontError}
-use Rattle.frame_front.specs.declared.error.FrontError.TheVariants.{BadLength, Truncated, ReadFault, WriteFault, TurnsUsed, Memory}
+use Rattle.wire.specs.declared.error.FrontError.{FrontError}
+use Rattle.wire.specs.declared.error.FrontError.TheVariants.{BadLength, Truncated, ReadFault, WriteFault, TurnsUsed, Memory}
 use Rattle.shard_store.specs.declared.change.Seen.{Seen}
 use Rattle.shard_store.specs.Pass.{StoreView, SeatedView}
 use Rattle.shard_store.specs.Seated.{SeatedAnswer}

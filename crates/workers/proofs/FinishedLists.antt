@@ -13,7 +13,7 @@ use Rattle.workers.specs.declared.run.Worker.{Worker}
 use Rattle.workers.specs.declared.run.Finished.{Finished}
 use Rattle.workers.specs.declared.sessions.ListenFault.{ListenFault}
 use Rattle.workers.specs.declared.session.Session.{Session}
-use Rattle.frame_front.specs.declared.counted.Counted.{Counted}
+use Rattle.wire.specs.declared.counted.Counted.{Counted}
 
 pub nil_if : {X : Type 0} (xs : List X) → length xs ≡ 0 → xs ≡ []
 nil_if [] e = refl

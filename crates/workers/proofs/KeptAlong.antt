@@ -4,12 +4,12 @@ use Rattle.std.specs.Prelude.{ℕ, Option, Result, Ok, Err}
 use Rattle.map_core.specs.declared.op.Op.{Op}
 use Rattle.map_core.specs.declared.reply.Reply.{Reply}
 use Rattle.map_core.specs.declared.reply.AskError.{AskError}
-use Rattle.frame_front.specs.declared.counted.Counted.{Counted}
-use Rattle.frame_front.specs.declared.error.FrontError.{FrontError}
-use Rattle.frame_front.specs.declared.request.Request.{Request}
-use Rattle.frame_front.specs.declared.request.Request.TheVariants.{Ask, SetVersion}
-use Rattle.frame_front.specs.declared.refusal.Refusal.{Refusal}
-use Rattle.frame_front.specs.Request.{request_of}
+use Rattle.wire.specs.declared.counted.Counted.{Counted}
+use Rattle.wire.specs.declared.error.FrontError.{FrontError}
+use Rattle.wire.specs.declared.judge.Request.{Request}
+use Rattle.wire.specs.declared.judge.Request.TheVariants.{Ask, SetVersion}
+use Rattle.wire.specs.declared.refusal.Refusal.{Refusal}
+use Rattle.wire.specs.Judge.{request_of}
 use Rattle.frame_front.specs.Session.{SessionState, AnswersRequest, Answers, AnswersAll}
 use Rattle.frame_front.specs.Transcript.{Transcript}
 use Rattle.workers.specs.declared.sessions.ListenFault.{ListenFault}

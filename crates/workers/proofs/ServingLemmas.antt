@@ -9,7 +9,7 @@ use Rattle.slab.proofs.SlabLemmas.{Updates-with_value}
 use Rattle.map_core.specs.declared.op.Op.{Op}
 use Rattle.map_core.specs.declared.reply.Reply.{Reply}
 use Rattle.map_core.specs.declared.reply.AskError.{AskError}
-use Rattle.frame_front.specs.declared.error.FrontError.{FrontError}
+use Rattle.wire.specs.declared.error.FrontError.{FrontError}
 use Rattle.workers.specs.Connection.{Owes, StopsFor, Turn, opened, told, turn_rounds}
 use Rattle.workers.specs.Stream.{StreamLimits}
 use Rattle.workers.specs.declared.turn_end.TurnEnd.{TurnEnd}

@@ -7,9 +7,9 @@ use Rattle.std.proofs.lemmas.Grind.{flat_map-append}
 use Rattle.map_core.specs.declared.op.Op.{Op}
 use Rattle.map_core.specs.declared.reply.Reply.{Reply}
 use Rattle.map_core.specs.declared.reply.AskError.{AskError}
-use Rattle.frame_front.specs.declared.error.FrontError.{FrontError}
-use Rattle.frame_front.specs.declared.error.FrontError.TheVariants.{BadLength, Truncated, ReadFault, WriteFault, TurnsUsed, Memory}
-use Rattle.frame_front.specs.Frame.{IsBadLength}
+use Rattle.wire.specs.declared.error.FrontError.{FrontError}
+use Rattle.wire.specs.declared.error.FrontError.TheVariants.{BadLength, Truncated, ReadFault, WriteFault, TurnsUsed, Memory}
+use Rattle.wire.specs.Frame.{IsBadLength}
 use Rattle.frame_front.specs.Live.{LiveView, Sends, StopsAt, most_frames}
 use Rattle.frame_front.specs.LiveCalls.{LiveCall, DoesAll, piece_of, bytes_of, Feed, Send, fed, sent, frames_of}
 use Rattle.workers.specs.declared.turn_end.TurnEnd.{TurnEnd}

@@ -4,10 +4,10 @@ use Rattle.std.specs.Io.KnownBytes.{Appends, Consumes, IsAtEnd}
 use Rattle.map_core.specs.declared.op.Op.{Op}
 use Rattle.map_core.specs.declared.reply.Reply.{Reply}
 use Rattle.map_core.specs.declared.reply.AskError.{AskError}
-use Rattle.frame_front.specs.declared.error.FrontError.{FrontError}
-use Rattle.frame_front.specs.declared.error.FrontError.TheVariants.{BadLength, Truncated, ReadFault, WriteFault, TurnsUsed, Memory}
-use Rattle.frame_front.specs.Frame.{IsUnfinished, IsBadLength}
-use Rattle.frame_front.specs.Decoder.{BeginsWithFrame}
+use Rattle.wire.specs.declared.error.FrontError.{FrontError}
+use Rattle.wire.specs.declared.error.FrontError.TheVariants.{BadLength, Truncated, ReadFault, WriteFault, TurnsUsed, Memory}
+use Rattle.wire.specs.Frame.{IsUnfinished, IsBadLength}
+use Rattle.wire.specs.Decoder.{BeginsWithFrame}
 use Rattle.frame_front.specs.Live.{LiveView, live_start, most_frames, reply_limit, waiting}
 use Rattle.frame_front.specs.LiveCalls.{LiveCall, Feed, DoesAll, fed, sent, frames_of}
 use Rattle.workers.specs.Stream.{StreamLimits}

@@ -1,6 +1,6 @@
 -- How sessions end, and what is kept of that.
 use Rattle.std.specs.Prelude.{◌≡◌, ℕ, suc, min, List, [], ◌∷◌, ◌++◌, take, Bool, true, false, Result, Ok, Err}
-use Rattle.frame_front.specs.Error.{front_number}
+use Rattle.wire.specs.Error.{front_number}
 use Rattle.workers.specs.declared.ended.SessionFault.{SessionFault}
 use Rattle.workers.specs.declared.ended.SessionFault.TheVariants.{Front, Listen}
 

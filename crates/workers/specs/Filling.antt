@@ -1,11 +1,11 @@
 -- A store that is filled before its workers begin.
 use Rattle.std.specs.Prelude.{◌≡◌, ◌≢◌, ℕ, zero, suc, List, [], ◌++◌, Option, Some, Result, Ok, Err}
 use Rattle.map_core.specs.declared.reply.Reply.TheVariants.{Stored}
-use Rattle.frame_front.specs.Reply.{reply_frames, version_frame}
+use Rattle.wire.specs.Answers.{reply_frames, version_frame}
 use Rattle.frame_front.specs.Transcript.{Transcript}
-use Rattle.frame_front.specs.declared.error.FrontError.{FrontError}
-use Rattle.frame_front.specs.declared.error.FrontError.TheVariants.{ReadFault, WriteFault, Memory}
-use Rattle.frame_front.specs.declared.request.Version.TheVariants.{Two}
+use Rattle.wire.specs.declared.error.FrontError.{FrontError}
+use Rattle.wire.specs.declared.error.FrontError.TheVariants.{ReadFault, WriteFault, Memory}
+use Rattle.wire.specs.declared.version.Version.TheVariants.{Two}
 use Rattle.shard_store.specs.declared.change.Seen.{Seen}
 use Rattle.shard_store.specs.Pass.{StoreView, SeatedView}
 use Rattle.shard_store.specs.Seated.{SeatedAnswer}

@@ -4,7 +4,7 @@ use Rattle.std.specs.List.{AllByRecursion, flat_map}
 use Rattle.map_core.specs.declared.op.Op.{Op}
 use Rattle.map_core.specs.declared.reply.Reply.{Reply}
 use Rattle.map_core.specs.declared.reply.AskError.{AskError}
-use Rattle.frame_front.specs.declared.error.FrontError.{FrontError}
+use Rattle.wire.specs.declared.error.FrontError.{FrontError}
 use Rattle.workers.specs.Connection.{ConnectionView, LastTurn, Owes, StopsFor, Turn, counted, opened, told, turn_rounds}
 use Rattle.workers.specs.Stream.{StreamLimits}
 use Rattle.workers.specs.declared.turn_end.TurnEnd.{TurnEnd}

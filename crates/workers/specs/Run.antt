@@ -1,6 +1,6 @@
 -- What workers give back that serve one session after the other.
 use Rattle.std.specs.Prelude.{ℕ, suc, List, [], ◌∷◌, Bool, Option, Result}
-use Rattle.frame_front.specs.declared.counted.Counted.{Counted}
+use Rattle.wire.specs.declared.counted.Counted.{Counted}
 use Rattle.shard_store.specs.Pass.{StoreView, PassView, IsOf}
 use Rattle.workers.specs.Sessions.{ServedAll}
 use Rattle.workers.specs.Workers.{IsFurther, WorkerAnswer, at_work}

@@ -5,10 +5,10 @@ use Rattle.std.specs.Vec.Iter.{into_iter_steps}
 use Rattle.map_core.specs.declared.op.Op.{Op}
 use Rattle.map_core.specs.declared.reply.Reply.{Reply}
 use Rattle.map_core.specs.declared.reply.AskError.{AskError}
-use Rattle.frame_front.specs.declared.counted.Counted.{Counted}
-use Rattle.frame_front.specs.declared.error.FrontError.{FrontError}
-use Rattle.frame_front.specs.declared.error.FrontError.TheVariants.{ReadFault, WriteFault, TurnsUsed}
-use Rattle.frame_front.specs.Counted.{end_in, faults_in, MakesReads, reads_of}
+use Rattle.wire.specs.declared.counted.Counted.{Counted}
+use Rattle.wire.specs.declared.error.FrontError.{FrontError}
+use Rattle.wire.specs.declared.error.FrontError.TheVariants.{ReadFault, WriteFault, TurnsUsed}
+use Rattle.wire.specs.Counted.{end_in, faults_in, MakesReads, reads_of}
 use Rattle.frame_front.specs.Transcript.{Transcript}
 use Rattle.workers.specs.declared.ended.SessionFault.{SessionFault}
 use Rattle.workers.specs.declared.ended.SessionFault.TheVariants.{Front, Listen}

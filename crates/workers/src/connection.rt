@@ -1,6 +1,6 @@
 //! A stream that never waits, and the session that it carries.
 ghost use Rattle.std.specs.Prelude.{◌≡◌, ◌<◌, [], true, IfOk};
-ghost use Rattle.frame_front.specs.Frame.{IsUnfinished};
+ghost use Rattle.wire.specs.Frame.{IsUnfinished};
 ghost use Rattle.frame_front.specs.Live.{waiting, StopsAt};
 ghost use Rattle.workers.specs.Connection.{IsLost, LastTurn, Owes, StopsFor, Turn, ended, opened, told, turn_rounds};
 ghost use Rattle.workers.specs.Private.Ends.{LeavesAs};
@@ -10,11 +10,12 @@ use crate::ends::{ROOM_BYTES, ReadOutcome, StreamFailed, read_piece, write_repli
 use crate::limited::Limited;
 use crate::stream::Stream;
 use crate::turn_end::TurnEnd;
-use frame_front::{FrontError, LiveSession, Wants};
+use frame_front::{LiveSession, Wants};
 use map_core::Ask;
 use spiffe_doc::DocumentReader;
 use std::alloc::{AllocError, Global};
 use std::marker::Model;
+use wire::FrontError;
 
 /// How often a connection may read in one turn.
 const TURN_ROUNDS: u64 = 8;

@@ -2,11 +2,11 @@
 ghost use Rattle.std.specs.Prelude.{◌≡◌, ◌∷◌, ◌++◌, ◌+◌, [], min, take, Err, IfOk, OnOk, OnErr};
 ghost use Rattle.workers.specs.Ended.{kept_of, most_faults, Notes};
 
-use frame_front::FrontError;
 use shard_store::Pass;
 use std::alloc::{AllocError, Global};
 use std::marker::Model;
 use thiserror::Error;
+use wire::FrontError;
 
 /// How many faults of a worker's sessions are kept.
 const MOST_FAULTS: usize = 1000;

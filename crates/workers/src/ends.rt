@@ -3,7 +3,7 @@ ghost use Rattle.std.specs.Prelude.{◌≡◌, ◌≢◌, ◌<◌, ℕ, List, tr
 ghost use Rattle.std.specs.IoError.{error_kind};
 ghost use Rattle.std.specs.declared.io.ErrorKind.TheVariants.{WouldBlock};
 ghost use Rattle.std.specs.Io.KnownBytes.{Appends};
-ghost use Rattle.frame_front.specs.Frame.{IsUnfinished};
+ghost use Rattle.wire.specs.Frame.{IsUnfinished};
 ghost use Rattle.frame_front.specs.Live.{Sends};
 ghost use Rattle.workers.specs.Private.Ends.{IsSentAs, Takes};
 ghost use Rattle.workers.specs.Private.Limited.{stream_of, turns_of};

@@ -4,10 +4,11 @@ ghost use Rattle.shard_store.specs.Pass.{IsOf};
 ghost use Rattle.workers.specs.Filling.{Fills, NotFills, in_memory as told_in_memory, stored_replies};
 ghost use Rattle.workers.specs.Workers.{IsFurther};
 
-use frame_front::{Counted, FrontError, serve};
+use frame_front::serve;
 use shard_store::{Pass, Seated, Store};
 use std::alloc::Global;
 use thiserror::Error;
+use wire::{Counted, FrontError};
 
 /// The most reads that the requests may take: each takes at least a byte of them, so fewer bytes never use them up.
 const MOST_READS: u64 = 1_000_000_000;

@@ -1,6 +1,6 @@
 //! A map that is asked through a gate.
 ghost use Rattle.std.specs.Prelude.{◌≡◌};
-ghost use Rattle.frame_front.specs.Counted.{next_count};
+ghost use Rattle.wire.specs.Counted.{next_count};
 
 use crate::gate::Gate;
 use map_core::{Ask, AskError, Op, Reply, Viewer};

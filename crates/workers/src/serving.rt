@@ -12,13 +12,13 @@ use crate::arrivals::{Arrival, Arrivals};
 use crate::at_port::AtPort;
 use crate::worker::Worker;
 use crate::{Connection, Log, ROOM_BYTES, SessionEnds, SessionFault, Stream, TurnEnd};
-use frame_front::FrontError;
 use map_core::Ask;
 use slab::Slab;
 use spiffe_doc::DocumentReader;
 use std::alloc::{AllocError, Global};
 use std::collections::VecDeque;
 use std::marker::Model;
+use wire::FrontError;
 
 /// A connection at its place.
 #[derive(Drop)]

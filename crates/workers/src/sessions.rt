@@ -5,12 +5,13 @@ ghost use Rattle.workers.specs.Sessions.{Runs, ServedAll, session_end};
 use crate::ended::SessionFault;
 use crate::seating::Seating;
 use crate::session::Session;
-use frame_front::{Counted, FrontError, serve};
+use frame_front::serve;
 use map_core::Ask;
 use std::alloc::{AllocError, Global};
 use std::io::{Read, Write};
 use std::vec::IntoIter;
 use thiserror::Error;
+use wire::{Counted, FrontError};
 
 /// No session came: the listener failed.
 #[derive(Clone, Copy, Debug, PartialEq, Eq, Error)]
@@ -20,7 +21,7 @@ pub struct ListenFault;
 /// The source of a worker's sessions: a list in memory, or a listener.
 pub trait Sessions {
     ghost use Rattle.std.specs.Prelude.{ℕ, ◌<◌, ◌≤◌, Option, Result, IfOk, IfSome};
-    ghost use Rattle.frame_front.specs.declared.counted.Counted.{Counted};
+    ghost use Rattle.wire.specs.declared.counted.Counted.{Counted};
     ghost use Rattle.workers.specs.declared.session.Session.{Session};
     ghost use Rattle.workers.specs.declared.sessions.ListenFault.{ListenFault};
 

@@ -1,5 +1,5 @@
 //! What becomes of a connection after its turn.
-use frame_front::FrontError;
+use wire::FrontError;
 
 /// What becomes of a connection after its turn.
 #[derive(Clone, Copy, Debug, PartialEq, Eq)]

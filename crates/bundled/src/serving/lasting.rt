@@ -1,7 +1,7 @@
 //! A server that lasts: each worker serves many clients beside each other.
 ghost use Rattle.std.specs.Prelude.{◌≡◌, false, ◌<◌, ◌-◌, ◌^◌, ◌⊎◌};
-ghost use Rattle.frame_front.specs.Counted.{faults_in};
-ghost use Rattle.frame_front.specs.Output.{end_of};
+ghost use Rattle.wire.specs.Counted.{faults_in};
+ghost use Rattle.wire.specs.Output.{end_of};
 ghost use Rattle.commands.specs.declared.fault.Fault.TheVariants.{Listen};
 ghost use Rattle.server.specs.Serve.{EndsEarly, SetUpRun};
 ghost use Rattle.server.specs.Serving.{ServedBeside};
@@ -10,12 +10,12 @@ use crate::serving::ports::ports_or_told;
 use crate::serving::waits::waits_of;
 use command_line::{Lasting, Settings};
 use commands::Fault;
-use frame_front::Counted;
 use server::{Host, SetUp, Task, serve_at, tell_early};
 use std::io::{Read, Write};
 use std::net::{Net, TcpListener, TcpStream};
 use std::thread::Threads;
 use std::time::Clock;
+use wire::Counted;
 use workers::Log;
 
 /// Where a server listens, and how it serves.

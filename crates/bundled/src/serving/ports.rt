@@ -1,16 +1,16 @@
 //! The ports of a server that lasts.
 ghost use Rattle.std.specs.Prelude.{◌≡◌, IfErr, OnOk, OnErr};
-ghost use Rattle.frame_front.specs.Counted.{faults_in};
+ghost use Rattle.wire.specs.Counted.{faults_in};
 ghost use Rattle.commands.specs.Fault.{fault_line};
-ghost use Rattle.frame_front.specs.Output.{Tells, end_of};
+ghost use Rattle.wire.specs.Output.{Tells, end_of};
 ghost use Rattle.commands.specs.declared.fault.Fault.TheVariants.{Listen};
 
 use commands::Fault;
-use frame_front::Counted;
 use server::Ports;
 use std::io;
 use std::io::Write;
 use std::net::{Ipv4Addr, Net, TcpListener, TcpStream};
+use wire::Counted;
 
 /// Listens at these ports of 127.0.0.1, each of which is one that is free if its number is 0.
 fn ports_of<H: Net<Listener = TcpListener, Stream = TcpStream>>(

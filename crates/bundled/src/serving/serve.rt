@@ -1,9 +1,9 @@
 //! The command `serve`, in the form that its settings have.
 ghost use Rattle.std.specs.Prelude.{◌≡◌, ◌<◌, ◌-◌, ◌^◌, ◌⊎◌, false, IfErr, OnErr, OnOk};
-ghost use Rattle.frame_front.specs.Counted.{faults_in};
+ghost use Rattle.wire.specs.Counted.{faults_in};
 ghost use Rattle.command_line.specs.Serving.{stops_at_end};
 ghost use Rattle.commands.specs.Fault.{fault_line};
-ghost use Rattle.frame_front.specs.Output.{Tells, end_of};
+ghost use Rattle.wire.specs.Output.{Tells, end_of};
 ghost use Rattle.commands.specs.declared.fault.Fault.TheVariants.{Listen};
 ghost use Rattle.server.specs.Serve.{EndsEarly, ServeCommand, SetUpRun};
 ghost use Rattle.server.specs.Serving.{ServedInTurn, most_taken, most_turns};
@@ -12,13 +12,13 @@ ghost use Rattle.bundled.specs.Serve.{ServedAs};
 use crate::serving::lasting::{At, serve_many};
 use command_line::{Connections, Settings};
 use commands::Fault;
-use frame_front::Counted;
 use server::{Host, requests_of, serve_on};
 use std::fs::Files;
 use std::io::{Read, Write};
 use std::net::{Ipv4Addr, Net, TcpListener, TcpStream};
 use std::thread::Threads;
 use std::time::Clock;
+use wire::Counted;
 use workers::Log;
 
 /// What a server is asked for: the port of 127.0.0.1, or 0 for one that is free; the file whose dump fills the store before,

@@ -2,13 +2,13 @@
 ghost use Rattle.std.specs.Prelude.{◌≡◌, IfOk, vec_len};
 
 use commands::Fault;
-use frame_front::FrontError;
 use mio::unix::SourceFd;
 use mio::{Interest, Poll, Waker};
 use server::{NOBODY, Ports, WorkerPolls};
 use std::alloc::Global;
 use std::io;
 use std::net::Net;
+use wire::FrontError;
 
 /// What waits for clients at the ports, and what ends its waits.
 fn watching<N: Net>(net: &N, ports: &Ports) -> io::Result<(Poll, Waker)> {

@@ -12,12 +12,11 @@ use Rattle.map_core.specs.declared.reply.MapRefusal.TheVariants.{NoDomain, Stale
 use Rattle.map_core.specs.declared.reply.AskError.{AskError}
 use Rattle.map_core.specs.declared.reply.AskError.TheVariants as error
 use Rattle.frame_front.specs.Dump.{Domains}
-use Rattle.frame_front.specs.Frame.{frame}
-use Rattle.frame_front.specs.Reply.{answer_frames}
-use Rattle.frame_lines.specs.declared.reply.Detail.{Detail}
-use Rattle.frame_lines.specs.declared.reply.Detail.TheVariants.{Nothing, Place, SequenceOf, Expected}
-use Rattle.frame_lines.specs.ReplyForm as form
-use Rattle.frame_lines.specs.Answers.{answer_form, bundles_of}
+use Rattle.wire.specs.Frame.{frame}
+use Rattle.wire.specs.Answers.{answer_frames, answer_form, bundles_of}
+use Rattle.wire.specs.declared.reply.Detail.{Detail}
+use Rattle.wire.specs.declared.reply.Detail.TheVariants.{Nothing, Place, SequenceOf, Expected}
+use Rattle.wire.specs.ReplyForm as form
 use Rattle.client.specs.Answer.{Answer, MayAnswer, IsValidAnswer, is_code_for}
 use Rattle.client.specs.declared.answer.First.{First}
 use Rattle.client.specs.declared.answer.First.TheVariants as first

@@ -2,8 +2,8 @@
 use Rattle.std.specs.Prelude.{◌≡◌, ◌≢◌, ℕ, List, ◌++◌, length, Option, None}
 use Rattle.std.specs.List.{flat_map}
 use Rattle.std.specs.Io.KnownBytes.{IsAtEnd}
-use Rattle.frame_front.specs.Frame.{HasFrames, IsBadLength}
-use Rattle.frame_front.specs.Reply.{item_frame}
+use Rattle.wire.specs.Frame.{HasFrames, IsBadLength}
+use Rattle.wire.specs.Answers.{item_frame}
 use Rattle.frame_front.specs.Dump.{Domains, AreValid}
 use Rattle.map_core.specs.Laws.{Ascends}
 use Rattle.client.specs.declared.client_error.ClientError.{ClientError}

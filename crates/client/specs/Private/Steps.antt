@@ -2,17 +2,16 @@
 use Rattle.std.specs.Prelude.{◌≡◌, ◌≢◌, ◌⊎◌, ℕ, ◌+◌, ◌<◌, ◌≤◌, Bool, true, false, List, [], ◌∷◌, ◌++◌, length, Option, Result, Ok, Err}
 use Rattle.std.specs.List.{AllByRecursion, flat_map, list_any}
 use Rattle.std.specs.Io.KnownBytes.{Appends, Consumes, IsAtEnd}
-use Rattle.frame_front.specs.Counted.{next_count}
-use Rattle.frame_front.specs.Frame.{frame}
-use Rattle.frame_front.specs.Output.{WritesFront}
-use Rattle.frame_front.specs.declared.error.FrontError.TheVariants as front
-use Rattle.client.specs.Reading.{NoFrame}
+use Rattle.wire.specs.Counted.{next_count}
+use Rattle.wire.specs.Frame.{frame}
+use Rattle.wire.specs.Output.{WritesFront}
+use Rattle.wire.specs.declared.error.FrontError.TheVariants as front
 use Rattle.client.specs.declared.client_error.ClientError.{ClientError}
 use Rattle.client.specs.declared.client_error.ClientError.TheVariants as client
-use Rattle.frame_lines.specs.Encoding.{Gives, EncoderState, Becomes, IsBadLine, NamesUnreadable}
-use Rattle.frame_lines.specs.ReplyForm.{Reply, payload_of}
-use Rattle.frame_lines.specs.declared.encoder.EncodeError.{EncodeError}
-use Rattle.frame_lines.specs.declared.encoder.EncodeError.TheVariants as lines
+use Rattle.wire.specs.Encoding.{Gives, EncoderState, Becomes, IsBadLine, NamesUnreadable}
+use Rattle.wire.specs.ReplyForm.{Reply, payload_of}
+use Rattle.wire.specs.declared.encoder.EncodeError.{EncodeError}
+use Rattle.wire.specs.declared.encoder.EncodeError.TheVariants as lines
 use Rattle.client.specs.Replies.{is_transient, is_refusal, bundles_after, reply_frames, shown, CanBeShown, IsTold}
 use Rattle.client.specs.Asking.{Exchange, IsExchange, IsTransient, AreTold, BreaksOff, IsBroken, NotGreeted, Ends, greeting, lines_of, asked, told, all_shown, is_refused, count_after}
 use Rattle.client.specs.declared.asking.Asking.{Asking}

@@ -1,8 +1,8 @@
 -- Why there are not the domains that are wanted.
 use Rattle.std.specs.Prelude.{◌≡◌, ℕ, List}
-use Rattle.frame_front.specs.Counted.{next_count}
+use Rattle.wire.specs.Counted.{next_count}
 use Rattle.frame_front.specs.Dump.{Domains}
-use Rattle.frame_front.specs.declared.error.FrontError.TheVariants.{Memory}
+use Rattle.wire.specs.declared.error.FrontError.TheVariants.{Memory}
 use Rattle.commands.specs.declared.fault.Fault.{Fault}
 use Rattle.commands.specs.declared.fault.Fault.TheVariants.{Front, NotInDump}
 use Rattle.dump_views.specs.Choice.{IsFirstMissing}

@@ -1,5 +1,5 @@
 -- What is left to store of a reply.
-use Rattle.std.specs.Prelude.{◌≡◌, ℕ, ◌≤◌, List, [], ◌++◌, drop, length, Result, Bool}
+use Rattle.std.specs.Prelude.{◌≡◌, ◌⊎◌, ℕ, ◌≤◌, List, [], ◌++◌, drop, length, Result, Bool}
 use Rattle.std.specs.List.{flat_map}
 use Rattle.spiffe_doc.specs.Authority.{BundleValue}
 use Rattle.map_core.specs.Name.{Name}
@@ -8,8 +8,10 @@ use Rattle.map_core.specs.declared.reply.Reply.{Reply}
 use Rattle.map_core.specs.declared.reply.Reply.TheVariants.{Found}
 use Rattle.map_core.specs.declared.reply.AskError.{AskError}
 use Rattle.spiffe_doc.specs.Text.{text_of}
-use Rattle.frame_front.specs.Reply.{is_error_reply, item_frame, reply_frames}
-use Rattle.frame_front.specs.Session.{SessionState, Answers}
+use Rattle.wire.specs.Answers.{is_error_reply, item_frame, memory_frame, reply_frames}
+use Rattle.wire.specs.declared.judge.Request.{Request}
+use Rattle.wire.specs.declared.refusal.Refusal.{Refusal}
+use Rattle.frame_front.specs.Session.{SessionState, AnswersRequest}
 use Rattle.frame_front.specs.declared.pending.PendingReply.{PendingReply}
 use Rattle.frame_front.specs.declared.replies.Replies.{Replies}
 use Rattle.frame_front.specs.declared.reply.Body.{Body}
@@ -25,17 +27,16 @@ body_left Empty stored = []
 body_left (Canonical bundle) stored = text_of bundle
 body_left (All items) stored = items_left items stored
 
--- of what follows the first bytes, the frames of domains
-abbrev pub frames_in : Body → ℕ → List ℕ
-frames_in Empty stored = []
-frames_in (Canonical bundle) stored = []
-frames_in (All items) stored = items_left items stored
-
 -- no text is left
 abbrev pub HasNoText : Body → Type 0
 HasNoText Empty = Unit {0}
 HasNoText (Canonical bundle) = ⊥
 HasNoText (All items) = Unit {0}
+
+-- of what follows the first bytes, the frames of domains
+abbrev pub frames_in : Body → ℕ → List ℕ
+frames_in (All items) stored = items_left items stored
+frames_in body stored = []
 
 -- the frames of domains that are left
 abbrev pub domains_left : PendingReply → List ℕ
@@ -49,10 +50,15 @@ reply_left pending = pending.head.items ++ body_left pending.body pending.stored
 abbrev pub stores_found : List ℕ → BundleValue → List ℕ → Type 0
 stores_found ready bundle new = (new ≡ ready ++ reply_frames (Found bundle)) × (length (text_of bundle) ≤ 1048576)
 
--- The payload is answered, by an error of whoever was asked or not, and the text of the answer waits: what is left of it, after what is ready
-abbrev pub AnswersLater : {S : Type 0} → (S → Op → Result Reply AskError → S → Type 0) → Bool → SessionState S → List ℕ → SessionState S → List ℕ → List ℕ → List ℕ → Type 0
-AnswersLater answers is_error old payload new ready_old ready_new left =
-    (text : List ℕ) × Answers answers old payload text new × (5 ≤ length text) × (is_error ≡ is_error_reply text) × (ready_new ++ left ≡ ready_old ++ text)
+-- a payload that reads so is answered by this text
+abbrev pub AnswersRead : {S : Type 0} → (S → Op → Result Reply AskError → S → Type 0) → SessionState S → Result Request Refusal → List ℕ → SessionState S → Type 0
+AnswersRead answers old read text new = AnswersRequest answers read old text new ⊎ ((text ≡ memory_frame) × (new ≡ old))
+
+-- It is answered, by an error of whoever was asked or not, and the text of the answer waits: what is left of it, after what is ready.
+abbrev pub AnswersLater : {S : Type 0} → (S → Op → Result Reply AskError → S → Type 0)
+    → Bool → SessionState S → Result Request Refusal → SessionState S → List ℕ → List ℕ → List ℕ → Type 0
+AnswersLater answers is_error old read new ready_old ready_new left =
+    (text : List ℕ) × AnswersRead answers old read text new × (5 ≤ length text) × (is_error ≡ is_error_reply text) × (ready_new ++ left ≡ ready_old ++ text)
 
 -- the bytes of replies that wait
 abbrev pub waits_in : Replies → List ℕ

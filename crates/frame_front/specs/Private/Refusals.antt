@@ -2,9 +2,10 @@
 use Rattle.std.specs.Prelude.{◌≡◌, ℕ, List, [], ◌∷◌, ◌++◌, Option, Some, None}
 use Rattle.spiffe_doc.specs.Authority.{BundleValue}
 use Rattle.map_core.specs.Name.{Name}
-use Rattle.frame_front.specs.Frame.{IsPayload, frame}
+use Rattle.wire.specs.Frame.{IsPayload, frame}
 use Rattle.map_core.specs.Laws.{IsAfter}
-use Rattle.frame_front.specs.Dump.{Domains, count_of, item_of}
+use Rattle.frame_front.specs.Dump.{Domains, count_of}
+use Rattle.wire.specs.Items.{item_of}
 
 -- the last name, if any
 abbrev pub last_of : Option Name → Domains → Option Name

@@ -3,9 +3,9 @@ use Rattle.std.specs.Prelude.{◌≡◌, ℕ, List, length, Result, Ok, Err}
 use Rattle.map_core.specs.declared.op.Op.{Op}
 use Rattle.map_core.specs.declared.reply.Reply.{Reply}
 use Rattle.map_core.specs.declared.reply.AskError.{AskError}
-use Rattle.frame_front.specs.declared.error.FrontError.{FrontError}
-use Rattle.frame_front.specs.declared.error.FrontError.TheVariants.{BadLength, WriteFault, Memory}
-use Rattle.frame_front.specs.Frame.{IsUnfinished, IsBadLength}
+use Rattle.wire.specs.declared.error.FrontError.{FrontError}
+use Rattle.wire.specs.declared.error.FrontError.TheVariants.{BadLength, WriteFault, Memory}
+use Rattle.wire.specs.Frame.{IsUnfinished, IsBadLength}
 use Rattle.frame_front.specs.Session.{SessionState, Serves, Writes}
 
 -- how far the answering of the frames that are kept is, with these bytes kept after it

@@ -5,9 +5,9 @@ use Rattle.map_core.specs.declared.reply.Reply.{Reply}
 use Rattle.map_core.specs.declared.reply.AskError.{AskError}
 use Rattle.frame_front.specs.declared.live.Step.{Step}
 use Rattle.frame_front.specs.declared.live.Step.TheVariants.{Answered, Stops}
-use Rattle.frame_front.specs.Frame.{IsPayload, frame}
+use Rattle.wire.specs.Frame.{IsPayload, frame}
 use Rattle.frame_front.specs.Live.{LiveView, StopsAt, reply_limit, waiting}
-use Rattle.frame_front.specs.Reply.{is_error_reply}
+use Rattle.wire.specs.Answers.{is_error_reply}
 use Rattle.frame_front.specs.Session.{Answers}
 
 module _ {S : Type 0} (answers : S → Op → Result Reply AskError → S → Type 0) where

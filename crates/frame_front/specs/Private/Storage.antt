@@ -2,7 +2,7 @@
 use Rattle.std.specs.Prelude.{ℕ, List, []}
 use Rattle.std.specs.List.{flat_map}
 use Rattle.spiffe_doc.specs.Text.{text_of}
-use Rattle.frame_front.specs.Reply.{item_frame}
+use Rattle.wire.specs.Answers.{item_frame}
 use Rattle.frame_front.specs.declared.reply.Body.{Body}
 use Rattle.frame_front.specs.declared.reply.Body.TheVariants.{Empty, Canonical, All}
 

@@ -2,12 +2,12 @@
 use super::exchanges::{APPEND, EXCHANGES, REMOVE, SET_IF_ABSENT};
 use super::is_answered;
 use client::{Client, ClientError};
-use frame_front::Counted;
 use std::alloc::Global;
 use std::io::{Read, Write};
 use std::test::Fail;
 use test_kit::is_equal_at;
 use test_kit::protocol::{ABSENT, FETCH_ALL, FOUND, GET, SET, STORED};
+use wire::Counted;
 
 /// Asks, and asks again, and sees that the client has ended so.
 fn has_ended<R: Read, W: Write>(

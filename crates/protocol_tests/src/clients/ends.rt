@@ -2,12 +2,12 @@
 use super::exchanges::{EXCHANGES, Exchange};
 use super::is_answered;
 use client::{Client, ClientError};
-use frame_front::{Counted, FaultyReader, FaultyWriter};
 use map_core::{Ask, AskError};
 use std::alloc::{AllocError, Global};
 use std::test::Fail;
 use test_kit::protocol::{ALL_OF_ONE, FOUND};
 use test_kit::{holds_at, is_equal_at, operation};
+use wire::{Counted, FaultyReader, FaultyWriter};
 
 /// The reader fails after so many bytes of the reply.
 fn ends_as_the_reader_fails(

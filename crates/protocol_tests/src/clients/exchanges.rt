@@ -1,7 +1,7 @@
 //! Exchanges of a client: what it is asked, what it writes, what it reads and what it answers.
 use super::is_answered;
 use client::{Client, write_request};
-use frame_front::{Counted, serve};
+use frame_front::serve;
 use map_core::{Ask, Contents};
 use std::alloc::{AllocError, Global};
 use std::test::Fail;
@@ -9,6 +9,7 @@ use test_kit::protocol::{
     ABSENT, ALL_OF_NONE, ALL_OF_ONE, Calls, FETCH_ALL, FOUND, GET, Pieces, SET, STORED, text_of,
 };
 use test_kit::{holds, is_equal_at, operation};
+use wire::Counted;
 
 pub(super) const SET_IF_ABSENT: &[u8] =
     b"\x00\x00\x00\x02V\x02\x00\x00\x00\x0fC\x01a\x00{\"keys\":[]}";

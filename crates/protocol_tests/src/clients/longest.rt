@@ -4,13 +4,13 @@ ghost use Rattle.spiffe_doc.specs.Key.{IsRsaMember};
 use super::exchanges::answers_so;
 use super::is_answered;
 use client::{Client, RequestError, write_request};
-use frame_front::Counted;
 use map_core::{Ask, AskError, Op};
 use spiffe_doc::{Authority, Certificate, Octets, PublicKey, RsaKey, TrustDomain};
 use std::alloc::Global;
 use std::test::Fail;
 use test_kit::protocol::{ABSENT, SET, STORED};
 use test_kit::{Shown, is_answer, is_equal};
+use wire::Counted;
 
 /// The append of an authority with this key, and a certificate of 786,384 bytes, which are 1,048,512 of base64.
 fn append_of(alloc: Global, n: Octets, e: Octets) -> Result<Op, Fail>

@@ -1,8 +1,8 @@
 //! The decoder by itself.
-use frame_front::{Decoder, FrontError};
 use std::test::Fail;
 use test_kit::protocol::{FETCH_ALL, text_of};
 use test_kit::{is_equal, is_equal_at};
+use wire::{Decoder, FrontError};
 
 /// What is fed, the payloads that come out then, what is answered after them, and whether the input may end there.
 type Step<'a> = (

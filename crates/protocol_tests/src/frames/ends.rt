@@ -1,10 +1,10 @@
 //! Readers and writers that fail.
 use super::{SET_AND_FETCH_ALL, SET_AND_GET, SET_GET_AND_FETCH_ALL, STORED_AND_FOUND, ended_of};
-use frame_front::{Counted, FaultyReader, FaultyWriter, FrontError};
 use std::alloc::AllocError;
 use std::test::Fail;
 use test_kit::protocol::{ALL_OF_NONE, ALL_OF_ONE, Calls, Pieces, STORED};
 use test_kit::{holds_at, is_equal, is_equal_at};
+use wire::{Counted, FaultyReader, FaultyWriter, FrontError};
 
 // The reader fails after each front of the set and the get: the whole frames before are answered.
 #[test]

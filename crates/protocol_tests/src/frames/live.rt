@@ -1,12 +1,13 @@
 //! Sessions without ends: the same bytes as `serve`, however they are fed and sent, and in bounded memory.
 use super::{SET_AND_FETCH_ALL, ended_of};
-use frame_front::{Counted, FrontError, LiveSession, Wants};
+use frame_front::{LiveSession, Wants};
 use map_core::Contents;
 use spiffe_doc::DocumentReader;
 use std::alloc::{AllocError, Global};
 use std::test::Fail;
 use test_kit::protocol::{ALL_OF_ONE, FETCH_ALL, GET, Part, SET, text_of};
 use test_kit::{holds, holds_at, is_equal, is_equal_at};
+use wire::{Counted, FrontError};
 
 /// A session, and what it answers over.
 #[derive(Drop)]

@@ -1,8 +1,9 @@
 //! The numbers of errors, by which clients know them, and the place for which a document is refused.
-use frame_front::{DumpError, FrontError, Refusal};
+use frame_front::DumpError;
 use spiffe_doc::{DocError, NameError};
 use std::test::Fail;
 use test_kit::is_equal;
+use wire::{FrontError, Refusal};
 
 #[test]
 fn numbers_of_errors(_rt: HostRuntime) -> Result<(), Fail> {

@@ -1,10 +1,11 @@
 //! How answers that no session over one map gives are coded.
-use frame_front::{Counted, serve};
+use frame_front::serve;
 use map_core::{Ask, AskError, Op, Reply};
 use std::alloc::Global;
 use std::test::Fail;
 use test_kit::is_equal_at;
 use test_kit::protocol::GET;
+use wire::Counted;
 
 /// Gives each operation this answer.
 #[derive(Drop)]

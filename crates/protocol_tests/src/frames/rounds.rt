@@ -1,11 +1,11 @@
 //! The replies to all whole frames that came are flushed before the next read.
 use super::{SET_GET_AND_FETCH_ALL, ended_of};
-use frame_front::Counted;
 use std::cell::Cell;
 use std::io;
 use std::io::{ErrorKind, Read, Write};
 use std::test::Fail;
 use test_kit::is_equal_at;
+use wire::Counted;
 
 /// How many bytes of replies the writer of a session has taken, and how many of them are flushed.
 #[derive(Drop)]

@@ -2,12 +2,13 @@
 use super::{
     MIGRATED, SET_AND_FETCH_ALL, SET_AND_GET, STORED_AND_ALL, STORED_AND_FOUND, ended_of, serves_so,
 };
-use frame_front::{Counted, FrontError, serve};
+use frame_front::serve;
 use map_core::Contents;
 use std::alloc::Global;
 use std::test::Fail;
 use test_kit::is_equal_at;
 use test_kit::protocol::{ABSENT, ALL_OF_NONE, ALL_OF_ONE, FETCH_ALL, GET, Pieces, SET, STORED};
+use wire::{Counted, FrontError};
 
 /// A session over an empty map: its name, what comes in, how it ends, and what goes out.
 #[derive(Clone, Copy)]

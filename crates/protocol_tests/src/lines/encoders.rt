@@ -1,9 +1,9 @@
 //! Streams of lines become frames.
 use super::OneText;
-use frame_lines::{EncodeError, Encoder};
 use std::alloc::{AllocError, Global};
 use std::test::Fail;
 use test_kit::{holds_at, is_equal_at};
+use wire::{EncodeError, Encoder};
 
 /// The frames of a stream in pieces of this size, and how it ends.
 fn encoded(

@@ -1,8 +1,8 @@
 //! Lines that come in pieces.
-use frame_lines::LineDecoder;
 use std::alloc::Global;
 use std::test::Fail;
 use test_kit::{holds_at, is_equal_at};
+use wire::LineDecoder;
 
 /// The lines of a stream in pieces of this size, one after the other, each with a bar behind it; and then what is kept.
 fn lines_of(alloc: Global, stream: &[u8], size: usize) -> Result<Vec<u8>, Fail> {

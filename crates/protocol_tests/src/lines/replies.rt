@@ -1,8 +1,8 @@
 //! Replies: lines, and the payloads that they are.
-use frame_lines::{Detail, PayloadError, ReplyForm, put_line_of, reply_of_line, reply_of_payload};
 use std::alloc::{AllocError, Global};
 use std::test::Fail;
 use test_kit::{holds_at, is_equal_at};
+use wire::{Detail, PayloadError, ReplyForm, put_line_of, reply_of_payload};
 
 /// Lines and their payloads, as docs/FORMATS.md has them.
 static PAYLOADS: [(&[u8], &[u8]); 27] = [
@@ -55,38 +55,14 @@ fn line_of(alloc: Global, form: &ReplyForm<'_>) -> Result<Option<Vec<u8>>, Alloc
 }
 
 #[test]
-fn payloads_become_lines_and_lines_payloads(rt: HostRuntime) -> Result<(), Fail> {
+fn payloads_become_lines(rt: HostRuntime) -> Result<(), Fail> {
     for &(line, payload) in &PAYLOADS {
         let form = reply_of_payload(payload).ok_or("the payload is a reply")?;
-        is_equal_at(&reply_of_line(line), &Some(form), &line)?;
         let found = line_of(rt.alloc(), &form)?.ok_or("the reply has a line")?;
         is_equal_at(&found.as_slice(), &line, &payload)?;
     }
     Ok(())
 }
-
-static NOT_LINES: [&[u8]; 20] = [
-    b"",
-    b"stored ",
-    b"Stored",
-    b"appended",
-    b"appended 07",
-    b"appended none",
-    b"found",
-    b"all",
-    b"all -1",
-    b"bundle a",
-    b"version 3",
-    b"refused",
-    b"refused 2",
-    b"refused 30 1",
-    b"refused 31",
-    b"refused 3 4294967296",
-    b"refused 36 none 1",
-    b"moved 0 2",
-    b"held 4294967296 1",
-    b"set a {}",
-];
 
 static NOT_PAYLOADS: [&[u8]; 16] = [
     b"",
@@ -120,9 +96,6 @@ static FORMS: [ReplyForm<'static>; 7] = [
 
 #[test]
 fn what_is_no_reply(_rt: HostRuntime) -> Result<(), Fail> {
-    for &line in &NOT_LINES {
-        holds_at(reply_of_line(line).is_none(), &line)?;
-    }
     for &payload in &NOT_PAYLOADS {
         holds_at(reply_of_payload(payload).is_none(), &payload)?;
     }

@@ -1,8 +1,8 @@
 //! Requests: lines, and the frames that they become.
-use frame_lines::{RequestForm, request_of_line, request_of_payload};
 use std::alloc::{AllocError, Global};
 use std::test::Fail;
 use test_kit::{holds_at, is_equal_at};
+use wire::{RequestForm, request_of_line, request_of_payload};
 
 /// The frame of a request. None if none carries it.
 fn frame_of(alloc: Global, form: &RequestForm<'_>) -> Result<Option<Vec<u8>>, AllocError> {

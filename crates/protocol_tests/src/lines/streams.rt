@@ -1,11 +1,10 @@
 //! Streams of lines, read and written.
 use super::OneText;
-use frame_front::{Counted, FrontError};
-use frame_lines::{DecodeError, StreamError, decode_stream, encode_stream};
 use std::alloc::Global;
 use std::test::Fail;
 use test_kit::ends::{Sink, Source};
 use test_kit::is_equal_at;
+use wire::{Counted, DecodeError, FrontError, StreamError, decode_stream, encode_stream};
 
 /// How the lines of a reader are encoded to a writer of so much room, and what it has taken.
 fn encoded(alloc: Global, lines: Source, room: usize) -> (Result<(), StreamError>, Vec<u8>) {

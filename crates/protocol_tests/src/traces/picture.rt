@@ -1,11 +1,11 @@
 //! Runs, and their pictures drawn by hand.
 use super::printed::{RACE, RACE_TRACE, race, trace_of};
-use frame_front::{Counted, FaultyWriter, FrontError};
 use std::alloc::Global;
 use std::test::Fail;
 use step_core::{Trace, run_events};
 use test_kit::is_equal_at;
 use trace_lines::{put_picture, read_events};
+use wire::{Counted, FaultyWriter, FrontError};
 
 static LEGEND: &[u8] = b"\
 A row for each caller, a column for each event, counted from 0.

@@ -1,5 +1,4 @@
 //! Runs, and what is printed of them.
-use frame_front::{Counted, FaultyWriter, FrontError};
 use map_core::{AskError, Expect, MapRefusal, Op, Reply, Snapshot};
 use spiffe_doc::{TrustDomain, read_document};
 use std::alloc::Global;
@@ -7,6 +6,7 @@ use std::test::Fail;
 use step_core::{OpRecord, Trace, run_events};
 use test_kit::is_equal_at;
 use trace_lines::{put_trace, read_events};
+use wire::{Counted, FaultyWriter, FrontError};
 
 /// What an operation was answered: nothing yet, a reply that takes no memory, a bundle by its document, all of these
 /// domains with theirs, or an error.

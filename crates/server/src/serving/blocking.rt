@@ -2,10 +2,10 @@
 ghost use Rattle.std.specs.Prelude.{◌≡◌, ◌<◌, ◌≤◌, ◌-◌, ◌^◌, List, map, IfOk, vec_len};
 ghost use Rattle.std.specs.List.{All};
 ghost use Rattle.shard_store.specs.Pass.{IsOf};
-ghost use Rattle.frame_front.specs.Counted.{faults_in};
+ghost use Rattle.wire.specs.Counted.{faults_in};
 ghost use Rattle.workers.specs.Run.{AllWorked, kept};
 ghost use Rattle.workers.specs.declared.run.Finished.{Finished};
-ghost use Rattle.frame_front.specs.Output.{end_of};
+ghost use Rattle.wire.specs.Output.{end_of};
 ghost use Rattle.server.specs.Serve.{SetUpRun, always_open};
 ghost use Rattle.server.specs.Serving.{ClientComes, EndsClient, MayTake, ServedInTurn, most_taken as taken_by, most_turns as turns_of, unknown};
 
@@ -17,7 +17,6 @@ use crate::serving::stream::close;
 use crate::set_up::SetUp;
 use command_line::{Connections, Settings};
 use commands::Fault;
-use frame_front::{Counted, FrontError};
 use shard_store::{Pass, Store};
 use std::alloc::{AllocError, Global};
 use std::io;
@@ -25,6 +24,7 @@ use std::io::{Read, Write};
 use std::net::{TcpListener, TcpStream};
 use std::thread::Threads;
 use std::time::Clock;
+use wire::{Counted, FrontError};
 use workers::{ListenFault, Log, Open, Patient, Session, Sessions, Worked, kept_all, run_workers};
 
 /// The most reads that may be made of a client.

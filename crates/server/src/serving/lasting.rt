@@ -5,10 +5,10 @@ ghost use Rattle.shard_store.specs.Pass.{IsOf};
 ghost use Rattle.workers.specs.Closing.{AreAll, ranges_of};
 ghost use Rattle.server.specs.Serve.{EndsEarly, ServeRun};
 ghost use Rattle.commands.specs.Fault.{fault_line};
-ghost use Rattle.frame_front.specs.Output.{Tells, end_of};
+ghost use Rattle.wire.specs.Output.{Tells, end_of};
 ghost use Rattle.commands.specs.declared.fault.Fault.TheVariants.{Front, Listen};
-ghost use Rattle.frame_front.specs.Counted.{faults_in};
-ghost use Rattle.frame_front.specs.declared.error.FrontError.TheVariants.{Memory};
+ghost use Rattle.wire.specs.Counted.{faults_in};
+ghost use Rattle.wire.specs.declared.error.FrontError.TheVariants.{Memory};
 ghost use Rattle.server.specs.Serving.{ServedBeside};
 
 use crate::ending::report;
@@ -21,7 +21,6 @@ use crate::serving::shared::{Seat, Shared, Watch};
 use crate::set_up::SetUp;
 use command_line::{Lasting, Settings};
 use commands::Fault;
-use frame_front::{Counted, FrontError};
 use mio::{Poll, Waker};
 use shard_store::{Pass, Store};
 use std::alloc::{AllocError, Global};
@@ -29,6 +28,7 @@ use std::io::{Read, Write};
 use std::thread;
 use std::thread::Threads;
 use std::time::Clock;
+use wire::{Counted, FrontError};
 use workers::{Limits, Log, Open, SharedByWorkers, Worked, run_arrivals};
 
 /// A server that listens, and whose store is set up.

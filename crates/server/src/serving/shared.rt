@@ -1,9 +1,9 @@
 //! What the workers of a server share beside the store.
 use crate::serving::ports::Ports;
-use frame_front::Counted;
 use mio::Waker;
 use std::io::Read;
 use std::sync::atomic::{AtomicBool, AtomicU64, AtomicUsize, Ordering};
+use wire::Counted;
 
 /// A worker, as the others see it.
 #[derive(Drop)]

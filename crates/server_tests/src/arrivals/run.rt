@@ -3,7 +3,6 @@ ghost use Rattle.std.specs.Prelude.{◌≡◌, vec_len, IfOk};
 ghost use Rattle.std.specs.List.{All};
 ghost use Rattle.shard_store.specs.Pass.{IsOf};
 
-use frame_front::{Counted, FrontError};
 use shard_store::{Pass, Store};
 use std::alloc::{AllocError, Global};
 use std::sync::{Mutex, Wait};
@@ -12,6 +11,7 @@ use std::thread::Threads;
 use std::time::Clock;
 use std::vec::IntoIter;
 use test_kit::{is_equal, is_equal_at};
+use wire::{Counted, FrontError};
 use workers::{
     Finished, Gate, ListenFault, Open, Patient, Quiet, Session, SessionFault, Sessions, run_workers,
 };

@@ -3,10 +3,10 @@ use super::{
     ABSENT, FOUND, GET_A, MOST_ARRIVALS, SET_A, STORED, has_ended, has_got, is_equal, output,
     sends, serve,
 };
-use frame_front::FrontError;
 use std::alloc::Global;
 use std::process::Abort;
 use std::test::Fail;
+use wire::FrontError;
 use workers::SessionFault;
 
 fn both(alloc: Global, first: &[u8], second: &[u8]) -> Result<Vec<u8>, Fail> {

@@ -1,9 +1,9 @@
 //! Workers whose calls go through a gate.
 use super::memory::run_two;
 use super::{ABSENT, GET_A, is_equal};
-use frame_front::FrontError;
 use std::sync::{Mutex, Wait};
 use std::test::Fail;
+use wire::FrontError;
 use workers::{Gate, Open, SessionFault};
 
 /// Which workers have come to their first call.

@@ -1,9 +1,9 @@
 //! How many reads a session may make.
 use super::{ABSENT, GET_A, SET_A, STORED, has_ended, has_got, output, sends, serve_within};
-use frame_front::FrontError;
 use std::alloc::Global;
 use std::process::Abort;
 use std::test::Fail;
+use wire::FrontError;
 use workers::SessionFault;
 
 /// The fault of a session that has made all reads that it may.

@@ -6,7 +6,9 @@ use std::io;
 use std::io::{Read, Write};
 use std::thread::Threads;
 use std::time::Clock;
-use workers::{Arrival, Arrivals, Gate, Log, Quiet, SessionFault, SharedByWorkers, Stream, run_arrivals};
+use workers::{
+    Arrival, Arrivals, Gate, Log, Quiet, SessionFault, SharedByWorkers, Stream, run_arrivals,
+};
 
 /// A client in memory that gives all that it has, and then its end, and takes all.
 #[derive(Drop)]

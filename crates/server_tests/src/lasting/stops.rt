@@ -1,9 +1,9 @@
 //! Clients that are left: since they are silent, or since the server stops.
 use super::{FOUND, GET_A, Plan, SET_A, STORED, has_ended, has_got, output, sends, serve};
-use frame_front::FrontError;
 use std::alloc::Global;
 use std::process::Abort;
 use std::test::Fail;
+use wire::FrontError;
 use workers::SessionFault;
 
 /// A client that never reads is left after some ticks, and the other one has its replies.

@@ -1,6 +1,5 @@
 //! How long a connection goes on in a turn.
 use super::{SET_A, STORED, is_equal};
-use frame_front::FrontError;
 use map_core::Contents;
 use spiffe_doc::DocumentReader;
 use std::alloc::{AllocError, Global};
@@ -8,6 +7,7 @@ use std::io;
 use std::io::{Read, Write};
 use std::process::Abort;
 use std::test::Fail;
+use wire::FrontError;
 use workers::{Connection, ROOM_BYTES, Stream, TurnEnd};
 
 /// A client that gives all that it has in one piece, and then its end; and takes all.

@@ -1,19 +1,18 @@
 -- How an event is read from a line.
-use Rattle.std.specs.Prelude.{◌≡◌, ◌⊎◌, ℕ, ◌^◌, List, codes, bytes_eq, if◌then◌else◌, Option, Some, None, Result, Ok, Err}
-use Rattle.std.specs.Result.{result_ok}
-use Rattle.spiffe_doc.specs.Document.{document, entry}
-use Rattle.spiffe_doc.specs.Name.{trust_domain}
-use Rattle.spiffe_doc.specs.declared.authority.Authority.{Authority}
-use Rattle.spiffe_doc.specs.declared.error.DocError.{DocError}
+use Rattle.std.specs.Prelude.{◌≡◌, ◌⊎◌, ℕ, ◌^◌, List, codes, nat_lt, bytes_eq, if◌then◌else◌, Option, Some, None, Result, Ok, Err}
 use Rattle.map_core.specs.declared.op.Op.{Op}
-use Rattle.map_core.specs.declared.op.Op.TheVariants as op
 use Rattle.step_core.specs.declared.event.Event.{Event}
 use Rattle.step_core.specs.declared.event.Event.TheVariants.{Begin, Step, Quit, End}
 use Rattle.step_core.specs.declared.event.Why.{Why}
 use Rattle.step_core.specs.declared.event.Why.TheVariants.{Held, Memory}
-use Rattle.frame_lines.specs.RequestForm.{Request, Set, SetIf, Append, Remove, Get, Fetch, Speak}
-use Rattle.frame_lines.specs.Private.RequestReading.{◌>>=◌, split_word, number_of, read_line}
-use Rattle.frame_lines.specs.Private.ReplyReading.{number_below}
+use Rattle.wire.specs.declared.judge.Request.{Request as Judged}
+use Rattle.wire.specs.declared.judge.Request.TheVariants.{Ask}
+use Rattle.wire.specs.declared.refusal.Refusal.{Refusal}
+use Rattle.wire.specs.declared.version.Version.TheVariants.{Two}
+use Rattle.wire.specs.RequestForm.{Request}
+use Rattle.wire.specs.Judge.{judged}
+use Rattle.wire.specs.PayloadReading.{◌>>=◌}
+use Rattle.wire.specs.Private.RequestReading.{split_word, number_of, read_line}
 use Rattle.trace_lines.specs.declared.operation.LineError.{LineError}
 use Rattle.trace_lines.specs.declared.operation.LineError.TheVariants as error
 
@@ -24,36 +23,20 @@ Reads (Err e) given = (e ≡ error.Memory) ⊎ ((e ≡ error.NoEvent) × (given 
 
 -- ---- operations
 
-abbrev pub authority_in : Result (Option Authority) DocError → Option Authority
-authority_in (Ok found) = found
-authority_in (Err fault) = None
-
-unfoldable pub authority_of : List ℕ → Option Authority
-authority_of jwk = authority_in (entry jwk)
+abbrev pub asked_in : Result Judged Refusal → Option Op
+asked_in (Ok (Ask asked)) = Some asked
+asked_in judged = None
 
 unfoldable pub operation_of : Request → Option Op
-operation_of (Set name text) = do
-  domain ← result_ok (trust_domain name)
-  bundle ← result_ok (document text)
-  Some (op.Set domain bundle)
-operation_of (SetIf name expect text) = do
-  domain ← result_ok (trust_domain name)
-  bundle ← result_ok (document text)
-  Some (op.SetIf domain expect bundle)
-operation_of (Append name jwk) = do
-  domain ← result_ok (trust_domain name)
-  authority ← authority_of jwk
-  Some (op.Append domain authority)
-operation_of (Remove name) = do
-  domain ← result_ok (trust_domain name)
-  Some (op.Remove domain)
-operation_of (Get name) = do
-  domain ← result_ok (trust_domain name)
-  Some (op.Get domain)
-operation_of Fetch = Some op.FetchAll
-operation_of (Speak version) = None
+operation_of request = asked_in (judged Two request)
 
 -- ---- events
+
+-- the number below the limit that a word writes in decimal
+unfoldable pub number_below : ℕ → List ℕ → Option ℕ
+number_below limit word = do
+  number ← number_of word
+  if nat_lt number limit then Some number else None
 
 unfoldable pub caller_of : List ℕ → Option ℕ
 caller_of word = number_below (2 ^ 32) word

@@ -1,13 +1,13 @@
 -- What becomes of bytes that are put, one after another.
 use Rattle.std.specs.Prelude.{◌≡◌, ℕ, List, ◌++◌, codes, decimal, Option, Result, Ok, Err}
-use Rattle.frame_front.specs.Counted.{end_in, faults_in, next_count}
-use Rattle.frame_front.specs.declared.counted.Counted.{Counted}
-use Rattle.frame_front.specs.declared.error.FrontError.{FrontError}
-use Rattle.frame_front.specs.declared.error.FrontError.TheVariants.{WriteFault}
-use Rattle.frame_front.specs.Output.{WritesFront}
+use Rattle.wire.specs.Counted.{end_in, faults_in, next_count}
+use Rattle.wire.specs.declared.counted.Counted.{Counted}
+use Rattle.wire.specs.declared.error.FrontError.{FrontError}
+use Rattle.wire.specs.declared.error.FrontError.TheVariants.{WriteFault}
+use Rattle.wire.specs.Output.{WritesFront}
 use Rattle.frame_front.specs.Private.Gathered.{Takes}
 use Rattle.step_core.specs.declared.trace.OpRecord.{OpRecord}
-use Rattle.frame_lines.specs.RequestForm.{◌then◌}
+use Rattle.wire.specs.RequestForm.{◌then◌}
 use Rattle.trace_lines.specs.TraceText.{event_word}
 
 -- what a writer holds, how many of its calls have failed, and the bytes that wait

@@ -5,7 +5,7 @@ use Rattle.slab.specs.Slab.{get}
 use Rattle.map_core.specs.declared.op.Op.{Op}
 use Rattle.map_core.specs.declared.reply.Reply.{Reply}
 use Rattle.map_core.specs.declared.reply.AskError.{AskError}
-use Rattle.frame_front.specs.declared.error.FrontError.{FrontError}
+use Rattle.wire.specs.declared.error.FrontError.{FrontError}
 use Rattle.workers.specs.Connection.{ConnectionView, LastTurn, Turn, told, turn_rounds}
 use Rattle.workers.specs.declared.turn_end.TurnEnd.{TurnEnd}
 use Rattle.workers.specs.AtPort.{PortAnswer}

@@ -1,5 +1,5 @@
 use Rattle.std.proofs.Common.{Err, refl, inl}
-use Rattle.frame_front.specs.declared.error.FrontError.TheVariants.{Memory}
+use Rattle.wire.specs.declared.error.FrontError.TheVariants.{Memory}
 use Rattle.commands.specs.declared.fault.Fault.TheVariants.{Front}
 use Rattle.bundled.proofs.command.show.Goals as goal
 

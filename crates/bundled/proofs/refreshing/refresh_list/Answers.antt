@@ -1,5 +1,5 @@
 use Rattle.std.proofs.Common.{[]}
-use Rattle.frame_front.proofs.OutputLemmas.{tells_nothing}
+use Rattle.wire.proofs.OutputLemmas.{tells_nothing}
 use Rattle.bundled.proofs.refreshing.refresh_list.Goals as goal
 
 pub returns-in_err-server-in-Some : goal.returns-in_err-server-in-Some

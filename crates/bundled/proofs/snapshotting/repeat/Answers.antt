@@ -1,6 +1,6 @@
 use Rattle.std.proofs.Common.{◌++◌, ℕ, subst}
-use Rattle.frame_front.specs.Output.{TellsUnlessFailed, end_of}
-use Rattle.frame_front.proofs.OutputLemmas.{tells_more}
+use Rattle.wire.specs.Output.{TellsUnlessFailed, end_of}
+use Rattle.wire.proofs.OutputLemmas.{tells_more}
 use Rattle.bundled.proofs.snapshotting.repeat.Goals as goal
 
 pub returns-in_err-pass_over : goal.returns-in_err-pass_over

@@ -1,6 +1,6 @@
 use Rattle.std.proofs.Common.{◌≡◌, ℕ, List}
-use Rattle.frame_front.specs.Counted.{faults_in}
-use Rattle.frame_front.specs.Output.{Tells, end_of}
+use Rattle.wire.specs.Counted.{faults_in}
+use Rattle.wire.specs.Output.{Tells, end_of}
 use Rattle.bundled.proofs.snapshotting.repeat.Given as goal
 
 -- some lines were told so far

@@ -1,7 +1,7 @@
 use Rattle.std.proofs.Common.{rules, ◌≡◌, ◌++◌, Ok, Err, subst, take}
 use Rattle.std.specs.Io.KnownBytes.{Consumes}
 use Rattle.std.proofs.KnownBytes.{Consumes-trans}
-use Rattle.frame_front.specs.Frame.{frame}
+use Rattle.wire.specs.Frame.{frame}
 use Rattle.client.specs.Private.Answers.{IsWholeAnswer, IsCountOfAll}
 use Rattle.client.proofs.ClientLemmas.{frame_breaks}
 use Rattle.client.proofs.ListingLemmas.{all_breaks, is_all}

@@ -1,6 +1,6 @@
 use Rattle.std.proofs.Common.{◌≡◌, Err, ap, ◌∙◌, take, refl}
 use Rattle.std.proofs.lemmas.Result.{err_from_is_err_and}
-use Rattle.frame_front.specs.Frame.{frame}
+use Rattle.wire.specs.Frame.{frame}
 use Rattle.client.proofs.ClientLemmas.{version_breaks, other_version}
 use Rattle.client.proofs.client.read_preface.Goals as goal
 

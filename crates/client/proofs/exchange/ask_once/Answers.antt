@@ -1,5 +1,5 @@
 use Rattle.std.proofs.Common.{rules, ◌≡◌, Err}
-use Rattle.frame_front.specs.Counted.{end_in}
+use Rattle.wire.specs.Counted.{end_in}
 use Rattle.client.specs.declared.client_error.ClientError.TheVariants.{WriteFault}
 use Rattle.client.proofs.Requests.{not_sent, not_read}
 use Rattle.client.proofs.exchange.ask_once.Goals as goal

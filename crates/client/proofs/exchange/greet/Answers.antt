@@ -1,6 +1,6 @@
 use Rattle.std.proofs.Common.{rules, ◌≡◌, refl, List, ℕ, [], ◌∷◌, Err, take, subst}
 use Rattle.std.specs.Io.KnownBytes.{Appends}
-use Rattle.frame_front.specs.Counted.{end_in}
+use Rattle.wire.specs.Counted.{end_in}
 use Rattle.client.specs.declared.fault.AskFault.TheVariants.{Server}
 use Rattle.client.proofs.Requests.{greeting_bytes, not_greeted, other_greeting}
 use Rattle.client.proofs.exchange.greet.Goals as goal

@@ -1,5 +1,5 @@
 use Rattle.std.proofs.Common.{rules, ◌≡◌, ◌≢◌, [], length, Err}
-use Rattle.frame_front.specs.Counted.{end_in}
+use Rattle.wire.specs.Counted.{end_in}
 use Rattle.client.proofs.Replies.{then_kept}
 use Rattle.client.proofs.OneLine.{empty, asks_nothing, others_broken, asks_all, not_flushed}
 use Rattle.client.proofs.line.ask_line.Goals as goal

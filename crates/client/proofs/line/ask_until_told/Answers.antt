@@ -1,8 +1,8 @@
 use Rattle.std.proofs.Common.{rules, ◌≡◌, ◌∙◌, ap, subst, Err, take}
 use Rattle.std.proofs.lemmas.Result.{IfOk-weaker, IfErr-weaker}
 use Rattle.std.specs.Io.KnownBytes.{Consumes}
-use Rattle.frame_front.specs.Frame.{IsPayload, frame}
-use Rattle.frame_lines.specs.ReplyForm.{reply as said}
+use Rattle.wire.specs.Frame.{IsPayload, frame}
+use Rattle.wire.specs.ReplyForm.{reply as said}
 use Rattle.client.specs.declared.fault.AskFault.TheVariants.{Server}
 use Rattle.client.proofs.Requests.{goes_on, told_so}
 use Rattle.client.proofs.OneLine.{not_told, bad_reply, first_not_shown}

@@ -1,7 +1,7 @@
 use Rattle.std.proofs.Common.{◌≡◌, ◌∙◌, ap, subst, Some}
 use Rattle.spiffe_doc.specs.Authority.{BundleValue}
 use Rattle.map_core.specs.Name.{Name}
-use Rattle.frame_front.specs.Dump.{item_of}
+use Rattle.wire.specs.Items.{item_of}
 use Rattle.map_core.specs.Laws.{IsAfter}
 use Rattle.frame_front.proofs.DumpTexts.{item_payload}
 use Rattle.client.proofs.ListingLemmas.{no_item_read, same_read}

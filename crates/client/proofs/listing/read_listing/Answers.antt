@@ -4,9 +4,9 @@ use Rattle.std.specs.List.{flat_map}
 use Rattle.std.proofs.lemmas.Result.{err_from_is_err_and}
 use Rattle.std.proofs.KnownBytes.{Consumes-trans}
 use Rattle.map_core.specs.Name.{Name}
-use Rattle.frame_front.specs.Counted.{end_in}
-use Rattle.frame_front.specs.Frame.{frame}
-use Rattle.frame_front.specs.Reply.{item_frame}
+use Rattle.wire.specs.Counted.{end_in}
+use Rattle.wire.specs.Frame.{frame}
+use Rattle.wire.specs.Answers.{item_frame}
 use Rattle.frame_front.specs.Dump.{Domains}
 use Rattle.map_core.specs.Laws.{IsAfter}
 use Rattle.client.proofs.ListingLemmas.{Listed, Listed-one, listing_breaks, listing_bad}

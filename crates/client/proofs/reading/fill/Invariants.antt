@@ -1,6 +1,6 @@
 use Rattle.std.proofs.Common.{◌≡◌, ◌≤◌, ◌-◌, length, take}
 use Rattle.std.specs.Io.KnownBytes.{Consumes}
-use Rattle.frame_front.specs.Counted.{end_in, faults_in}
+use Rattle.wire.specs.Counted.{end_in, faults_in}
 use Rattle.client.proofs.reading.fill.Given as goal
 
 -- the filled front is what was read

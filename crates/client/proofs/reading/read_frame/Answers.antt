@@ -3,7 +3,7 @@ use Rattle.std.proofs.lemmas.List.{take_at}
 use Rattle.std.proofs.lemmas.Result.{err_from_is_err_and}
 use Rattle.std.proofs.KnownBytes.{Consumes-trans}
 use Rattle.std.specs.Io.KnownBytes.{Consumes}
-use Rattle.frame_front.specs.Frame.{frame}
+use Rattle.wire.specs.Frame.{frame}
 use Rattle.client.proofs.ReadingLemmas.{frame_whole, NoFrame-payload}
 use Rattle.client.proofs.reading.read_frame.Goals as goal
 

@@ -1,9 +1,9 @@
 use Rattle.std.proofs.Common.{◌≡◌, ◌∷◌, ◌++◌, ◌∙◌, ap, length, arith}
 use Rattle.spiffe_doc.specs.Text.{text_of}
 use Rattle.map_core.specs.declared.op.Op.TheVariants.{SetIf}
-use Rattle.frame_front.specs.Frame.{frame}
-use Rattle.frame_front.specs.Reply.{expect_bytes}
-use Rattle.frame_lines.specs.RequestForm.{IsFramed}
+use Rattle.wire.specs.Frame.{frame}
+use Rattle.wire.specs.Fields.{expect_bytes}
+use Rattle.wire.specs.RequestForm.{IsFramed}
 use Rattle.client.specs.Request.{request_form}
 use Rattle.client.proofs.RequestLemmas.{head_few, behind_version}
 use Rattle.client.proofs.request.request_head.Goals as goal

@@ -1,7 +1,7 @@
 use Rattle.std.proofs.Common.{rules, ◌≡◌, ◌<◌, ◌∙◌, ap, subst, Err, take}
 use Rattle.std.specs.Io.KnownBytes.{Consumes}
-use Rattle.frame_front.specs.Frame.{IsPayload, frame}
-use Rattle.frame_lines.specs.ReplyForm.{reply as said}
+use Rattle.wire.specs.Frame.{IsPayload, frame}
+use Rattle.wire.specs.ReplyForm.{reply as said}
 use Rattle.client.specs.declared.fault.AskFault.TheVariants.{Server}
 use Rattle.client.proofs.Replies.{goes_on, torn_off, bad_reply, not_shown}
 use Rattle.client.proofs.showing.show_others.Goals as goal

@@ -1,5 +1,5 @@
 use Rattle.std.proofs.Common.{◌≡◌, length}
-use Rattle.frame_front.specs.Counted.{end_in, faults_in}
+use Rattle.wire.specs.Counted.{end_in, faults_in}
 use Rattle.client.specs.Private.Steps.{OthersSoFar}
 use Rattle.client.proofs.showing.show_others.Given as goal
 

@@ -1,5 +1,5 @@
 use Rattle.std.proofs.Common.{◌++◌}
-use Rattle.frame_front.proofs.OutputLemmas.{WritesFront-longer, WritesFront-then}
+use Rattle.wire.proofs.OutputLemmas.{WritesFront-longer, WritesFront-then}
 use Rattle.client.proofs.showing.write_parts.Goals as goal
 
 pub returns-in-Err-clause-front : goal.returns-in-Err-clause-front

@@ -1,7 +1,7 @@
 use Rattle.std.proofs.Common.{rules, ◌≡◌, ◌++◌, List, [], ℕ, refl, sym, ap, subst, ◌∙◌, Err, true, false}
-use Rattle.frame_front.specs.Counted.{end_in}
-use Rattle.frame_lines.specs.Encoding.{EncoderState}
-use Rattle.frame_lines.specs.RequestForm.{IsOneLine}
+use Rattle.wire.specs.Counted.{end_in}
+use Rattle.wire.specs.Encoding.{EncoderState}
+use Rattle.wire.specs.RequestForm.{IsOneLine}
 use Rattle.client.specs.Asking.{ends}
 use Rattle.client.specs.Private.Steps.{StreamSoFar, AsksOne, BreaksOne}
 use Rattle.client.proofs.ManyLines.{begins, goes_on, breaks_off, not_read, reads_on, stopped, last_asked, last_fails}

@@ -1,5 +1,5 @@
 use Rattle.std.proofs.Common.{◌≡◌, [], length}
-use Rattle.frame_front.specs.Counted.{end_in, faults_in}
+use Rattle.wire.specs.Counted.{end_in, faults_in}
 use Rattle.client.specs.Asking.{ends}
 use Rattle.client.specs.Private.Steps.{StreamSoFar}
 use Rattle.client.proofs.stream.ask_lines.Given as goal

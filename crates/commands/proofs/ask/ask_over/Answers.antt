@@ -1,5 +1,5 @@
 use Rattle.std.proofs.Common.{◌≡◌, Err, refl, ap, ◌∙◌}
-use Rattle.frame_front.specs.Counted.{next_count}
+use Rattle.wire.specs.Counted.{next_count}
 use Rattle.client.specs.declared.client_error.ClientError.{ClientError}
 use Rattle.client.specs.declared.client_error.ClientError.TheVariants as client
 use Rattle.client.specs.declared.fault.AskFault.TheVariants as asking

@@ -1,6 +1,6 @@
 use Rattle.std.proofs.Common.{◌≡◌, ◌==◌, ℕ, map, drop, refl, ap, sym, ◌∙◌, inr}
 use Rattle.std.specs.List.{list_any}
-use Rattle.frame_front.specs.declared.error.FrontError.TheVariants.{Memory}
+use Rattle.wire.specs.declared.error.FrontError.TheVariants.{Memory}
 use Rattle.commands.specs.Ask.{joined}
 use Rattle.commands.specs.declared.fault.Fault.TheVariants.{Front, BadLine}
 use Rattle.commands.proofs.ask.ask_words_over.Goals as goal

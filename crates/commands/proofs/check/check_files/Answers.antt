@@ -1,5 +1,5 @@
 use Rattle.std.proofs.Common.{◌<◌, ◌+◌, ℕ, List, [], length, map, get_or, Bor, Some, None, refl, ap, subst, ◌∙◌, arith, Err}
-use Rattle.frame_front.specs.Counted.{end_in}
+use Rattle.wire.specs.Counted.{end_in}
 use Rattle.commands.proofs.Checked.{inside_map, next_name, given_as, unread, no_memory, goes_on, fails}
 use Rattle.commands.proofs.check.check_files.Goals as goal
 

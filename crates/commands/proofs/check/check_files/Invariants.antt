@@ -1,5 +1,5 @@
 use Rattle.std.proofs.Common.{◌≡◌, map}
-use Rattle.frame_front.specs.Counted.{end_in, faults_in}
+use Rattle.wire.specs.Counted.{end_in, faults_in}
 use Rattle.commands.specs.Private.Checking.{SoFar}
 use Rattle.commands.proofs.check.check_files.Given as goal
 

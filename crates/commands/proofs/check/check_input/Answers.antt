@@ -1,5 +1,5 @@
 use Rattle.std.proofs.Common.{ℕ, List, subst}
-use Rattle.frame_front.specs.Counted.{end_in}
+use Rattle.wire.specs.Counted.{end_in}
 use Rattle.commands.specs.Check.{input_document}
 use Rattle.commands.specs.Private.Checking.{ChecksOne}
 use Rattle.commands.proofs.Checked.{judges_input}

@@ -2,7 +2,7 @@ use Rattle.std.proofs.Common.{◌≡◌, ℕ, List, [], ◌++◌, Result, Err, r
 use Rattle.commands.specs.declared.fault.Fault.{Fault}
 use Rattle.commands.specs.declared.fault.Fault.TheVariants.{Front}
 use Rattle.frame_front.specs.Dump.{Domains}
-use Rattle.frame_front.specs.declared.error.FrontError.TheVariants.{Memory, ReadFault, TurnsUsed}
+use Rattle.wire.specs.declared.error.FrontError.TheVariants.{Memory, ReadFault, TurnsUsed}
 use Rattle.dump_views.specs.Changes.{AreChanges}
 use Rattle.dump_views.specs.ChangeLines.{lines_of}
 use Rattle.commands.proofs.diff.lines_between.Goals as goal

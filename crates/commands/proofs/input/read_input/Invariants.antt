@@ -1,6 +1,6 @@
 use Rattle.std.proofs.Common.{◌≡◌, ◌≤◌, length}
 use Rattle.std.specs.Io.KnownBytes.{Consumes}
-use Rattle.frame_front.specs.Counted.{end_in, faults_in, reads_of}
+use Rattle.wire.specs.Counted.{end_in, faults_in, reads_of}
 use Rattle.frame_front.proofs.ReadLemmas.{HasRead}
 use Rattle.commands.specs.Input.{most_input}
 use Rattle.commands.proofs.input.read_input.Given as goal

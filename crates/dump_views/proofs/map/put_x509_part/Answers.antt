@@ -1,4 +1,4 @@
-use Rattle.std.proofs.Common.{◌≡◌, ◌++◌, false, codes, ap, ap₂, sym, ◌∙◌, append-nil, refl}
+use Rattle.std.proofs.Common.{◌++◌, false, codes, ap, ap₂, sym, ◌∙◌, append-nil, refl}
 use Rattle.std.specs.Prelude.{not}
 use Rattle.std.specs.List.{filter}
 use Rattle.spiffe_doc.specs.Bundle.{is_x509}

@@ -1,6 +1,7 @@
 use Rattle.std.proofs.Common.{◌≡◌, ◌++◌, [], refl, ◌∙◌}
 use Rattle.std.proofs.KnownBytes.{Appends-trans}
-use Rattle.frame_front.proofs.OutputLemmas.{WritesFront-then, Takes-whole, on_ok}
+use Rattle.wire.proofs.OutputLemmas.{WritesFront-then, on_ok}
+use Rattle.frame_front.proofs.GatheredLemmas.{Takes-whole}
 use Rattle.frame_front.proofs.pending.put.Goals as goal
 
 pub returns-clause-ok : goal.returns-clause-ok

@@ -2,9 +2,9 @@ use Rattle.std.proofs.Common.{◌≡◌, ◌+◌, ◌++◌, ap, sym, ◌∙◌}
 use Rattle.std.specs.List.{flat_map}
 use Rattle.std.proofs.KnownBytes.{Appends-trans}
 use Rattle.std.proofs.lemmas.List.{at_drop_more}
-use Rattle.frame_front.specs.Reply.{item_frame}
+use Rattle.wire.specs.Answers.{item_frame}
 use Rattle.frame_front.specs.Private.Pending.{items_left}
-use Rattle.frame_front.proofs.OutputLemmas.{cut_again}
+use Rattle.frame_front.proofs.GatheredLemmas.{cut_again}
 use Rattle.frame_front.proofs.pending.put_pairs.Goals as goal
 
 pub returns-in_err-put-clause-front : goal.returns-in_err-put-clause-front

@@ -1,6 +1,6 @@
 use Rattle.std.proofs.Common.{◌≡◌, ◌≤◌, ℕ, List, ◌++◌, ◌-◌, length}
 use Rattle.std.specs.Io.KnownBytes.{Appends}
-use Rattle.frame_front.specs.Counted.{end_in, faults_in}
+use Rattle.wire.specs.Counted.{end_in, faults_in}
 use Rattle.frame_front.specs.Live.{most_ready}
 use Rattle.frame_front.specs.Private.Pending.{items_left}
 use Rattle.frame_front.proofs.pending.put_pairs.Given as goal

@@ -1,7 +1,7 @@
 use Rattle.std.proofs.Common.{◌+◌, [], ◌∷◌, ◌++◌, length, append_assoc, arith, rules}
 use Rattle.std.specs.Int.{w32, to_be_bytes}
 use Rattle.spiffe_doc.specs.Text.{text_of}
-use Rattle.frame_front.proofs.FrameLemmas.{frame_in_parts}
+use Rattle.wire.proofs.FrameLemmas.{frame_in_parts}
 use Rattle.frame_front.proofs.pending.store_pair.Goals as goal
 
 pub returns-clause-ok : goal.returns-clause-ok

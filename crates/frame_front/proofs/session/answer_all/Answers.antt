@@ -1,6 +1,6 @@
 use Rattle.std.proofs.Common.{◌≡◌, length, Ok, Err, refl, ap, ◌∙◌, arith}
 use Rattle.std.proofs.lemmas.Result.{err_from_is_err_and}
-use Rattle.frame_front.specs.declared.error.FrontError.TheVariants.{WriteFault}
+use Rattle.wire.specs.declared.error.FrontError.TheVariants.{WriteFault}
 use Rattle.frame_front.proofs.LiveLemmas.{AnswersFrame-smaller}
 use Rattle.frame_front.proofs.SessionLemmas.{Gathering-none, Gathering-then, Due-then, Due-still, Due-sent, Round-sent, Round-unsent, stopped_round, fewer_than_bytes}
 use Rattle.frame_front.proofs.session.answer_all.Goals as goal

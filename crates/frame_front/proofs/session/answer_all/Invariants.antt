@@ -1,6 +1,6 @@
 use Rattle.std.proofs.Common.{◌≡◌, ◌+◌, ◌*◌, length}
 use Rattle.std.specs.Prelude.{min}
-use Rattle.frame_front.specs.Counted.{end_in, faults_in}
+use Rattle.wire.specs.Counted.{end_in, faults_in}
 use Rattle.frame_front.specs.Live.{waiting}
 use Rattle.frame_front.proofs.SessionLemmas.{Gathering}
 use Rattle.frame_front.proofs.session.answer_all.Given as goal

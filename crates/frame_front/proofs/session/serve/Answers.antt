@@ -1,4 +1,4 @@
-use Rattle.frame_front.specs.Counted.{end_in}
+use Rattle.wire.specs.Counted.{end_in}
 use Rattle.frame_front.proofs.PlainLemmas.{Transcript-plain}
 use Rattle.frame_front.proofs.session.serve.Goals as goal
 

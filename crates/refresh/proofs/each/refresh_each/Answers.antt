@@ -1,7 +1,7 @@
 use Rattle.std.proofs.Common.{◌≡◌, ℕ, ◌+◌, [], ◌∷◌, ◌++◌, length, true, false, ◌&&◌, None, Ok, Err, alloc_error, refl, sym, ap, subst, ◌∙◌, inl, inr, arith}
-use Rattle.frame_front.specs.Counted.{faults_in}
-use Rattle.frame_front.specs.Output.{TellsUnlessFailed, end_of}
-use Rattle.frame_front.proofs.OutputLemmas.{tells_nothing, tells_more}
+use Rattle.wire.specs.Counted.{faults_in}
+use Rattle.wire.specs.Output.{TellsUnlessFailed, end_of}
+use Rattle.wire.proofs.OutputLemmas.{tells_nothing, tells_more}
 use Rattle.refresh.specs.Schedule.{ScheduleValue}
 use Rattle.refresh.specs.Each.{Scene, RefreshesPlace, TellsPlace, all_are_good}
 use Rattle.refresh.specs.Folder.{FetchesFile, FolderState}

@@ -1,6 +1,6 @@
 use Rattle.std.proofs.Common.{◌≡◌, ℕ, List, length, true}
-use Rattle.frame_front.specs.Counted.{faults_in}
-use Rattle.frame_front.specs.Output.{Tells, end_of}
+use Rattle.wire.specs.Counted.{faults_in}
+use Rattle.wire.specs.Output.{Tells, end_of}
 use Rattle.refresh.specs.declared.outcome.Outcome.{Outcome}
 use Rattle.refresh.specs.Each.{TellsFrom, all_are_good}
 use Rattle.refresh.specs.Folder.{FetchesFile}

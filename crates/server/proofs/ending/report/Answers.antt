@@ -3,8 +3,8 @@ use Rattle.std.specs.Prelude.{min, if◌then◌else◌}
 use Rattle.server.specs.declared.lines.ServerLine.TheVariants.{Served, Domains}
 use Rattle.workers.specs.declared.ended.Worked.{Worked}
 use Rattle.server.specs.Serve.{IsOffered, said_line, write_fault, begun_by, have_all_come, session_lines, faults_by}
-use Rattle.frame_front.specs.Output.{TellsUnlessFailed, end_of}
-use Rattle.frame_front.proofs.OutputLemmas.{told_more}
+use Rattle.wire.specs.Output.{TellsUnlessFailed, end_of}
+use Rattle.wire.proofs.OutputLemmas.{told_more}
 use Rattle.server.proofs.ReportLemmas.{all_three, not_all}
 use Rattle.server.proofs.ending.report.Goals as goal
 

@@ -1,7 +1,7 @@
 use Rattle.std.proofs.Common.{List, ℕ, sym, subst}
-use Rattle.frame_front.specs.Output.{TellsUnlessFailed, end_of}
+use Rattle.wire.specs.Output.{TellsUnlessFailed, end_of}
 use Rattle.server.proofs.ReportLemmas.{lines_step}
-use Rattle.frame_front.proofs.OutputLemmas.{told_more}
+use Rattle.wire.proofs.OutputLemmas.{told_more}
 use Rattle.server.proofs.lines.tell_each.Goals as goal
 
 pub loop-fault-preserved : goal.loop-fault-preserved

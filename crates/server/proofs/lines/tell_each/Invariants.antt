@@ -1,6 +1,6 @@
 use Rattle.std.proofs.Common.{take}
 use Rattle.server.specs.Serve.{session_lines}
-use Rattle.frame_front.specs.Output.{TellsUnlessFailed, end_of}
+use Rattle.wire.specs.Output.{TellsUnlessFailed, end_of}
 use Rattle.server.proofs.lines.tell_each.Given as goal
 
 abbrev pub invariant-loop-fault : goal.invariant-loop-fault

@@ -1,8 +1,8 @@
 use Rattle.std.proofs.Common.{List, ℕ, ◌&&◌, sym, ap, take, subst, ◌∙◌}
 use Rattle.server.specs.Serve.{session_lines, have_all_come}
-use Rattle.frame_front.specs.Output.{TellsUnlessFailed, end_of}
+use Rattle.wire.specs.Output.{TellsUnlessFailed, end_of}
 use Rattle.server.proofs.ReportLemmas.{all_lines_step, all_come_step}
-use Rattle.frame_front.proofs.OutputLemmas.{told_more}
+use Rattle.wire.proofs.OutputLemmas.{told_more}
 use Rattle.server.proofs.lines.tell_faults.Goals as goal
 
 pub loop-worker-preserved : goal.loop-worker-preserved

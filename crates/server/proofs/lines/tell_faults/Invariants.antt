@@ -1,6 +1,6 @@
 use Rattle.std.proofs.Common.{◌≡◌, take}
 use Rattle.server.specs.Serve.{have_all_come, session_lines, faults_by}
-use Rattle.frame_front.specs.Output.{TellsUnlessFailed, end_of}
+use Rattle.wire.specs.Output.{TellsUnlessFailed, end_of}
 use Rattle.server.proofs.lines.tell_faults.Given as goal
 
 abbrev pub invariant-loop-worker : goal.invariant-loop-worker

@@ -1,5 +1,5 @@
 use Rattle.std.proofs.Common.{ℕ, List, subst}
-use Rattle.frame_front.specs.Output.{WritesFront}
+use Rattle.wire.specs.Output.{WritesFront}
 use Rattle.server.proofs.LogLines.{front_of}
 use Rattle.server.proofs.log.offer.Goals as goal
 

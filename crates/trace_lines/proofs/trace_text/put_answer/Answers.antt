@@ -1,7 +1,7 @@
 use Rattle.std.proofs.Common.{◌≡◌, ◌++◌, ap}
 use Rattle.std.specs.List.{flat_map}
-use Rattle.frame_lines.specs.Answers.{bundles_of}
-use Rattle.frame_lines.specs.ReplyForm.{reply as said, line_of}
+use Rattle.wire.specs.Answers.{bundles_of}
+use Rattle.wire.specs.ReplyForm.{reply as said, line_of}
 use Rattle.trace_lines.specs.TraceText.{answer_words, bundle_words}
 use Rattle.trace_lines.proofs.Writes.{hands_on, front_longer, puts_then}
 use Rattle.trace_lines.proofs.trace_text.put_answer.Goals as goal

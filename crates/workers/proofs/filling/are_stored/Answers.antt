@@ -1,6 +1,6 @@
 use Rattle.std.proofs.Common.{◌≡◌, ◌+◌, suc, ◌∷◌, [], List, ◌++◌, ap, sym, subst, refl, ◌∙◌, append_assoc, arith}
 use Rattle.std.specs.Prelude.{ℕ}
-use Rattle.frame_front.specs.Frame.{frame}
+use Rattle.wire.specs.Frame.{frame}
 use Rattle.workers.specs.Filling.{stored_replies}
 use Rattle.workers.proofs.Fillings.{next_stored, version_first}
 use Rattle.workers.proofs.filling.are_stored.Goals as goal

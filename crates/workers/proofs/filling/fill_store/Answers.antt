@@ -1,7 +1,7 @@
 use Rattle.std.proofs.Common.{◌≡◌, sym, ap, subst, refl, ◌∙◌, arith}
 use Rattle.std.specs.Prelude.{ℕ, suc, Ok, Some}
-use Rattle.frame_front.specs.Counted.{end_in}
-use Rattle.frame_front.specs.declared.error.FrontError.{FrontError}
+use Rattle.wire.specs.Counted.{end_in}
+use Rattle.wire.specs.declared.error.FrontError.{FrontError}
 use Rattle.shard_store.specs.declared.change.Seen.{Seen}
 use Rattle.shard_store.specs.Pass.{StoreView}
 use Rattle.shard_store.specs.Seated.{SeatedAnswer}

@@ -2,9 +2,9 @@ use Rattle.std.proofs.Common.{◌≡◌, ℕ, List, inl, inr, refl, ap, subst}
 use Rattle.std.specs.Prelude.{◌⊎◌}
 use Rattle.command_line.specs.declared.settings.Settings.{Settings}
 use Rattle.commands.specs.Fault.{fault_line}
-use Rattle.frame_front.specs.Output.{End, Tells, end_of}
+use Rattle.wire.specs.Output.{End, Tells, end_of}
 use Rattle.commands.specs.declared.fault.Fault.TheVariants.{Front, Listen}
-use Rattle.frame_front.specs.declared.error.FrontError.TheVariants.{Memory}
+use Rattle.wire.specs.declared.error.FrontError.TheVariants.{Memory}
 use Rattle.shard_store.specs.Pass.{StoreView, PassView}
 use Rattle.server.specs.Serve.{EndsEarly, IsSetUp, ServeRun, SetUpRun}
 use Rattle.workers.specs.declared.ended.Worked.{Worked}

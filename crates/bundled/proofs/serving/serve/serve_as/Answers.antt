@@ -2,7 +2,7 @@ use Rattle.std.proofs.Common.{◌≡◌, ◌⊎◌, ℕ, List, subst, sym}
 use Rattle.command_line.specs.declared.settings.Connections.{Connections}
 use Rattle.command_line.specs.declared.settings.Connections.TheVariants.{Each, Unlimited}
 use Rattle.command_line.specs.declared.settings.Lasting.{Lasting}
-use Rattle.frame_front.specs.Output.{end_of}
+use Rattle.wire.specs.Output.{end_of}
 use Rattle.commands.specs.declared.fault.Fault.TheVariants.{Listen}
 use Rattle.server.specs.Serve.{EndsEarly, SetUpRun}
 use Rattle.shard_store.specs.Pass.{StoreView, PassView}

@@ -1,5 +1,5 @@
 use Rattle.std.proofs.Common.{◌+◌, length, drop, ap, arith, length-append}
-use Rattle.frame_front.proofs.FrameLemmas.{length-frame}
+use Rattle.wire.proofs.FrameLemmas.{length-frame}
 use Rattle.frame_front.proofs.live.LiveSession.step.Goals as goal
 
 pub pass-requires-clause-stands : goal.pass-requires-clause-stands

@@ -1,7 +1,8 @@
 use Rattle.std.proofs.Common.{◌++◌, ap, sym, ◌∙◌, subst, append_assoc}
-use Rattle.frame_front.specs.Output.{WritesFront}
+use Rattle.wire.specs.Output.{WritesFront}
 use Rattle.frame_front.specs.Private.Pending.{domains_left, reply_left}
-use Rattle.frame_front.proofs.OutputLemmas.{WritesFront-longer, Takes-all, Takes-then, Takes-cut, Takes-unsent}
+use Rattle.wire.proofs.OutputLemmas.{WritesFront-longer}
+use Rattle.frame_front.proofs.GatheredLemmas.{Takes-all, Takes-then, Takes-cut, Takes-unsent}
 use Rattle.frame_front.proofs.pending.PendingReply.write.Goals as goal
 
 pub returns-in_err-put-clause-front : goal.returns-in_err-put-clause-front

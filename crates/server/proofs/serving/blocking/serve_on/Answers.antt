@@ -10,8 +10,8 @@ use Rattle.workers.proofs.FinishedLists.{all_long, all_own, kept_own, kept_range
 use Rattle.server.specs.Serve.{always_open, write_fault, Reports}
 use Rattle.commands.specs.Fault.{fault_line}
 use Rattle.commands.specs.declared.fault.Fault.TheVariants.{Front}
-use Rattle.frame_front.specs.Output.{TellsUnlessFailed, end_of}
-use Rattle.frame_front.specs.declared.error.FrontError.TheVariants.{Memory}
+use Rattle.wire.specs.Output.{TellsUnlessFailed, end_of}
+use Rattle.wire.specs.declared.error.FrontError.TheVariants.{Memory}
 use Rattle.server.specs.Serving.{ClientComes, EndsClient, unknown}
 use Rattle.server.proofs.serving.blocking.serve_on.Goals as goal
 

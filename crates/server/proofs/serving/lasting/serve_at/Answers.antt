@@ -3,8 +3,8 @@ use Rattle.workers.specs.Closing.{AreAll}
 use Rattle.server.specs.Serve.{always_open, Reports}
 use Rattle.commands.specs.Fault.{fault_line}
 use Rattle.commands.specs.declared.fault.Fault.TheVariants.{Front}
-use Rattle.frame_front.specs.Output.{TellsUnlessFailed, end_of}
-use Rattle.frame_front.specs.declared.error.FrontError.TheVariants.{Memory}
+use Rattle.wire.specs.Output.{TellsUnlessFailed, end_of}
+use Rattle.wire.specs.declared.error.FrontError.TheVariants.{Memory}
 use Rattle.workers.proofs.WorkedLists.{all_own, all_long, ranges_same}
 use Rattle.server.specs.Serving.{most_silent}
 use Rattle.server.proofs.serving.lasting.serve_at.Goals as goal

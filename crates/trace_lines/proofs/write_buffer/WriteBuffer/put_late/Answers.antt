@@ -1,5 +1,5 @@
 use Rattle.std.proofs.Common.{◌++◌, ◌∙◌, refl}
-use Rattle.frame_front.proofs.OutputLemmas.{WritesFront-longer}
+use Rattle.wire.proofs.OutputLemmas.{WritesFront-longer}
 use Rattle.trace_lines.proofs.Writes.{wrote_more, hands_on}
 use Rattle.trace_lines.specs.Private.Puts.{out_of}
 use Rattle.trace_lines.proofs.write_buffer.WriteBuffer.put_late.Goals as goal

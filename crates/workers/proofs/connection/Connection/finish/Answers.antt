@@ -1,8 +1,8 @@
 use Rattle.std.proofs.Common.{Ok, inl, sym, subst}
-use Rattle.frame_front.specs.Frame.{IsUnfinished}
-use Rattle.frame_front.specs.Decoder.{BeginsWithFrame}
+use Rattle.wire.specs.Frame.{IsUnfinished}
+use Rattle.wire.specs.Decoder.{BeginsWithFrame}
 use Rattle.frame_front.specs.Live.{FinishesAt}
-use Rattle.frame_front.proofs.FrameLemmas.{none_at_end}
+use Rattle.wire.proofs.FrameLemmas.{none_at_end}
 use Rattle.workers.proofs.connection.Connection.finish.Goals as goal
 
 -- what is unfinished begins with no whole frame

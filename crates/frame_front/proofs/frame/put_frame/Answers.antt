@@ -1,8 +1,0 @@
-use Rattle.std.proofs.Common.{◌+◌, length, arith, rules}
-use Rattle.frame_front.proofs.FrameLemmas.{frame_in_parts}
-use Rattle.frame_front.proofs.frame.put_frame.Goals as goal
-
-pub returns : goal.returns
-returns c =
-    let whole = frame_in_parts c.args.out.now.items c.args.front.now c.args.rest.now (length c.args.front.now + length c.args.rest.now) (omega arith) in
-    search (rules, whole)

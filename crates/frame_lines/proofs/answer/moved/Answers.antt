@@ -1,5 +1,0 @@
-use Rattle.frame_lines.proofs.AnswerLines.{moved_is_lined}
-use Rattle.frame_lines.proofs.answer.moved.Goals as goal
-
-pub returns-clause-lined : goal.returns-clause-lined
-returns-clause-lined c = moved_is_lined c.args.shard c.args.first c.args.second (c.ranges.shard).fits (c.ranges.first).fits (c.ranges.second).fits

@@ -1,5 +1,0 @@
-use Rattle.frame_lines.proofs.AnswerLines.{answers_have_lines}
-use Rattle.frame_lines.proofs.laws.answers_have_lines.Goals as goal
-
-pub returns : goal.returns
-returns c = answers_have_lines

@@ -1,5 +1,0 @@
-use Rattle.frame_lines.proofs.Texts.{found_is_lined}
-use Rattle.frame_lines.proofs.laws.found_has_line.Goals as goal
-
-pub returns : goal.returns
-returns c = found_is_lined

@@ -1,5 +1,0 @@
-use Rattle.frame_lines.proofs.RefusalLines.{refusals_have_lines}
-use Rattle.frame_lines.proofs.laws.refusals_have_lines.Goals as goal
-
-pub returns : goal.returns
-returns c = refusals_have_lines

@@ -1,5 +1,0 @@
-use Rattle.frame_lines.proofs.SessionLines.{session_has_lines}
-use Rattle.frame_lines.proofs.laws.sessions_have_lines.Goals as goal
-
-pub returns : goal.returns
-returns g c = session_has_lines g.A.Ask.answers

@@ -1,8 +1,0 @@
-use Rattle.frame_lines.proofs.ReplyLines.{found_is, only_is}
-use Rattle.frame_lines.proofs.reply_line.reply_of_line.Goals as goal
-
-pub returns-clause-found : goal.returns-clause-found
-returns-clause-found c = found_is c.args.line.now c.read_line.result c.read_line.ensures
-
-pub returns-clause-only : goal.returns-clause-only
-returns-clause-only c = only_is c.args.line.now c.read_line.result c.read_line.ensures

@@ -1,9 +1,0 @@
-use Rattle.std.proofs.Common.{[], ◌∷◌, ◌++◌, ap, ◌∙◌}
-use Rattle.frame_lines.specs.RequestForm.{expect_word}
-use Rattle.frame_lines.proofs.Heads.{expect_is_line, spaced_is_line}
-use Rattle.frame_lines.proofs.request_words.expect_words.Goals as goal
-
-pub returns-clause-plain : goal.returns-clause-plain
-returns-clause-plain c =
-    let word = expect_word c.args.expect in
-    spaced_is_line word c.put.new.head.items (expect_is_line c.args.expect c.put_expect.ensures.fits) (c.put.ensures ∙ ap (λ b. b ++ 32 ∷ []) (c.put_expect.ensures.items ∙ ap (λ b. b ++ word) c.head_of-words.ensures))

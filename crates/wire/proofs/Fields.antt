@@ -1,0 +1,82 @@
+-- Numbers, expectations and versions as words.
+use Rattle.std.proofs.Common.{◌≡◌, ◌⊎◌, inl, inr, ℕ, ◌<◌, ◌^◌, arith, Bool, true, false, List, [], ◌∷◌, Some, None, refl, ap, subst, ◌∙◌, ne_eqb}
+use Rattle.std.specs.List.{list_any}
+use Rattle.std.specs.Prelude.{◌==◌, ◌||◌, codes, decimal, bytes_eq, if◌then◌else◌, option_map}
+use Rattle.std.specs.Str.Parse.{AllDigits}
+use Rattle.std.proofs.lemmas.Fmt.{decimal_is_IsNumeral}
+use Rattle.std.proofs.lemmas.Str.Parse.{digit_from_value}
+use Rattle.std.proofs.lemmas.Option.{same_Some, none-some}
+use Rattle.map_core.specs.declared.op.Expect.{Expect}
+use Rattle.map_core.specs.declared.op.Expect.TheVariants.{Absent, Sequence, Unnumbered}
+use Rattle.wire.specs.declared.version.Version.{Version}
+use Rattle.wire.specs.declared.version.Version.TheVariants.{One, Two}
+use Rattle.wire.specs.RequestForm.{IsExpect, IsWord, expect_word, version_word}
+use Rattle.wire.specs.Private.RequestReading.{number_of, expect_of, version_of}
+use Rattle.wire.proofs.Numbers.{number_found, number_of-decimal}
+use Rattle.wire.proofs.Cases.{if_some, same_bytes, map_some}
+
+-- ---- expectations
+
+pub expect_found : (word : List ℕ) (e : Expect) → expect_of word ≡ Some e → (word ≡ expect_word e) × IsExpect e
+unfolding expect_of
+expect_found word e is = elim (if_some (bytes_eq word (codes "absent")) (Some Absent) _ e is) [
+  | inl h ↦ subst (λ (x : Expect). (word ≡ expect_word x) × IsExpect x) (same_Some Absent e h.1) (same_bytes word (codes "absent") h.0, tt)
+  | inr h ↦ elim (if_some (bytes_eq word (codes "none")) (Some Unnumbered) _ e h.1) [
+    | inl k ↦ subst (λ (x : Expect). (word ≡ expect_word x) × IsExpect x) (same_Some Unnumbered e k.1) (same_bytes word (codes "none") k.0, tt)
+    | inr k ↦ let n = map_some Sequence (number_of word) e k.1 in let m = number_found word n.0 n.1 in subst (λ (x : Expect). (word ≡ expect_word x) × IsExpect x) n.2 (m.1, m.0)
+  ]
+]
+
+-- a number begins with a digit
+pub no_number : (n byte : ℕ) → n < 2 ^ 64 → (byte < 48) ⊎ (57 < byte) → (rest : List ℕ) → bytes_eq (decimal n) (byte ∷ rest) ≡ false
+no_number n byte small other rest = by (bytes_eq (decimal n) (byte ∷ rest)) refl other
+  where
+    by : (b : Bool) → bytes_eq (decimal n) (byte ∷ rest) ≡ b → (byte < 48) ⊎ (57 < byte) → b ≡ false
+    by false e away = refl
+    by true e away =
+        let digits = subst (AllDigits 10) (same_bytes (decimal n) (byte ∷ rest) e) (decimal_is_IsNumeral n small).0.1 in
+        elim away [
+          | inl low ↦ absurd (omega (arith, digit_from_value byte digits.0))
+          | inr high ↦ absurd (omega (arith, digit_from_value byte digits.0))
+        ]
+
+pub expect_read : (e : Expect) → IsExpect e → expect_of (expect_word e) ≡ Some e
+unfolding expect_of
+expect_read Absent fits = refl
+expect_read Unnumbered fits = refl
+expect_read (Sequence n) fits =
+    ap (λ (b : Bool). if b then Some Absent else (if bytes_eq (decimal n) (codes "none") then Some Unnumbered else option_map Sequence (number_of (decimal n)))) (no_number n 97 fits (inr (omega arith)) (98 ∷ 115 ∷ 101 ∷ 110 ∷ 116 ∷ []))
+    ∙ ap (λ (b : Bool). if b then Some Unnumbered else option_map Sequence (number_of (decimal n))) (no_number n 110 fits (inr (omega arith)) (111 ∷ 110 ∷ 101 ∷ []))
+    ∙ ap (option_map Sequence) (number_of-decimal n fits)
+
+digits_are_word : (ds : List ℕ) → AllDigits 10 ds → IsWord ds
+digits_are_word [] all = refl
+digits_are_word (d ∷ ds) all =
+    let digit = digit_from_value d all.0 in
+    let other : (d == 32) ≡ false = ne_eqb d 32 (λ is. omega (arith, digit, is)) in
+    ap (λ (b : Bool). b || list_any (λ byte. byte == 32) ds) other ∙ digits_are_word ds all.1
+
+pub decimal_is_word : (n : ℕ) → n < 2 ^ 64 → IsWord (decimal n)
+decimal_is_word n fits = digits_are_word (decimal n) (decimal_is_IsNumeral n fits).0.1
+
+pub expect_is_word : (e : Expect) → IsExpect e → IsWord (expect_word e)
+expect_is_word Absent fits = refl
+expect_is_word Unnumbered fits = refl
+expect_is_word (Sequence n) fits = decimal_is_word n fits
+
+-- ---- versions
+
+pub version_found : (word : List ℕ) (v : Version) → version_of word ≡ Some v → word ≡ version_word v
+unfolding version_of
+version_found word v is = elim (if_some (bytes_eq word (codes "1")) (Some One) _ v is) [
+  | inl h ↦ same_bytes word (codes "1") h.0 ∙ ap version_word (same_Some One v h.1)
+  | inr h ↦ elim (if_some (bytes_eq word (codes "2")) (Some Two) None v h.1) [
+    | inl k ↦ same_bytes word (codes "2") k.0 ∙ ap version_word (same_Some Two v k.1)
+    | inr k ↦ absurd (none-some v k.1)
+  ]
+]
+
+pub version_read : (v : Version) → version_of (version_word v) ≡ Some v
+unfolding version_of
+version_read One = refl
+version_read Two = refl

@@ -1,0 +1,83 @@
+-- How a request is read from the payload of a frame.
+use Rattle.std.specs.Prelude.{ℕ, List, [], ◌∷◌, length, take, drop, nat_le, ◌==◌, ◌&&◌, if◌then◌else◌, Option, Some, None}
+use Rattle.std.specs.Int.{w64, from_be_bytes}
+use Rattle.map_core.specs.declared.op.Expect.{Expect}
+use Rattle.map_core.specs.declared.op.Expect.TheVariants.{Absent, Sequence, Unnumbered}
+use Rattle.wire.specs.declared.version.Version.TheVariants.{One, Two}
+use Rattle.wire.specs.RequestForm.{Request, Set, SetIf, Append, Remove, Get, Fetch, Speak}
+
+infixl 10 ◌>>=◌
+abbrev pub ◌>>=◌ : {A B : Type 0} → Option A → (A → Option B) → Option B
+None >>= f = None
+(Some x) >>= f = f x
+
+-- a byte that says how many bytes the name has, these bytes, and what follows them
+unfoldable pub split_named : List ℕ → Option (List ℕ × List ℕ)
+split_named [] = None
+split_named (size ∷ bytes) = if nat_le size (length bytes) then Some (take size bytes, drop size bytes) else None
+
+-- nothing follows
+abbrev pub alone : {A : Type 0} → A → List ℕ → Option A
+alone value [] = Some value
+alone value (byte ∷ bytes) = None
+
+unfoldable pub lone_named : List ℕ → Option (List ℕ)
+lone_named bytes = do
+  parts ← split_named bytes
+  alone parts.0 parts.1
+
+-- an expectation, and what follows it: 0, or 1 and a sequence in 8 bytes, or 2
+unfoldable pub split_expect : List ℕ → Option (Expect × List ℕ)
+split_expect [] = None
+split_expect (kind ∷ bytes) =
+    if kind == 0 then Some (Absent, bytes)
+    else if (kind == 1) && nat_le 8 (length bytes) then Some (Sequence (from_be_bytes w64 (take 8 bytes)), drop 8 bytes)
+    else if kind == 2 then Some (Unnumbered, bytes)
+    else None
+
+unfoldable pub set_in : List ℕ → Option Request
+set_in bytes = do
+  parts ← split_named bytes
+  Some (Set parts.0 parts.1)
+
+unfoldable pub set_if_in : List ℕ → Option Request
+set_if_in bytes = do
+  parts ← split_named bytes
+  expected ← split_expect parts.1
+  Some (SetIf parts.0 expected.0 expected.1)
+
+unfoldable pub append_in : List ℕ → Option Request
+append_in bytes = do
+  parts ← split_named bytes
+  Some (Append parts.0 parts.1)
+
+unfoldable pub remove_in : List ℕ → Option Request
+remove_in bytes = do
+  name ← lone_named bytes
+  Some (Remove name)
+
+unfoldable pub get_in : List ℕ → Option Request
+get_in bytes = do
+  name ← lone_named bytes
+  Some (Get name)
+
+unfoldable pub speak_in : List ℕ → Option Request
+speak_in [] = None
+speak_in (number ∷ []) = if number == 1 then Some (Speak One) else if number == 2 then Some (Speak Two) else None
+speak_in (number ∷ byte ∷ bytes) = None
+
+unfoldable pub request_by_letter : ℕ → List ℕ → Option Request
+request_by_letter letter bytes =
+    if letter == 83 then set_in bytes
+    else if letter == 65 then append_in bytes
+    else if letter == 82 then remove_in bytes
+    else if letter == 71 then get_in bytes
+    else if letter == 70 then alone Fetch bytes
+    else if letter == 86 then speak_in bytes
+    else if letter == 67 then set_if_in bytes
+    else None
+
+-- the request of a payload
+unfoldable pub read_payload : List ℕ → Option Request
+read_payload [] = None
+read_payload (letter ∷ bytes) = request_by_letter letter bytes

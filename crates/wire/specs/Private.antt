@@ -1,0 +1,4 @@
+pub mod RequestReading
+pub mod ReplyReading
+pub mod Encoders
+pub mod Decoders
