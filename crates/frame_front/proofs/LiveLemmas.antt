@@ -1,5 +1,5 @@
 -- Lemmas on sessions without ends.
-use Rattle.std.proofs.Common.{◌≡◌, ◌≢◌, ◌⊎◌, ℕ, zero, suc, ◌+◌, ◌*◌, ◌<◌, ◌≤◌, List, [], ◌∷◌, ◌++◌, length, refl, sym, ap, ◌∙◌, inl, inr, arith, append_assoc, append-nil, length-append, Result, Ok, Err, OnErr, Bool}
+use Rattle.std.proofs.Common.{◌≡◌, ◌≢◌, ℕ, zero, suc, ◌+◌, ◌*◌, ◌<◌, ◌≤◌, List, [], ◌∷◌, ◌++◌, length, refl, sym, ap, ◌∙◌, inl, inr, arith, append_assoc, append-nil, length-append, Result, Ok, Err, OnErr, Bool}
 use Rattle.std.specs.Prelude.{min, take}
 use Rattle.std.specs.List.{concat, flat_map}
 use Rattle.std.proofs.lemmas.List.{take_all}
@@ -10,12 +10,11 @@ use Rattle.map_core.specs.declared.op.Op.{Op}
 use Rattle.map_core.specs.declared.reply.Reply.{Reply}
 use Rattle.map_core.specs.declared.reply.AskError.{AskError}
 use Rattle.wire.specs.Frame.{IsUnfinished}
-use Rattle.frame_front.specs.Live.{LiveView, LiveAnswers, ComeBelowLimit, Feeds, StopsAt, live_view, reply_limit, room_of, waiting}
+use Rattle.frame_front.specs.Live.{LiveView, ComeBelowLimit, Feeds, live_view, room_of, waiting}
 use Rattle.wire.specs.Answers.{item_frame}
 use Rattle.frame_front.specs.Session.{Serves}
-use Rattle.frame_front.specs.declared.answered.Answered.{Answered}
 use Rattle.frame_front.specs.Private.Pending.{items_left}
-use Rattle.frame_front.specs.Private.Steps.{AnswersFrame, Stays}
+use Rattle.frame_front.specs.Private.Steps.{AnswersFrame}
 use Rattle.wire.proofs.FrameLemmas.{longer_by_frame}
 use Rattle.frame_front.proofs.SessionLemmas.{Serves-none, Serves-one, Serves-then, concat-one}
 
@@ -78,19 +77,6 @@ module _ {S : Type 0} (answers : S → Op → Result Reply AskError → S → Ty
       few = inr (so_far.texts, step.text, refl, omega (arith, step.below, ap length so_far.grew));
       counted = omega (arith, so_far.counted, length-append so_far.payloads (step.payload ∷ []));
       long = omega (arith, so_far.long, step.long, ap length step.waits, length-append (waiting now) step.text);
-    }
-
-    -- no more is answered
-    pub Answering-ends : (result : Answered) → result.frames ≡ count → Stays answers now new map_now map_new → StopsAt result.next new
-        → LiveAnswers answers result start new map_start map_new
-    Answering-ends result counted stays stops = record {
-      payloads = so_far.payloads;
-      texts = so_far.texts;
-      serves = rw (stays.0, stays.1, stays.3) so_far.serves;
-      waits = stays.2 ∙ so_far.grew;
-      few = so_far.few;
-      counted = counted ∙ so_far.counted;
-      stops = stops;
     }
 
 -- a session that wants to read has room

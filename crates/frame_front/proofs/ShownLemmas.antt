@@ -1,5 +1,5 @@
 -- A get whose bundle was stored where it was shown.
-use Rattle.std.proofs.Common.{◌≡◌, ℕ, ◌+◌, ◌≤◌, List, [], ◌∷◌, ◌++◌, length, false, Option, None, Ok, refl, sym, ap, ◌∙◌, subst, inl, arith, append-nil, length-append}
+use Rattle.std.proofs.Common.{◌≡◌, ℕ, List, [], ◌∷◌, length, Option, None, Ok, refl, sym, ap, subst, inl, arith, append-nil, length-append}
 use Rattle.std.specs.Prelude.{Result}
 use Rattle.spiffe_doc.specs.Authority.{BundleValue}
 use Rattle.spiffe_doc.specs.Text.{text_of}
@@ -14,12 +14,11 @@ use Rattle.wire.specs.declared.refusal.Refusal.{Refusal}
 use Rattle.wire.specs.declared.judge.Request.{Request}
 use Rattle.wire.specs.declared.judge.Request.TheVariants.{Ask}
 use Rattle.wire.specs.declared.version.Version.{Version}
-use Rattle.frame_front.specs.Live.{most_part}
 use Rattle.wire.specs.Answers.{reply_frames}
 use Rattle.wire.specs.RequestForm as form
 use Rattle.wire.specs.Judge.{parse_name, judged}
 use Rattle.frame_front.specs.Session.{AnswersRequest}
-use Rattle.frame_front.specs.Private.Pending.{AnswersLater, stores_found}
+use Rattle.frame_front.specs.Private.Pending.{AnswersNow, stores_found}
 use Rattle.wire.proofs.FrameLemmas.{length-frame}
 use Rattle.frame_front.proofs.ReplyLemmas.{reply_answers}
 
@@ -28,22 +27,20 @@ request_get : (version : Version) (name : List ℕ) (d : Name) → parse_name na
 unfolding judged
 request_get version name d is = rw is refl
 
-module _ {S : Type 0} (answers : S → Op → Result Reply AskError → S → Type 0) (old new : S) (d : Name) (ready ready_new left : List ℕ) (shown : Option Reply) where
+module _ {S : Type 0} (answers : S → Op → Result Reply AskError → S → Type 0) (old new : S) (d : Name) (ready ready_new : List ℕ) (shown : Option Reply) where
   shown_none : shown ≡ None → ShowsGet {E = AskError} stores_found (λ (answer : Result Reply AskError). answers old (Get d) answer new) ready (Ok shown) ready_new
       → (b : BundleValue) × answers old (Get d) (Ok (Found b)) new × stores_found ready b ready_new
   shown_none none shows = subst (λ (o : Option Reply). ShowsGet {E = AskError} stores_found (λ (answer : Result Reply AskError). answers old (Get d) answer new) ready (Ok o) ready_new) none shows
 
-  pub shown_late : (version : Version) (name : List ℕ) → parse_name name ≡ Ok d → shown ≡ None
-      → ShowsGet {E = AskError} stores_found (λ (answer : Result Reply AskError). answers old (Get d) answer new) ready (Ok shown) ready_new → left ≡ []
-      → AnswersLater answers false (version, old) (judged version (form.Get name)) (version, new) ready ready_new left
-  shown_late version name is none shows nothing = let s = shown_none none shows in let text : List ℕ = 102 ∷ text_of s.0 in (
+  -- the reply has come after what was ready
+  pub shown_now : (version : Version) (name : List ℕ) → parse_name name ≡ Ok d → shown ≡ None
+      → ShowsGet {E = AskError} stores_found (λ (answer : Result Reply AskError). answers old (Get d) answer new) ready (Ok shown) ready_new
+      → AnswersNow answers None (version, old) (judged version (form.Get name)) (version, new) ready ready_new
+  shown_now version name is none shows = let s = shown_none none shows in let text : List ℕ = 102 ∷ text_of s.0 in (
     reply_frames (Found s.0),
     inl (subst (λ (r : Result Request Refusal). AnswersRequest answers r (version, old) (reply_frames (Found s.0)) (version, new)) (sym (request_get version name d is)) (Ok (Found s.0), s.1, inl refl, refl)),
     omega (arith, length-frame text [], ap length (append-nil (reply_frames (Found s.0)))),
-    sym (reply_answers (Found s.0)),
-    ap (λ l. ready_new ++ l) nothing ∙ append-nil ready_new ∙ s.2.0,
+    reply_answers (Found s.0),
+    s.2.0,
+    omega (arith, ap length s.2.0, length-append ready (reply_frames (Found s.0)), length-frame text [], ap length (append-nil (reply_frames (Found s.0))), ap length (append-nil (text_of s.0)), s.2.1),
   )
-
-  pub shown_few : shown ≡ None → ShowsGet {E = AskError} stores_found (λ (answer : Result Reply AskError). answers old (Get d) answer new) ready (Ok shown) ready_new → length ready_new ≤ length ready + most_part
-  shown_few none shows = let s = shown_none none shows in let text : List ℕ = 102 ∷ text_of s.0 in
-      omega (arith, ap length s.2.0, length-append ready (reply_frames (Found s.0)), length-frame text [], ap length (append-nil (reply_frames (Found s.0))), ap length (append-nil (text_of s.0)), s.2.1)

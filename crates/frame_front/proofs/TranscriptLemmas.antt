@@ -1,5 +1,5 @@
 -- Lemmas on a call of `serve`: what stands after some turns, and each way to end.
-use Rattle.std.proofs.Common.{◌≡◌, ℕ, ◌+◌, ◌*◌, ◌<◌, ◌≤◌, List, [], ◌++◌, length, refl, sym, ap, ◌∙◌, arith, append_assoc, append-nil, length-append, subst, Result, Ok, Err}
+use Rattle.std.proofs.Common.{◌≡◌, ℕ, ◌+◌, ◌*◌, ◌<◌, ◌≤◌, List, [], ◌++◌, length, refl, sym, ap, ◌∙◌, arith, append_assoc, length-append, subst, Result, Ok, Err}
 use Rattle.std.specs.Prelude.{Option}
 use Rattle.std.specs.List.{concat}
 use Rattle.std.specs.Io.KnownBytes.{Appends, Consumes}
@@ -171,30 +171,6 @@ module _ {S : Type 0} (answers : S → Op → Result Reply AskError → S → Ty
       few_read = read_in piece turns few;
       used = Round-used fault (length round.payloads) turns _ round.rest kept_new round.ends;
       ended = Round-input fault (length round.payloads) round.rest kept_new left_new round.ends;
-    }
-
-    -- the session ends with no further byte
-    pub Transcript-still : (left_new : Option (List ℕ)) (piece : List ℕ) (result : Result ℕ FrontError) (turns : ℕ)
-        → 4096 * turn + length piece ≤ 4096 * turns → Consumes left left_new piece → piece ≡ [] → EndsAt result (length so_far.payloads) kept → Writes result so_far.texts (concat so_far.texts)
-        → UsesTurns result turns turn → EndsInput result left_new
-        → Transcript answers result turns left_old left_new held_old held start now
-    Transcript-still left_new piece result turns few took none ends writes used ended = record {
-      read = so_far.read ++ piece;
-      written = concat so_far.texts;
-      version = version;
-      consumes = Consumes-trans left_old left left_new so_far.read piece so_far.consumes took;
-      appends = so_far.appends;
-      session = record {
-        payloads = so_far.payloads;
-        texts = so_far.texts;
-        rest = kept ++ piece;
-        serves = Serves-read answers so_far.read kept piece so_far.payloads so_far.texts (One, start) (version, now) so_far.serves;
-        ends = subst (EndsAt result (length so_far.payloads)) (sym (append-nil kept) ∙ ap (λ p. kept ++ p) (sym none)) ends;
-        writes = writes;
-      };
-      few_read = read_in piece turns few;
-      used = more_bytes result turns turn (length (so_far.read ++ piece)) (omega (arith, so_far.at_least, length-append so_far.read piece)) used;
-      ended = ended;
     }
 
     -- a piece was read, and there was no memory to keep it

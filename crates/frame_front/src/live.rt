@@ -9,18 +9,26 @@ ghost use Rattle.frame_front.specs.Private.Steps.{Steps};
 use crate::answered::{Answered, Wants};
 use crate::pending::REPLY_LIMIT;
 use crate::replies::Replies;
+use bytes::BytesMut;
 use map_core::Ask;
 use spiffe_doc::{DocumentReader, Memory};
 use std::alloc::Global;
 use std::io::Write;
 use std::marker::Model;
-use wire::{Counted, Decoder, FrontError, LENGTH_BYTES, MAX_PAYLOAD};
+use wire::{Counted, Decoder, FRONT_BYTES, FrontError, LENGTH_BYTES, MAX_PAYLOAD};
 
 /// The most bytes of input that are kept: a frame, and a piece.
 const MOST_KEPT: usize = LENGTH_BYTES + MAX_PAYLOAD + 4096;
 
 /// The most memory for input that is held from one frame to the next while no byte needs it.
 const MOST_INPUT_HELD: usize = 131_072;
+
+/// The most memory for replies that is held while no byte needs it. Room that doubles as it grows seldom passes twice their
+/// limit, so it is not made anew each round.
+const MOST_REPLIES_HELD: usize = 2 * REPLY_LIMIT;
+
+/// The room that a session with both its ends takes before it reads: what may wait, and a reply without a text.
+const REPLY_ROOM: usize = REPLY_LIMIT + FRONT_BYTES;
 
 /// What one step of a session came to.
 pub(crate) enum Step {
@@ -94,20 +102,14 @@ impl LiveSession {
         ensures answers { LiveAnswers A.answers result self.old self.new ask.old ask.new }
         ensures share { result.frames ≤ most_frames }
     {
-        let answered = self.answer_kept(documents, ask);
-        self.decoder.shrink(MOST_INPUT_HELD);
-        answered
-    }
-
-    fn answer_kept<A: Ask>(&mut self, documents: &mut DocumentReader, ask: &mut A) -> Answered
-        ensures answers { LiveAnswers A.answers result self.old self.new ask.old ask.new }
-        ensures share { result.frames ≤ most_frames }
-    {
         let mut frames = 0;
         loop {
             match self.step(documents, ask) {
                 Step::Answered(_) => frames += 1,
-                Step::Stops(next) => return Answered { frames, next },
+                Step::Stops(next) => {
+                    self.decoder.shrink(MOST_INPUT_HELD);
+                    return Answered { frames, next };
+                }
             }
         }
     }
@@ -118,16 +120,17 @@ impl LiveSession {
     pub(crate) fn step<A: Ask>(&mut self, documents: &mut DocumentReader, ask: &mut A) -> Step
         ensures { Steps A.answers result self.old self.new ask.old ask.new }
     {
-        if let Err(_) = self.replies.store() {
+        let replies = &mut self.replies;
+        if let Err(_) = replies.pending.store(&mut replies.ready.bytes) {
             return Step::Stops(Err(FrontError::Memory));
         }
-        if self.replies.ready.bytes.len() >= REPLY_LIMIT {
+        if replies.ready.bytes.len() >= REPLY_LIMIT {
             return Step::Stops(Ok(Wants::Write));
         }
         match self.decoder.payload() {
             Ok(Some(payload)) => {
                 let size = payload.len();
-                let is_error = self.replies.answer(documents, ask, payload);
+                let is_error = replies.answer(documents, ask, payload);
                 self.decoder.pass(size);
                 Step::Answered(is_error)
             }
@@ -140,7 +143,7 @@ impl LiveSession {
     pub(crate) fn take_room(&mut self) -> Result<(), Memory>
         ensures { self.new ≡ self.old }
     {
-        self.replies.take_room()
+        self.replies.ready.bytes.reserve(REPLY_ROOM)
     }
 
     /// Writes all replies that wait, and sees that the writer keeps nothing back. This needs no memory.
@@ -169,7 +172,16 @@ impl LiveSession {
         requires { count ≤ length self.old.ready }
         ensures { Sends (take count self.old.ready) self.old self.new }
     {
-        self.replies.sent(count);
+        let replies = &mut self.replies;
+        replies.ready.bytes.advance(count);
+        if !replies.ready.bytes.is_empty() {
+            return;
+        }
+        if replies.ready.bytes.capacity() > MOST_REPLIES_HELD {
+            replies.ready.bytes = BytesMut::new(replies.alloc);
+        } else {
+            replies.ready.bytes.clear();
+        }
     }
 
     /// Gives back the memory that no byte needs. Nothing else changes.
@@ -177,7 +189,10 @@ impl LiveSession {
         ensures { self.new ≡ self.old }
     {
         self.decoder.shrink(0);
-        self.replies.rest();
+        let replies = &mut self.replies;
+        if replies.ready.bytes.is_empty() && replies.ready.bytes.capacity() > 0 {
+            replies.ready.bytes = BytesMut::new(replies.alloc);
+        }
     }
 
     /// Whether the input may end here if all frames are answered: no byte is kept.

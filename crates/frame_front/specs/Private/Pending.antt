@@ -1,5 +1,5 @@
 -- What is left to store of a reply.
-use Rattle.std.specs.Prelude.{◌≡◌, ◌⊎◌, ℕ, ◌≤◌, List, [], ◌++◌, drop, length, Result, Bool}
+use Rattle.std.specs.Prelude.{◌≡◌, ◌⊎◌, ℕ, ◌+◌, ◌≤◌, List, [], ◌++◌, drop, length, Option, Some, None, Result, Bool, false}
 use Rattle.std.specs.List.{flat_map}
 use Rattle.spiffe_doc.specs.Authority.{BundleValue}
 use Rattle.map_core.specs.Name.{Name}
@@ -11,9 +11,9 @@ use Rattle.spiffe_doc.specs.Text.{text_of}
 use Rattle.wire.specs.Answers.{is_error_reply, item_frame, memory_frame, reply_frames}
 use Rattle.wire.specs.declared.judge.Request.{Request}
 use Rattle.wire.specs.declared.refusal.Refusal.{Refusal}
+use Rattle.frame_front.specs.Live.{most_part}
 use Rattle.frame_front.specs.Session.{SessionState, AnswersRequest}
 use Rattle.frame_front.specs.declared.pending.PendingReply.{PendingReply}
-use Rattle.frame_front.specs.declared.replies.Replies.{Replies}
 use Rattle.frame_front.specs.declared.reply.Body.{Body}
 use Rattle.frame_front.specs.declared.reply.Body.TheVariants.{Empty, Canonical, All}
 
@@ -60,6 +60,10 @@ abbrev pub AnswersLater : {S : Type 0} → (S → Op → Result Reply AskError �
 AnswersLater answers is_error old read new ready_old ready_new left =
     (text : List ℕ) × AnswersRead answers old read text new × (5 ≤ length text) × (is_error ≡ is_error_reply text) × (ready_new ++ left ≡ ready_old ++ text)
 
--- the bytes of replies that wait
-abbrev pub waits_in : Replies → List ℕ
-waits_in replies = replies.ready.bytes.items ++ reply_left replies.pending
+-- It is answered by this text, which is to come after what is ready; or by that of a bundle, which has come there.
+abbrev pub AnswersNow : {S : Type 0} → (S → Op → Result Reply AskError → S → Type 0)
+    → Option (List ℕ) → SessionState S → Result Request Refusal → SessionState S → List ℕ → List ℕ → Type 0
+AnswersNow answers (Some text) old read new ready_old ready_new = AnswersRead answers old read text new × (ready_new ≡ ready_old)
+AnswersNow answers None old read new ready_old ready_new =
+    (text : List ℕ) × AnswersRead answers old read text new × (5 ≤ length text) × (is_error_reply text ≡ false) × (ready_new ≡ ready_old ++ text)
+    × (length ready_new ≤ length ready_old + most_part)

@@ -1,7 +1,7 @@
 use Rattle.std.proofs.Common.{◌≤◌, length}
 use Rattle.frame_front.specs.Live.{most_frames}
 use Rattle.frame_front.proofs.LiveLemmas.{Answering}
-use Rattle.frame_front.proofs.live.LiveSession.answer_kept.Given as goal
+use Rattle.frame_front.proofs.live.LiveSession.answer.Given as goal
 
 abbrev pub invariant-loop-frames : goal.invariant-loop-frames
 invariant-loop-frames g l =

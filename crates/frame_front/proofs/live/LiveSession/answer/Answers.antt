@@ -1,6 +1,6 @@
 use Rattle.std.proofs.Common.{arith}
 use Rattle.frame_front.proofs.LiveLemmas.{Answering-none, Answering-then, AnswersFrame-smaller}
-use Rattle.frame_front.proofs.live.LiveSession.answer_kept.Goals as goal
+use Rattle.frame_front.proofs.live.LiveSession.answer.Goals as goal
 
 pub loop-frames-init : goal.loop-frames-init
 loop-frames-init g c = (Answering-none g.A.Ask.answers c.args.self.now c.args.ask.now, omega arith)
