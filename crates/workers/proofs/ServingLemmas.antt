@@ -10,25 +10,23 @@ use Rattle.map_core.specs.declared.op.Op.{Op}
 use Rattle.map_core.specs.declared.reply.Reply.{Reply}
 use Rattle.map_core.specs.declared.reply.AskError.{AskError}
 use Rattle.wire.specs.declared.error.FrontError.{FrontError}
-use Rattle.workers.specs.Connection.{Owes, StopsFor, Turn, opened, told, turn_rounds}
+use Rattle.workers.specs.Connection.{ConnectionView, LastTurn, Owes, StopsFor, Turn, ended, last_rounds, opened, told, turn_rounds}
 use Rattle.workers.specs.Stream.{StreamLimits}
 use Rattle.workers.specs.declared.turn_end.TurnEnd.{TurnEnd}
 use Rattle.workers.specs.declared.turn_end.TurnEnd.TheVariants.{Over}
 use Rattle.workers.specs.AtPort.{PortAnswer}
+use Rattle.workers.specs.declared.at_port.AtPort.{AtPort}
 use Rattle.workers.specs.Arrivals.{News, NewClient, IsReady, HasTicked, HasFailed}
 use Rattle.workers.specs.declared.limits.Limits.{Limits}
 use Rattle.workers.specs.Ended.{EndsView, Notes}
 use Rattle.workers.specs.Places.{Place, Places, Step, Opens, Turns, Misses, Ticks, Closes, GivesUp, Ends, Fails, AllStay, AllTick, Follows, IsGivenUp, IsLast, OthersStay, ServesFirst, TakesAll, told_by, closing_of, front_end, ticked, turn_steps, waiting_after, without}
 use Rattle.workers.specs.Private.Serving.{AreOpen, Asks, HadTurn, HadLastTurn, IsTurn, NobodyThere, Serves, Work}
+use Rattle.workers.proofs.SimulatedTurns.{turn_seen}
 use Rattle.workers.proofs.StepLemmas.{all_stay, all_then, serves_as, serves_none, serves_one, serves_quietly, serves_then, stay_then}
 
 on_ok : {X E : Type 0} {P Q : Type 0} (r : Result X E) → OnOk r P → (P → Q) → OnOk r Q
 on_ok (Ok x) p f = f p
 on_ok (Err e) p f = p
-
-pub on_ok_both : {X E : Type 0} (P Q : Type 0) (r : Result X E) → OnOk r P → OnOk r Q → OnOk r (P × Q)
-on_ok_both P Q (Ok x) p q = (p, q)
-on_ok_both P Q (Err e) p q = tt
 
 pub on_ok_then : {X E : Type 0} {P Q : Type 0} (r : Result X E) → (P → Q) → OnOk r P → OnOk r Q
 on_ok_then r f p = on_ok r p f
@@ -41,6 +39,36 @@ put_back s place p q is = Updates-with_value s place q (ap is_some is)
 -- no value stands beyond the slots
 pub beyond : (s : Slab Place) (place : ℕ) → length s.slots ≤ place → get s place ≡ None
 beyond s place far = get_or_past s.slots place None far
+
+-- ---- turns at a port
+
+-- whoever asks at a port, which stays as it is
+abbrev AtItsPort : {S : Type 0} → (S → Op → Result Reply AskError → S → Type 0) → AtPort S → Op → Result Reply AskError → AtPort S → Type 0
+AtItsPort answers old op answer new = (new.reads_only ≡ old.reads_only) × PortAnswer answers old.reads_only old.ask op answer new.ask
+
+module _ {S : Type 0} (answers : S → Op → Result Reply AskError → S → Type 0) (rounds : ℕ) (after : TurnEnd) (a b : ConnectionView) where
+  -- of the map behind the port
+  pub turn_behind : (reads_only : Bool) (s t : AtPort S) → s.reads_only ≡ reads_only → Turn rounds (AtItsPort answers) after a b s t
+      → Turn rounds (PortAnswer answers reads_only) after a b s.ask t.ask
+  turn_behind reads_only s t at turn =
+      (turn_seen (AtItsPort answers) (PortAnswer answers reads_only) (λ s. s.ask) (λ s. s.reads_only ≡ reads_only)
+      (λ s op answer t stays a. (a.0 ∙ stays, subst (λ r. PortAnswer answers r s.ask op answer t.ask) stays a.1)) rounds after a b s t at turn).1
+
+-- the connection at a place has a turn
+pub has_turn : {S : Type 0} (answers : S → Op → Result Reply AskError → S → Type 0) (slab : Slab Place) (place : ℕ) (is_closing : Bool) (after : TurnEnd) (p : Place) (c : ConnectionView) (s t : AtPort S)
+    → get slab place ≡ Some p → s.reads_only ≡ p.reads_only → Turn turn_rounds (AtItsPort answers) after (told is_closing p.connection) c s t
+    → HadTurn answers place is_closing (Some after) (get slab) (get (with_value slab place (record { connection = c; reads_only = p.reads_only; silent = 0 }))) s.ask t.ask
+has_turn answers slab place is_closing after p c s t was at turn =
+    let put = put_back slab place p (record { connection = c; reads_only = p.reads_only; silent = 0 }) was in
+    record { before = p; behind = c; was = was; is = put.changed; does = turn_behind answers turn_rounds after (told is_closing p.connection) c p.reads_only s t at turn; others = put.others }
+
+-- or its last turn
+pub has_last_turn : {S : Type 0} (answers : S → Op → Result Reply AskError → S → Type 0) (slab : Slab Place) (place : ℕ) (end : Result ℕ FrontError) (p : Place) (c : ConnectionView) (s t : AtPort S)
+    → get slab place ≡ Some p → s.reads_only ≡ p.reads_only → LastTurn (AtItsPort answers) end p.connection c s t
+    → HadLastTurn answers place (Some end) (get slab) (get (with_value slab place (record { connection = c; reads_only = p.reads_only; silent = p.silent }))) s.ask t.ask
+has_last_turn answers slab place end p c s t was at last =
+    let put = put_back slab place p (record { connection = c; reads_only = p.reads_only; silent = p.silent }) was in
+    record { before = p; behind = c; was = was; is = put.changed; does = (last.0, turn_behind answers last_rounds last.0 (ended p.connection) c p.reads_only s t at last.1, last.2); others = put.others }
 
 -- ---- turns and ends as steps
 

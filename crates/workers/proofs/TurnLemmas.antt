@@ -10,15 +10,32 @@ use Rattle.map_core.specs.declared.reply.AskError.{AskError}
 use Rattle.wire.specs.declared.error.FrontError.{FrontError}
 use Rattle.wire.specs.declared.error.FrontError.TheVariants.{BadLength, Truncated, ReadFault, WriteFault, TurnsUsed, Memory}
 use Rattle.wire.specs.Frame.{IsBadLength}
-use Rattle.frame_front.specs.Live.{LiveView, Sends, StopsAt, most_frames}
-use Rattle.frame_front.specs.LiveCalls.{LiveCall, DoesAll, piece_of, bytes_of, Feed, Send, fed, sent, frames_of}
+use Rattle.frame_front.specs.declared.answered.Answered.{Answered}
+use Rattle.frame_front.specs.Live.{LiveAnswers, LiveView, Sends, StopsAt, most_frames}
+use Rattle.frame_front.specs.LiveCalls.{LiveCall, DoesAll, piece_of, bytes_of, Answer, Feed, Send, fed, sent, frames_of}
 use Rattle.workers.specs.declared.turn_end.TurnEnd.{TurnEnd}
-use Rattle.workers.specs.declared.ends.StreamFailed.{StreamFailed}
 use Rattle.workers.specs.declared.turn_end.TurnEnd.TheVariants.{Waits, Again, Over}
-use Rattle.workers.specs.Connection.{ConnectionView, EndsFor, EndsHere, EndsShort, HadShare, IsLost, LosesOnly, MakesReads, StopsFor, Turn, WaitsFor, room_bytes}
+use Rattle.workers.specs.Connection.{ConnectionView, EndsFor, EndsHere, EndsShort, HadShare, IsLost, LosesOnly, MakesReads, StopsFor, Turn, WaitsFor, counted, room_bytes}
 use Rattle.workers.specs.Reads.{reads_for, reads_of}
-use Rattle.workers.specs.Private.Goes.{Goes, GoesOn, ReadsAs, Round, SendsAs, StaysShort, StaysSo, StopsIn}
+use Rattle.workers.specs.Stream.{StreamLimits}
+use Rattle.workers.specs.declared.limited.Limited.{Limited}
+use Rattle.workers.specs.Private.Limited.{stream_of, turns_of}
+use Rattle.workers.specs.Private.Goes.{Goes, GoesOn, ReadsAs, Round, StaysShort, StaysSo, StopsIn}
 use Rattle.workers.proofs.ReadLemmas.{makes_then}
+
+-- a connection over a stream, and its session
+abbrev pub view_of : {E : Type 0} (may : E → StreamLimits) (left held : E → Option (List ℕ)) → LiveView → (answered : ℕ) → Limited E → (has_ended has_lost is_closing : Bool) → ConnectionView
+view_of may left held live answered end has_ended has_lost is_closing = record {
+  live = live;
+  answered = answered;
+  turns = turns_of end;
+  has_ended = has_ended;
+  has_lost = has_lost;
+  is_closing = is_closing;
+  may = may (stream_of end);
+  left = left (stream_of end);
+  held = held (stream_of end);
+}
 
 pub frames_append : (xs ys : List LiveCall) → frames_of (xs ++ ys) ≡ frames_of xs + frames_of ys
 frames_append [] ys = omega arith
@@ -168,26 +185,28 @@ module _ {S : Type 0} (answers : S → Op → Result Reply AskError → S → Ty
       short (inl s) = short_after p.0.calls q.calls s
       short (inr s) = short_before p.0.calls q.calls (p.2 s.0) s.1
 
+  -- What is known of a round that has sent these bytes, and read nothing.
+  abbrev HasSent : List ℕ → ConnectionView → ConnectionView → S → S → Type 0
+  HasSent bytes a c m n = (goes : Goes answers most_frames [] a c m n) × (length bytes ≤ length (sent goes.calls)) × (reads_of goes.calls ≡ 0)
+
   -- frames are answered, and replies written
-  pub round_sent : (result : Result Bool StreamFailed) (a b c : ConnectionView) (m n : S) → Goes answers most_frames [] a b m n → (q : SendsAs result b c)
-      → b.has_ended ≡ a.has_ended → b.turns ≡ a.turns → (goes : Goes answers most_frames [] a c m n) × (length q.bytes ≤ length (sent goes.calls)) × (reads_of goes.calls ≡ 0)
-  round_sent result a b c m n p q unended unread =
-      let sends : Goes answers 0 [] b c n n = record {
-        calls = Send q.bytes ∷ [];
-        does = ((c.live, n), (q.sends, refl), refl);
-        consumes = subst (λ (l : Option (List ℕ)). Consumes b.left l []) (sym q.left) (Consumes-nil b.left);
-        appends = subst (Appends b.held c.held) (sym (append-nil q.bytes)) q.appends;
-        makes = omega (arith, q.turns);
-        answered = omega (arith, p.answered, q.answered);
-        share = omega arith;
-        stays = q.stays;
+  pub round_sent : (answered : Answered) (bytes : List ℕ) (live : LiveView) (a c : ConnectionView) (m n : S) → LiveAnswers answers answered a.live live m n → answered.frames ≤ most_frames
+      → Sends bytes live c.live → Appends a.held c.held bytes → c.left ≡ a.left → c.turns ≡ a.turns → c.answered ≡ counted (a.answered + answered.frames) → StaysSo a c
+      → c.has_lost ≡ a.has_lost → HasSent bytes a c m n
+  round_sent answered bytes live a c m n does few sends appends left turns count stays lost =
+      let goes : Goes answers most_frames [] a c m n = record {
+        calls = Answer answered ∷ Send bytes ∷ [];
+        does = ((live, n), does, ((c.live, n), (sends, refl), refl));
+        consumes = subst (λ (l : Option (List ℕ)). Consumes a.left l []) (sym left) (Consumes-nil a.left);
+        appends = subst (Appends a.held c.held) (sym (append-nil bytes)) appends;
+        makes = omega (arith, turns);
+        answered = omega (arith, count);
+        share = omega (arith, few);
+        stays = stays;
         quiet = λ e. refl;
-        loses_only = λ e. inl (sym q.has_lost ∙ e);
-      } in (
-        goes_then most_frames 0 most_frames [] a b c m n n p sends (omega arith) unended,
-        omega (arith, sent_append p.calls (Send q.bytes ∷ []), length-append q.bytes []),
-        omega (arith, reads_append p.calls (Send q.bytes ∷ []), p.makes, unread),
-      )
+        loses_only = λ e. inl (sym lost ∙ e);
+      } in
+      (goes, omega (arith, length-append bytes []), refl)
 
   -- What is known of a round that has read this piece.
   abbrev HasRead : List ℕ → List ℕ → ConnectionView → ConnectionView → S → S → Type 0
@@ -287,14 +306,14 @@ none_lost TurnsUsed = refl
 none_lost Memory = tt
 
 -- what ends a session ends its connection, once all is sent
-pub stops_for : (error : FrontError) (bytes : List ℕ) (b c : ConnectionView) → StopsAt (Err error) b.live → Sends bytes b.live c.live → c.live.ready ≡ []
+pub stops_for : (error : FrontError) (bytes : List ℕ) (live : LiveView) (c : ConnectionView) → StopsAt (Err error) live → Sends bytes live c.live → c.live.ready ≡ []
     → StopsFor (Err error) c
-stops_for BadLength bytes b c stops sends none = (
+stops_for BadLength bytes live c stops sends none = (
   subst IsBadLength (sym sends.1) stops.0,
   ap (λ (l : List ℕ). l ++ c.live.later) none ∙ (sends.3 ∙ stops.1),
 )
-stops_for Truncated bytes b c stops sends none = absurd stops
-stops_for ReadFault bytes b c stops sends none = absurd stops
-stops_for WriteFault bytes b c stops sends none = absurd stops
-stops_for TurnsUsed bytes b c stops sends none = absurd stops
-stops_for Memory bytes b c stops sends none = inl (λ empty. stops (sym sends.3 ∙ empty))
+stops_for Truncated bytes live c stops sends none = absurd stops
+stops_for ReadFault bytes live c stops sends none = absurd stops
+stops_for WriteFault bytes live c stops sends none = absurd stops
+stops_for TurnsUsed bytes live c stops sends none = absurd stops
+stops_for Memory bytes live c stops sends none = inl (λ empty. stops (sym sends.3 ∙ empty))

@@ -1,5 +1,5 @@
 -- What is answered through a gate.
-use Rattle.std.specs.Prelude.{◌≡◌, Bool, true, false, Option, Some, Result, Err}
+use Rattle.std.specs.Prelude.{◌≡◌, Bool, true, false, Option, Result, Err}
 use Rattle.std.proofs.Common.{subst, sym}
 use Rattle.map_core.specs.declared.op.Op.{Op}
 use Rattle.map_core.specs.declared.reply.Reply.{Reply}

@@ -1,7 +1,6 @@
 -- Definitions that no public contract rests on: private contracts and proofs use them.
 pub mod Numbers
 pub mod Names
-pub mod Ends
 pub mod Goes
 pub mod Limited
 pub mod Serving

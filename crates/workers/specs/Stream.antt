@@ -1,5 +1,5 @@
 -- What the calls of a stream may come to.
-use Rattle.std.specs.Prelude.{◌≡◌, ◌≢◌, ℕ, ◌<◌, min, Bool, true, Result, Ok, Err}
+use Rattle.std.specs.Prelude.{◌≡◌, ◌≢◌, ℕ, ◌<◌, Bool, true, Result, Ok, Err}
 use Rattle.std.specs.IoError.{error_kind}
 use Rattle.std.specs.declared.io.Error.{Error}
 use Rattle.std.specs.declared.io.ErrorKind.TheVariants.{WouldBlock}
@@ -25,8 +25,3 @@ ReadsAs may room (Err error) = ErrsAs may.read_waits may.read_fails error
 abbrev pub WritesAs : StreamLimits → Result ℕ Error → Type 0
 WritesAs may (Ok count) = count ≡ 0 → may.write_fails ≡ true
 WritesAs may (Err error) = ErrsAs may.write_waits may.write_fails error
-
--- a read counts if it gives bytes: not if it would have to wait or fails, and not at the end
-abbrev pub counts_for : Result ℕ Error → ℕ
-counts_for (Ok count) = min count 1
-counts_for (Err error) = 0

@@ -35,9 +35,8 @@ pub trait Arrivals {
     // What may come once this place is told to be free, and what comes after it.
     ghost comes: { Self → ℕ → Arrival Self.End → Self → Type 0 };
 
-    /// Waits for what comes next, but not if `is_busy`: then it may be nothing. A client that comes stands at the place that
-    /// is told to be `free`, and is known by its number from then on. `open` tells how many clients are connected to the
-    /// worker.
+    /// Waits for what comes next, but not if `is_busy`. It may be nothing. A client that comes stands at the place that is
+    /// told to be `free`, and is known by its number from then on. `open` tells how many clients are connected to the worker.
     fn next(&mut self, free: usize, open: usize, is_busy: bool) -> Arrival<Self::End>
         ensures end { IsStop result ⊎ (left self.new < left self.old) }
         ensures comes { comes self.old free result self.new };

@@ -1,13 +1,12 @@
 //! A stream that never waits, and the session that it carries.
 ghost use Rattle.std.specs.Prelude.{◌≡◌, ◌<◌, [], true, IfOk};
 ghost use Rattle.wire.specs.Frame.{IsUnfinished};
-ghost use Rattle.frame_front.specs.Live.{waiting, StopsAt};
+ghost use Rattle.frame_front.specs.Live.{waiting};
 ghost use Rattle.workers.specs.Connection.{IsLost, LastTurn, Owes, StopsFor, Turn, ended, opened, told, turn_rounds};
-ghost use Rattle.workers.specs.Private.Ends.{LeavesAs};
-ghost use Rattle.workers.specs.Private.Goes.{Answers, SendsAs, ReadsAs, Round};
+ghost use Rattle.workers.specs.Private.Limited.{LeavesAs};
+ghost use Rattle.workers.specs.Private.Goes.{ReadsAs};
 
-use crate::ends::{ROOM_BYTES, ReadOutcome, StreamFailed, read_piece, write_replies};
-use crate::limited::Limited;
+use crate::limited::{Limited, ROOM_BYTES, ReadOutcome, StreamFailed};
 use crate::stream::Stream;
 use crate::turn_end::TurnEnd;
 use frame_front::{LiveSession, Wants};
@@ -93,27 +92,6 @@ impl<E: Stream + Drop> Connection<E> {
         self.live.rest();
     }
 
-    /// Answers whole frames that have come.
-    fn answer<A: Ask>(
-        &mut self,
-        documents: &mut DocumentReader,
-        ask: &mut A,
-    ) -> Result<Wants, FrontError>
-        ensures answers { Answers A.answers self.old self.new ask.old ask.new }
-        ensures stops { StopsAt result self.new.live }
-    {
-        let answered = self.live.answer(documents, ask);
-        self.answered = self.answered.saturating_add(answered.frames);
-        answered.next
-    }
-
-    /// Writes the replies that are ready. The answer is whether all are written; if not, the stream takes no more now.
-    fn send(&mut self) -> Result<bool, StreamFailed>
-        ensures { SendsAs result self.old self.new }
-    {
-        write_replies(&mut self.end, &mut self.live)
-    }
-
     /// How the session ends, if its input ends here.
     fn finish(&self) -> Result<u64, FrontError>
         requires unfinished { IsUnfinished self.now.live.kept }
@@ -146,7 +124,7 @@ impl<E: Stream + Drop> Connection<E> {
         if has_left && !self.is_closing {
             return Err(TurnEnd::Waits);
         }
-        match read_piece(&mut self.end, &mut self.live, room) {
+        match self.end.read_piece(&mut self.live, room) {
             ReadOutcome::Piece(has_left) => Ok(has_left),
             ReadOutcome::Nothing => Err(TurnEnd::Waits),
             ReadOutcome::End => {
@@ -161,35 +139,7 @@ impl<E: Stream + Drop> Connection<E> {
         }
     }
 
-    /// Answers what has come, writes the replies, and reads once. The turn ends with the answer, or goes on: then the
-    /// answer is whether the last read has left some of its room.
-    fn go_round<A: Ask>(
-        &mut self,
-        documents: &mut DocumentReader,
-        room: &mut [u8; ROOM_BYTES],
-        ask: &mut A,
-        has_left: bool,
-    ) -> Result<bool, TurnEnd>
-        requires { LeavesAs has_left self.old.may }
-        ensures { Round A.answers has_left result self.old self.new ask.old ask.new }
-    {
-        let wants = self.answer(documents, ask);
-        match self.send() {
-            Ok(true) => {}
-            Ok(false) => return Err(TurnEnd::Waits),
-            Err(StreamFailed) => return Err(TurnEnd::Over(Err(FrontError::WriteFault))),
-        }
-        let wants = match wants {
-            Ok(wants) => wants,
-            Err(error) => return Err(TurnEnd::Over(Err(error))),
-        };
-        match wants {
-            Wants::Write => Ok(has_left),
-            Wants::Read => self.read(room, has_left),
-        }
-    }
-
-    /// A turn of so many rounds.
+    /// A turn of so many rounds. Each answers what has come, writes the replies, and reads once, unless it ends the turn.
     fn go<A: Ask>(
         &mut self,
         documents: &mut DocumentReader,
@@ -203,11 +153,22 @@ impl<E: Stream + Drop> Connection<E> {
         let mut rounds = 0;
         let mut has_left = false;
         while rounds < most {
-            match self.go_round(documents, room, ask, has_left) {
-                Ok(has) => has_left = has,
-                Err(after) => return after,
-            }
             rounds += 1;
+            let answered = self.live.answer(documents, ask);
+            self.answered = self.answered.saturating_add(answered.frames);
+            match self.end.write_replies(&mut self.live) {
+                Ok(true) => {}
+                Ok(false) => return TurnEnd::Waits,
+                Err(StreamFailed) => return TurnEnd::Over(Err(FrontError::WriteFault)),
+            }
+            match answered.next {
+                Ok(Wants::Write) => {}
+                Ok(Wants::Read) => match self.read(room, has_left) {
+                    Ok(has) => has_left = has,
+                    Err(after) => return after,
+                },
+                Err(error) => return TurnEnd::Over(Err(error)),
+            }
         }
         TurnEnd::Again
     }

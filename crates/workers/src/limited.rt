@@ -1,11 +1,44 @@
-//! Streams of which only so many reads may be made.
-ghost use Rattle.std.specs.Prelude.{◌≡◌, ◌+◌, ◌<◌, length};
-ghost use Rattle.std.specs.Io.{ReadsAtMost, WritesAtMost};
-ghost use Rattle.std.specs.Io.KnownBytes.{ReadConsumes, WriteAppends};
-ghost use Rattle.workers.specs.Stream.{ReadsAs, WritesAs, counts_for};
+//! Streams of which only so many reads may be made, and what a read or a write of one does for a session.
+ghost use Rattle.std.specs.Prelude.{◌≡◌, ◌≢◌, ◌<◌, ℕ, List, true, false};
+ghost use Rattle.std.specs.IoError.{error_kind};
+ghost use Rattle.std.specs.declared.io.ErrorKind.TheVariants.{WouldBlock};
+ghost use Rattle.std.specs.Io.KnownBytes.{Appends};
+ghost use Rattle.wire.specs.Frame.{IsUnfinished};
+ghost use Rattle.frame_front.specs.Live.{Sends};
+ghost use Rattle.workers.specs.Private.Limited.{IsSentAs, Takes};
 
 use crate::stream::Stream;
+use frame_front::LiveSession;
 use std::io;
+use std::io::ErrorKind;
+
+/// How many bytes there is room for in one read.
+pub const ROOM_BYTES: usize = 65_536;
+
+/// A call of a stream has failed.
+pub(crate) struct StreamFailed;
+
+/// What comes of one read.
+pub(crate) enum ReadOutcome {
+    /// A piece of the input, which was fed to the session; and whether the read has left some of its room.
+    Piece(bool),
+    /// The stream would have to wait.
+    Nothing,
+    /// The end of the input.
+    End,
+    /// A piece of the input, which is lost: memory for it was refused.
+    NoMemory,
+    /// The stream failed.
+    Failed,
+}
+
+/// Whether a call that ended so would have to wait.
+fn would_wait(error: &io::Error) -> bool
+    ensures waits { result ≡ true → error_kind error.now ≡ WouldBlock }
+    ensures fails { result ≡ false → error_kind error.now ≢ WouldBlock }
+{
+    error.kind() == ErrorKind::WouldBlock
+}
 
 /// A stream, and how many reads of it may still be made. No other module changes either but by a read or a write, so what a
 /// connection says of its reads is what it did.
@@ -31,35 +64,54 @@ impl<E: Stream> Limited<E> {
         self.turns
     }
 
-    /// As `Stream::read`.
-    pub(crate) fn read(&mut self, buf: &mut [u8]) -> io::Result<usize>
-        requires { 0 < self.old.turns }
-        ensures bound { ReadsAtMost result buf.new }
-        ensures bytes { ReadConsumes (E.left self.old.end) (E.left self.new.end) result buf.new }
+    /// Reads once, and feeds what has come to the session.
+    pub(crate) fn read_piece(
+        &mut self,
+        live: &mut LiveSession,
+        room: &mut [u8; ROOM_BYTES],
+    ) -> ReadOutcome
+        requires unfinished { IsUnfinished live.old.kept }
+        requires turns { 0 < self.old.turns }
+        ensures takes { Takes result (E.may self.old.end) (E.left self.old.end) (E.left self.new.end) self.old.turns self.new.turns live.old live.new }
         ensures held { E.held self.new.end ≡ E.held self.old.end }
-        ensures counted { self.new.turns + counts_for result ≡ self.old.turns }
-        ensures may { ReadsAs (E.may self.old.end) (length buf.new) result }
-        ensures same { E.may self.new.end ≡ E.may self.old.end }
+        ensures may { E.may self.new.end ≡ E.may self.old.end }
     {
-        match self.end.read(buf) {
-            Ok(0) => Ok(0),
+        let (room, _) = room.split_at_mut(live.room().min(ROOM_BYTES));
+        match self.end.read(room) {
+            Ok(0) => ReadOutcome::End,
             Ok(count) => {
                 self.turns -= 1;
-                Ok(count)
+                match live.feed(room.split_at(count).0) {
+                    Ok(_) => ReadOutcome::Piece(count < room.len()),
+                    Err(_) => ReadOutcome::NoMemory,
+                }
             }
-            Err(error) => Err(error),
+            Err(error) => {
+                if would_wait(&error) {
+                    ReadOutcome::Nothing
+                } else {
+                    ReadOutcome::Failed
+                }
+            }
         }
     }
 
-    /// As `Stream::write`.
-    pub(crate) fn write(&mut self, buf: &[u8]) -> io::Result<usize>
-        ensures bound { WritesAtMost result buf.now }
-        ensures bytes { WriteAppends (E.held self.old.end) (E.held self.new.end) result buf.now }
+    /// Writes the replies that are ready. The answer is whether all are written; if not, the stream takes no more now.
+    pub(crate) fn write_replies(&mut self, live: &mut LiveSession) -> Result<bool, StreamFailed>
+        ensures sends { (bytes : List ℕ) × Sends bytes live.old live.new × Appends (E.held self.old.end) (E.held self.new.end) bytes }
         ensures left { E.left self.new.end ≡ E.left self.old.end }
         ensures turns { self.new.turns ≡ self.old.turns }
-        ensures may { WritesAs (E.may self.old.end) result }
-        ensures same { E.may self.new.end ≡ E.may self.old.end }
+        ensures may { E.may self.new.end ≡ E.may self.old.end }
+        ensures until { IsSentAs result (E.may self.old.end) live.new.ready }
     {
-        self.end.write(buf)
+        while !live.replies().is_empty() {
+            match self.end.write(live.replies()) {
+                Ok(0) => return Err(StreamFailed),
+                Ok(count) => live.sent(count),
+                Err(error) if would_wait(&error) => return Ok(false),
+                Err(_) => return Err(StreamFailed),
+            }
+        }
+        Ok(true)
     }
 }

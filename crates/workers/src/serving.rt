@@ -6,7 +6,7 @@ ghost use Rattle.workers.specs.Ended.{kept_of, Notes};
 ghost use Rattle.workers.specs.Connection.{Owes, opened};
 ghost use Rattle.workers.specs.Arrivals.{Brings, IsStop, IsToStop, news_in};
 ghost use Rattle.workers.specs.Places.{Place, AllTick, Fails, Follows, IsGivenUp, IsLast, OthersStay, ServedAll, ServesFirst, closing_of, front_end, ticked, told_by, without};
-ghost use Rattle.workers.specs.Private.Serving.{AreOpen, Asks, HadLastTurn, HadTurn, IsTurn, Serves, work_of};
+ghost use Rattle.workers.specs.Private.Serving.{AreOpen, Asks, IsTurn, Serves, work_of};
 
 use crate::arrivals::{Arrival, Arrivals};
 use crate::at_port::AtPort;
@@ -96,41 +96,6 @@ impl<E: Stream + Drop> Served<E> {
         Ok(())
     }
 
-    /// Gives the connection at a place a turn, if one is there.
-    fn turn<A: Ask>(
-        &mut self,
-        place: usize,
-        is_closing: bool,
-        ask: &mut AtPort<A>,
-    ) -> Option<TurnEnd>
-        ensures turn { HadTurn A.answers place is_closing result (get self.old.open) (get self.new.open) ask.old.ask ask.new.ask }
-        ensures waiting { self.new.waiting ≡ self.old.waiting }
-        ensures ends { self.new.ends ≡ self.old.ends }
-    {
-        let placed = self.open.get_mut(place)?;
-        placed.silent = 0;
-        ask.reads_only = placed.reads_only;
-        let connection = &mut placed.connection;
-        Some(connection.turn(&mut self.documents, &mut self.room, ask, is_closing))
-    }
-
-    /// Gives the connection at a place its last turn, if one is there: nothing is read any more. The answer is how its
-    /// session ends.
-    fn last_turn<A: Ask>(
-        &mut self,
-        place: usize,
-        ask: &mut AtPort<A>,
-    ) -> Option<Result<u64, FrontError>>
-        ensures turn { HadLastTurn A.answers place result (get self.old.open) (get self.new.open) ask.old.ask ask.new.ask }
-        ensures waiting { self.new.waiting ≡ self.old.waiting }
-        ensures ends { self.new.ends ≡ self.old.ends }
-    {
-        let placed = self.open.get_mut(place)?;
-        ask.reads_only = placed.reads_only;
-        let connection = &mut placed.connection;
-        Some(connection.last_turn(&mut self.documents, &mut self.room, ask))
-    }
-
     /// Takes the connection at a place out, if one is there. It waits for no turn any more.
     fn remove(&mut self, place: usize)
         ensures left { get self.new.open place ≡ None }
@@ -175,9 +140,13 @@ impl<E: Stream + Drop> Served<E> {
     ) -> Result<(), AllocError>
         ensures { OnOk result ((ready : Option Bool) → closing_of ready ≡ is_closing → Serves A.answers worker.now.limits (IsTurn place ready (get self.old.open place)) (work_of self.old) (work_of self.new) ask.old.ask ask.new.ask) }
     {
-        let Some(after) = self.turn(place, is_closing, ask) else {
+        let Some(placed) = self.open.get_mut(place) else {
             return Ok(());
         };
+        placed.silent = 0;
+        ask.reads_only = placed.reads_only;
+        let connection = &mut placed.connection;
+        let after = connection.turn(&mut self.documents, &mut self.room, ask, is_closing);
         wait_no_more(&mut self.waiting, place);
         match after {
             TurnEnd::Waits => Ok(()),
@@ -253,7 +222,8 @@ impl<E: Stream + Drop> Served<E> {
         Ok(())
     }
 
-    /// Ends the session at a place, if one is there: what has come is answered, as far as the client takes it.
+    /// Ends the session at a place, if one is there, with its last turn: nothing is read any more, and what has come is answered,
+    /// as far as the client takes it.
     fn end<A: Ask, L: Log>(
         &mut self,
         place: usize,
@@ -264,10 +234,13 @@ impl<E: Stream + Drop> Served<E> {
         ensures left { OnOk result (get self.new.open place ≡ None) }
         ensures others { OthersStay place (get self.old.open) (get self.new.open) }
     {
-        match self.last_turn(place, ask) {
-            None => Ok(()),
-            Some(end) => self.close(place, end, worker),
-        }
+        let Some(placed) = self.open.get_mut(place) else {
+            return Ok(());
+        };
+        ask.reads_only = placed.reads_only;
+        let connection = &mut placed.connection;
+        let end = connection.last_turn(&mut self.documents, &mut self.room, ask);
+        self.close(place, end, worker)
     }
 
     /// Ends all sessions.
@@ -300,37 +273,13 @@ impl<E: Stream + Drop> Served<E> {
         Ok(())
     }
 
-    /// Does what the arrival asks for.
-    fn follow<A: Ask, L: Log>(
-        &mut self,
-        arrival: Arrival<E>,
-        ask: &mut AtPort<A>,
-        worker: &Worker<'_, L>,
-    ) -> Result<(), AllocError>
-        requires { ¬ (IsStop arrival) }
-        ensures { OnOk result (Serves A.answers worker.now.limits (Follows (news_in (λ end. opened worker.now.limits.turns (E.may end) (E.left end) (E.held end)) self.old.open.vacant_key arrival)) (work_of self.old) (work_of self.new) ask.old.ask ask.new.ask) }
-    {
-        match arrival {
-            Arrival::Opens { end, reads_only } => self.take(end, reads_only, worker),
-            Arrival::Ready { place, is_closing } => { self.serve(place, is_closing, ask, worker) }
-            Arrival::Tick => {
-                self.tick();
-                self.leave_silent(worker)
-            }
-            Arrival::Fails => self.note_failure(worker),
-            Arrival::Nothing => Ok(()),
-            Arrival::Stops => unreachable!(),
-        }
-    }
-
     /// Gives a turn to the connection that has waited longest for one.
     fn serve_first<A: Ask, L: Log>(
         &mut self,
         ask: &mut AtPort<A>,
         worker: &Worker<'_, L>,
     ) -> Result<(), AllocError>
-        requires { AreOpen (get self.old.open) self.old.waiting.items }
-        ensures { OnOk result (Serves A.answers worker.now.limits (ServesFirst self.old.waiting.items) (work_of self.old) (work_of self.new) ask.old.ask ask.new.ask) }
+        ensures { AreOpen (get self.old.open) self.old.waiting.items → OnOk result (Serves A.answers worker.now.limits (ServesFirst self.old.waiting.items) (work_of self.old) (work_of self.new) ask.old.ask ask.new.ask) }
     {
         match self.waiting.front() {
             Some(&place) => self.serve(place, false, ask, worker),
@@ -358,8 +307,15 @@ pub fn serve_arrivals<V: Arrivals, A: Ask, L: Log>(
         let free = served.open.vacant_key();
         let is_busy = !served.waiting.is_empty();
         match arrivals.next(free, served.open.len(), is_busy) {
+            Arrival::Opens { end, reads_only } => served.take(end, reads_only, worker)?,
+            Arrival::Ready { place, is_closing } => served.serve(place, is_closing, ask, worker)?,
+            Arrival::Tick => {
+                served.tick();
+                served.leave_silent(worker)?;
+            }
+            Arrival::Fails => served.note_failure(worker)?,
+            Arrival::Nothing => {}
             Arrival::Stops => break,
-            arrival => served.follow(arrival, ask, worker)?,
         }
         served.serve_first(ask, worker)?;
     }

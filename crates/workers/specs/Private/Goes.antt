@@ -4,31 +4,17 @@ use Rattle.std.specs.Io.KnownBytes.{Appends, Consumes}
 use Rattle.map_core.specs.declared.op.Op.{Op}
 use Rattle.map_core.specs.declared.reply.Reply.{Reply}
 use Rattle.map_core.specs.declared.reply.AskError.{AskError}
-use Rattle.frame_front.specs.Live.{Feeds, Sends, most_frames}
+use Rattle.frame_front.specs.Live.{Feeds, most_frames}
 use Rattle.frame_front.specs.LiveCalls.{LiveCall, DoesAll, fed, sent, frames_of}
 use Rattle.workers.specs.declared.turn_end.TurnEnd.{TurnEnd}
 use Rattle.workers.specs.declared.turn_end.TurnEnd.TheVariants.{Waits, Again, Over}
-use Rattle.workers.specs.declared.ends.StreamFailed.{StreamFailed}
 use Rattle.workers.specs.Connection.{ConnectionView, counted, EndsHere, EndsShort, HadShare, IsLost, LosesOnly, MakesReads, StopsFor, WaitsFor}
 use Rattle.workers.specs.Reads.{reads_for, reads_of}
-use Rattle.workers.specs.Private.Ends.{IsSentAs, IsShortAs, LeavesAs}
+use Rattle.workers.specs.Private.Limited.{IsShortAs, LeavesAs}
 
 -- Its stream may come to the same, and its client is known to have closed its side, or not, as before.
 abbrev pub StaysSo : ConnectionView → ConnectionView → Type 0
 StaysSo old new = (new.may ≡ old.may) × (new.is_closing ≡ old.is_closing)
-
--- Replies were written, and nothing else was done. All are written, or the stream takes no more now, or it failed.
-pub record SendsAs (result : Result Bool StreamFailed) (old new : ConnectionView) : Type 0 where
-  pub bytes : List ℕ
-  pub sends : Sends bytes old.live new.live
-  pub appends : Appends old.held new.held bytes
-  pub left : new.left ≡ old.left
-  pub turns : new.turns ≡ old.turns
-  pub answered : new.answered ≡ old.answered
-  pub has_ended : new.has_ended ≡ old.has_ended
-  pub has_lost : new.has_lost ≡ old.has_lost
-  pub stays : StaysSo old new
-  pub until : IsSentAs result new.may new.live.ready
 
 -- Why a part of a turn ends it. It waits for more input after a short read only if that was short in this sense.
 abbrev pub StopsIn : (IsShort : Type 0) → TurnEnd → ConnectionView → Type 0
@@ -73,10 +59,6 @@ module _ {S : Type 0} (answers : S → Op → Result Reply AskError → S → Ty
     pub stays : StaysSo old new
     pub quiet : old.has_ended ≡ true → fed calls ++ lost ≡ []
     pub loses_only : LosesOnly lost old new
-
-  -- frames were answered, and nothing was read or written
-  abbrev pub Answers : ConnectionView → ConnectionView → S → S → Type 0
-  Answers old new map_old map_new = Goes most_frames [] old new map_old map_new × (new.has_ended ≡ old.has_ended) × (new.turns ≡ old.turns)
 
   -- One round of a turn, which ends the turn, or goes on: then a piece was read, or enough bytes were sent. The last read before it
   -- may have been a short one.

@@ -1,20 +1,123 @@
-use Rattle.std.proofs.Common.{◌∙◌, arith, inr, []}
-use Rattle.workers.proofs.TurnLemmas.{goes_on, turn_ends, turn_is_over}
+use Rattle.std.proofs.Common.{◌≡◌, ◌+◌, ◌≤◌, ◌++◌, ◌∙◌, ℕ, List, [], length, ap, arith, refl, inl, inr, subst, append-nil, Ok, Err}
+use Rattle.frame_front.specs.Live.{StopsAt, reply_limit}
+use Rattle.wire.specs.declared.error.FrontError.TheVariants.{WriteFault}
+use Rattle.workers.specs.Connection.{counted}
+use Rattle.workers.specs.declared.turn_end.TurnEnd.TheVariants.{Waits, Over}
+use Rattle.workers.specs.Private.Goes.{Round}
+use Rattle.workers.specs.Private.Limited.{IsSentAs}
+use Rattle.workers.proofs.TurnLemmas.{goes_on, none_lost, round_ends, round_read, round_sent, stops_for, turn_ends, turn_is_over, view_of}
 use Rattle.workers.proofs.connection.Connection.go.Goals as goal
+
+pub returns-in-Ok-false : goal.returns-in-Ok-false
+returns-in-Ok-false g c =
+    let before = rw (← c.self.view_is) at c.loop-rounds.invariant in
+    let inside = c.self.inside in
+    let view = view_of g.E.Stream.may g.E.Stream.left g.E.Stream.held in
+    let old = view inside.live inside.answered inside.end inside.has_ended inside.has_lost inside.is_closing in
+    let new = view c.write_replies.new.live c.saturating_add-self-inside.result c.write_replies.new.self inside.has_ended inside.has_lost inside.is_closing in
+    let wrote = c.write_replies.ensures in
+    let answered = c.answer-answered.ensures in
+    let count : new.answered ≡ counted (old.answered + c.answer-answered.result.frames) = omega (arith, c.saturating_add-self-inside.ensures) in
+    let round =
+    round_sent g.A.Ask.answers c.answer-answered.result wrote.sends.0 c.answer-answered.new.self old new c.loop-rounds.ask c.answer-answered.new.ask answered.answers answered.share
+    wrote.sends.1 wrote.sends.2 wrote.left wrote.turns count (wrote.may, refl) refl in
+    let blocked = subst (λ b. IsSentAs (Ok b) old.may new.live.ready) c.in-Ok-false.field-0-test c.in-Ok-false.ensures.until in
+    turn_ends g.A.Ask.answers c.args.most c.loop-rounds.rounds c.loop-rounds.has_left Waits c.args.self.now old new c.args.ask.now c.loop-rounds.ask c.answer-answered.new.ask c.loop-rounds-test.true before.0 before.1
+    ([], round.0, refl, inl refl, inl (blocked.0, ap (λ m. m.write_waits) wrote.may ∙ blocked.1))
 
 pub returns-in-Err : goal.returns-in-Err
 returns-in-Err g c =
-    let inv = c.loop-rounds.invariant in
-    turn_ends g.A.Ask.answers c.args.most c.loop-rounds.rounds c.loop-rounds.has_left c.in-Err.after c.args.self.now c.loop-rounds.self c.go_round.new.self c.args.ask.now c.loop-rounds.ask c.go_round.new.ask
-    c.loop-rounds-test.true inv.0 inv.1 c.in-Err.ensures
+    let before = rw (← c.self.view_is) at c.loop-rounds.invariant in
+    let inside = c.self.inside in
+    let view = view_of g.E.Stream.may g.E.Stream.left g.E.Stream.held in
+    let old = view inside.live inside.answered inside.end inside.has_ended inside.has_lost inside.is_closing in
+    let new = view c.write_replies.new.live c.saturating_add-self-inside.result c.write_replies.new.self inside.has_ended inside.has_lost inside.is_closing in
+    let wrote = c.write_replies.ensures in
+    let answered = c.answer-answered.ensures in
+    let count : new.answered ≡ counted (old.answered + c.answer-answered.result.frames) = omega (arith, c.saturating_add-self-inside.ensures) in
+    let round =
+    round_sent g.A.Ask.answers c.answer-answered.result wrote.sends.0 c.answer-answered.new.self old new c.loop-rounds.ask c.answer-answered.new.ask answered.answers answered.share
+    wrote.sends.1 wrote.sends.2 wrote.left wrote.turns count (wrote.may, refl) refl in
+    turn_ends g.A.Ask.answers c.args.most c.loop-rounds.rounds c.loop-rounds.has_left (Over (Err WriteFault)) c.args.self.now old new c.args.ask.now c.loop-rounds.ask c.answer-answered.new.ask c.loop-rounds-test.true before.0 before.1
+    ([], round.0, refl, inl refl, (c.in-Err.ensures.until.0, ap (λ m. m.write_fails) wrote.may ∙ c.in-Err.ensures.until.1))
+
+pub loop-rounds-preserved-in-Ok-Write : goal.loop-rounds-preserved-in-Ok-Write
+loop-rounds-preserved-in-Ok-Write g c =
+    let before = rw (← c.self.view_is) at c.loop-rounds.invariant in
+    let inside = c.self.inside in
+    let view = view_of g.E.Stream.may g.E.Stream.left g.E.Stream.held in
+    let old = view inside.live inside.answered inside.end inside.has_ended inside.has_lost inside.is_closing in
+    let new = view c.write_replies.new.live c.saturating_add-self-inside.result c.write_replies.new.self inside.has_ended inside.has_lost inside.is_closing in
+    let wrote = c.write_replies.ensures in
+    let answered = c.answer-answered.ensures in
+    let count : new.answered ≡ counted (old.answered + c.answer-answered.result.frames) = omega (arith, c.saturating_add-self-inside.ensures) in
+    let round =
+    round_sent g.A.Ask.answers c.answer-answered.result wrote.sends.0 c.answer-answered.new.self old new c.loop-rounds.ask c.answer-answered.new.ask answered.answers answered.share
+    wrote.sends.1 wrote.sends.2 wrote.left wrote.turns count (wrote.may, refl) refl in
+    let sent = subst (λ b. IsSentAs (Ok b) old.may new.live.ready) c.in-Ok-true.field-0-test c.in-Ok-true.ensures.until in
+    let all : c.answer-answered.new.self.ready ≡ wrote.sends.0 = wrote.sends.1.0 ∙ (ap (λ (l : List ℕ). wrote.sends.0 ++ l) sent ∙ append-nil wrote.sends.0) in
+    let write = rw c.in-Ok-Write.is at c.in-Ok-Write.field-0-is in
+    let many : reply_limit ≤ length wrote.sends.0 = subst (λ (l : List ℕ). reply_limit ≤ length l) all (rw (c.in-Ok-Write.is, write) at answered.answers.stops) in
+    let goes =
+    goes_on g.A.Ask.answers c.loop-rounds.rounds c.loop-rounds.has_left [] c.args.self.now old new c.args.ask.now c.loop-rounds.ask c.answer-answered.new.ask before.0 round.0 before.1 in
+    (inr (goes.0, goes.1 (1, omega arith, omega (arith, round.1, many)), λ e. goes.2 (inr (e, round.2))), before.1, omega (arith, c.loop-rounds-test.true), λ e. ap (λ m. m.leaves_room) wrote.may ∙ before.3 e)
 
 pub loop-rounds-preserved : goal.loop-rounds-preserved
 loop-rounds-preserved g c =
-    let inv = c.loop-rounds.invariant in
-    let round = c.in-Ok.ensures in
+    let before = rw (← c.self.view_is) at c.loop-rounds.invariant in
+    let inside = c.self.inside in
+    let view = view_of g.E.Stream.may g.E.Stream.left g.E.Stream.held in
+    let old = view inside.live inside.answered inside.end inside.has_ended inside.has_lost inside.is_closing in
+    let new = view c.write_replies.new.live c.saturating_add-self-inside.result c.write_replies.new.self inside.has_ended inside.has_lost inside.is_closing in
+    let wrote = c.write_replies.ensures in
+    let answered = c.answer-answered.ensures in
+    let count : new.answered ≡ counted (old.answered + c.answer-answered.result.frames) = omega (arith, c.saturating_add-self-inside.ensures) in
+    let round =
+    round_sent g.A.Ask.answers c.answer-answered.result wrote.sends.0 c.answer-answered.new.self old new c.loop-rounds.ask c.answer-answered.new.ask answered.answers answered.share
+    wrote.sends.1 wrote.sends.2 wrote.left wrote.turns count (wrote.may, refl) refl in
+    let has_read = round_read g.A.Ask.answers c.loop-rounds.has_left c.read.result old new c.read.new.self c.loop-rounds.ask c.answer-answered.new.ask round.0 c.read.ensures refl in
+    let goes_round = subst (λ r. Round g.A.Ask.answers c.loop-rounds.has_left r old c.read.new.self c.loop-rounds.ask c.answer-answered.new.ask) c.in-Ok.is
+    (round_ends g.A.Ask.answers c.loop-rounds.has_left c.read.result old new c.read.new.self c.loop-rounds.ask c.answer-answered.new.ask c.read.ensures has_read refl wrote.turns) in
     let goes =
-    goes_on g.A.Ask.answers c.loop-rounds.rounds c.loop-rounds.has_left [] c.args.self.now c.loop-rounds.self c.go_round.new.self c.args.ask.now c.loop-rounds.ask c.go_round.new.ask inv.0 round.0 inv.1 in
-    (inr (goes.0, goes.1 round.2, λ e. goes.2 (round.4 e)), round.1 ∙ inv.1, omega (arith, c.loop-rounds-test.true), round.3)
+    goes_on g.A.Ask.answers c.loop-rounds.rounds c.loop-rounds.has_left [] c.args.self.now old c.read.new.self c.args.ask.now c.loop-rounds.ask c.answer-answered.new.ask before.0 goes_round.0 before.1 in
+    (inr (goes.0, goes.1 goes_round.2, λ e. goes.2 (goes_round.4 e)), goes_round.1 ∙ before.1, omega (arith, c.loop-rounds-test.true), goes_round.3)
+
+pub returns-in-Err-read : goal.returns-in-Err-read
+returns-in-Err-read g c =
+    let before = rw (← c.self.view_is) at c.loop-rounds.invariant in
+    let inside = c.self.inside in
+    let view = view_of g.E.Stream.may g.E.Stream.left g.E.Stream.held in
+    let old = view inside.live inside.answered inside.end inside.has_ended inside.has_lost inside.is_closing in
+    let new = view c.write_replies.new.live c.saturating_add-self-inside.result c.write_replies.new.self inside.has_ended inside.has_lost inside.is_closing in
+    let wrote = c.write_replies.ensures in
+    let answered = c.answer-answered.ensures in
+    let count : new.answered ≡ counted (old.answered + c.answer-answered.result.frames) = omega (arith, c.saturating_add-self-inside.ensures) in
+    let round =
+    round_sent g.A.Ask.answers c.answer-answered.result wrote.sends.0 c.answer-answered.new.self old new c.loop-rounds.ask c.answer-answered.new.ask answered.answers answered.share
+    wrote.sends.1 wrote.sends.2 wrote.left wrote.turns count (wrote.may, refl) refl in
+    let has_read = round_read g.A.Ask.answers c.loop-rounds.has_left c.read.result old new c.read.new.self c.loop-rounds.ask c.answer-answered.new.ask round.0 c.read.ensures refl in
+    let goes_round = subst (λ r. Round g.A.Ask.answers c.loop-rounds.has_left r old c.read.new.self c.loop-rounds.ask c.answer-answered.new.ask) c.in-Err-read.is
+    (round_ends g.A.Ask.answers c.loop-rounds.has_left c.read.result old new c.read.new.self c.loop-rounds.ask c.answer-answered.new.ask c.read.ensures has_read refl wrote.turns) in
+    turn_ends g.A.Ask.answers c.args.most c.loop-rounds.rounds c.loop-rounds.has_left c.in-Err-read.after c.args.self.now old c.read.new.self c.args.ask.now c.loop-rounds.ask c.answer-answered.new.ask c.loop-rounds-test.true before.0 before.1
+    goes_round
+
+pub returns-in-Err-next : goal.returns-in-Err-next
+returns-in-Err-next g c =
+    let before = rw (← c.self.view_is) at c.loop-rounds.invariant in
+    let inside = c.self.inside in
+    let view = view_of g.E.Stream.may g.E.Stream.left g.E.Stream.held in
+    let old = view inside.live inside.answered inside.end inside.has_ended inside.has_lost inside.is_closing in
+    let new = view c.write_replies.new.live c.saturating_add-self-inside.result c.write_replies.new.self inside.has_ended inside.has_lost inside.is_closing in
+    let wrote = c.write_replies.ensures in
+    let answered = c.answer-answered.ensures in
+    let count : new.answered ≡ counted (old.answered + c.answer-answered.result.frames) = omega (arith, c.saturating_add-self-inside.ensures) in
+    let round =
+    round_sent g.A.Ask.answers c.answer-answered.result wrote.sends.0 c.answer-answered.new.self old new c.loop-rounds.ask c.answer-answered.new.ask answered.answers answered.share
+    wrote.sends.1 wrote.sends.2 wrote.left wrote.turns count (wrote.may, refl) refl in
+    let sent = subst (λ b. IsSentAs (Ok b) old.may new.live.ready) c.in-Ok-true.field-0-test c.in-Ok-true.ensures.until in
+    let stops = subst (λ r. StopsAt r c.answer-answered.new.self) c.in-Err-next.is answered.answers.stops in
+    turn_ends g.A.Ask.answers c.args.most c.loop-rounds.rounds c.loop-rounds.has_left (Over (Err c.in-Err-next.error)) c.args.self.now old new c.args.ask.now c.loop-rounds.ask c.answer-answered.new.ask c.loop-rounds-test.true before.0 before.1
+    ([], round.0, none_lost c.in-Err-next.error, inl refl, stops_for c.in-Err-next.error wrote.sends.0 c.answer-answered.new.self new stops wrote.sends.1 sent)
 
 pub returns : goal.returns
 returns g c =

@@ -1,5 +1,5 @@
 use Rattle.std.proofs.Common.{◌≡◌, ◌-◌, ◌≤◌}
-use Rattle.workers.specs.Private.Ends.{LeavesAs}
+use Rattle.workers.specs.Private.Limited.{LeavesAs}
 use Rattle.workers.specs.Private.Goes.{GoesOn}
 use Rattle.workers.proofs.connection.Connection.go.Given as goal
 

@@ -12,7 +12,8 @@ returns-in-Some g c =
     let place = c.in-Some.field-0.now in
     let waiting = c.args.self.now.waiting.items in
     let places = get c.args.self.now.open in
+    λ are_open.
     on_ok_then c.serve.result (λ served.
     serves_as g.A.Ask.answers c.args.worker.now.limits (IsTurn place None (places place)) (ServesFirst waiting)
-    (λ steps turn. first_served places waiting place steps c.requires c.in-Some.ensures.item.3.0 c.in-Some.ensures.lookup turn) (work_of c.args.self.now) (work_of c.serve.new.self) c.args.ask.now.ask c.serve.new.ask.ask
+    (λ steps turn. first_served places waiting place steps are_open c.in-Some.ensures.item.3.0 c.in-Some.ensures.lookup turn) (work_of c.args.self.now) (work_of c.serve.new.self) c.args.ask.now.ask c.serve.new.ask.ask
     (served None refl)) c.serve.ensures
