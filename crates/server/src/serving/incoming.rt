@@ -2,7 +2,7 @@
 ghost use Rattle.std.specs.Prelude.{◌≡◌};
 
 use crate::serving::ports::Ports;
-use crate::serving::ready::{MOST_EVENTS, PollEvent, WorkerPoll};
+use crate::serving::ready::{PollEvent, WorkerPoll};
 use crate::serving::shared::Shared;
 use crate::serving::stream::Stream;
 use std::io;
@@ -64,65 +64,31 @@ impl<'a, C: Clock> Incoming<'a, C> {
         }
     }
 
-    /// The next client that waits at a port, if there is one. It is known by the place from then on.
-    fn accept(&self, ports: &Ports, place: usize) -> io::Result<Option<Arrival<Stream<'a>>>> {
+    /// The next client that waits at a port, or nothing. It is known by the place from then on.
+    fn accept(&self, ports: &Ports, place: usize) -> io::Result<Arrival<Stream<'a>>> {
         let Some((stream, reads_only)) = ports.accept()? else {
-            return Ok(None);
+            return Ok(Arrival::Nothing);
         };
         let end = Stream::new(stream, self.shared)?;
         self.shared.pass(self.worker);
         self.ready.add(place, end.fd())?;
-        Ok(Some(Arrival::Opens { end, reads_only }))
+        Ok(Arrival::Opens { end, reads_only })
     }
 
-    /// Takes a client, if it is this worker's turn. That a port has failed is told once.
-    fn take(&mut self, place: usize) -> Option<Arrival<Stream<'a>>>
+    /// Takes a client, if one waits and it is this worker's turn. That a port has failed is told once.
+    fn take(&mut self, place: usize) -> Arrival<Stream<'a>>
         ensures { self.new.left ≡ self.old.left }
     {
-        let ports = self.shared.may_take(self.worker)?;
+        let Some(ports) = self.shared.may_take(self.worker) else {
+            return Arrival::Nothing;
+        };
         match self.accept(ports, place) {
             Ok(arrival) => arrival,
-            Err(_) if self.has_failed => None,
+            Err(_) if self.has_failed => Arrival::Nothing,
             Err(_) => {
                 self.has_failed = true;
-                Some(Arrival::Fails)
+                Arrival::Fails
             }
-        }
-    }
-
-    /// What is ready and was not told yet, or a client who has come.
-    fn next_ready(&mut self, free: usize) -> Option<Arrival<Stream<'a>>>
-        ensures { self.new.left ≡ self.old.left }
-    {
-        for _ in 0..MOST_EVENTS {
-            match self.ready.next()? {
-                PollEvent::Client { place, is_closing } => {
-                    return Some(Arrival::Ready { place, is_closing });
-                }
-                PollEvent::Port => {
-                    if let Some(arrival) = self.take(free) {
-                        return Some(arrival);
-                    }
-                }
-            }
-        }
-        None
-    }
-
-    /// Waits until something is ready, but not if `is_busy`, and tells of the first.
-    fn wait(&mut self, free: usize, is_busy: bool) -> Arrival<Stream<'a>>
-        ensures { self.new.left ≡ self.old.left }
-    {
-        if self.is_time_up() {
-            // A port that failed may be well again, and a worker that had the turn may be gone.
-            self.shared.wake(self.worker);
-            return Arrival::Tick;
-        }
-        let most = if is_busy { 0 } else { TICK };
-        self.ready.wait(Duration::from_millis(most));
-        match self.next_ready(free) {
-            Some(arrival) => arrival,
-            None => Arrival::Nothing,
         }
     }
 }
@@ -141,9 +107,20 @@ impl<'a, C: Clock> Arrivals for Incoming<'a, C> {
             return Arrival::Stops;
         }
         self.left -= 1;
-        match self.next_ready(free) {
-            Some(arrival) => arrival,
-            None => self.wait(free, is_busy),
+        match self.ready.next() {
+            Some(PollEvent::Client { place, is_closing }) => Arrival::Ready { place, is_closing },
+            Some(PollEvent::Port) => self.take(free),
+            None if self.is_time_up() => {
+                // A port that failed may be well again, and a worker that had the turn may be gone.
+                self.shared.wake(self.worker);
+                Arrival::Tick
+            }
+            None => {
+                // What is ready then is told by the next calls.
+                let most = if is_busy { 0 } else { TICK };
+                self.ready.wait(Duration::from_millis(most));
+                Arrival::Nothing
+            }
         }
     }
 }

@@ -7,7 +7,7 @@ use std::os::fd::RawFd;
 use std::time::Duration;
 
 /// The most events of one wait.
-pub const MOST_EVENTS: usize = 256;
+const MOST_EVENTS: usize = 256;
 
 /// The place of nobody: what the system tells of it is that a client may be waiting, or that the worker was woken.
 pub const NOBODY: Token = Token(usize::MAX);
