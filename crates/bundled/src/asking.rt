@@ -5,7 +5,7 @@ ghost use Rattle.bundled.specs.Ask.{AskRun, form};
 ghost use Rattle.commands.specs.Streams.{streams};
 
 use crate::refreshing::streams;
-use client::{Asking, Form, Link};
+use client::{Asking, Form, ServerStreams};
 use command_line::Inquiry;
 use commands::{Fault, FileTexts, ServerFault, ask_over, ask_words_over};
 use std::alloc::Global;
@@ -31,7 +31,7 @@ pub fn ask_server<H: Files + Net, R: Read, W: Write, E: Write>(
     let Ok((from, to)) = streams(host, wanted.port) else {
         return Fault::Server(ServerFault::NoConnection).tell(err);
     };
-    let mut link = Link {
+    let mut link = ServerStreams {
         from: Counted::new(from),
         to: Counted::new(to),
     };

@@ -1,7 +1,7 @@
 -- Lemmas on what a client reads.
 use Rattle.std.proofs.Common.{◌≡◌, ◌≢◌, ℕ, List, [], ◌∷◌, ◌++◌, refl, sym, ap, ◌∙◌, inl, inr, arith, append_assoc, Result, Ok, Err}
-use Rattle.std.specs.Prelude.{Option, IfOk, IfErr, OnOk}
-use Rattle.std.specs.Io.KnownBytes.{Appends, Consumes}
+use Rattle.std.specs.Prelude.{Option}
+use Rattle.std.specs.Io.KnownBytes.{Appends}
 use Rattle.std.specs.List.{flat_map}
 use Rattle.std.proofs.lemmas.List.{append_cancel_left}
 use Rattle.spiffe_doc.specs.Authority.{BundleValue}
@@ -12,10 +12,12 @@ use Rattle.map_core.specs.declared.op.Expect.{Expect}
 use Rattle.wire.specs.Frame.{IsPayload, HasFrames, frame}
 use Rattle.wire.specs.Answers.{answer_frames}
 use Rattle.client.specs.Request.{request_bytes}
-use Rattle.client.specs.Reading.{CountsFault}
 use Rattle.client.specs.Reading.{NoFrame}
-use Rattle.client.specs.Answer.{Answer, MayAnswer, IsValidAnswer}
-use Rattle.client.specs.Client.{Breaks, BeginsNoReply, reply_preface, reply_bytes, ends, Exchange}
+use Rattle.client.specs.Answer.{Answer}
+use Rattle.client.specs.Client.{Breaks, BeginsNoReply, reply_preface, reply_bytes, Ends, Exchange, IsBroken}
+use Rattle.client.specs.Private.Reads.{ReadsWhole, ReadsReply}
+use Rattle.wire.specs.Output.{End}
+use Rattle.client.proofs.ReadingLemmas.{reads_both, stops_behind}
 use Rattle.client.specs.declared.client_error.ClientError.{ClientError}
 use Rattle.client.specs.declared.client_error.ClientError.TheVariants.{Memory, BadLength, BadReply, Truncated, ReadFault, WriteFault}
 use Rattle.wire.proofs.FrameLemmas.{frame_first, none_at_end}
@@ -55,7 +57,7 @@ behind_version (Get d) read rest payloads framed = ([], framed)
 behind_version FetchAll read rest payloads framed = ([], framed)
 
 -- no reply behind the one to the version
-pub breaks_behind : (op : Op) (why : ClientError) (read : List ℕ) (left : Option (List ℕ)) → Breaks op answer_frames why read left
+breaks_behind : (op : Op) (why : ClientError) (read : List ℕ) (left : Option (List ℕ)) → Breaks op answer_frames why read left
     → Breaks op (reply_bytes op) why (reply_preface op ++ read) left
 breaks_behind op Truncated read left breaks = (λ a may valid same. breaks.0 a may valid (append_cancel_left (reply_preface op) (answer_frames a) read same), breaks.1)
 breaks_behind op ReadFault read left breaks = λ a may valid same. breaks a may valid (append_cancel_left (reply_preface op) (answer_frames a) read same)
@@ -85,23 +87,23 @@ module _ (d : Name) (expect : Expect) (b : BundleValue) where
   other_version payload good other rest a may valid same =
       other (sym (frame_first version_set payload (answer_frames a) rest version_payload good same).0)
 
+-- behind the reply to the version
+pub behind_preface : (op : Op) (old mid new : End) → ReadsWhole old mid (reply_preface op) → (r : Result Answer ClientError) → ReadsReply op answer_frames r mid new → ReadsReply op (reply_bytes op) r old new
+behind_preface op old mid new first (Ok answer) told = (told.0, told.1, reads_both old mid new (reply_preface op) first (answer_frames answer) told.2)
+behind_preface op old mid new first (Err why) cut = stops_behind old mid new (reply_preface op) first _ _ why cut (breaks_behind op why cut.read new.bytes cut.says)
+
 -- a request that was written, and what came of reading the reply
-pub exchanged : (op : Op) (r : Result Answer ClientError) (left_old left_new held_old held_new : Option (List ℕ)) (reads_old reads_new writes_old writes_new : ℕ)
-    → Appends held_old held_new (request_bytes op) → writes_new ≡ writes_old
-    → IfOk r (λ answer. MayAnswer op answer × IsValidAnswer answer × Consumes left_old left_new (reply_bytes op answer)) → OnOk r (reads_new ≡ reads_old)
-    → IfErr r (λ why. (read : List ℕ) × Consumes left_old left_new read × Breaks op (reply_bytes op) why read left_new)
-    → IfErr r (λ why. CountsFault why reads_old reads_new)
-    → Exchange op r (ends left_old held_old reads_old writes_old) (ends left_new held_new reads_new writes_new)
-exchanged op (Ok answer) l0 l1 h0 h1 r0 r1 w0 w1 written quiet ok quiet_reader err counted =
-    record { written = written; read = ok.2; may = ok.0; valid = ok.1; quiet_reader = quiet_reader; quiet_writer = quiet }
-exchanged op (Err WriteFault) l0 l1 h0 h1 r0 r1 w0 w1 written quiet ok quiet_reader err counted = absurd err.2
-exchanged op (Err Truncated) l0 l1 h0 h1 r0 r1 w0 w1 written quiet ok quiet_reader err counted =
-    record { read = err.0; written = written; consumes = err.1; breaks = err.2; counted = counted; quiet_writer = quiet }
-exchanged op (Err ReadFault) l0 l1 h0 h1 r0 r1 w0 w1 written quiet ok quiet_reader err counted =
-    record { read = err.0; written = written; consumes = err.1; breaks = err.2; counted = counted; quiet_writer = quiet }
-exchanged op (Err BadReply) l0 l1 h0 h1 r0 r1 w0 w1 written quiet ok quiet_reader err counted =
-    record { read = err.0; written = written; consumes = err.1; breaks = err.2; counted = counted; quiet_writer = quiet }
-exchanged op (Err BadLength) l0 l1 h0 h1 r0 r1 w0 w1 written quiet ok quiet_reader err counted =
-    record { read = err.0; written = written; consumes = err.1; breaks = err.2; counted = counted; quiet_writer = quiet }
-exchanged op (Err Memory) l0 l1 h0 h1 r0 r1 w0 w1 written quiet ok quiet_reader err counted =
-    record { read = err.0; written = written; consumes = err.1; breaks = err.2; counted = counted; quiet_writer = quiet }
+module _ (op : Op) (old new : Ends) (written : Appends old.held new.held (request_bytes op)) (quiet : new.write_faults ≡ old.write_faults) where
+  broken : (why : ClientError) → ReadsReply op (reply_bytes op) (Err why) (record { bytes = old.left; faults = old.read_faults }) (record { bytes = new.left; faults = new.read_faults })
+      → IsBroken op why old new
+  broken why cut = record { read = cut.read; written = written; consumes = cut.consumes; breaks = cut.says; counted = cut.counted; quiet_writer = quiet }
+
+  pub exchanged : (r : Result Answer ClientError) → ReadsReply op (reply_bytes op) r (record { bytes = old.left; faults = old.read_faults }) (record { bytes = new.left; faults = new.read_faults })
+      → Exchange op r old new
+  exchanged (Ok answer) told = record { written = written; read = told.2.consumes; may = told.0; valid = told.1; quiet_reader = told.2.quiet; quiet_writer = quiet }
+  exchanged (Err WriteFault) cut = absurd cut.says
+  exchanged (Err Truncated) cut = broken Truncated cut
+  exchanged (Err ReadFault) cut = broken ReadFault cut
+  exchanged (Err BadReply) cut = broken BadReply cut
+  exchanged (Err BadLength) cut = broken BadLength cut
+  exchanged (Err Memory) cut = broken Memory cut

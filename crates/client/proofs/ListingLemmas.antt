@@ -2,8 +2,6 @@
 use Rattle.std.proofs.Common.{◌≡◌, ◌≢◌, ℕ, ◌+◌, ◌<◌, List, [], ◌∷◌, ◌++◌, length, map, take, drop, append-nil, append_assoc, length-append, arith, refl, sym, ap, ◌∙◌, subst, inl, inr, Ok, Some, None}
 use Rattle.std.specs.Prelude.{Option}
 use Rattle.std.specs.List.{flat_map, AllByRecursion}
-use Rattle.std.specs.Io.KnownBytes.{Consumes}
-use Rattle.std.proofs.KnownBytes.{Consumes-nil, Consumes-trans}
 use Rattle.std.specs.Int.{w64, to_be_bytes}
 use Rattle.std.proofs.lemmas.List.{take_at}
 use Rattle.std.proofs.Math.Seq.{drop-append_seam}
@@ -20,10 +18,13 @@ use Rattle.spiffe_doc.specs.Text.{text_of}
 use Rattle.wire.specs.Items.{item_in, item_of, unless_refused}
 use Rattle.map_core.specs.Laws.{IsAfter, Ascends}
 use Rattle.client.specs.Reading.{NoFrame}
-use Rattle.client.specs.Answer.{Answer, MayAnswer, IsValidAnswer, is_code_for}
+use Rattle.client.specs.Answer.{Answer, IsValidAnswer, is_code_for}
 use Rattle.client.specs.Client.{Breaks}
 use Rattle.client.specs.Private.Answers.{IsCountOfAll}
-use Rattle.client.specs.Private.Listing.{NoListing, BreaksListing}
+use Rattle.client.specs.Private.Listing.{IsListing, NoListing, BreaksListing}
+use Rattle.client.specs.Private.Reads.{ReadsWhole, ReadsReply}
+use Rattle.wire.specs.Output.{End}
+use Rattle.client.proofs.ReadingLemmas.{reads_both}
 use Rattle.client.specs.declared.client_error.ClientError.{ClientError}
 use Rattle.client.specs.declared.client_error.ClientError.TheVariants.{Memory, BadLength, BadReply, Truncated, ReadFault, WriteFault}
 use Rattle.wire.proofs.FrameLemmas.{frame_first, none_at_end}
@@ -67,13 +68,13 @@ each_item (x ∷ xs) valid = (IsPayload-item x valid.0.0 valid.0.1, each_item xs
 
 module _ (count : ℕ) (items : Domains) (valid : AreValid items) (fewer : length items < count) where
   listing_cut : (cut : List ℕ) → IsUnfinished cut → NoListing count (flat_map item_frame items ++ cut)
-  listing_cut cut unfinished others sound ascending size same =
-      let front = items_front items others cut valid sound (omega (arith, fewer, size)) same in
-      let next = valid_at items front.0 front.1 (subst AreValid front.2 sound) in
+  listing_cut cut unfinished others all same =
+      let front = items_front items others cut valid all.0 (omega (arith, fewer, all.2)) same in
+      let next = valid_at items front.0 front.1 (subst AreValid front.2 all.0) in
       none_at_end (item_payload front.0) (flat_map item_frame front.1) cut (IsPayload-item front.0 next.0 next.1) front.3 (inl unfinished)
 
   -- if no frame was read, the next domain was not
-  pub listing_breaks : (why : ClientError) (cut : List ℕ) (left : Option (List ℕ)) → NoFrame why cut left → BreaksListing why count (flat_map item_frame items ++ cut) left
+  pub listing_breaks : (why : ClientError) (cut : List ℕ) (left : Option (List ℕ)) → NoFrame why cut left → BreaksListing count why (flat_map item_frame items ++ cut) left
   listing_breaks Truncated cut left none = (listing_cut cut none.0, none.1)
   listing_breaks ReadFault cut left none = listing_cut cut none
   listing_breaks BadLength cut left none =
@@ -86,11 +87,11 @@ module _ (count : ℕ) (items : Domains) (valid : AreValid items) (fewer : lengt
   pub listing_bad : (payload : List ℕ) → IsPayload payload
       → ((item : Name × BundleValue) → IsName item.0 → IsBundle item.1 → IsAfter (last_of None items) item.0 → payload ≢ item_payload item)
       → (rest : List ℕ) → NoListing count ((flat_map item_frame items ++ frame payload) ++ rest)
-  listing_bad payload good none rest others sound ascending size same =
-      let front = items_front items others (frame payload ++ rest) valid sound (omega (arith, fewer, size)) (same ∙ append_assoc (flat_map item_frame items) (frame payload) rest) in
-      let next = valid_at items front.0 front.1 (subst AreValid front.2 sound) in
+  listing_bad payload good none rest others all same =
+      let front = items_front items others (frame payload ++ rest) valid all.0 (omega (arith, fewer, all.2)) (same ∙ append_assoc (flat_map item_frame items) (frame payload) rest) in
+      let next = valid_at items front.0 front.1 (subst AreValid front.2 all.0) in
       let first = frame_first payload (item_payload front.0) rest (flat_map item_frame front.1) good (IsPayload-item front.0 next.0 next.1) front.3 in
-      none front.0 next.0 next.1 (ascends_at None items front.0 front.1 (subst (Ascends None) front.2 ascending)) first.0
+      none front.0 next.0 next.1 (ascends_at None items front.0 front.1 (subst (Ascends None) front.2 all.1)) first.0
 
 pub flat_more : (xs : Domains) (y : Name × BundleValue) → flat_map item_frame (xs ++ y ∷ []) ≡ flat_map item_frame xs ++ frame (item_payload y)
 flat_more [] y = append-nil (item_frame y)
@@ -119,26 +120,23 @@ pub same_read : (payload : List ℕ) (x : Name × BundleValue) → item_of paylo
 same_read payload x read y name sound same = some_item y x (sym (item_of-payload y name sound) ∙ sym (ap item_of same) ∙ read)
 
 -- What was read so far: the frames of valid domains, in order of their names, and the last name.
-pub record Listed (left_old left_new : Option (List ℕ)) (items : Domains) (last : Option Name) (place : ℕ) : Type 0 where
-  pub consumed : Consumes left_old left_new (flat_map item_frame items)
-  pub size : length items ≡ place
+pub record Listed (old new : End) (items : Domains) (last : Option Name) (place : ℕ) : Type 0 where
+  pub listing : IsListing place items
+  pub reads : ReadsWhole old new (flat_map item_frame items)
   pub last_is : last ≡ last_of None items
-  pub valid : AreValid items
-  pub ascending : Ascends None items
-
-pub Listed-none : (left : Option (List ℕ)) → Listed left left [] None 0
-Listed-none left = record { consumed = Consumes-nil left; size = refl; last_is = refl; valid = tt; ascending = tt }
 
 -- one domain more
-pub Listed-one : (l0 l1 l2 : Option (List ℕ)) (items : Domains) (last : Option Name) (place : ℕ) (y : Name × BundleValue) (payload : List ℕ) → Listed l0 l1 items last place
-    → Consumes l1 l2 (frame payload) → frame payload ≡ item_frame y → IsAfter last y.0 → IsName y.0 → IsBundle y.1
-    → Listed l0 l2 (items ++ y ∷ []) (Some y.0) (place + 1)
-Listed-one l0 l1 l2 items last place y payload listed took same after name sound = record {
-  consumed = subst (Consumes l0 l2) (ap (λ f. flat_map item_frame items ++ f) same ∙ sym (flat_more items y)) (Consumes-trans l0 l1 l2 (flat_map item_frame items) (frame payload) listed.consumed took);
-  size = omega (arith, listed.size, length-append items (y ∷ []));
+pub Listed-one : (old mid new : End) (items : Domains) (last : Option Name) (place : ℕ) (y : Name × BundleValue) (payload : List ℕ) → Listed old mid items last place
+    → ReadsWhole mid new (frame payload) → frame payload ≡ item_frame y → IsAfter last y.0 → IsName y.0 → IsBundle y.1
+    → Listed old new (items ++ y ∷ []) (Some y.0) (place + 1)
+Listed-one old mid new items last place y payload listed took same after name sound = record {
+  listing = (
+    valid_more items y listed.listing.0 name sound,
+    Ascends-one None items y listed.listing.1 (subst (λ (l : Option Name). IsAfter l y.0) listed.last_is after),
+    omega (arith, listed.listing.2, length-append items (y ∷ [])),
+  );
+  reads = subst (ReadsWhole old new) (ap (λ f. flat_map item_frame items ++ f) same ∙ sym (flat_more items y)) (reads_both old mid new (flat_map item_frame items) listed.reads (frame payload) took);
   last_is = sym (last_of-one None items y);
-  valid = valid_more items y listed.valid name sound;
-  ascending = Ascends-one None items y listed.ascending (subst (λ (l : Option Name). IsAfter l y.0) listed.last_is after);
 }
 
 -- ---- the whole reply
@@ -146,21 +144,21 @@ Listed-one l0 l1 l2 items last place y payload listed took same after name sound
 module _ (op : Op) (payload : List ℕ) (good : IsPayload payload) (count : ℕ) (begins : IsCountOfAll op payload count) where
   -- an answer that begins with the number has so many domains
   all_listing : (a : Answer) (read : List ℕ) → IsValidAnswer a → answer_frames a ≡ frame payload ++ read
-      → (items : Domains) × AreValid items × Ascends None items × (length items ≡ count) × (flat_map item_frame items ≡ read)
+      → (items : Domains) × IsListing count items × (flat_map item_frame items ≡ read)
   all_listing a read valid same =
       let is = begins.only a read valid same in
       let sound : IsValidAnswer (Ok (All is.0)) = subst IsValidAnswer is.1 valid in
       let head : 97 ∷ to_be_bytes w64 (length is.0) ≡ payload = ap (λ n. 97 ∷ to_be_bytes w64 n) is.2 ∙ sym begins.is in
       let first = frame_first payload payload (flat_map item_frame is.0) read good good (ap (λ p. frame p ++ flat_map item_frame is.0) (sym head) ∙ ap answer_frames (sym is.1) ∙ same) in
-      (is.0, sound.0, sound.1, is.2, first.1)
+      (is.0, (sound.0, sound.1, is.2), first.1)
 
-  pub all_breaks : (why : ClientError) (read : List ℕ) (left : Option (List ℕ)) → BreaksListing why count read left
+  pub all_breaks : (why : ClientError) (read : List ℕ) (left : Option (List ℕ)) → BreaksListing count why read left
       → Breaks op answer_frames why (frame payload ++ read) left
   all_breaks Truncated read left breaks =
-      (λ a may sound same. let l = all_listing a read sound same in breaks.0 l.0 l.1 l.2 l.3 l.4, breaks.1)
-  all_breaks ReadFault read left breaks = λ a may sound same. let l = all_listing a read sound same in breaks l.0 l.1 l.2 l.3 l.4
+      (λ a may sound same. let l = all_listing a read sound same in breaks.0 l.0 l.1 l.2, breaks.1)
+  all_breaks ReadFault read left breaks = λ a may sound same. let l = all_listing a read sound same in breaks l.0 l.1 l.2
   all_breaks BadReply read left breaks = λ rest a may sound same.
-      let l = all_listing a (read ++ rest) sound (same ∙ append_assoc (frame payload) read rest) in breaks rest l.0 l.1 l.2 l.3 l.4
+      let l = all_listing a (read ++ rest) sound (same ∙ append_assoc (frame payload) read rest) in breaks rest l.0 l.1 l.2
   all_breaks BadLength read left breaks = (
     payload ∷ breaks.0,
     breaks.1,
@@ -175,12 +173,11 @@ module _ (op : Op) (payload : List ℕ) (good : IsPayload payload) (count : ℕ)
   all_breaks Memory read left breaks = tt
 
   -- all bundles are read
-  pub is_all : (items : Domains) (left_old left_mid left_new : Option (List ℕ)) → AreValid items → Ascends None items → length items ≡ count
-      → Consumes left_old left_mid (frame payload) → Consumes left_mid left_new (flat_map item_frame items)
-      → MayAnswer op (Ok (All items)) × IsValidAnswer (Ok (All items)) × Consumes left_old left_new (answer_frames (Ok (All items)))
-  is_all items left_old left_mid left_new valid ascending size number frames = (
+  pub is_all : (items : Domains) (old mid new : End) → IsListing count items → ReadsWhole old mid (frame payload) → ReadsWhole mid new (flat_map item_frame items)
+      → ReadsReply op answer_frames (Ok (Ok (All items))) old new
+  is_all items old mid new listing number frames = (
     ap (is_code_for op) (first_code 97 (to_be_bytes w64 (length items)) (flat_map item_frame items)) ∙ begins.may,
-    (valid, ascending, omega (arith, size, begins.fits)),
-    subst (Consumes left_old left_new) (ap (λ p. frame p ++ flat_map item_frame items) (begins.is ∙ ap (λ n. 97 ∷ to_be_bytes w64 n) (sym size)))
-        (Consumes-trans left_old left_mid left_new (frame payload) (flat_map item_frame items) number frames),
+    (listing.0, listing.1, omega (arith, listing.2, begins.fits)),
+    subst (ReadsWhole old new) (ap (λ p. frame p ++ flat_map item_frame items) (begins.is ∙ ap (λ n. 97 ∷ to_be_bytes w64 n) (sym listing.2)))
+        (reads_both old mid new (frame payload) number (flat_map item_frame items) frames),
   )

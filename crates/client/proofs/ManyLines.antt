@@ -1,5 +1,5 @@
 -- Lines that are asked one after another.
-use Rattle.std.proofs.Common.{◌≡◌, ◌≢◌, ℕ, ◌+◌, ◌-◌, ◌^◌, List, [], ◌∷◌, ◌++◌, length, Bool, true, false, Option, Ok, Err, refl, sym, ap, subst, ◌∙◌, arith, append_assoc, append-nil, length-append, inl, inr}
+use Rattle.std.proofs.Common.{◌≡◌, ◌≢◌, ℕ, ◌+◌, List, [], ◌∷◌, ◌++◌, length, Bool, true, false, Option, Result, Ok, Err, refl, sym, ap, subst, ◌∙◌, arith, append_assoc, append-nil, length-append, inl, inr}
 use Rattle.std.specs.Prelude.{◌||◌, ◌⊎◌}
 use Rattle.std.specs.List.{AllByRecursion, flat_map, list_any}
 use Rattle.std.specs.Io.KnownBytes.{Appends, Consumes, IsAtEnd}
@@ -7,18 +7,17 @@ use Rattle.std.proofs.KnownBytes.{Appends-nil, Appends-trans, Consumes-nil, Cons
 use Rattle.std.proofs.lemmas.List.Concat.{flat_map-append}
 use Rattle.std.proofs.lemmas.List.Folds.{list_any-append}
 use Rattle.wire.specs.Counted.{next_count}
-use Rattle.wire.specs.Frame.{frame}
 use Rattle.wire.specs.declared.error.FrontError.TheVariants as front
-use Rattle.wire.specs.Encoding.{EncoderState, Gives, Becomes, EncodesNext, IsFrameOf, NamesUnreadable, IsBadLine, BeginsWith, BeginsLong, StopsAt, is_comment}
+use Rattle.wire.specs.Encoding.{EncoderState, Gives, Becomes, EncodesNext, Finishes, IsFrameOf, IsBadLine, BeginsWith, BeginsLong, StopsAt}
 use Rattle.wire.specs.RequestForm.{IsOneLine}
 use Rattle.wire.specs.declared.encoder.EncodeError.{EncodeError}
 use Rattle.wire.specs.declared.encoder.EncodeError.TheVariants as encoding
-use Rattle.wire.specs.ReplyForm.{Reply}
-use Rattle.client.specs.Asking.{Exchange, Ends, ends, IsExchange, IsAsked, AsksLines, BecomesNext, EndsAsking, UsesTurns, asked, asked_of, told, told_of, all_shown, shown_of, lines_of, count_after, is_refused}
-use Rattle.client.specs.Private.Steps.{AsksOne, BreaksOne, AsksLast, IsSilent, IsTaken, ReadsMore, StreamSoFar, fault_of}
+use Rattle.client.specs.Asking.{Exchange, Ends, ends, IsExchange, HasDone, AsksLines, AsksStream, IsGreeting, greeting, greeted, IsNext, EndsAsking, Traffic, no_traffic, traffic, traffic_of, lines_of, count_after, is_refused}
+use Rattle.client.specs.Private.Steps.{AsksOne, BreaksOne, ReadsMore, StreamSoFar, fault_of}
 use Rattle.client.specs.declared.asking.Asking.{Asking}
 use Rattle.client.specs.declared.fault.AskFault.{AskFault}
 use Rattle.client.specs.declared.fault.AskFault.TheVariants.{BadLine, Unreadable, Server, Front}
+use Rattle.client.proofs.OneLine.{or_false}
 
 -- ---- lists with one exchange more
 
@@ -36,44 +35,50 @@ each_then : (Is : Exchange → Type 0) (items : List Exchange) (x : Exchange) �
 each_then Is [] x each one = (one, tt)
 each_then Is (first ∷ items) x each one = (each.0, each_then Is items x each.1 one)
 
-flat_then : (f : Exchange → List ℕ) (items : List Exchange) (x : Exchange) → flat_map f (items ++ x ∷ []) ≡ flat_map f items ++ f x
-flat_then f items x = flat_map-append f items (x ∷ []) ∙ ap (λ more. flat_map f items ++ more) (append-nil (f x))
+flat_then : (f : Exchange → List ℕ) (items : List Exchange) (x : Exchange) → flat_map f items ++ f x ≡ flat_map f (items ++ x ∷ []) ++ []
+flat_then f items x = sym (append-nil (flat_map f (items ++ x ∷ [])) ∙ flat_map-append f items (x ∷ []) ∙ ap (λ more. flat_map f items ++ more) (append-nil (f x)))
 
 any_then : (items : List Exchange) (x : Exchange) → list_any is_refused (items ++ x ∷ []) ≡ (list_any is_refused items || is_refused x)
 any_then items x = list_any-append is_refused items (x ∷ []) ∙ ap (λ b. list_any is_refused items || b) (or_false (is_refused x))
-  where
-    or_false : (b : Bool) → (b || false) ≡ b
-    or_false true = refl
-    or_false false = refl
 
 -- ---- what a line became
 
-frame_some : (payload : List ℕ) → frame payload ≢ []
-unfolding frame
-frame_some payload none = cc none
-
-becomes_frame : (gives : Gives) (line request : List ℕ) → Becomes gives (line, request) → request ≢ [] → (is_comment line ≡ false) × IsFrameOf gives line request
+becomes_frame : (gives : Gives) (line request : List ℕ) → Becomes gives (line, request) → request ≢ [] → IsFrameOf gives line request
 becomes_frame gives line request (inl none) some = absurd (some none.1)
-becomes_frame gives line request (inr is) some = is
-
-is_asked : (gives : Gives) (how : Asking) (line request : List ℕ) (transient replies : List Reply) → Becomes gives (line, request) → IsTaken how request transient replies → IsAsked gives how (record { line = line; request = request; transient = transient; replies = replies })
-is_asked gives how line request transient replies (inl none) (inl taken) = inl (none.0, none.1, taken.1, taken.2)
-is_asked gives how line request transient replies (inl none) (inr taken) = absurd (taken.0 none.1)
-is_asked gives how line request transient replies (inr is) (inl taken) = absurd (frame_some _ (sym is.1.6 ∙ taken.0))
-is_asked gives how line request transient replies (inr is) (inr taken) = inr (is.0, is.1, taken.1, taken.2, taken.3)
+becomes_frame gives line request (inr is) some = is.1
 
 -- ---- the stream
 
 pub begins : (gives : Gives) (how : Asking) (at : Ends) → StreamSoFar gives how at at (record { kept = []; lines = 0 }) false 0
-begins gives how at = record { items = []; each = tt; reads = Consumes-nil at.lines; asks = Appends-nil at.to; tells = Consumes-nil at.from; shows = Appends-nil at.out; refused_is = refl; lines_are = refl; each_turn = omega arith }
+begins gives how at = record {
+  items = [];
+  done = record { each = tt; reads = Consumes-nil at.lines; asks = Appends-nil at.to; tells = Consumes-nil at.from; shows = Appends-nil at.out };
+  refused_is = refl;
+  lines_are = refl;
+  each_turn = omega arith;
+}
 
 module _ (gives : Gives) (how : Asking) (old : Ends) (lines from to out : Option (List ℕ)) (state : EncoderState) (refused : Bool) (turns : ℕ) (so : StreamSoFar gives how old (ends lines from to out) state refused turns) where
+  -- more is done than these exchanges
+  does : (rest : List ℕ) (more : Traffic) (lines_new from_new to_new out_new : Option (List ℕ)) → Consumes old.lines lines_new (lines_of so.items ++ rest) → Appends to to_new more.asked → Consumes from from_new more.told → Appends out out_new more.shown
+      → HasDone gives how so.items rest more old (ends lines_new from_new to_new out_new)
+  does rest more lines_new from_new to_new out_new reads asks tells shows =
+      let none = traffic how.form so.items no_traffic in
+      let behind = λ (f : Exchange → List ℕ) (m : List ℕ). ap (λ (l : List ℕ). l ++ m) (append-nil (flat_map f so.items)) in
+      record {
+        each = so.done.each;
+        reads = reads;
+        asks = subst (Appends old.to to_new) (behind (λ x. (traffic_of how.form x).asked) more.asked) (Appends-trans old.to to to_new none.asked more.asked so.done.asks asks);
+        tells = subst (Consumes old.from from_new) (behind (λ x. (traffic_of how.form x).told) more.told) (Consumes-trans old.from from from_new none.told more.told so.done.tells tells);
+        shows = subst (Appends old.out out_new) (behind (λ x. (traffic_of how.form x).shown) more.shown) (Appends-trans old.out out out_new none.shown more.shown so.done.shows shows);
+      }
+
   -- ---- an exchange that breaks off
 
-  ends_broken : (fault : AskFault) (request : List ℕ) (lines_new from_new to_new out_new : Option (List ℕ)) (breaks : BreaksOne how fault request from from_new to to_new out out_new) → BecomesNext gives state.kept request
-      → EndsAsking gives how (Err fault) so.items state.kept breaks.out_asked breaks.out_told breaks.out_shown (ends lines_new from_new to_new out_new) × UsesTurns (Err fault) (length so.items + length (lines_of so.items ++ state.kept))
-  ends_broken (Server why) request lines_new from_new to_new out_new breaks next = ((request, next, breaks.broken), tt)
-  ends_broken (Front front.WriteFault) request lines_new from_new to_new out_new breaks next = ((request, next, breaks.broken), tt)
+  ends_broken : (fault : AskFault) (request : List ℕ) (lines_new from_new to_new out_new : Option (List ℕ)) (breaks : BreaksOne how fault request from from_new to to_new out out_new) → IsNext (λ line. IsFrameOf gives line request) state.kept lines_new
+      → EndsAsking gives how (Err fault) so.items state.kept breaks.done (ends lines_new from_new to_new out_new)
+  ends_broken (Server why) request lines_new from_new to_new out_new breaks next = (request, next, breaks.broken)
+  ends_broken (Front front.WriteFault) request lines_new from_new to_new out_new breaks next = (request, next, breaks.broken)
   ends_broken (Front front.ReadFault) request lines_new from_new to_new out_new breaks next = absurd breaks.broken.why
   ends_broken (Front front.Memory) request lines_new from_new to_new out_new breaks next = absurd breaks.broken.why
   ends_broken (Front front.BadLength) request lines_new from_new to_new out_new breaks next = absurd breaks.broken.why
@@ -83,59 +88,47 @@ module _ (gives : Gives) (how : Asking) (old : Ends) (lines from to out : Option
   ends_broken (Unreadable n) request lines_new from_new to_new out_new breaks next = absurd breaks.broken.why
 
   -- an exchange breaks off, of the lines that were read up to here
-  is_broken : (fault : AskFault) (request : List ℕ) (lines_new from_new to_new out_new : Option (List ℕ)) → Consumes old.lines lines_new (lines_of so.items ++ state.kept) → BreaksOne how fault request from from_new to to_new out out_new → BecomesNext gives state.kept request → AsksLines gives how (Err fault) old (ends lines_new from_new to_new out_new)
-  is_broken fault request lines_new from_new to_new out_new reads breaks next =
-      let why = ends_broken fault request lines_new from_new to_new out_new breaks next in
-      record {
-        items = so.items;
-        rest = state.kept;
-        more_asked = breaks.out_asked;
-        more_told = breaks.out_told;
-        more_shown = breaks.out_shown;
-        each = so.each;
-        reads = reads;
-        asks = Appends-trans old.to to to_new (asked so.items) breaks.out_asked so.asks breaks.asks;
-        tells = Consumes-trans old.from from from_new (told so.items) breaks.out_told so.tells breaks.tells;
-        shows = Appends-trans old.out out out_new (all_shown how.form so.items) breaks.out_shown so.shows breaks.shows;
-        ends_so = why.0;
-        used = why.1;
-      }
+  is_broken : (fault : AskFault) (request : List ℕ) (lines_new from_new to_new out_new : Option (List ℕ)) → Consumes old.lines lines_new (lines_of so.items ++ state.kept) → BreaksOne how fault request from from_new to to_new out out_new → IsNext (λ line. IsFrameOf gives line request) state.kept lines_new → AsksLines gives how (Err fault) old (ends lines_new from_new to_new out_new)
+  is_broken fault request lines_new from_new to_new out_new reads breaks next = record {
+    items = so.items;
+    rest = state.kept;
+    more = breaks.done;
+    done = does state.kept breaks.done lines_new from_new to_new out_new reads breaks.asks breaks.tells breaks.shows;
+    ends_so = ends_broken fault request lines_new from_new to_new out_new breaks next;
+  }
 
   -- ---- nothing more is asked
 
   -- the exchanges so far, and these bytes of the lines behind them
-  pub silent : (fault : AskFault) (lines_new : Option (List ℕ)) (more : List ℕ) → Consumes lines lines_new more → EndsAsking gives how (Err fault) so.items (state.kept ++ more) [] [] [] (ends lines_new from to out)
-      → UsesTurns (Err fault) (length so.items + length (lines_of so.items ++ (state.kept ++ more))) → AsksLines gives how (Err fault) old (ends lines_new from to out)
-  silent fault lines_new more came ends_so used = record {
+  silent : (fault : AskFault) (lines_new : Option (List ℕ)) (more : List ℕ) → Consumes lines lines_new more → EndsAsking gives how (Err fault) so.items (state.kept ++ more) no_traffic (ends lines_new from to out) → AsksLines gives how (Err fault) old (ends lines_new from to out)
+  silent fault lines_new more came ends_so = record {
     items = so.items;
     rest = state.kept ++ more;
-    more_asked = [];
-    more_told = [];
-    more_shown = [];
-    each = so.each;
-    reads = subst (Consumes old.lines lines_new) (append_assoc (lines_of so.items) state.kept more) (Consumes-trans old.lines lines lines_new (lines_of so.items ++ state.kept) more so.reads came);
-    asks = subst (Appends old.to to) (sym (append-nil (asked so.items))) so.asks;
-    tells = subst (Consumes old.from from) (sym (append-nil (told so.items))) so.tells;
-    shows = subst (Appends old.out out) (sym (append-nil (all_shown how.form so.items))) so.shows;
+    more = no_traffic;
+    done = record {
+      each = so.done.each;
+      reads = subst (Consumes old.lines lines_new) (append_assoc (lines_of so.items) state.kept more) (Consumes-trans old.lines lines lines_new (lines_of so.items ++ state.kept) more so.done.reads came);
+      asks = so.done.asks;
+      tells = so.done.tells;
+      shows = so.done.shows;
+    };
     ends_so = ends_so;
-    used = used;
   }
-
-  same_rest : (Is : List ℕ → Type 0) → Is state.kept → Is (state.kept ++ [])
-  same_rest Is is = subst Is (sym (append-nil state.kept)) is
 
   -- the next line becomes nothing
   pub stopped : (error : EncodeError) → StopsAt gives error state.lines state.kept → AsksLines gives how (Err (fault_of error)) old (ends lines from to out)
-  stopped (encoding.BadLine n) stops =
-      silent (BadLine n) lines [] (Consumes-nil lines) (stops.0 ∙ ap next_count so.lines_are, refl, refl, refl, inl (same_rest (λ rest. BeginsWith (IsBadLine gives) rest ⊎ BeginsLong rest) stops.1)) tt
-  stopped (encoding.Unreadable n) stops =
-      silent (Unreadable n) lines [] (Consumes-nil lines) (stops.0 ∙ ap next_count so.lines_are, refl, refl, refl, inl (same_rest (BeginsWith (NamesUnreadable gives)) stops.1)) tt
-  stopped encoding.Memory stops = silent (Front front.Memory) lines [] (Consumes-nil lines) (refl, refl, refl) tt
+  stopped (encoding.BadLine n) stops = record { items = so.items; rest = state.kept; more = no_traffic; done = so.done; ends_so = (stops.0 ∙ ap next_count so.lines_are, refl, next stops.1) }
+    where
+      next : BeginsWith (IsBadLine gives) state.kept ⊎ BeginsLong state.kept → IsNext (IsBadLine gives) state.kept lines ⊎ BeginsLong state.kept
+      next (inl bad) = inl (inl bad)
+      next (inr long) = inr long
+  stopped (encoding.Unreadable n) stops = record { items = so.items; rest = state.kept; more = no_traffic; done = so.done; ends_so = (stops.0 ∙ ap next_count so.lines_are, refl, inl stops.1) }
+  stopped encoding.Memory stops = record { items = so.items; rest = state.kept; more = no_traffic; done = so.done; ends_so = refl }
 
   -- no more is read
   pub not_read : (fault : AskFault) (next : EncoderState) (lines_new : Option (List ℕ)) → IsOneLine state.kept → ReadsMore (Err fault) state next lines lines_new → AsksLines gives how (Err fault) old (ends lines_new from to out)
-  not_read (Front front.ReadFault) next lines_new one_line reads = silent (Front front.ReadFault) lines_new [] reads (same_rest IsOneLine one_line, refl, refl, refl) tt
-  not_read (Front front.Memory) next lines_new one_line reads = silent (Front front.Memory) lines_new reads.0 reads.1 (refl, refl, refl) tt
+  not_read (Front front.ReadFault) next lines_new one_line reads = silent (Front front.ReadFault) lines_new [] reads (subst IsOneLine (sym (append-nil state.kept)) one_line, refl)
+  not_read (Front front.Memory) next lines_new one_line reads = silent (Front front.Memory) lines_new reads.0 reads.1 refl
   not_read (Front front.WriteFault) next lines_new one_line reads = absurd reads
   not_read (Front front.BadLength) next lines_new one_line reads = absurd reads
   not_read (Front front.Truncated) next lines_new one_line reads = absurd reads
@@ -151,85 +144,61 @@ module _ (gives : Gives) (how : Asking) (old : Ends) (lines from to out : Option
       let long : length ((lines_of so.items ++ state.kept) ++ reads.0) ≡ length (lines_of so.items ++ next.kept) = ap length kept in
       record {
         items = so.items;
-        each = so.each;
-        reads = subst (Consumes old.lines lines_new) kept (Consumes-trans old.lines lines lines_new (lines_of so.items ++ state.kept) reads.0 so.reads reads.4);
-        asks = so.asks;
-        tells = so.tells;
-        shows = so.shows;
+        done = record {
+          each = so.done.each;
+          reads = subst (Consumes old.lines lines_new) kept (Consumes-trans old.lines lines lines_new (lines_of so.items ++ state.kept) reads.0 so.done.reads reads.4);
+          asks = so.done.asks;
+          tells = so.done.tells;
+          shows = so.done.shows;
+        };
         refused_is = so.refused_is;
         lines_are = reads.3 ∙ so.lines_are;
         each_turn = omega (arith, so.each_turn, long, reads.1, length-append (lines_of so.items ++ state.kept) reads.0);
       }
 
-  -- the turns are used up
-  pub used_up : turns ≡ 2 ^ 64 - 1 → AsksLines gives how (Err (Front front.TurnsUsed)) old (ends lines from to out)
-  used_up all =
-      let same : length (lines_of so.items ++ state.kept) ≡ length (lines_of so.items ++ (state.kept ++ [])) = ap (λ (k : List ℕ). length (lines_of so.items ++ k)) (sym (append-nil state.kept)) in
-      silent (Front front.TurnsUsed) lines [] (Consumes-nil lines) (refl, refl, refl) (omega (arith, all, so.each_turn, same))
-
   -- ---- the last line
 
-  module _ (lines_new from_new to_new out_new : Option (List ℕ)) (none : Consumes lines lines_new []) (at_end : IsAtEnd lines_new) (one_line : IsOneLine state.kept) where
+  module _ (lines_new : Option (List ℕ)) (none : Consumes lines lines_new []) (at_end : IsAtEnd lines_new) where
     at_last : Consumes old.lines lines_new (lines_of so.items ++ state.kept)
-    at_last = subst (Consumes old.lines lines_new) (append-nil (lines_of so.items ++ state.kept)) (Consumes-trans old.lines lines lines_new (lines_of so.items ++ state.kept) [] so.reads none)
+    at_last = subst (Consumes old.lines lines_new) (append-nil (lines_of so.items ++ state.kept)) (Consumes-trans old.lines lines lines_new (lines_of so.items ++ state.kept) [] so.done.reads none)
 
-    pub last_asked : (one : Bool) → AsksLast gives how state (Ok one) from from_new to to_new out out_new → AsksLines gives how (Ok (refused || one)) old (ends lines_new from_new to_new out_new)
-    last_asked one last =
-        let asks = last.2 in
-        let x : Exchange = record { line = state.kept; request = last.0; transient = asks.transient; replies = asks.replies } in
-        record {
-          items = so.items;
-          rest = state.kept;
-          more_asked = asked_of x;
-          more_told = told_of x;
-          more_shown = shown_of how.form x;
-          each = so.each;
-          reads = at_last;
-          asks = Appends-trans old.to to to_new (asked so.items) (asked_of x) so.asks asks.asks;
-          tells = Consumes-trans old.from from from_new (told so.items) (told_of x) so.tells asks.tells;
-          shows = Appends-trans old.out out out_new (all_shown how.form so.items) (shown_of how.form x) so.shows asks.shows;
-          ends_so = (
-            at_end,
-            x,
-            (one_line, is_asked gives how state.kept last.0 asks.transient asks.replies last.1 asks.taken),
-            refl,
-            refl,
-            refl,
-            refl,
-            ap (λ b. b || one) so.refused_is ∙ ap (λ b. list_any is_refused so.items || b) asks.refused_is,
-          );
-          used = tt;
-        }
-
-    last_broken : (fault : AskFault) (request : List ℕ) → Becomes gives (state.kept, request) → BreaksOne how fault request from from_new to to_new out out_new → AsksLines gives how (Err fault) old (ends lines_new from_new to_new out_new)
-    last_broken fault request becomes breaks = is_broken fault request lines_new from_new to_new out_new at_last breaks (inr (becomes_frame gives state.kept request becomes breaks.some).1)
-
-    last_silent : (fault : AskFault) → IsSilent from from_new to to_new out out_new → EndsAsking gives how (Err fault) so.items state.kept [] [] [] (ends lines_new from_new to_new out_new) → UsesTurns (Err fault) (length so.items + length (lines_of so.items ++ state.kept)) → AsksLines gives how (Err fault) old (ends lines_new from_new to_new out_new)
-    last_silent fault same ends_so used = record {
+    -- it becomes nothing
+    last_none : (fault : AskFault) → EndsAsking gives how (Err fault) so.items state.kept no_traffic (ends lines_new from to out) → AsksLines gives how (Err fault) old (ends lines_new from to out)
+    last_none fault ends_so = record {
       items = so.items;
       rest = state.kept;
-      more_asked = [];
-      more_told = [];
-      more_shown = [];
-      each = so.each;
-      reads = at_last;
-      asks = rw same.1 (subst (Appends old.to to) (sym (append-nil (asked so.items))) so.asks);
-      tells = rw same.0 (subst (Consumes old.from from) (sym (append-nil (told so.items))) so.tells);
-      shows = rw same.2 (subst (Appends old.out out) (sym (append-nil (all_shown how.form so.items))) so.shows);
+      more = no_traffic;
+      done = record { each = so.done.each; reads = at_last; asks = so.done.asks; tells = so.done.tells; shows = so.done.shows };
       ends_so = ends_so;
-      used = used;
     }
 
-    pub last_fails : (fault : AskFault) → AsksLast gives how state (Err fault) from from_new to to_new out out_new → AsksLines gives how (Err fault) old (ends lines_new from_new to_new out_new)
-    last_fails (BadLine n) last = last_silent (BadLine n) last.2 (last.0 ∙ ap next_count so.lines_are, refl, refl, refl, inr (at_end, last.1)) tt
-    last_fails (Unreadable n) last = last_silent (Unreadable n) last.2 (last.0 ∙ ap next_count so.lines_are, refl, refl, refl, inr (at_end, last.1)) tt
-    last_fails (Front front.Memory) last = last_silent (Front front.Memory) last (refl, refl, refl) tt
-    last_fails (Front front.ReadFault) last = last_broken (Front front.ReadFault) last.0 last.1 last.2
-    last_fails (Front front.WriteFault) last = last_broken (Front front.WriteFault) last.0 last.1 last.2
-    last_fails (Front front.BadLength) last = last_broken (Front front.BadLength) last.0 last.1 last.2
-    last_fails (Front front.Truncated) last = last_broken (Front front.Truncated) last.0 last.1 last.2
-    last_fails (Front front.TurnsUsed) last = last_broken (Front front.TurnsUsed) last.0 last.1 last.2
-    last_fails (Server why) last = last_broken (Server why) last.0 last.1 last.2
+    pub last_stopped : (error : EncodeError) (written : List ℕ) → Finishes gives (Err error) state written → AsksLines gives how (Err (fault_of error)) old (ends lines_new from to out)
+    last_stopped (encoding.BadLine n) written stops = last_none (BadLine n) (stops.0 ∙ ap next_count so.lines_are, refl, inl (inr (at_end, stops.1)))
+    last_stopped (encoding.Unreadable n) written stops = last_none (Unreadable n) (stops.0 ∙ ap next_count so.lines_are, refl, inr (at_end, stops.1))
+    last_stopped encoding.Memory written stops = last_none (Front front.Memory) refl
+
+    -- it is asked
+    module _ (request : List ℕ) (becomes : Becomes gives (state.kept, request)) (from_new to_new out_new : Option (List ℕ)) where
+      pub last_asked : (one : Bool) → IsOneLine state.kept → AsksOne how request one from from_new to to_new out out_new → AsksLines gives how (Ok (refused || one)) old (ends lines_new from_new to_new out_new)
+      last_asked one one_line asks =
+          let x : Exchange = record { line = state.kept; request = request; transient = asks.transient; replies = asks.replies } in
+          record {
+            items = so.items;
+            rest = state.kept;
+            more = traffic_of how.form x;
+            done = does state.kept (traffic_of how.form x) lines_new from_new to_new out_new at_last asks.asks asks.tells asks.shows;
+            ends_so = (
+              at_end,
+              x,
+              ((one_line, becomes), asks.taken),
+              refl,
+              refl,
+              ap (λ b. b || one) so.refused_is ∙ ap (λ b. list_any is_refused so.items || b) asks.refused_is,
+            );
+          }
+
+      pub last_broken : (fault : AskFault) → BreaksOne how fault request from from_new to to_new out out_new → AsksLines gives how (Err fault) old (ends lines_new from_new to_new out_new)
+      last_broken fault breaks = is_broken fault request lines_new from_new to_new out_new at_last breaks (inr (at_end, becomes_frame gives state.kept request becomes breaks.some))
 
   -- ---- one line more
 
@@ -239,13 +208,16 @@ module _ (gives : Gives) (how : Asking) (old : Ends) (lines from to out : Option
         let x : Exchange = record { line = encodes.0; request = request; transient = asks.transient; replies = asks.replies } in
         let kept : lines_of so.items ++ state.kept ≡ lines_of (so.items ++ x ∷ []) ++ next.kept = ap (λ k. lines_of so.items ++ k) encodes.1 ∙ sym (lines_then so.items x next.kept) in
         let long : length (lines_of so.items ++ state.kept) ≡ length (lines_of (so.items ++ x ∷ []) ++ next.kept) = ap length kept in
+        let does_one = does state.kept (traffic_of how.form x) lines from_new to_new out_new so.done.reads asks.asks asks.tells asks.shows in
         record {
           items = so.items ++ x ∷ [];
-          each = each_then (IsExchange gives how) so.items x so.each (encodes.2.0, is_asked gives how encodes.0 request asks.transient asks.replies encodes.2.1 asks.taken);
-          reads = subst (Consumes old.lines lines) kept so.reads;
-          asks = subst (Appends old.to to_new) (sym (flat_then asked_of so.items x)) (Appends-trans old.to to to_new (asked so.items) (asked_of x) so.asks asks.asks);
-          tells = subst (Consumes old.from from_new) (sym (flat_then told_of so.items x)) (Consumes-trans old.from from from_new (told so.items) (told_of x) so.tells asks.tells);
-          shows = subst (Appends old.out out_new) (sym (flat_then (shown_of how.form) so.items x)) (Appends-trans old.out out out_new (all_shown how.form so.items) (shown_of how.form x) so.shows asks.shows);
+          done = record {
+            each = each_then (IsExchange gives how) so.items x so.done.each (encodes.2, asks.taken);
+            reads = subst (Consumes old.lines lines) kept so.done.reads;
+            asks = subst (Appends old.to to_new) (flat_then (λ x. (traffic_of how.form x).asked) so.items x) does_one.asks;
+            tells = subst (Consumes old.from from_new) (flat_then (λ x. (traffic_of how.form x).told) so.items x) does_one.tells;
+            shows = subst (Appends old.out out_new) (flat_then (λ x. (traffic_of how.form x).shown) so.items x) does_one.shows;
+          };
           refused_is = ap (λ b. b || one) so.refused_is ∙ ap (λ b. list_any is_refused so.items || b) asks.refused_is ∙ sym (any_then so.items x);
           lines_are = encodes.3 ∙ ap next_count so.lines_are ∙ sym (count_then 0 so.items x);
           each_turn = omega (arith, so.each_turn, long, length-append so.items (x ∷ []));
@@ -253,4 +225,9 @@ module _ (gives : Gives) (how : Asking) (old : Ends) (lines from to out : Option
 
     pub breaks_off : (fault : AskFault) (from_new to_new out_new : Option (List ℕ)) → BreaksOne how fault request from from_new to to_new out out_new → AsksLines gives how (Err fault) old (ends lines from_new to_new out_new)
     breaks_off fault from_new to_new out_new breaks =
-        is_broken fault request lines from_new to_new out_new so.reads breaks (inl (encodes.0, next.kept, encodes.1, encodes.2.0, (becomes_frame gives encodes.0 request encodes.2.1 breaks.some).1))
+        is_broken fault request lines from_new to_new out_new so.done.reads breaks (inl (encodes.0, next.kept, encodes.1, encodes.2.0, becomes_frame gives encodes.0 request encodes.2.1 breaks.some))
+
+-- behind the greeting
+pub greeted_first : (gives : Gives) (how : Asking) (old mid new : Ends) (result : Result Bool AskFault) → AsksLines gives how result mid new → IsGreeting old mid greeting greeted → AsksStream gives how result old new
+greeted_first gives how old mid new (Ok refused) asks hello = (mid, hello, asks)
+greeted_first gives how old mid new (Err fault) asks hello = inr (mid, hello, asks)

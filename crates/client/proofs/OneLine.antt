@@ -9,9 +9,9 @@ use Rattle.wire.specs.declared.error.FrontError.TheVariants as front
 use Rattle.client.specs.declared.client_error.ClientError.{ClientError}
 use Rattle.client.specs.declared.client_error.ClientError.TheVariants as client
 use Rattle.wire.specs.ReplyForm.{Reply, Stored, Unchanged, Removed, Appended, Found, All, Bundle, Speaks, Refused, Moved, Held, Worn, Memory, Shut, payload_of}
-use Rattle.client.specs.Asking.{BreaksOff, HidesLast, IsNoReply}
+use Rattle.client.specs.Asking.{AreBegun, IsUnanswered, BreaksOff, HidesLast, IsNoReply}
 use Rattle.client.specs.Replies.{IsTold, is_bundle, is_refusal, reply_frames, shown}
-use Rattle.client.specs.Private.Steps.{TriesSoFar, FailsAsking, AsksUntilTold, Shows, NotShown, BreaksOthers, AsksOne, BreaksOne}
+use Rattle.client.specs.Private.Steps.{TriesSoFar, FailsAsking, AsksUntilTold, Shows, NotShown, ShowsOthers, BreaksOthers, AsksOne, BreaksOne}
 use Rattle.client.specs.declared.asking.Asking.{Asking}
 use Rattle.client.specs.declared.asking.Form.{Form}
 use Rattle.client.specs.declared.fault.AskFault.{AskFault}
@@ -34,14 +34,20 @@ asks_nothing how request from to out none = record {
   refused_is = refl;
 }
 
+unanswered : (form : Form) (error : ClientError) (unsent torn : List ℕ) (left : Option (List ℕ)) → IsUnanswered error unsent torn left → BreaksOff form (Server error) [] torn unsent [] left
+unanswered form client.Memory unsent torn left why = absurd why.1
+unanswered form client.BadLength unsent torn left why = (tt, why.0, refl, why.1)
+unanswered form client.BadReply unsent torn left why = absurd why.1
+unanswered form client.Truncated unsent torn left why = (tt, why.0, refl, why.1)
+unanswered form client.ReadFault unsent torn left why = (tt, why.0, refl, why.1)
+unanswered form client.WriteFault unsent torn left why = (refl, why)
+
 module _ (how : Asking) (left : ℕ) (request : List ℕ) (from_old from_mid to_old to_mid : Option (List ℕ)) (so : TriesSoFar how.retries left request from_old from_mid to_old to_mid) (some : request ≢ []) (from_new to_new out : Option (List ℕ)) where
   -- one try more, after which no reply came
   untold : (error : ClientError) (sent unsent torn : List ℕ) → request ≡ sent ++ unsent → Appends to_mid to_new sent → Consumes from_mid from_new torn → BreaksOff how.form (Server error) [] torn unsent [] from_new
       → BreaksOne how (Server error) request from_old from_new to_old to_new out out
   untold error sent unsent torn split asks tells why = record {
-    out_asked = flat_map (λ reply. request) so.transient ++ sent;
-    out_told = reply_frames so.transient ++ torn;
-    out_shown = [];
+    done = record { asked = flat_map (λ reply. request) so.transient ++ sent; told = reply_frames so.transient ++ torn; shown = [] };
     some = some;
     asks = Appends-trans to_old to_mid to_new (flat_map (λ (reply : Reply). request) so.transient) sent so.asks asks;
     tells = Consumes-trans from_old from_mid from_new (reply_frames so.transient) torn so.tells tells;
@@ -64,8 +70,8 @@ module _ (how : Asking) (left : ℕ) (request : List ℕ) (from_old from_mid to_
     };
   }
 
-  pub not_told : (error : ClientError) → FailsAsking request error from_mid from_new to_mid to_new → BreaksOne how (Server error) request from_old from_new to_old to_new out out
-  not_told error one = untold error one.sent one.unsent one.torn one.split one.asks one.tells (one.why.1 how.form)
+  pub not_told : (error : ClientError) → FailsAsking request (IsUnanswered error) from_mid from_new to_mid to_new → BreaksOne how (Server error) request from_old from_new to_old to_new out out
+  not_told error one = untold error one.sent one.unsent one.torn one.split one.asks one.tells (unanswered how.form error one.unsent one.torn from_new one.why)
 
   pub bad_reply : (payload : List ℕ) → Appends to_mid to_new request → Consumes from_mid from_new (frame payload) → IsNoReply how.form false payload → BreaksOne how (Server client.BadReply) request from_old from_new to_old to_new out out
   bad_reply payload asks tells none = untold client.BadReply request [] (frame payload) (sym (append-nil request)) asks tells (tt, refl, refl, payload, refl, none)
@@ -100,7 +106,7 @@ none_refused : (form : Form) (others : List Reply) → AllByRecursion (IsTold fo
 none_refused form [] each = refl
 none_refused form (reply ∷ others) each = ap (λ b. b || list_any is_refusal others) (no_refusal reply each.0.1) ∙ none_refused form others each.1
 
-or_false : (b : Bool) → (b || false) ≡ b
+pub or_false : (b : Bool) → (b || false) ≡ b
 or_false true = refl
 or_false false = refl
 
@@ -113,58 +119,44 @@ module _ (how : Asking) (request : List ℕ) (reply : Reply) (from_old from_mid 
       ∙ sym (append_assoc (reply_frames until.transient) (reply_frames (reply ∷ others)) rest)
       ∙ ap (λ f. f ++ rest) (sym (frames_append until.transient (reply ∷ others)))
 
+  -- after these replies no more is read or shown
+  breaks_after : (fault : AskFault) (replies : List Reply) (torn showed hidden : List ℕ) (from_new out_old out_new : Option (List ℕ)) → AreBegun how (length until.transient) replies
+      → Consumes from_old from_new (reply_frames (until.transient ++ replies) ++ torn) → Appends out_old out_new showed → flat_map (shown how.form) replies ≡ showed ++ hidden
+      → BreaksOff how.form fault replies torn [] hidden from_new → BreaksOne how fault request from_old from_new to_old to_new out_old out_new
+  breaks_after fault replies torn showed hidden from_new out_old out_new begun tells shows split why = record {
+    done = record { asked = flat_map (λ reply. request) until.transient ++ request; told = reply_frames (until.transient ++ replies) ++ torn; shown = showed };
+    some = some;
+    asks = until.asks;
+    tells = tells;
+    shows = shows;
+    broken = record {
+      transient = until.transient;
+      replies = replies;
+      torn = torn;
+      sent = request;
+      unsent = [];
+      hidden = hidden;
+      each = until.each;
+      few = until.few;
+      begun = begun;
+      split = sym (append-nil request);
+      asks = refl;
+      tells = refl;
+      shows = split;
+      why = why;
+    };
+  }
+
   -- the first reply cannot be shown
-  pub first_not_shown : (out_old out_new : Option (List ℕ)) (fault : AskFault) → IsPayload (payload_of reply) → IsOnly reply → NotShown how.form false reply fault out_old out_new → BreaksOne how fault request from_old from_mid to_old to_new out_old out_new
-  first_not_shown out_old out_new (Server client.BadReply) good only none = record {
-    out_asked = flat_map (λ reply. request) until.transient ++ request;
-    out_told = reply_frames until.transient ++ frame (payload_of reply);
-    out_shown = [];
-    some = some;
-    asks = until.asks;
-    tells = until.tells;
-    shows = subst (λ o. Appends out_old o []) (sym none.0) (Appends-nil out_old);
-    broken = record {
-      transient = until.transient;
-      replies = [];
-      torn = frame (payload_of reply);
-      sent = request;
-      unsent = [];
-      hidden = [];
-      each = until.each;
-      few = until.few;
-      begun = tt;
-      split = sym (append-nil request);
-      asks = refl;
-      tells = ap (λ p. reply_frames p ++ frame (payload_of reply)) (sym (append-nil until.transient));
-      shows = refl;
-      why = (tt, refl, refl, payload_of reply, refl, no_other how.form false reply good only none.1);
-    };
-  }
-  first_not_shown out_old out_new (Front front.WriteFault) good only none = record {
-    out_asked = flat_map (λ reply. request) until.transient ++ request;
-    out_told = reply_frames until.transient ++ frame (payload_of reply);
-    out_shown = none.1.front;
-    some = some;
-    asks = until.asks;
-    tells = until.tells;
-    shows = none.1.appends;
-    broken = record {
-      transient = until.transient;
-      replies = reply ∷ [];
-      torn = [];
-      sent = request;
-      unsent = [];
-      hidden = none.1.missing;
-      each = until.each;
-      few = until.few;
-      begun = (none.0, until.last, omega arith, tt);
-      split = sym (append-nil request);
-      asks = refl;
-      tells = sym (append-nil (reply_frames until.transient ++ frame (payload_of reply))) ∙ told_with [] [];
-      shows = append-nil (shown how.form reply) ∙ none.1.split;
-      why = (([], reply, none.1.front, refl, none.1.split), refl, refl);
-    };
-  }
+  pub first_not_shown : (out_old out_new : Option (List ℕ)) (fault : AskFault) → IsPayload (payload_of reply) → IsOnly reply → NotShown how.form reply (IsTold how.form false reply) fault out_old out_new → BreaksOne how fault request from_old from_mid to_old to_new out_old out_new
+  first_not_shown out_old out_new (Server client.BadReply) good only none =
+      breaks_after (Server client.BadReply) [] (frame (payload_of reply)) [] [] from_mid out_old out_new tt
+      (subst (Consumes from_old from_mid) (ap (λ p. reply_frames p ++ frame (payload_of reply)) (sym (append-nil until.transient))) until.tells)
+      (subst (λ o. Appends out_old o []) (sym none.0) (Appends-nil out_old)) refl (tt, refl, refl, payload_of reply, refl, no_other how.form false reply good only none.1)
+  first_not_shown out_old out_new (Front front.WriteFault) good only none =
+      breaks_after (Front front.WriteFault) (reply ∷ []) [] none.1.front none.1.missing from_mid out_old out_new (none.0, until.last, omega arith, tt)
+      (subst (Consumes from_old from_mid) (sym (append-nil (reply_frames until.transient ++ frame (payload_of reply))) ∙ told_with [] []) until.tells)
+      none.1.appends (append-nil (shown how.form reply) ∙ none.1.split) (([], reply, none.1.front, refl, none.1.split), refl, refl)
   first_not_shown out_old out_new (Server client.Memory) good only none = absurd none
   first_not_shown out_old out_new (Server client.BadLength) good only none = absurd none
   first_not_shown out_old out_new (Server client.Truncated) good only none = absurd none
@@ -181,79 +173,47 @@ module _ (how : Asking) (request : List ℕ) (reply : Reply) (from_old from_mid 
   module _ (refused : Bool) (bundles : ℕ) (out_old out_mid : Option (List ℕ)) (first : Shows how.form false reply refused bundles out_old out_mid) where
     -- a bundle is not shown
     pub others_broken : (fault : AskFault) (from_new out_new : Option (List ℕ)) → BreaksOthers how.form fault bundles from_mid from_new out_mid out_new → BreaksOne how fault request from_old from_new to_old to_new out_old out_new
-    others_broken fault from_new out_new breaks = record {
-      out_asked = flat_map (λ reply. request) until.transient ++ request;
-      out_told = (reply_frames until.transient ++ frame (payload_of reply)) ++ (reply_frames breaks.others ++ breaks.torn);
-      out_shown = shown how.form reply ++ breaks.showed;
-      some = some;
-      asks = until.asks;
-      tells = Consumes-trans from_old from_mid from_new (reply_frames until.transient ++ frame (payload_of reply)) (reply_frames breaks.others ++ breaks.torn) until.tells breaks.tells;
-      shows = Appends-trans out_old out_mid out_new (shown how.form reply) breaks.showed first.shows breaks.shows;
-      broken = record {
-        transient = until.transient;
-        replies = reply ∷ breaks.others;
-        torn = breaks.torn;
-        sent = request;
-        unsent = [];
-        hidden = breaks.hidden;
-        each = until.each;
-        few = until.few;
-        begun = (first.told, until.last, omega (arith, breaks.few, first.bundles_is), breaks.each);
-        split = sym (append-nil request);
-        asks = refl;
-        tells = told_with breaks.others breaks.torn;
-        shows = ap (λ s. shown how.form reply ++ s) breaks.split ∙ sym (append_assoc (shown how.form reply) breaks.showed breaks.hidden);
-        why = breaks.why reply first.bundles_is;
-      };
-    }
+    others_broken fault from_new out_new breaks =
+        breaks_after fault (reply ∷ breaks.others) breaks.torn (shown how.form reply ++ breaks.showed) breaks.hidden from_new out_old out_new
+        (first.told, until.last, omega (arith, breaks.few, first.bundles_is), breaks.each)
+        (subst (Consumes from_old from_new) (told_with breaks.others breaks.torn)
+        (Consumes-trans from_old from_mid from_new (reply_frames until.transient ++ frame (payload_of reply)) (reply_frames breaks.others ++ breaks.torn) until.tells breaks.tells))
+        (Appends-trans out_old out_mid out_new (shown how.form reply) breaks.showed first.shows breaks.shows)
+        (ap (λ s. shown how.form reply ++ s) breaks.split ∙ sym (append_assoc (shown how.form reply) breaks.showed breaks.hidden))
+        (breaks.why reply first.bundles_is)
 
-    module _ (from_new out_new : Option (List ℕ)) (others : List Reply) (long : length others ≡ bundles) (each : AllByRecursion (IsTold how.form true) others) (came : Consumes from_mid from_new (reply_frames others)) (showed : Appends out_mid out_new (flat_map (shown how.form) others)) where
-      tells_all : Consumes from_old from_new (reply_frames (until.transient ++ reply ∷ others))
+    module _ (from_new out_new : Option (List ℕ)) (all : ShowsOthers how.form bundles from_mid from_new out_mid out_new) where
+      abbrev replies : List Reply
+      replies = reply ∷ all.others
+
+      tells_all : Consumes from_old from_new (reply_frames (until.transient ++ replies))
       tells_all =
-          subst (Consumes from_old from_new) (ap (λ o. (reply_frames until.transient ++ frame (payload_of reply)) ++ o) (sym (append-nil (reply_frames others))) ∙ told_with others [] ∙ append-nil (reply_frames (until.transient ++ reply ∷ others)))
-          (Consumes-trans from_old from_mid from_new (reply_frames until.transient ++ frame (payload_of reply)) (reply_frames others) until.tells came)
+          subst (Consumes from_old from_new) (ap (λ o. (reply_frames until.transient ++ frame (payload_of reply)) ++ o) (sym (append-nil (reply_frames all.others))) ∙ told_with all.others [] ∙ append-nil (reply_frames (until.transient ++ replies)))
+          (Consumes-trans from_old from_mid from_new (reply_frames until.transient ++ frame (payload_of reply)) (reply_frames all.others) until.tells all.tells)
 
-      shows_all : Appends out_old out_new (flat_map (shown how.form) (reply ∷ others))
-      shows_all = Appends-trans out_old out_mid out_new (shown how.form reply) (flat_map (shown how.form) others) first.shows showed
+      begun : AreBegun how (length until.transient) replies
+      begun = (first.told, until.last, omega (arith, all.long, first.bundles_is), all.each)
 
-      -- all is shown
-      pub asks_all : AsksOne how request refused from_old from_new to_old to_new out_old out_new
-      asks_all = record {
-        transient = until.transient;
-        replies = reply ∷ others;
-        taken = inr (some, until.each, until.few, (first.told, until.last, long ∙ first.bundles_is, each));
-        asks = until.asks;
-        tells = tells_all;
-        shows = shows_all;
-        refused_is = first.refused_is ∙ sym (ap (λ b. is_refusal reply || b) (none_refused how.form others each) ∙ or_false (is_refusal reply));
-      }
+      -- and the writer is flushed
+      module _ (out_last : Option (List ℕ)) (kept : Keeps out_new out_last) where
+        shows_all : Appends out_old out_last (flat_map (shown how.form) replies)
+        shows_all =
+            then_kept out_old out_new out_last (flat_map (shown how.form) replies) (Appends-trans out_old out_mid out_new (shown how.form reply) (flat_map (shown how.form) all.others) first.shows all.shows) kept
 
-      -- all is written, but the writer keeps something back
-      pub not_flushed : (out_last : Option (List ℕ)) → Keeps out_new out_last → BreaksOne how (Front front.WriteFault) request from_old from_new to_old to_new out_old out_last
-      not_flushed out_last kept =
-          let all = flat_map (shown how.form) (reply ∷ others) in
-          record {
-            out_asked = flat_map (λ reply. request) until.transient ++ request;
-            out_told = reply_frames (until.transient ++ reply ∷ others);
-            out_shown = all;
-            some = some;
-            asks = until.asks;
-            tells = tells_all;
-            shows = then_kept out_old out_new out_last all shows_all kept;
-            broken = record {
-              transient = until.transient;
-              replies = reply ∷ others;
-              torn = [];
-              sent = request;
-              unsent = [];
-              hidden = [];
-              each = until.each;
-              few = until.few;
-              begun = (first.told, until.last, omega (arith, long, first.bundles_is), each);
-              split = sym (append-nil request);
-              asks = refl;
-              tells = sym (append-nil (reply_frames (until.transient ++ reply ∷ others)));
-              shows = sym (append-nil all);
-              why = (hides_nothing how.form reply others, refl, refl);
-            };
-          }
+        pub asks_all : AsksOne how request refused from_old from_new to_old to_new out_old out_last
+        asks_all = record {
+          transient = until.transient;
+          replies = replies;
+          taken = inr (some, until.each, until.few, begun, λ due. omega (arith, due, all.long, first.bundles_is));
+          asks = until.asks;
+          tells = tells_all;
+          shows = shows_all;
+          refused_is = first.refused_is ∙ sym (ap (λ b. is_refusal reply || b) (none_refused how.form all.others all.each) ∙ or_false (is_refusal reply));
+        }
+
+        -- or it keeps something back
+        pub not_flushed : BreaksOne how (Front front.WriteFault) request from_old from_new to_old to_new out_old out_last
+        not_flushed =
+            breaks_after (Front front.WriteFault) replies [] (flat_map (shown how.form) replies) [] from_new out_old out_last begun
+            (subst (Consumes from_old from_new) (sym (append-nil (reply_frames (until.transient ++ replies)))) tells_all)
+            shows_all (sym (append-nil (flat_map (shown how.form) replies))) (hides_nothing how.form reply all.others, refl, refl)

@@ -1,8 +1,8 @@
 -- Bundles that are shown one after another.
-use Rattle.std.proofs.Common.{◌≡◌, ℕ, ◌+◌, ◌<◌, ◌≤◌, List, [], ◌∷◌, ◌++◌, Bool, true, Option, Some, None, refl, sym, ap, subst, ◌∙◌, append-nil, append_assoc, length, length-append, arith}
+use Rattle.std.proofs.Common.{◌≡◌, ℕ, ◌+◌, ◌<◌, List, [], ◌∷◌, ◌++◌, Bool, true, Option, Some, None, refl, sym, ap, subst, ◌∙◌, append-nil, append_assoc, length, length-append, arith}
 use Rattle.std.specs.List.{AllByRecursion, flat_map}
 use Rattle.std.specs.Io.KnownBytes.{Appends, Consumes, Keeps}
-use Rattle.std.proofs.KnownBytes.{Appends-nil, Appends-trans, Consumes-nil, Consumes-trans}
+use Rattle.std.proofs.KnownBytes.{Appends-trans, Consumes-trans}
 use Rattle.std.proofs.lemmas.List.Concat.{flat_map-append}
 use Rattle.wire.specs.Frame.{IsPayload, frame}
 use Rattle.wire.specs.declared.error.FrontError.TheVariants as front
@@ -11,8 +11,8 @@ use Rattle.client.specs.declared.client_error.ClientError.{ClientError}
 use Rattle.client.specs.declared.client_error.ClientError.TheVariants as client
 use Rattle.wire.specs.ReplyForm.{Reply, HasPayload, payload_of}
 use Rattle.client.specs.Asking.{BreaksOff, IsDue, IsNoReply}
-use Rattle.client.specs.Replies.{IsTold, reply_frames, shown}
-use Rattle.client.specs.Private.Steps.{Shows, NotShown, OthersSoFar, BreaksOthers}
+use Rattle.client.specs.Replies.{IsTold, bundles_after, reply_frames, shown}
+use Rattle.client.specs.Private.Steps.{Shows, NotShown, ShowsOthers, BreaksOthers}
 use Rattle.client.specs.declared.asking.Form.{Form}
 use Rattle.client.specs.declared.fault.AskFault.{AskFault}
 use Rattle.client.specs.declared.fault.AskFault.TheVariants.{BadLine, Unreadable, Server, Front}
@@ -58,33 +58,26 @@ no_other form later reply good only none = (good, λ other same told. none (subs
 
 -- ---- bundles
 
-pub begins : (form : Form) (from out : Option (List ℕ)) → OthersSoFar form 0 from from out out
-begins form from out = record { others = []; long = refl; each = tt; tells = Consumes-nil from; shows = Appends-nil out }
-
 -- no frame is read where a reply is due
-pub no_frame : (form : Form) (error : ClientError) (replies : List Reply) (torn : List ℕ) (left : Option (List ℕ)) → IsDue replies → NoFrame error torn left → BreaksOff form (Server error) replies torn [] [] left
-no_frame form client.Memory replies torn left due none = (due, refl, refl, none)
+no_frame : (form : Form) (error : ClientError) (replies : List Reply) (torn : List ℕ) (left : Option (List ℕ)) → IsDue replies → NoFrame error torn left → BreaksOff form (Server error) replies torn [] [] left
+no_frame form client.Memory replies torn left due none = absurd none
 no_frame form client.BadLength replies torn left due none = (due, refl, refl, none)
 no_frame form client.BadReply replies torn left due none = absurd none
 no_frame form client.Truncated replies torn left due none = (due, refl, refl, none)
 no_frame form client.ReadFault replies torn left due none = (due, refl, refl, none)
 no_frame form client.WriteFault replies torn left due none = absurd none
 
-module _ (form : Form) (count all : ℕ) (due : count < all) (from_old from_mid out_old out_mid : Option (List ℕ)) (so : OthersSoFar form count from_old from_mid out_old out_mid) where
+module _ (form : Form) (count all : ℕ) (due : count < all) (from_old from_mid out_old out_mid : Option (List ℕ)) (so : ShowsOthers form count from_old from_mid out_old out_mid) where
   -- the frame of a reply is read
   reads : (from_new : Option (List ℕ)) (reply : Reply) → Consumes from_mid from_new (frame (payload_of reply)) → Consumes from_old from_new (reply_frames (so.others ++ reply ∷ []))
   reads from_new reply came =
       subst (Consumes from_old from_new) (ap (λ f. reply_frames so.others ++ f) (sym (frames_one reply)) ∙ sym (frames_append so.others (reply ∷ [])))
       (Consumes-trans from_old from_mid from_new (reply_frames so.others) (frame (payload_of reply)) so.tells came)
 
-  -- so many, of which one more is due
-  few : length so.others ≤ all
-  few = omega (arith, so.long, due)
-
   more_due : length so.others < all
   more_due = omega (arith, so.long, due)
 
-  pub goes_on : (reply : Reply) (from_new out_new : Option (List ℕ)) (refused : Bool) (bundles : ℕ) → Consumes from_mid from_new (frame (payload_of reply)) → Shows form true reply refused bundles out_mid out_new → OthersSoFar form (count + 1) from_old from_new out_old out_new
+  pub goes_on : (reply : Reply) (from_new out_new : Option (List ℕ)) (refused : Bool) (bundles : ℕ) → Consumes from_mid from_new (frame (payload_of reply)) → Shows form true reply refused bundles out_mid out_new → ShowsOthers form (count + 1) from_old from_new out_old out_new
   goes_on reply from_new out_new refused bundles came shows = record {
     others = so.others ++ reply ∷ [];
     long = length-append so.others (reply ∷ []) ∙ ap (λ n. n + 1) so.long;
@@ -94,36 +87,29 @@ module _ (form : Form) (count all : ℕ) (due : count < all) (from_old from_mid 
         (Appends-trans out_old out_mid out_new (flat_map (shown form) so.others) (shown form reply) so.shows shows.shows);
   }
 
-  pub torn_off : (error : ClientError) (torn : List ℕ) (from_new : Option (List ℕ)) → Consumes from_mid from_new torn → NoFrame error torn from_new → BreaksOthers form (Server error) all from_old from_new out_old out_mid
-  torn_off error torn from_new came none = record {
+  -- what is read where the next reply is due is none that may come there
+  torn_at : (error : ClientError) (torn : List ℕ) (from_new : Option (List ℕ)) → Consumes from_mid from_new torn
+      → ((first : Reply) → all ≡ bundles_after first → BreaksOff form (Server error) (first ∷ so.others) torn [] [] from_new) → BreaksOthers form (Server error) all from_old from_new out_old out_mid
+  torn_at error torn from_new came why = record {
     others = so.others;
     torn = torn;
     showed = flat_map (shown form) so.others;
     hidden = [];
-    few = few;
+    few = omega (arith, more_due);
     each = so.each;
     split = sym (append-nil (flat_map (shown form) so.others));
     tells = Consumes-trans from_old from_mid from_new (reply_frames so.others) torn so.tells came;
     shows = so.shows;
-    why = λ first is. no_frame form error (first ∷ so.others) torn from_new (omega (arith, more_due, is)) none;
+    why = why;
   }
 
-  -- no reply that may come there
+  pub torn_off : (error : ClientError) (torn : List ℕ) (from_new : Option (List ℕ)) → Consumes from_mid from_new torn → NoFrame error torn from_new → BreaksOthers form (Server error) all from_old from_new out_old out_mid
+  torn_off error torn from_new came none = torn_at error torn from_new came (λ first is. no_frame form error (first ∷ so.others) torn from_new (omega (arith, more_due, is)) none)
+
   pub bad_reply : (payload : List ℕ) (from_new : Option (List ℕ)) → Consumes from_mid from_new (frame payload) → IsNoReply form true payload → BreaksOthers form (Server client.BadReply) all from_old from_new out_old out_mid
-  bad_reply payload from_new came none = record {
-    others = so.others;
-    torn = frame payload;
-    showed = flat_map (shown form) so.others;
-    hidden = [];
-    few = few;
-    each = so.each;
-    split = sym (append-nil (flat_map (shown form) so.others));
-    tells = Consumes-trans from_old from_mid from_new (reply_frames so.others) (frame payload) so.tells came;
-    shows = so.shows;
-    why = λ first is. (omega (arith, more_due, is), refl, refl, payload, refl, none);
-  }
+  bad_reply payload from_new came none = torn_at client.BadReply (frame payload) from_new came (λ first is. (omega (arith, more_due, is), refl, refl, payload, refl, none))
 
-  pub not_shown : (reply : Reply) (from_new out_new : Option (List ℕ)) (fault : AskFault) → IsPayload (payload_of reply) → IsOnly reply → Consumes from_mid from_new (frame (payload_of reply)) → NotShown form true reply fault out_mid out_new → BreaksOthers form fault all from_old from_new out_old out_new
+  pub not_shown : (reply : Reply) (from_new out_new : Option (List ℕ)) (fault : AskFault) → IsPayload (payload_of reply) → IsOnly reply → Consumes from_mid from_new (frame (payload_of reply)) → NotShown form reply (IsTold form true reply) fault out_mid out_new → BreaksOthers form fault all from_old from_new out_old out_new
   not_shown reply from_new out_new (Server client.BadReply) good only came none = rw none.0 (bad_reply (payload_of reply) from_new came (no_other form true reply good only none.1))
   not_shown reply from_new out_new (Front front.WriteFault) good only came none = record {
     others = so.others ++ reply ∷ [];

@@ -2,7 +2,7 @@
 use Rattle.std.proofs.Common.{◌≡◌, ◌≢◌, ◌⊎◌, drop, ℕ, ◌-◌, ◌≤◌, List, [], ◌∷◌, ◌++◌, true, false, Option, refl, sym, ap, subst, ◌∙◌, arith, append-nil, length-append, inl, inr}
 use Rattle.std.specs.List.{flat_map}
 use Rattle.std.specs.Io.KnownBytes.{Appends, Consumes}
-use Rattle.std.proofs.KnownBytes.{Appends-nil, Appends-trans, Consumes-nil, Consumes-trans}
+use Rattle.std.proofs.KnownBytes.{Appends-trans, Consumes-nil, Consumes-trans}
 use Rattle.std.proofs.lemmas.List.Concat.{flat_map-append}
 use Rattle.wire.specs.Frame.{IsPayload, frame}
 use Rattle.wire.specs.Output.{WritesFront}
@@ -10,47 +10,37 @@ use Rattle.client.specs.Reading.{NoFrame}
 use Rattle.client.specs.declared.client_error.ClientError.{ClientError}
 use Rattle.client.specs.declared.client_error.ClientError.TheVariants as client
 use Rattle.wire.specs.ReplyForm.{Reply, payload_of}
-use Rattle.client.specs.Asking.{IsTransient, BreaksOff, NotGreeted, greeting}
-use Rattle.client.specs.declared.asking.Form.{Form}
-use Rattle.client.specs.declared.asking.Form.TheVariants.{Lines}
+use Rattle.client.specs.Asking.{IsTransient, IsUnanswered, NotGreeted, greeting}
 use Rattle.client.specs.declared.fault.AskFault.TheVariants.{Server}
 use Rattle.client.specs.Replies.{is_transient, reply_frames}
-use Rattle.client.specs.Private.Steps.{AsksUntilTold, TriesSoFar, FailsAsking, NotGreetedBy}
-use Rattle.client.proofs.Replies.{each_append, frames_append, frames_one, no_frame}
+use Rattle.client.specs.Private.Steps.{AsksUntilTold, TriesSoFar, FailsAsking}
+use Rattle.client.proofs.Replies.{each_append, frames_append, frames_one}
 
-pub asked_append : (request : List ℕ) (xs ys : List Reply) → flat_map (λ (reply : Reply). request) (xs ++ ys) ≡ flat_map (λ (reply : Reply). request) xs ++ flat_map (λ (reply : Reply). request) ys
+asked_append : (request : List ℕ) (xs ys : List Reply) → flat_map (λ (reply : Reply). request) (xs ++ ys) ≡ flat_map (λ (reply : Reply). request) xs ++ flat_map (λ (reply : Reply). request) ys
 asked_append request xs ys = flat_map-append (λ (reply : Reply). request) xs ys
 
 -- ---- one try
 
 -- the request could not be sent
-pub not_sent : (request : List ℕ) (from to_old to_new : Option (List ℕ)) → WritesFront to_old to_new request → FailsAsking request client.WriteFault from from to_old to_new
-not_sent request from to_old to_new front = record {
-  sent = front.front;
-  unsent = front.missing;
-  torn = [];
-  split = front.split;
-  asks = front.appends;
-  tells = Consumes-nil from;
-  why = (λ same. cc same, λ form. (refl, refl));
-}
+pub not_sent : (request : List ℕ) (from to_old to_new : Option (List ℕ)) → WritesFront to_old to_new request → FailsAsking request (IsUnanswered client.WriteFault) from from to_old to_new
+not_sent request from to_old to_new front =
+    record { sent = front.front; unsent = front.missing; torn = []; split = front.split; asks = front.appends; tells = Consumes-nil from; why = refl }
+
+no_reply : (error : ClientError) (torn : List ℕ) (left : Option (List ℕ)) → NoFrame error torn left → IsUnanswered error [] torn left
+no_reply client.Memory torn left none = absurd none
+no_reply client.BadLength torn left none = (refl, none)
+no_reply client.BadReply torn left none = absurd none
+no_reply client.Truncated torn left none = (refl, none)
+no_reply client.ReadFault torn left none = (refl, none)
+no_reply client.WriteFault torn left none = absurd none
 
 -- it was sent, and no reply came
-pub not_read : (error : ClientError) (request torn : List ℕ) (from_old from_new to_old to_new : Option (List ℕ)) → Appends to_old to_new request → Consumes from_old from_new torn → NoFrame error torn from_new → FailsAsking request error from_old from_new to_old to_new
-not_read error request torn from_old from_new to_old to_new asks tells none = record {
-  sent = request;
-  unsent = [];
-  torn = torn;
-  split = sym (append-nil request);
-  asks = asks;
-  tells = tells;
-  why = (λ same. subst (λ (e : ClientError). NoFrame e torn from_new) same none, λ form. no_frame form error [] torn from_new tt none);
-}
+pub not_read : (error : ClientError) (request torn : List ℕ) (from_old from_new to_old to_new : Option (List ℕ)) → Appends to_old to_new request → Consumes from_old from_new torn → NoFrame error torn from_new
+    → FailsAsking request (IsUnanswered error) from_old from_new to_old to_new
+not_read error request torn from_old from_new to_old to_new asks tells none =
+    record { sent = request; unsent = []; torn = torn; split = sym (append-nil request); asks = asks; tells = tells; why = no_reply error torn from_new none }
 
 -- ---- one try after the other
-
-pub begins : (retries : ℕ) (request : List ℕ) (from to : Option (List ℕ)) → TriesSoFar retries retries request from from to to
-begins retries request from to = record { transient = []; each = tt; count = omega arith; asks = Appends-nil to; tells = Consumes-nil from }
 
 module _ (retries left : ℕ) (request : List ℕ) (from_old from_mid to_old to_mid : Option (List ℕ)) (so : TriesSoFar retries left request from_old from_mid to_old to_mid) (from_new to_new : Option (List ℕ)) where
   -- one try more, to which a reply came after which it is asked again
@@ -90,15 +80,16 @@ frame_same : (a b : List ℕ) → frame a ≡ frame b → a ≡ b
 unfolding frame
 frame_same a b same = ap (drop 4) same
 
-why_not_greeted : (form : Form) (error : ClientError) (unsent torn : List ℕ) (left : Option (List ℕ)) → (error ≡ client.BadReply → ⊥) → BreaksOff form (Server error) [] torn unsent [] left → NotGreeted (Server error) unsent torn left
-why_not_greeted form client.Memory unsent torn left other why = (why.1, why.3)
-why_not_greeted form client.BadLength unsent torn left other why = (why.1, why.3)
-why_not_greeted form client.BadReply unsent torn left other why = absurd (other refl)
-why_not_greeted form client.Truncated unsent torn left other why = (why.1, why.3)
-why_not_greeted form client.ReadFault unsent torn left other why = (why.1, why.3)
-why_not_greeted form client.WriteFault unsent torn left other why = why.1
+why_not_greeted : (error : ClientError) (unsent torn : List ℕ) (left : Option (List ℕ)) → IsUnanswered error unsent torn left → NotGreeted (Server error) unsent torn left
+why_not_greeted client.BadReply unsent torn left why = absurd why.1
+why_not_greeted client.Memory unsent torn left why = why
+why_not_greeted client.BadLength unsent torn left why = why
+why_not_greeted client.Truncated unsent torn left why = why
+why_not_greeted client.ReadFault unsent torn left why = why
+why_not_greeted client.WriteFault unsent torn left why = why
 
-pub not_greeted : (error : ClientError) (request : List ℕ) (from_old from_new to_old to_new : Option (List ℕ)) → request ≡ 0 ∷ 0 ∷ 0 ∷ 2 ∷ 86 ∷ 2 ∷ [] → FailsAsking request error from_old from_new to_old to_new → NotGreetedBy (Server error) from_old from_new to_old to_new
+pub not_greeted : (error : ClientError) (request : List ℕ) (from_old from_new to_old to_new : Option (List ℕ)) → request ≡ 0 ∷ 0 ∷ 0 ∷ 2 ∷ 86 ∷ 2 ∷ [] → FailsAsking request (IsUnanswered error) from_old from_new to_old to_new
+    → FailsAsking greeting (NotGreeted (Server error)) from_old from_new to_old to_new
 not_greeted error request from_old from_new to_old to_new is one = record {
   sent = one.sent;
   unsent = one.unsent;
@@ -106,10 +97,11 @@ not_greeted error request from_old from_new to_old to_new is one = record {
   split = sym (is ∙ greeting_bytes) ∙ one.split;
   asks = one.asks;
   tells = one.tells;
-  why = why_not_greeted Lines error one.unsent one.torn from_new one.why.0 (one.why.1 Lines);
+  why = why_not_greeted error one.unsent one.torn from_new one.why;
 }
 
-pub other_greeting : (payload : List ℕ) (from_old from_new to_old to_new : Option (List ℕ)) → Appends to_old to_new greeting → Consumes from_old from_new (frame payload) → IsPayload payload → payload ≢ 118 ∷ 2 ∷ [] → NotGreetedBy (Server client.BadReply) from_old from_new to_old to_new
+pub other_greeting : (payload : List ℕ) (from_old from_new to_old to_new : Option (List ℕ)) → Appends to_old to_new greeting → Consumes from_old from_new (frame payload) → IsPayload payload → payload ≢ 118 ∷ 2 ∷ []
+    → FailsAsking greeting (NotGreeted (Server client.BadReply)) from_old from_new to_old to_new
 other_greeting payload from_old from_new to_old to_new asks tells good other = record {
   sent = greeting;
   unsent = [];

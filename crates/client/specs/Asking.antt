@@ -6,8 +6,9 @@ use Rattle.wire.specs.Counted.{next_count}
 use Rattle.wire.specs.Frame.{IsPayload, frame}
 use Rattle.wire.specs.declared.error.FrontError.TheVariants as front
 use Rattle.client.specs.Reading.{NoFrame}
+use Rattle.client.specs.declared.client_error.ClientError.{ClientError}
 use Rattle.client.specs.declared.client_error.ClientError.TheVariants as client
-use Rattle.wire.specs.Encoding.{Gives, IsFrameOf, IsBadLine, NamesUnreadable, BeginsWith, BeginsLong, is_comment}
+use Rattle.wire.specs.Encoding.{Gives, EncodesLine, IsFrameOf, IsBadLine, NamesUnreadable, BeginsWith, BeginsLong}
 use Rattle.wire.specs.ReplyForm.{Reply, payload_of}
 use Rattle.wire.specs.RequestForm.{IsOneLine}
 use Rattle.client.specs.Replies.{is_transient, is_refusal, bundles_after, reply_frames, shown, IsTold}
@@ -16,73 +17,14 @@ use Rattle.client.specs.declared.asking.Form.{Form}
 use Rattle.client.specs.declared.fault.AskFault.{AskFault}
 use Rattle.client.specs.declared.fault.AskFault.TheVariants.{BadLine, Unreadable, Server, Front}
 
--- ---- an exchange
-
--- a line, the frame that it becomes, the transient replies after which it was asked again, and those that are shown
-pub record Exchange : Type 0 where
-  pub line : List ℕ
-  pub request : List ℕ
-  pub transient : List Reply
-  pub replies : List Reply
-
--- the frame, as often as it was asked
-abbrev pub asked_of : Exchange → List ℕ
-asked_of x = flat_map (λ reply. x.request) x.transient ++ x.request
-
-abbrev pub told_of : Exchange → List ℕ
-told_of x = reply_frames (x.transient ++ x.replies)
-
-abbrev pub shown_of : Form → Exchange → List ℕ
-shown_of form x = flat_map (shown form) x.replies
-
-abbrev pub is_refused : Exchange → Bool
-is_refused x = list_any is_refusal x.replies
+-- ---- the replies to a request
 
 -- after such a reply it is asked again
 abbrev pub IsTransient : Reply → Type 0
 IsTransient reply = is_transient reply ≡ true
 
--- After so many transient replies these are shown: the first says how many bundles follow it, and is transient itself only if
--- the retries are used up.
-abbrev pub AreTold : Asking → ℕ → List Reply → Type 0
-AreTold how transient [] = ⊥
-AreTold how transient (first ∷ others) =
-    IsTold how.form false first × (is_transient first ≡ true → transient ≡ how.retries)
-    × (length others ≡ bundles_after first) × AllByRecursion (IsTold how.form true) others
-
--- a comment asks nothing, and else the frame of the line is asked
-abbrev pub IsAsked : Gives → Asking → Exchange → Type 0
-IsAsked gives how x =
-    ((is_comment x.line ≡ true) × (x.request ≡ []) × (x.transient ≡ []) × (x.replies ≡ []))
-    ⊎ ((is_comment x.line ≡ false) × IsFrameOf gives x.line x.request
-    × AllByRecursion IsTransient x.transient × (length x.transient ≤ how.retries) × AreTold how (length x.transient) x.replies)
-
-abbrev pub IsExchange : Gives → Asking → Exchange → Type 0
-IsExchange gives how x = IsOneLine x.line × IsAsked gives how x
-
--- ---- many
-
--- the lines, each with a line feed behind it
-abbrev pub lines_of : List Exchange → List ℕ
-lines_of items = flat_map (λ x. x.line ++ 10 ∷ []) items
-
-abbrev pub asked : List Exchange → List ℕ
-asked items = flat_map asked_of items
-
-abbrev pub told : List Exchange → List ℕ
-told items = flat_map told_of items
-
-abbrev pub all_shown : Form → List Exchange → List ℕ
-all_shown form items = flat_map (shown_of form) items
-
--- how many lines there were after these
-abbrev pub count_after : ℕ → List Exchange → ℕ
-count_after count [] = count
-count_after count (x ∷ items) = count_after (next_count count) items
-
--- ---- an exchange that breaks off
-
--- the first few of such replies, from no reply to all of them
+-- After so many transient replies these begin what is shown, from no reply to all: the first says how many bundles follow it, and is
+-- transient itself only if the retries are used up.
 abbrev pub AreBegun : Asking → ℕ → List Reply → Type 0
 AreBegun how transient [] = Unit {0}
 AreBegun how transient (first ∷ others) =
@@ -93,6 +35,70 @@ AreBegun how transient (first ∷ others) =
 abbrev pub IsDue : List Reply → Type 0
 IsDue [] = Unit {0}
 IsDue (first ∷ others) = length others < bundles_after first
+
+-- A request is asked again after each transient reply, and then these replies are all that is told. If there is no request, none comes.
+abbrev pub IsAnswered : Asking → List ℕ → List Reply → List Reply → Type 0
+IsAnswered how request transient replies =
+    ((request ≡ []) × (transient ≡ []) × (replies ≡ []))
+    ⊎ ((request ≢ []) × AllByRecursion IsTransient transient × (length transient ≤ how.retries)
+    × AreBegun how (length transient) replies × (IsDue replies → ⊥))
+
+-- ---- an exchange
+
+-- a line, the frame that it becomes, the transient replies after which it was asked again, and those that are shown
+pub record Exchange : Type 0 where
+  pub line : List ℕ
+  pub request : List ℕ
+  pub transient : List Reply
+  pub replies : List Reply
+
+-- the line becomes the frame, or nothing if it is a comment
+abbrev pub IsExchange : Gives → Asking → Exchange → Type 0
+IsExchange gives how x = EncodesLine gives (x.line, x.request) × IsAnswered how x.request x.transient x.replies
+
+abbrev pub is_refused : Exchange → Bool
+is_refused x = list_any is_refusal x.replies
+
+-- what a server was asked, what it told, and what was shown
+pub record Traffic : Type 0 where
+  pub asked : List ℕ
+  pub told : List ℕ
+  pub shown : List ℕ
+
+abbrev pub no_traffic : Traffic
+no_traffic = record { asked = []; told = []; shown = [] }
+
+-- that of an exchange: its frame, as often as it was asked
+abbrev pub traffic_of : Form → Exchange → Traffic
+traffic_of form x = record {
+  asked = flat_map (λ reply. x.request) x.transient ++ x.request;
+  told = reply_frames (x.transient ++ x.replies);
+  shown = flat_map (shown form) x.replies;
+}
+
+-- that of exchanges, and then more
+abbrev pub traffic : Form → List Exchange → Traffic → Traffic
+traffic form items more = record {
+  asked = flat_map (λ x. (traffic_of form x).asked) items ++ more.asked;
+  told = flat_map (λ x. (traffic_of form x).told) items ++ more.told;
+  shown = flat_map (λ x. (traffic_of form x).shown) items ++ more.shown;
+}
+
+-- the lines, each with a line feed behind it
+abbrev pub lines_of : List Exchange → List ℕ
+lines_of items = flat_map (λ x. x.line ++ 10 ∷ []) items
+
+-- how many lines there were after these
+abbrev pub count_after : ℕ → List Exchange → ℕ
+count_after count [] = count
+count_after count (x ∷ items) = count_after (next_count count) items
+
+-- ---- an exchange that breaks off
+
+-- no reply came to a request: what of it was not sent, and what was read
+abbrev pub IsUnanswered : ClientError → List ℕ → List ℕ → Option (List ℕ) → Type 0
+IsUnanswered client.WriteFault unsent torn left = torn ≡ []
+IsUnanswered why unsent torn left = (unsent ≡ []) × NoFrame why torn left
 
 -- whether the next reply is one of the bundles
 abbrev pub is_later : List Reply → Bool
@@ -121,7 +127,7 @@ BreaksOff form fault replies torn unsent hidden left = ⊥
 
 -- What an exchange did that broke off: the request was asked again after each transient reply, and the last time a front of it was
 -- sent; whole replies were read, and then what is torn; and a front of what the replies show was shown.
-pub record IsBroken (how : Asking) (fault : AskFault) (request out_asked out_told out_shown : List ℕ) (left : Option (List ℕ)) : Type 0 where
+pub record IsBroken (how : Asking) (fault : AskFault) (request : List ℕ) (done : Traffic) (left : Option (List ℕ)) : Type 0 where
   pub transient : List Reply
   pub replies : List Reply
   pub torn : List ℕ
@@ -132,9 +138,9 @@ pub record IsBroken (how : Asking) (fault : AskFault) (request out_asked out_tol
   pub few : length transient ≤ how.retries
   pub begun : AreBegun how (length transient) replies
   pub split : request ≡ sent ++ unsent
-  pub asks : out_asked ≡ flat_map (λ reply. request) transient ++ sent
-  pub tells : out_told ≡ reply_frames (transient ++ replies) ++ torn
-  pub shows : flat_map (shown how.form) replies ≡ out_shown ++ hidden
+  pub asks : done.asked ≡ flat_map (λ reply. request) transient ++ sent
+  pub tells : done.told ≡ reply_frames (transient ++ replies) ++ torn
+  pub shows : flat_map (shown how.form) replies ≡ done.shown ++ hidden
   pub why : BreaksOff how.form fault replies torn unsent hidden left
 
 -- ---- a stream of lines
@@ -149,52 +155,43 @@ pub record Ends : Type 0 where
 abbrev pub ends : Option (List ℕ) → Option (List ℕ) → Option (List ℕ) → Option (List ℕ) → Ends
 ends lines from to out = record { lines = lines; from = from; to = to; out = out }
 
--- what the next line became, or the last
-abbrev pub BecomesNext : Gives → List ℕ → List ℕ → Type 0
-BecomesNext gives rest request = BeginsWith (λ line. IsFrameOf gives line request) rest ⊎ IsFrameOf gives rest request
+-- the next line is such a line, or the last, which may lack its line feed
+abbrev pub IsNext : (List ℕ → Type 0) → List ℕ → Option (List ℕ) → Type 0
+IsNext Is rest left = BeginsWith Is rest ⊎ (IsAtEnd left × Is rest)
 
--- How it ends after these exchanges: what is left of the lines that were read, and what was asked, told and shown beyond.
-abbrev pub EndsAsking : Gives → Asking → Result Bool AskFault → List Exchange → List ℕ → List ℕ → List ℕ → List ℕ → Ends → Type 0
+-- How it ends after these exchanges: what is left of the lines that were read, and what was done beyond.
+abbrev pub EndsAsking : Gives → Asking → Result Bool AskFault → List Exchange → List ℕ → Traffic → Ends → Type 0
 -- the lines are at their end, and the last may lack its line feed
-EndsAsking gives how (Ok refused) items rest more_asked more_told more_shown new =
-    IsAtEnd new.lines × (last : Exchange) × IsExchange gives how last × (last.line ≡ rest) × (more_asked ≡ asked_of last) × (more_told ≡ told_of last)
-    × (more_shown ≡ shown_of how.form last) × (refused ≡ (list_any is_refused items || is_refused last))
-EndsAsking gives how (Err (BadLine number)) items rest more_asked more_told more_shown new =
-    (number ≡ next_count (count_after 0 items)) × (more_asked ≡ []) × (more_told ≡ []) × (more_shown ≡ [])
-    × ((BeginsWith (IsBadLine gives) rest ⊎ BeginsLong rest) ⊎ (IsAtEnd new.lines × IsBadLine gives rest))
-EndsAsking gives how (Err (Unreadable number)) items rest more_asked more_told more_shown new =
-    (number ≡ next_count (count_after 0 items)) × (more_asked ≡ []) × (more_told ≡ []) × (more_shown ≡ [])
-    × (BeginsWith (NamesUnreadable gives) rest ⊎ (IsAtEnd new.lines × NamesUnreadable gives rest))
-EndsAsking gives how (Err (Server why)) items rest more_asked more_told more_shown new =
-    (request : List ℕ) × BecomesNext gives rest request × IsBroken how (Server why) request more_asked more_told more_shown new.from
-EndsAsking gives how (Err (Front front.WriteFault)) items rest more_asked more_told more_shown new =
-    (request : List ℕ) × BecomesNext gives rest request × IsBroken how (Front front.WriteFault) request more_asked more_told more_shown new.from
-EndsAsking gives how (Err (Front front.BadLength)) items rest more_asked more_told more_shown new = ⊥
-EndsAsking gives how (Err (Front front.Truncated)) items rest more_asked more_told more_shown new = ⊥
+EndsAsking gives how (Ok refused) items rest more new =
+    IsAtEnd new.lines × (last : Exchange) × IsExchange gives how last × (last.line ≡ rest) × (more ≡ traffic_of how.form last)
+    × (refused ≡ (list_any is_refused items || is_refused last))
+EndsAsking gives how (Err (BadLine number)) items rest more new =
+    (number ≡ next_count (count_after 0 items)) × (more ≡ no_traffic) × (IsNext (IsBadLine gives) rest new.lines ⊎ BeginsLong rest)
+EndsAsking gives how (Err (Unreadable number)) items rest more new =
+    (number ≡ next_count (count_after 0 items)) × (more ≡ no_traffic) × IsNext (NamesUnreadable gives) rest new.lines
 -- each whole line that was read was asked
-EndsAsking gives how (Err (Front front.ReadFault)) items rest more_asked more_told more_shown new =
-    IsOneLine rest × (more_asked ≡ []) × (more_told ≡ []) × (more_shown ≡ [])
-EndsAsking gives how (Err fault) items rest more_asked more_told more_shown new = (more_asked ≡ []) × (more_told ≡ []) × (more_shown ≡ [])
+EndsAsking gives how (Err (Front front.ReadFault)) items rest more new = IsOneLine rest × (more ≡ no_traffic)
+EndsAsking gives how (Err (Front front.Memory)) items rest more new = more ≡ no_traffic
+-- each turn read a byte or took a line
+EndsAsking gives how (Err (Front front.TurnsUsed)) items rest more new = (more ≡ no_traffic) × (2 ^ 64 - 1 ≤ length items + length (lines_of items ++ rest))
+EndsAsking gives how (Err fault) items rest more new =
+    (request : List ℕ) × IsNext (λ line. IsFrameOf gives line request) rest new.lines × IsBroken how fault request more new.from
 
--- if the turns are used up, each of them read a byte or took a line
-abbrev pub UsesTurns : Result Bool AskFault → ℕ → Type 0
-UsesTurns (Err (Front front.TurnsUsed)) taken = 2 ^ 64 - 1 ≤ taken
-UsesTurns ended taken = Unit {0}
+-- These exchanges were done, and more, and these lines were read, and the rest.
+pub record HasDone (gives : Gives) (how : Asking) (items : List Exchange) (rest : List ℕ) (more : Traffic) (old new : Ends) : Type 0 where
+  pub each : AllByRecursion (IsExchange gives how) items
+  pub reads : Consumes old.lines new.lines (lines_of items ++ rest)
+  pub asks : Appends old.to new.to (traffic how.form items more).asked
+  pub tells : Consumes old.from new.from (traffic how.form items more).told
+  pub shows : Appends old.out new.out (traffic how.form items more).shown
 
 -- Lines were asked, and their replies shown.
 pub record AsksLines (gives : Gives) (how : Asking) (result : Result Bool AskFault) (old new : Ends) : Type 0 where
   pub items : List Exchange
   pub rest : List ℕ
-  pub more_asked : List ℕ
-  pub more_told : List ℕ
-  pub more_shown : List ℕ
-  pub each : AllByRecursion (IsExchange gives how) items
-  pub reads : Consumes old.lines new.lines (lines_of items ++ rest)
-  pub asks : Appends old.to new.to (asked items ++ more_asked)
-  pub tells : Consumes old.from new.from (told items ++ more_told)
-  pub shows : Appends old.out new.out (all_shown how.form items ++ more_shown)
-  pub ends_so : EndsAsking gives how result items rest more_asked more_told more_shown new
-  pub used : UsesTurns result (length items + length (lines_of items ++ rest))
+  pub more : Traffic
+  pub done : HasDone gives how items rest more old new
+  pub ends_so : EndsAsking gives how result items rest more new
 
 -- ---- the greeting
 
@@ -207,22 +204,15 @@ greeted = frame (118 ∷ 2 ∷ [])
 
 -- no line was read, and nothing shown
 abbrev pub IsGreeting : Ends → Ends → List ℕ → List ℕ → Type 0
-IsGreeting old new out_asked out_told =
-    Appends old.to new.to out_asked × Consumes old.from new.from out_told × (new.lines ≡ old.lines) × (new.out ≡ old.out)
+IsGreeting old new asked told = Appends old.to new.to asked × Consumes old.from new.from told × (new.lines ≡ old.lines) × (new.out ≡ old.out)
 
 -- Why the server was not greeted, what of the greeting was not sent, and what was read of its reply. Out of memory, nothing is sent.
 abbrev pub NotGreeted : AskFault → List ℕ → List ℕ → Option (List ℕ) → Type 0
-NotGreeted (Server client.WriteFault) unsent torn left = torn ≡ []
 NotGreeted (Server client.BadReply) unsent torn left =
     (unsent ≡ []) × (payload : List ℕ) × IsPayload payload × (torn ≡ frame payload) × (torn ≢ greeted)
-NotGreeted (Server why) unsent torn left = (unsent ≡ []) × NoFrame why torn left
+NotGreeted (Server why) unsent torn left = IsUnanswered why unsent torn left
 NotGreeted (Front front.Memory) unsent torn left = (unsent ≡ greeting) × (torn ≡ [])
 NotGreeted fault unsent torn left = ⊥
-
--- a front of the greeting was sent
-abbrev pub IsUngreeted : AskFault → Ends → Ends → Type 0
-IsUngreeted fault old new =
-    (sent : List ℕ) × (unsent : List ℕ) × (torn : List ℕ) × (greeting ≡ sent ++ unsent) × IsGreeting old new sent torn × NotGreeted fault unsent torn new.from
 
 -- ---- the whole
 
@@ -230,6 +220,9 @@ IsUngreeted fault old new =
 abbrev pub AsksGreeted : Gives → Asking → Result Bool AskFault → Ends → Ends → Type 0
 AsksGreeted gives how result old new = (mid : Ends) × IsGreeting old mid greeting greeted × AsksLines gives how result mid new
 
+-- Or a front of the greeting was sent.
 abbrev pub AsksStream : Gives → Asking → Result Bool AskFault → Ends → Ends → Type 0
 AsksStream gives how (Ok refused) old new = AsksGreeted gives how (Ok refused) old new
-AsksStream gives how (Err fault) old new = IsUngreeted fault old new ⊎ AsksGreeted gives how (Err fault) old new
+AsksStream gives how (Err fault) old new =
+    ((sent : List ℕ) × (unsent : List ℕ) × (torn : List ℕ) × (greeting ≡ sent ++ unsent) × IsGreeting old new sent torn × NotGreeted fault unsent torn new.from)
+    ⊎ AsksGreeted gives how (Err fault) old new

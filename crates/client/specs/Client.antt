@@ -1,7 +1,7 @@
 -- What a client writes and reads when it is asked.
 use Rattle.std.specs.Prelude.{◌≡◌, ◌≢◌, ◌⊎◌, ℕ, List, ◌++◌, true, false, Option, Some, None, Result, Ok, Err, []}
 use Rattle.std.specs.Io.KnownBytes.{Appends, Consumes, IsAtEnd}
-use Rattle.wire.specs.Counted.{next_count}
+use Rattle.wire.specs.Counted.{end_in, faults_in, next_count}
 use Rattle.map_core.specs.declared.op.Op.{Op}
 use Rattle.map_core.specs.declared.op.Op.TheVariants.{SetIf}
 use Rattle.map_core.specs.declared.reply.AskError.TheVariants as error
@@ -14,6 +14,7 @@ use Rattle.wire.specs.Output.{WritesFront}
 use Rattle.client.specs.Request.{request_bytes, is_written}
 use Rattle.client.specs.Reading.{CountsFault}
 use Rattle.client.specs.Answer.{Answer, MayAnswer, IsValidAnswer}
+use Rattle.client.specs.declared.server_streams.ServerStreams.{ServerStreams}
 
 -- the reply to the request that sets version 2
 abbrev pub reply_preface : Op → List ℕ
@@ -55,6 +56,9 @@ pub record Ends : Type 0 where
 
 abbrev pub ends : Option (List ℕ) → Option (List ℕ) → ℕ → ℕ → Ends
 ends left held read_faults write_faults = record { left = left; held = held; read_faults = read_faults; write_faults = write_faults }
+
+abbrev pub ends_of : {R W : Type 0} → (R → Option (List ℕ)) → (W → Option (List ℕ)) → ServerStreams R W → Ends
+ends_of left_of held_of server = ends (left_of (end_in server.from)) (held_of (end_in server.to)) (faults_in server.from) (faults_in server.to)
 
 -- The request is written, and the reply read, and neither end failed.
 pub record IsAnswered (op : Op) (answer : Answer) (old new : Ends) : Type 0 where

@@ -143,9 +143,8 @@ pub(crate) fn judge_payload(alloc: Global, op: &Op, payload: &[u8]) -> Result<Fi
     let Some(reply) = reply_of_payload(payload) else {
         return Err(ClientError::BadReply);
     };
-    match read_first(alloc, &reply) {
-        Ok(Some(first)) => Ok(first),
-        Ok(None) => Err(ClientError::BadReply),
-        Err(_) => Err(ClientError::Memory),
-    }
+    let Some(first) = read_first(alloc, &reply)? else {
+        return Err(ClientError::BadReply);
+    };
+    Ok(first)
 }

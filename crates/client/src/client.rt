@@ -1,23 +1,23 @@
 //! A client: asks whoever serves the other end of a stream.
-ghost use Rattle.std.specs.Prelude.{◌≡◌, ◌≤◌, ◌++◌, ◌∷◌, [], ◌≢◌, ℕ, List, true, false, None, length, Err, OnOk, IfOk, IfErr};
-ghost use Rattle.std.specs.Io.KnownBytes.{Consumes};
+ghost use Rattle.std.specs.Prelude.{◌≡◌, ◌≤◌, None, length, OnOk, IfErr};
 ghost use Rattle.wire.specs.Counted.{end_in, faults_in};
-ghost use Rattle.client.specs.Reading.{CountsFault};
 ghost use Rattle.wire.specs.Answers.{answer_frames};
-ghost use Rattle.client.specs.Answer.{MayAnswer, IsValidAnswer};
+ghost use Rattle.wire.specs.Output.{end_of};
+ghost use Rattle.client.specs.Client.{Asks, Breaks, reply_preface, reply_bytes, Exchange, ends, ends_of};
+ghost use Rattle.client.specs.Private.Reads.{ReadsWhole, StopsReading, ReadsReply};
 ghost use Rattle.client.specs.Private.Requests.{document_part};
-ghost use Rattle.client.specs.Client.{Asks, Breaks, reply_preface, reply_bytes, Exchange, ends};
 
-use crate::ClientError;
 use crate::answer::{First, judge_payload};
 use crate::listing::read_listing;
-use crate::reading::read_frame;
+use crate::reply::is_version_two;
+use crate::reply_room::ReplyRoom;
 use crate::request::{request_document, send_request};
+use crate::{ClientError, ServerStreams};
 use map_core::{Ask, AskError, Op, Reply, Snapshot};
-use std::alloc::{AllocError, Global};
+use std::alloc::Global;
 use std::io::{Read, Write};
 use std::marker::Model;
-use wire::{Counted, MAX_PAYLOAD};
+use wire::Counted;
 
 /// Asks a map whose session is served at the other end of a stream: each operation is one request, and
 /// its reply is read before the next. Documents are sent and taken as canonical texts only. An append of an
@@ -32,21 +32,18 @@ use wire::{Counted, MAX_PAYLOAD};
 #[derive(Drop)]
 pub struct Client<R: Read, W: Write> {
     alloc: Global,
-    reader: Counted<R>,
-    writer: Counted<W>,
-    /// Room for the payload of a reply, from the first request on.
-    buffer: Vec<u8>,
+    server: ServerStreams<R, W>,
+    /// From the first request on.
+    room: Option<ReplyRoom>,
     ended: Option<ClientError>,
 }
 
 impl<R: Read, W: Write> Model for Client<R, W> {
-    ghost use Rattle.std.specs.Prelude.{◌≡◌, None};
-    ghost use Rattle.wire.specs.Counted.{end_in, faults_in};
-    ghost use Rattle.client.specs.Client.{ClientState, ends};
+    ghost use Rattle.client.specs.Client.{ClientState, ends_of};
 
     ghost Value = { ClientState };
 
-    ghost view = { λ c. record { ends = ends (R.remaining (end_in c.reader)) (W.contents (end_in c.writer)) (faults_in c.reader) (faults_in c.writer); ended = c.ended } };
+    ghost view = { λ c. record { ends = ends_of R.remaining W.contents c.server; ended = c.ended } };
 }
 
 impl<R: Read, W: Write> Client<R, W> {
@@ -57,9 +54,11 @@ impl<R: Read, W: Write> Client<R, W> {
     {
         Client {
             alloc,
-            reader,
-            writer,
-            buffer: Vec::new(alloc),
+            server: ServerStreams {
+                from: reader,
+                to: writer,
+            },
+            room: None,
             ended: None,
         }
     }
@@ -81,12 +80,14 @@ impl<R: Read, W: Write> Client<R, W> {
         let Some(document) = request_document(self.alloc, op)? else {
             return Err(AskError::GateShut);
         };
-        if self.buffer.len() != MAX_PAYLOAD {
-            self.buffer = room(self.alloc, MAX_PAYLOAD)?;
-        }
-        let (reader, writer) = (&mut self.reader, &mut self.writer);
+        let mut room = match self.room.take() {
+            Some(room) => room,
+            None => ReplyRoom::new(self.alloc)?,
+        };
         let document = document.as_slice();
-        match exchange(self.alloc, reader, writer, &mut self.buffer, op, document) {
+        let asked = exchange(self.alloc, &mut self.server, &mut room, op, document);
+        self.room = Some(room);
+        match asked {
             Ok(answer) => answer,
             Err(why) => {
                 self.ended = Some(why);
@@ -99,8 +100,8 @@ impl<R: Read, W: Write> Client<R, W> {
     pub fn into_ends(self) -> (Counted<R>, Counted<W>)
         ensures { self.ends ≡ ends (R.remaining (end_in result.0)) (W.contents (end_in result.1)) (faults_in result.0) (faults_in result.1) }
     {
-        let Client { reader, writer, .. } = self;
-        (reader, writer)
+        let Client { server, .. } = self;
+        (server.from, server.to)
     }
 }
 
@@ -122,41 +123,20 @@ impl<R: Read, W: Write> Ask for Client<R, W> {
     }
 }
 
-/// Room for so many bytes.
-fn room(alloc: Global, size: usize) -> Result<Vec<u8>, AllocError>
-    ensures { IfOk result (λ room. length room.items ≡ size) }
-{
-    vec![in alloc; 0; size]
-}
-
-/// Whether the payload is the reply that version 2 is set.
-fn is_version_two(payload: &[u8]) -> bool
-    ensures yes { result ≡ true → payload.now ≡ 118 ∷ 2 ∷ [] }
-    ensures no { result ≡ false → payload.now ≢ 118 ∷ 2 ∷ [] }
-{
-    matches!(payload, [b'v', 2])
-}
-
 /// Reads the reply to the request that sets version 2, if that request comes before the operation's.
 fn read_preface<R: Read>(
     reader: &mut Counted<R>,
-    buffer: &mut [u8],
+    room: &mut ReplyRoom,
     op: &Op,
 ) -> Result<(), ClientError>
-    requires room { length buffer.old ≡ 1049000 }
-    ensures len { length buffer.new ≡ length buffer.old }
-    ensures ok { OnOk result (Consumes (R.remaining (end_in reader.old)) (R.remaining (end_in reader.new)) (reply_preface op.now)) }
-    ensures quiet { OnOk result (faults_in reader.new ≡ faults_in reader.old) }
-    ensures err { IfErr result (λ why. (read : List ℕ)
-        × Consumes (R.remaining (end_in reader.old)) (R.remaining (end_in reader.new)) read
-        × Breaks op.now (reply_bytes op.now) why read (R.remaining (end_in reader.new))) }
-    ensures counted { IfErr result (λ why. CountsFault why (faults_in reader.old) (faults_in reader.new)) }
+    ensures ok { OnOk result (ReadsWhole (end_of R.remaining reader.old) (end_of R.remaining reader.new) (reply_preface op.now)) }
+    ensures err { IfErr result (λ why. StopsReading (Breaks op.now (reply_bytes op.now)) why (end_of R.remaining reader.old) (end_of R.remaining reader.new)) }
 {
     let Op::SetIf(_, _, _) = op else {
         return Ok(());
     };
-    let size = read_frame(reader, buffer)?;
-    if is_version_two(&buffer[..size]) {
+    let payload = room.read(reader)?;
+    if is_version_two(payload) {
         Ok(())
     } else {
         Err(ClientError::BadReply)
@@ -167,25 +147,17 @@ fn read_preface<R: Read>(
 fn read_own<R: Read>(
     alloc: Global,
     reader: &mut Counted<R>,
-    buffer: &mut [u8],
+    room: &mut ReplyRoom,
     op: &Op,
 ) -> Result<Result<Reply, AskError>, ClientError>
-    requires room { length buffer.old ≡ 1049000 }
-    ensures len { length buffer.new ≡ length buffer.old }
-    ensures ok { IfOk result (λ answer. MayAnswer op.now answer × IsValidAnswer answer
-        × Consumes (R.remaining (end_in reader.old)) (R.remaining (end_in reader.new)) (answer_frames answer)) }
-    ensures quiet { OnOk result (faults_in reader.new ≡ faults_in reader.old) }
-    ensures err { IfErr result (λ why. (read : List ℕ)
-        × Consumes (R.remaining (end_in reader.old)) (R.remaining (end_in reader.new)) read
-        × Breaks op.now answer_frames why read (R.remaining (end_in reader.new))) }
-    ensures counted { IfErr result (λ why. CountsFault why (faults_in reader.old) (faults_in reader.new)) }
+    ensures { ReadsReply op.now answer_frames result (end_of R.remaining reader.old) (end_of R.remaining reader.new) }
 {
-    let size = read_frame(reader, buffer)?;
-    match judge_payload(alloc, op, &buffer[..size])? {
+    let payload = room.read(reader)?;
+    match judge_payload(alloc, op, payload)? {
         First::Reply(reply) => Ok(Ok(reply)),
         First::Error(error) => Ok(Err(error)),
         First::Count(count) => {
-            let items = read_listing(alloc, reader, buffer, count)?;
+            let items = read_listing(alloc, reader, room, count)?;
             Ok(Ok(Reply::All(Snapshot::from_pairs(items))))
         }
     }
@@ -195,44 +167,29 @@ fn read_own<R: Read>(
 fn read_reply<R: Read>(
     alloc: Global,
     reader: &mut Counted<R>,
-    buffer: &mut [u8],
+    room: &mut ReplyRoom,
     op: &Op,
 ) -> Result<Result<Reply, AskError>, ClientError>
-    requires room { length buffer.old ≡ 1049000 }
-    ensures len { length buffer.new ≡ length buffer.old }
-    ensures ok { IfOk result (λ answer. MayAnswer op.now answer × IsValidAnswer answer
-        × Consumes (R.remaining (end_in reader.old)) (R.remaining (end_in reader.new)) (reply_bytes op.now answer)) }
-    ensures quiet { OnOk result (faults_in reader.new ≡ faults_in reader.old) }
-    ensures err { IfErr result (λ why. (read : List ℕ)
-        × Consumes (R.remaining (end_in reader.old)) (R.remaining (end_in reader.new)) read
-        × Breaks op.now (reply_bytes op.now) why read (R.remaining (end_in reader.new))) }
-    ensures counted { IfErr result (λ why. CountsFault why (faults_in reader.old) (faults_in reader.new)) }
+    ensures { ReadsReply op.now (reply_bytes op.now) result (end_of R.remaining reader.old) (end_of R.remaining reader.new) }
 {
-    read_preface(reader, buffer, op)?;
-    read_own(alloc, reader, buffer, op)
+    read_preface(reader, room, op)?;
+    read_own(alloc, reader, room, op)
 }
 
 /// Writes the request for an operation, which ends with the document, and reads the reply.
 fn exchange<R: Read, W: Write>(
     alloc: Global,
-    reader: &mut Counted<R>,
-    writer: &mut Counted<W>,
-    buffer: &mut [u8],
+    server: &mut ServerStreams<R, W>,
+    room: &mut ReplyRoom,
     op: &Op,
     document: &[u8],
 ) -> Result<Result<Reply, AskError>, ClientError>
     requires document { document.now ≡ document_part op.now }
     requires short { length document.now ≤ 1048576 }
-    requires room { length buffer.old ≡ 1049000 }
-    ensures len { length buffer.new ≡ length buffer.old }
-    ensures exchanged { Exchange op.now result
-        (ends (R.remaining (end_in reader.old)) (W.contents (end_in writer.old)) (faults_in reader.old) (faults_in writer.old))
-        (ends (R.remaining (end_in reader.new)) (W.contents (end_in writer.new)) (faults_in reader.new) (faults_in writer.new)) }
-    ensures reader_count { OnOk result (faults_in reader.new ≡ faults_in reader.old) }
-    ensures writer_count { OnOk result (faults_in writer.new ≡ faults_in writer.old) }
+    ensures { Exchange op.now result (ends_of R.remaining W.contents server.old) (ends_of R.remaining W.contents server.new) }
 {
-    match send_request(writer, op, document) {
-        Ok(()) => read_reply(alloc, reader, buffer, op),
+    match send_request(&mut server.to, op, document) {
+        Ok(()) => read_reply(alloc, &mut server.from, room, op),
         Err(_) => Err(ClientError::WriteFault),
     }
 }

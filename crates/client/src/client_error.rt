@@ -2,6 +2,7 @@
 ghost use Rattle.std.specs.Prelude.{◌≡◌};
 ghost use Rattle.client.specs.ClientError.{client_number};
 
+use std::alloc::AllocError;
 use thiserror::Error;
 
 /// Why a client asks nothing more. The request was begun, and whether it took effect is not known.
@@ -36,5 +37,16 @@ impl ClientError {
             ClientError::WriteFault => 54,
             ClientError::BadReply => 58,
         }
+    }
+}
+
+impl From<AllocError> for ClientError {
+    ghost use Rattle.std.specs.Prelude.{◌≡◌};
+    ghost use Rattle.client.specs.declared.client_error.ClientError.TheVariants.{Memory};
+
+    ghost from_gives = { λ _ error. error ≡ Memory };
+
+    fn from(_refused: AllocError) -> ClientError {
+        ClientError::Memory
     }
 }

@@ -1,8 +1,6 @@
 //! Why asking ended early.
-ghost use Rattle.std.specs.Prelude.{◌≡◌};
-ghost use Rattle.client.specs.Private.Steps.{fault_of as fault_of_line};
-
 use crate::ClientError;
+use std::alloc::AllocError;
 use thiserror::Error;
 use wire::{EncodeError, FrontError};
 
@@ -34,13 +32,40 @@ impl From<ClientError> for AskFault {
     }
 }
 
-/// The same error of a line.
-pub(crate) fn fault_of(error: EncodeError) -> AskFault
-    ensures { result ≡ fault_of_line error }
-{
-    match error {
-        EncodeError::BadLine(line) => AskFault::BadLine(line),
-        EncodeError::Unreadable(line) => AskFault::Unreadable(line),
-        EncodeError::Memory => AskFault::Front(FrontError::Memory),
+impl From<FrontError> for AskFault {
+    ghost use Rattle.std.specs.Prelude.{◌≡◌};
+    ghost use Rattle.client.specs.declared.fault.AskFault.TheVariants.{Front};
+
+    ghost from_gives = { λ error result. result ≡ Front error };
+
+    fn from(error: FrontError) -> AskFault {
+        AskFault::Front(error)
+    }
+}
+
+impl From<AllocError> for AskFault {
+    ghost use Rattle.std.specs.Prelude.{◌≡◌};
+    ghost use Rattle.wire.specs.declared.error.FrontError.TheVariants.{Memory};
+    ghost use Rattle.client.specs.declared.fault.AskFault.TheVariants.{Front};
+
+    ghost from_gives = { λ _ result. result ≡ Front Memory };
+
+    fn from(_refused: AllocError) -> AskFault {
+        AskFault::Front(FrontError::Memory)
+    }
+}
+
+impl From<EncodeError> for AskFault {
+    ghost use Rattle.std.specs.Prelude.{◌≡◌};
+    ghost use Rattle.client.specs.Private.Steps.{fault_of};
+
+    ghost from_gives = { λ error result. result ≡ fault_of error };
+
+    fn from(error: EncodeError) -> AskFault {
+        match error {
+            EncodeError::BadLine(line) => AskFault::BadLine(line),
+            EncodeError::Unreadable(line) => AskFault::Unreadable(line),
+            EncodeError::Memory => AskFault::Front(FrontError::Memory),
+        }
     }
 }

@@ -1,18 +1,15 @@
 //! Asking one line.
-ghost use Rattle.std.specs.Prelude.{◌≡◌, ◌≢◌, [], length, OnOk, IfOk, IfErr, Err};
-ghost use Rattle.wire.specs.Counted.{end_in, faults_in, next_count};
-ghost use Rattle.wire.specs.declared.error.FrontError.TheVariants.{WriteFault, ReadFault};
-ghost use Rattle.client.specs.declared.client_error.ClientError.TheVariants as server;
-ghost use Rattle.client.specs.Private.Steps.{AsksFirst, AsksOne, BreaksOne};
-ghost use Rattle.client.specs.declared.fault.AskFault.TheVariants.{Front, Server};
+ghost use Rattle.std.specs.Prelude.{◌≢◌, [], IfOk, IfErr};
+ghost use Rattle.wire.specs.Counted.{end_in};
+ghost use Rattle.client.specs.Private.Steps.{AsksFirst, AsksOne, BreaksOne, Blames, faults_of};
 
-use crate::ClientError;
 use crate::asking::Asking;
 use crate::exchange::ask_once;
 use crate::fault::AskFault;
-use crate::link::Link;
 use crate::reply::is_asked_again;
+use crate::reply_room::ReplyRoom;
 use crate::showing::{Shown, show, show_others};
+use crate::{ClientError, ServerStreams};
 use std::io::{Read, Write};
 use wire::{Counted, FrontError, reply_of_payload};
 
@@ -20,29 +17,20 @@ use wire::{Counted, FrontError, reply_of_payload};
 fn ask_until_told<R: Read, W: Write, O: Write>(
     how: Asking,
     request: &[u8],
-    link: &mut Link<R, W>,
-    room: &mut [u8],
+    server: &mut ServerStreams<R, W>,
+    room: &mut ReplyRoom,
     out: &mut Counted<O>,
 ) -> Result<Shown, AskFault>
-    requires room { length room.old ≡ 1049000 }
-    requires some { request.now ≢ [] }
-    ensures len { length room.new ≡ length room.old }
-    ensures ok { IfOk result (λ first. AsksFirst how request.now first.refused first.bundles (R.remaining (end_in link.old.from)) (R.remaining (end_in link.new.from))
-        (W.contents (end_in link.old.to)) (W.contents (end_in link.new.to)) (O.contents (end_in out.old)) (O.contents (end_in out.new))) }
-    ensures quiet_from { OnOk result (faults_in link.new.from ≡ faults_in link.old.from) }
-    ensures quiet_to { OnOk result (faults_in link.new.to ≡ faults_in link.old.to) }
-    ensures quiet_out { OnOk result (faults_in out.new ≡ faults_in out.old) }
-    ensures err { IfErr result (λ fault. BreaksOne how fault request.now (R.remaining (end_in link.old.from)) (R.remaining (end_in link.new.from))
-        (W.contents (end_in link.old.to)) (W.contents (end_in link.new.to)) (O.contents (end_in out.old)) (O.contents (end_in out.new))) }
-    ensures write_fault { result ≡ Err (Front WriteFault) → faults_in out.new ≡ next_count (faults_in out.old) }
-    ensures read_fault { result ≡ Err (Front ReadFault) → ⊥ }
-    ensures server_read_fault { result ≡ Err (Server server.ReadFault) → faults_in link.new.from ≡ next_count (faults_in link.old.from) }
-    ensures server_write_fault { result ≡ Err (Server server.WriteFault) → faults_in link.new.to ≡ next_count (faults_in link.old.to) }
+    requires { request.now ≢ [] }
+    ensures ok { IfOk result (λ first. AsksFirst how request.now first.refused first.bundles (R.remaining (end_in server.old.from)) (R.remaining (end_in server.new.from))
+        (W.contents (end_in server.old.to)) (W.contents (end_in server.new.to)) (O.contents (end_in out.old)) (O.contents (end_in out.new))) }
+    ensures err { IfErr result (λ fault. BreaksOne how fault request.now (R.remaining (end_in server.old.from)) (R.remaining (end_in server.new.from))
+        (W.contents (end_in server.old.to)) (W.contents (end_in server.new.to)) (O.contents (end_in out.old)) (O.contents (end_in out.new))) }
+    ensures faults { Blames ⊥ result (faults_of server.old out.old) (faults_of server.new out.new) }
 {
     let mut left = how.retries;
     loop {
-        let size = ask_once(link, request, room)?;
-        let payload = &room[..size];
+        let payload = ask_once(server, request, room)?;
         let Some(reply) = reply_of_payload(payload) else {
             return Err(AskFault::Server(ClientError::BadReply));
         };
@@ -57,29 +45,21 @@ fn ask_until_told<R: Read, W: Write, O: Write>(
 pub(crate) fn ask_line<R: Read, W: Write, O: Write>(
     how: Asking,
     request: &[u8],
-    link: &mut Link<R, W>,
-    room: &mut [u8],
+    server: &mut ServerStreams<R, W>,
+    room: &mut ReplyRoom,
     out: &mut Counted<O>,
 ) -> Result<bool, AskFault>
-    requires room { length room.old ≡ 1049000 }
-    ensures len { length room.new ≡ length room.old }
-    ensures ok { IfOk result (λ refused. AsksOne how request.now refused (R.remaining (end_in link.old.from)) (R.remaining (end_in link.new.from))
-        (W.contents (end_in link.old.to)) (W.contents (end_in link.new.to)) (O.contents (end_in out.old)) (O.contents (end_in out.new))) }
-    ensures quiet_from { OnOk result (faults_in link.new.from ≡ faults_in link.old.from) }
-    ensures quiet_to { OnOk result (faults_in link.new.to ≡ faults_in link.old.to) }
-    ensures quiet_out { OnOk result (faults_in out.new ≡ faults_in out.old) }
-    ensures err { IfErr result (λ fault. BreaksOne how fault request.now (R.remaining (end_in link.old.from)) (R.remaining (end_in link.new.from))
-        (W.contents (end_in link.old.to)) (W.contents (end_in link.new.to)) (O.contents (end_in out.old)) (O.contents (end_in out.new))) }
-    ensures write_fault { result ≡ Err (Front WriteFault) → faults_in out.new ≡ next_count (faults_in out.old) }
-    ensures read_fault { result ≡ Err (Front ReadFault) → ⊥ }
-    ensures server_read_fault { result ≡ Err (Server server.ReadFault) → faults_in link.new.from ≡ next_count (faults_in link.old.from) }
-    ensures server_write_fault { result ≡ Err (Server server.WriteFault) → faults_in link.new.to ≡ next_count (faults_in link.old.to) }
+    ensures ok { IfOk result (λ refused. AsksOne how request.now refused (R.remaining (end_in server.old.from)) (R.remaining (end_in server.new.from))
+        (W.contents (end_in server.old.to)) (W.contents (end_in server.new.to)) (O.contents (end_in out.old)) (O.contents (end_in out.new))) }
+    ensures err { IfErr result (λ fault. BreaksOne how fault request.now (R.remaining (end_in server.old.from)) (R.remaining (end_in server.new.from))
+        (W.contents (end_in server.old.to)) (W.contents (end_in server.new.to)) (O.contents (end_in out.old)) (O.contents (end_in out.new))) }
+    ensures faults { Blames ⊥ result (faults_of server.old out.old) (faults_of server.new out.new) }
 {
     if request.is_empty() {
         return Ok(false);
     }
-    let first = ask_until_told(how, request, link, room, out)?;
-    show_others(how.form, first.bundles, &mut link.from, room, out)?;
+    let first = ask_until_told(how, request, server, room, out)?;
+    show_others(how.form, first.bundles, server, room, out)?;
     match out.flush() {
         Ok(()) => Ok(first.refused),
         Err(_) => Err(AskFault::Front(FrontError::WriteFault)),

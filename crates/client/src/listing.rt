@@ -1,22 +1,20 @@
 //! All bundles, as a client reads them: their number, and then a frame for each domain.
-ghost use Rattle.std.specs.Prelude.{◌≡◌, ◌≢◌, ◌≤◌, ◌∷◌, ◌++◌, ℕ, List, None, true, false, length, take, OnOk, IfOk, IfErr, IfSome, IfNone, bytes_eq};
+ghost use Rattle.std.specs.Prelude.{◌≡◌, ◌≢◌, ◌≤◌, ◌∷◌, ◌++◌, true, false, length, IfOk, IfErr, IfSome, IfNone, bytes_eq};
 ghost use Rattle.std.specs.List.{flat_map};
-ghost use Rattle.std.specs.Io.KnownBytes.{Consumes};
 ghost use Rattle.spiffe_doc.specs.Authority.{BundleValue};
 ghost use Rattle.spiffe_doc.specs.Bundle.{IsBundle};
 ghost use Rattle.spiffe_doc.specs.Name.{IsName};
 ghost use Rattle.spiffe_doc.specs.Text.{text_of};
 ghost use Rattle.map_core.specs.Name.{Name};
-ghost use Rattle.wire.specs.Counted.{end_in, faults_in};
 ghost use Rattle.wire.specs.Frame.{frame};
-ghost use Rattle.client.specs.Reading.{CountsFault};
 ghost use Rattle.wire.specs.Answers.{item_frame};
-ghost use Rattle.frame_front.specs.Dump.{AreValid};
-ghost use Rattle.map_core.specs.Laws.{IsAfter, Ascends};
-ghost use Rattle.client.specs.Private.Listing.{BreaksListing};
+ghost use Rattle.wire.specs.Output.{end_of};
+ghost use Rattle.map_core.specs.Laws.{IsAfter};
+ghost use Rattle.client.specs.Private.Listing.{IsListing, BreaksListing};
+ghost use Rattle.client.specs.Private.Reads.{ReadsWhole, StopsReading};
 
 use crate::ClientError;
-use crate::reading::read_frame;
+use crate::reply_room::ReplyRoom;
 use arrayvec::ArrayVec;
 use spiffe_doc::{Bundle, TrustDomain};
 use std::alloc::{AllocError, Global};
@@ -76,34 +74,24 @@ fn read_listed(
 pub(crate) fn read_listing<R: Read>(
     alloc: Global,
     reader: &mut Counted<R>,
-    buffer: &mut [u8],
+    room: &mut ReplyRoom,
     count: u64,
 ) -> Result<Vec<(TrustDomain, Bundle)>, ClientError>
-    requires room { length buffer.old ≡ 1049000 }
-    ensures len { length buffer.new ≡ length buffer.old }
-    ensures valid { IfOk result (λ items. AreValid items.items × Ascends None items.items × (length items.items ≡ count)) }
+    ensures valid { IfOk result (λ items. IsListing count items.items) }
     ensures ok { IfOk result (λ items.
-        Consumes (R.remaining (end_in reader.old)) (R.remaining (end_in reader.new)) (flat_map item_frame items.items)) }
-    ensures quiet { OnOk result (faults_in reader.new ≡ faults_in reader.old) }
-    ensures err { IfErr result (λ why. (read : List ℕ)
-        × Consumes (R.remaining (end_in reader.old)) (R.remaining (end_in reader.new)) read
-        × BreaksListing why count read (R.remaining (end_in reader.new))) }
-    ensures counted { IfErr result (λ why. CountsFault why (faults_in reader.old) (faults_in reader.new)) }
+        ReadsWhole (end_of R.remaining reader.old) (end_of R.remaining reader.new) (flat_map item_frame items.items)) }
+    ensures err { IfErr result (λ why.
+        StopsReading (BreaksListing count) why (end_of R.remaining reader.old) (end_of R.remaining reader.new)) }
 {
     let mut items = Vec::new(alloc);
     let mut last = None;
     let mut place = 0;
     while place < count {
-        let size = read_frame(reader, buffer)?;
-        let item = match read_listed(alloc, &last, &buffer[..size]) {
-            Ok(Some(item)) => item,
-            Ok(None) => return Err(ClientError::BadReply),
-            Err(_) => return Err(ClientError::Memory),
+        let payload = room.read(reader)?;
+        let Some(item) = read_listed(alloc, &last, payload)? else {
+            return Err(ClientError::BadReply);
         };
-        last = match item.0.copy() {
-            Ok(domain) => Some(domain),
-            Err(_) => return Err(ClientError::Memory),
-        };
+        last = Some(item.0.copy()?);
         if let Err(_) = items.push(item) {
             return Err(ClientError::Memory);
         }

@@ -4,7 +4,7 @@ ghost use Rattle.std.specs.Io.KnownBytes.{Consumes};
 ghost use Rattle.wire.specs.Counted.{end_in, faults_in};
 ghost use Rattle.wire.specs.Frame.{IsPayload, frame};
 ghost use Rattle.client.specs.Reading.{CountsFault, NoFrame};
-ghost use Rattle.client.specs.Private.Stops.{StopsShort};
+ghost use Rattle.client.specs.Private.Reads.{StopsShort};
 
 use crate::ClientError;
 use std::io::Read;

@@ -1,5 +1,5 @@
 //! What replies are to a client.
-ghost use Rattle.std.specs.Prelude.{◌≡◌, ◌⊎◌, ◌≤◌, true, false};
+ghost use Rattle.std.specs.Prelude.{◌≡◌, ◌≢◌, ◌∷◌, [], ◌⊎◌, ◌≤◌, true, false};
 ghost use Rattle.wire.specs.ReplyForm.{reply as said};
 ghost use Rattle.client.specs.Replies.{bundles_after as bundles_of, is_bundle as bundle, is_transient as again, is_refusal as refusal};
 
@@ -52,4 +52,12 @@ pub(crate) fn is_bundle(reply: &ReplyForm<'_>) -> bool
     ensures { result ≡ bundle (said reply.now) }
 {
     matches!(reply, ReplyForm::Bundle(_, _))
+}
+
+/// Whether the payload is that of the reply that version 2 is set.
+pub(crate) fn is_version_two(payload: &[u8]) -> bool
+    ensures yes { result ≡ true → payload.now ≡ 118 ∷ 2 ∷ [] }
+    ensures no { result ≡ false → payload.now ≢ 118 ∷ 2 ∷ [] }
+{
+    matches!(payload, [b'v', 2])
 }

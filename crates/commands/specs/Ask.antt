@@ -10,7 +10,7 @@ use Rattle.client.specs.Asking.{AsksStream, ends}
 use Rattle.client.specs.declared.asking.Asking.{Asking}
 use Rattle.client.specs.declared.fault.AskFault.{AskFault}
 use Rattle.client.specs.declared.fault.AskFault.TheVariants as asking
-use Rattle.client.specs.declared.link.Link.{Link}
+use Rattle.client.specs.declared.server_streams.ServerStreams.{ServerStreams}
 use Rattle.commands.specs.declared.fault.Fault.{Fault}
 use Rattle.commands.specs.declared.fault.Fault.TheVariants.{Front, BadLine, UnreadText, Server}
 use Rattle.commands.specs.declared.fault.ServerFault.TheVariants.{Client}
@@ -34,7 +34,7 @@ pub record ServerEnds : Type 0 where
   pub from : End
   pub to : End
 
-abbrev pub server : {R W : Type 0} → (R → Option (List ℕ)) → (W → Option (List ℕ)) → Link R W → ServerEnds
+abbrev pub server : {R W : Type 0} → (R → Option (List ℕ)) → (W → Option (List ℕ)) → ServerStreams R W → ServerEnds
 server left_of held_of link = record { from = end_of left_of link.from; to = end_of held_of link.to }
 
 -- of a server, 53 is told only if a read of its output failed in the meantime, and 54 only if a write to its input did

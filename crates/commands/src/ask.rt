@@ -7,7 +7,7 @@ ghost use Rattle.commands.specs.Streams.{streams};
 
 use crate::ending::Outcome;
 use crate::fault::{Fault, ServerFault};
-use client::{AskFault, Asking, Link, ask_stream};
+use client::{AskFault, Asking, ServerStreams, ask_stream};
 use std::alloc::{AllocError, Global};
 use std::io::{Read, Write};
 use wire::{Counted, FrontError, TextSource};
@@ -19,7 +19,7 @@ pub fn ask_over<T: TextSource, R: Read, F: Read, S: Write, W: Write, E: Write>(
     how: Asking,
     texts: &T,
     reader: &mut Counted<R>,
-    link: &mut Link<F, S>,
+    link: &mut ServerStreams<F, S>,
     out: &mut Counted<W>,
     err: &mut Counted<E>,
 ) -> u8
@@ -44,7 +44,7 @@ pub fn ask_words_over<T: TextSource, F: Read, S: Write, W: Write, E: Write>(
     how: Asking,
     texts: &T,
     words: &[&str],
-    link: &mut Link<F, S>,
+    link: &mut ServerStreams<F, S>,
     out: &mut Counted<W>,
     err: &mut Counted<E>,
 ) -> u8

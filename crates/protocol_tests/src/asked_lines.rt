@@ -1,5 +1,5 @@
 //! Lines are asked of a server whose replies are written down beforehand.
-use client::{AskFault, Asking, ClientError, Form, Link, ask_stream};
+use client::{AskFault, Asking, ClientError, Form, ServerStreams, ask_stream};
 use std::alloc::{AllocError, Global};
 use std::io;
 use std::io::Write;
@@ -76,7 +76,7 @@ fn ask(
 ) -> Result<Left, AllocError> {
     let told = joined(alloc, replies)?;
     let mut lines = Counted::new(lines);
-    let mut link = Link {
+    let mut link = ServerStreams {
         from: Counted::new(told.as_slice()),
         to: Counted::new(Vec::with_capacity(alloc, ROOM)?),
     };
@@ -370,7 +370,7 @@ fn a_full_writer_is_told(rt: HostRuntime) -> Result<(), Fail> {
     let told = joined(rt.alloc(), &[GREETED, FOUND])?;
     for &(to, out, why) in &ROOMS {
         let mut lines = Counted::new(b"get a\n".as_slice());
-        let mut link = Link {
+        let mut link = ServerStreams {
             from: Counted::new(told.as_slice()),
             to: Counted::new(Full { room: to }),
         };

@@ -9,15 +9,20 @@ use Rattle.map_core.specs.Laws.{Ascends}
 use Rattle.client.specs.declared.client_error.ClientError.{ClientError}
 use Rattle.client.specs.declared.client_error.ClientError.TheVariants.{Memory, BadLength, BadReply, Truncated, ReadFault, WriteFault}
 
--- no so many valid domains, in order of their names, are coded so
-abbrev pub NoListing : ℕ → List ℕ → Type 0
-NoListing count read = (items : Domains) → AreValid items → Ascends None items → length items ≡ count → flat_map item_frame items ≢ read
+-- so many domains, each valid, in order of their names
+abbrev pub IsListing : ℕ → Domains → Type 0
+IsListing count items = AreValid items × Ascends None items × (length items ≡ count)
 
--- What was read after the number if a client ends for this reason, and what its reader has left then.
-abbrev pub BreaksListing : ClientError → ℕ → List ℕ → Option (List ℕ) → Type 0
-BreaksListing Truncated count read left = NoListing count read × IsAtEnd left
-BreaksListing ReadFault count read left = NoListing count read
-BreaksListing BadReply count read left = (rest : List ℕ) → NoListing count (read ++ rest)
-BreaksListing BadLength count read left = (payloads : List (List ℕ)) × (rest : List ℕ) × HasFrames read payloads rest × IsBadLength rest
-BreaksListing Memory count read left = Unit {0}
-BreaksListing WriteFault count read left = ⊥
+module _ (count : ℕ) where
+  -- no so many are coded so
+  abbrev pub NoListing : List ℕ → Type 0
+  NoListing read = (items : Domains) → IsListing count items → flat_map item_frame items ≢ read
+
+  -- What was read after the number if a client ends for this reason, and what its reader has left then.
+  abbrev pub BreaksListing : ClientError → List ℕ → Option (List ℕ) → Type 0
+  BreaksListing Truncated read left = NoListing read × IsAtEnd left
+  BreaksListing ReadFault read left = NoListing read
+  BreaksListing BadReply read left = (rest : List ℕ) → NoListing (read ++ rest)
+  BreaksListing BadLength read left = (payloads : List (List ℕ)) × (rest : List ℕ) × HasFrames read payloads rest × IsBadLength rest
+  BreaksListing Memory read left = Unit {0}
+  BreaksListing WriteFault read left = ⊥

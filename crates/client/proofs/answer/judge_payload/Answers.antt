@@ -9,14 +9,14 @@ pub returns-in_default-clause-err : goal.returns-in_default-clause-err
 returns-in_default-clause-err c = λ left.
     none_told c.args.payload.now c.requires.payload c.reply_of_payload.result c.reply_of_payload.ensures.only c.args.op.now (λ a tells. rw c.in_default.is at tells)
 
-pub returns-in-Ok-Some-clause-ok : goal.returns-in-Ok-Some-clause-ok
-returns-in-Ok-Some-clause-ok c =
-    let says = rw c.in-Ok-Some.field-0-is at c.in-Ok-Some.ensures.found in
+pub returns-in_default-2-clause-err : goal.returns-in_default-2-clause-err
+returns-in_default-2-clause-err c = λ left.
+    none_told c.args.payload.now c.requires.payload c.reply_of_payload.result c.reply_of_payload.ensures.only c.args.op.now
+    (λ a tells. let told = rw c.in-Some.is at tells in rw (c.in_ok-first.ensures.value ∙ c.in_default-2.is) at told)
+
+pub returns-clause-ok : goal.returns-clause-ok
+returns-clause-ok c =
+    let says = rw c.in-Some-2.is at c.in_ok-first.ensures.found in
     begins c.args.payload.now c.requires.payload c.reply_of_payload.result c.reply_of_payload.ensures.only
     c.in-Some.reply c.in-Some.is c.in-Some.ensures.found.0 c.in-Some.ensures.found.1 c.args.op.now (sym c.is_code_for.ensures ∙ c.if-not-is_code_for.false)
-    c.in-Ok-Some.first (c.in-Ok-Some.ensures.value ∙ c.in-Ok-Some.field-0-is) says
-
-pub returns-in-Ok-None-clause-err : goal.returns-in-Ok-None-clause-err
-returns-in-Ok-None-clause-err c = λ left.
-    none_told c.args.payload.now c.requires.payload c.reply_of_payload.result c.reply_of_payload.ensures.only c.args.op.now
-    (λ a tells. let told = rw c.in-Some.is at tells in rw (c.in-Ok-None.ensures.value ∙ c.in-Ok-None.field-0-is) at told)
+    c.in-Some-2.first (c.in_ok-first.ensures.value ∙ c.in-Some-2.is) says

@@ -1,7 +1,5 @@
 use Rattle.client.proofs.ClientLemmas.{exchanged}
 use Rattle.client.proofs.client.exchange.Goals as goal
 
-pub returns-in-Ok-clause-exchanged : goal.returns-in-Ok-clause-exchanged
-returns-in-Ok-clause-exchanged g c =
-    exchanged c.args.op.now c.read_reply.result _ _ _ _ _ _ _ _ c.in-Ok.ensures.ok c.in-Ok.ensures.quiet
-    c.read_reply.ensures.ok c.read_reply.ensures.quiet c.read_reply.ensures.err c.read_reply.ensures.counted
+pub returns-in-Ok : goal.returns-in-Ok
+returns-in-Ok g c = exchanged c.args.op.now _ _ c.in-Ok.ensures.ok c.in-Ok.ensures.quiet c.read_reply.result c.read_reply.ensures

@@ -1,13 +1,11 @@
 use Rattle.std.proofs.Common.{rules, ◌≡◌, ◌≢◌, [], length, Err}
-use Rattle.wire.specs.Counted.{end_in}
-use Rattle.client.proofs.Replies.{then_kept}
 use Rattle.client.proofs.OneLine.{empty, asks_nothing, others_broken, asks_all, not_flushed}
 use Rattle.client.proofs.line.ask_line.Goals as goal
 
 pub returns-then-is_empty-clause-ok : goal.returns-then-is_empty-clause-ok
 returns-then-is_empty-clause-ok g c =
     let none : length c.args.request.now ≡ 0 = search rules in
-    asks_nothing c.args.how c.args.request.now (g.R.Read.remaining (end_in c.args.link.now.from)) (g.W.Write.contents (end_in c.args.link.now.to)) (g.O.Write.contents (end_in c.args.out.now)) (empty c.args.request.now none)
+    asks_nothing c.args.how c.args.request.now _ _ _ (empty c.args.request.now none)
 
 pub returns-in_err-show_others-clause-err : goal.returns-in_err-show_others-clause-err
 returns-in_err-show_others-clause-err g c =
@@ -15,24 +13,18 @@ returns-in_err-show_others-clause-err g c =
     let is : c.from_residual-in_err-show_others.result ≡ Err fault = search rules in
     let some : c.args.request.now ≢ [] = search rules in
     let told = c.in_ok-first.ensures.ok in
-    rw is (others_broken c.args.how c.args.request.now told.reply _ _ _ _ told.until some c.in_ok-first.first.refused c.in_ok-first.first.bundles _ _ told.first fault _ _ c.in_err-show_others.ensures.err)
+    rw (is, c.show_others.ensures.same_to) (others_broken c.args.how c.args.request.now told.reply _ _ _ _ told.until some c.in_ok-first.first.refused c.in_ok-first.first.bundles _ _ told.first fault _ _ c.in_err-show_others.ensures.err)
 
 pub returns-in-Ok-clause-ok : goal.returns-in-Ok-clause-ok
 returns-in-Ok-clause-ok g c =
     let some : c.args.request.now ≢ [] = search rules in
     let told = c.in_ok-first.ensures.ok in
-    let others = c.in_ok-show_others.ensures.ok in
-    let mid = g.O.Write.contents (end_in c.show_others.new.out) in
-    let last = g.O.Write.contents (end_in c.flush.new.self) in
-    asks_all c.args.how c.args.request.now told.reply _ _ _ _ told.until some c.in_ok-first.first.refused c.in_ok-first.first.bundles _ _ told.first
-    _ last others.0 others.1 others.2 others.3 (then_kept _ mid last _ others.4 c.in-Ok.ensures.bytes)
+    rw c.show_others.ensures.same_to (asks_all c.args.how c.args.request.now told.reply _ _ _ _ told.until some c.in_ok-first.first.refused c.in_ok-first.first.bundles _ _ told.first
+    _ _ c.in_ok-show_others.ensures.ok _ c.in-Ok.ensures.bytes)
 
 pub returns-in-Err-clause-err : goal.returns-in-Err-clause-err
 returns-in-Err-clause-err g c =
     let some : c.args.request.now ≢ [] = search rules in
     let told = c.in_ok-first.ensures.ok in
-    let others = c.in_ok-show_others.ensures.ok in
-    let mid = g.O.Write.contents (end_in c.show_others.new.out) in
-    let last = g.O.Write.contents (end_in c.flush.new.self) in
-    not_flushed c.args.how c.args.request.now told.reply _ _ _ _ told.until some c.in_ok-first.first.refused c.in_ok-first.first.bundles _ _ told.first
-    _ mid others.0 others.1 others.2 others.3 others.4 last c.in-Err.ensures.bytes
+    rw c.show_others.ensures.same_to (not_flushed c.args.how c.args.request.now told.reply _ _ _ _ told.until some c.in_ok-first.first.refused c.in_ok-first.first.bundles _ _ told.first
+    _ _ c.in_ok-show_others.ensures.ok _ c.in-Err.ensures.bytes)

@@ -1,75 +1,62 @@
-use Rattle.std.proofs.Common.{◌≡◌, ◌+◌, ◌++◌, ◌∷◌, [], Some, Err, ap, sym, ◌∙◌, arith, subst, take}
+use Rattle.std.proofs.Common.{rules, ◌≡◌, ◌+◌, ◌++◌, ◌∷◌, [], Some, Err, sym, arith, subst, refl, inl, inr}
 use Rattle.std.specs.Prelude.{Option}
 use Rattle.std.specs.List.{flat_map}
-use Rattle.std.proofs.lemmas.Result.{err_from_is_err_and}
-use Rattle.std.proofs.KnownBytes.{Consumes-trans}
 use Rattle.map_core.specs.Name.{Name}
-use Rattle.wire.specs.Counted.{end_in}
-use Rattle.wire.specs.Frame.{frame}
 use Rattle.wire.specs.Answers.{item_frame}
+use Rattle.wire.specs.Frame.{frame}
+use Rattle.wire.specs.Output.{end_of}
 use Rattle.frame_front.specs.Dump.{Domains}
+use Rattle.client.specs.declared.client_error.ClientError.TheVariants.{Memory, BadReply}
 use Rattle.map_core.specs.Laws.{IsAfter}
 use Rattle.client.proofs.ListingLemmas.{Listed, Listed-one, listing_breaks, listing_bad}
+use Rattle.client.proofs.ReadingLemmas.{reads_both, stops_at, stops_behind}
 use Rattle.client.proofs.listing.read_listing.Goals as goal
 
-pub returns-in_err-size-clause-err : goal.returns-in_err-size-clause-err
-returns-in_err-size-clause-err g c =
+pub returns-in_err-payload-clause-err : goal.returns-in_err-payload-clause-err
+returns-in_err-payload-clause-err g c =
     let so_far = c.loop-place.invariant.0 in
     let items = c.loop-place.items.items in
-    let none = c.in_err-size.ensures.err in
-    let failed = err_from_is_err_and c.from_residual.result c.from_residual.ensures.1 in
-    let is_fault : c.from_residual.result ≡ Err c.in_err-size.field-0.0 = failed.1 ∙ ap Err failed.2 in
-    rw is_fault (
-      flat_map item_frame items ++ none.0,
-      Consumes-trans _ _ _ (flat_map item_frame items) none.0 so_far.consumed none.1,
-      listing_breaks c.args.count items so_far.valid (omega (arith, so_far.size)) c.in_err-size.field-0.0 none.0 _ none.2,
-    )
+    let none = c.in_err-payload.ensures.err in
+    let why = c.in_err-payload.field-0.0 in
+    let is : c.from_residual.result ≡ Err why = search rules in
+    rw is (stops_behind _ _ _ (flat_map item_frame items) so_far.reads _ _ why none (listing_breaks c.args.count items so_far.listing.0 (omega (arith, so_far.listing.2)) why none.read _ none.says))
 
-pub returns-in-Ok-None-clause-err : goal.returns-in-Ok-None-clause-err
-returns-in-Ok-None-clause-err g c =
+pub returns-in_err-item-clause-err : goal.returns-in_err-item-clause-err
+returns-in_err-item-clause-err g c =
+    let is : c.from_residual-in_err-item.result ≡ Err Memory = search rules in
+    rw is (stops_at _ Memory _ _ _ (reads_both _ _ _ (flat_map item_frame c.loop-place.items.items) c.loop-place.invariant.0.reads (frame c.in_ok-payload.payload.now) c.in_ok-payload.ensures.ok.1) (inr refl) tt)
+
+pub returns-in_default-clause-err : goal.returns-in_default-clause-err
+returns-in_default-clause-err g c =
     let so_far = c.loop-place.invariant.0 in
     let items = c.loop-place.items.items in
-    let payload = take c.in_ok-size.size c.read_frame.new.buffer in
-    let read = c.in_ok-size.ensures.ok in
-    let none = rw c.in-Ok-None.field-0-is at c.in-Ok-None.ensures.none in (
-      flat_map item_frame items ++ frame payload,
-      Consumes-trans _ _ _ (flat_map item_frame items) (frame payload) so_far.consumed read.2,
-      listing_bad c.args.count items so_far.valid (omega (arith, so_far.size)) payload read.1
-          (λ item name valid after. none item name valid (subst (λ (l : Option Name). IsAfter l item.0) (sym so_far.last_is) after)),
-    )
+    let read = c.in_ok-payload.ensures.ok in
+    let none = rw c.in_default.is at c.in_ok-item.ensures.none in
+    stops_at _ BadReply _ _ _ (reads_both _ _ _ (flat_map item_frame items) so_far.reads (frame c.in_ok-payload.payload.now) read.1) (inl refl)
+    (listing_bad c.args.count items so_far.listing.0 (omega (arith, so_far.listing.2)) c.in_ok-payload.payload.now read.0
+    (λ item name valid after. none item name valid (subst (λ (l : Option Name). IsAfter l item.0) (sym so_far.last_is) after)))
+
+pub returns-in_err-copy-clause-err : goal.returns-in_err-copy-clause-err
+returns-in_err-copy-clause-err g c =
+    let is : c.from_residual-in_err-copy.result ≡ Err Memory = search rules in
+    rw is (stops_at _ Memory _ _ _ (reads_both _ _ _ (flat_map item_frame c.loop-place.items.items) c.loop-place.invariant.0.reads (frame c.in_ok-payload.payload.now) c.in_ok-payload.ensures.ok.1) (inr refl) tt)
 
 pub returns-in-Err-clause-err : goal.returns-in-Err-clause-err
 returns-in-Err-clause-err g c =
-    let items = c.loop-place.items.items in
-    let payload = take c.in_ok-size.size c.read_frame.new.buffer in
-    (flat_map item_frame items ++ frame payload, Consumes-trans _ _ _ (flat_map item_frame items) (frame payload) c.loop-place.invariant.0.consumed c.in_ok-size.ensures.ok.2, tt)
-
-pub returns-in-Err-copy-clause-err : goal.returns-in-Err-copy-clause-err
-returns-in-Err-copy-clause-err g c =
-    let items = c.loop-place.items.items in
-    let payload = take c.in_ok-size.size c.read_frame.new.buffer in
-    (flat_map item_frame items ++ frame payload, Consumes-trans _ _ _ (flat_map item_frame items) (frame payload) c.loop-place.invariant.0.consumed c.in_ok-size.ensures.ok.2, tt)
-
-pub returns-in-Err-push-clause-err : goal.returns-in-Err-push-clause-err
-returns-in-Err-push-clause-err g c =
-    let items = c.loop-place.items.items in
-    let payload = take c.in_ok-size.size c.read_frame.new.buffer in
-    (flat_map item_frame items ++ frame payload, Consumes-trans _ _ _ (flat_map item_frame items) (frame payload) c.loop-place.invariant.0.consumed c.in_ok-size.ensures.ok.2, tt)
+    stops_at _ Memory _ _ _ (reads_both _ _ _ (flat_map item_frame c.loop-place.items.items) c.loop-place.invariant.0.reads (frame c.in_ok-payload.payload.now) c.in_ok-payload.ensures.ok.1) (inr refl) tt
 
 pub loop-place-preserved : goal.loop-place-preserved
 loop-place-preserved g c =
     let items = c.loop-place.items.items in
-    let item = c.in-Ok-Some.item in
-    let left_old = g.R.Read.remaining (end_in c.args.reader.now) in
-    let left_new = g.R.Read.remaining (end_in c.read_frame.new.reader) in
-    let found = rw c.in-Ok-Some.field-0-is at c.in-Ok-Some.ensures.found in
-    let one = Listed-one left_old _ left_new items c.loop-place.last c.loop-place.place item (take c.in_ok-size.size c.read_frame.new.buffer)
-    c.loop-place.invariant.0 c.in_ok-size.ensures.ok.2 found.0 found.1 found.2 found.3 in
-    let pushed : c.push.new.self.items ≡ items ++ item ∷ [] = c.in_default.ensures.items in
-    let named : c.in-Ok.domain ≡ item.0 = c.in-Ok.ensures in (
-      subst (λ (xs : Domains). Listed left_old left_new xs (Some c.in-Ok.domain) (c.loop-place.place + 1)) (sym pushed)
-          (subst (λ (n : Name). Listed left_old left_new (items ++ item ∷ []) (Some n) (c.loop-place.place + 1)) (sym named) one),
+    let item = c.in-Some.item in
+    let old = end_of g.R.Read.remaining c.args.reader.now in
+    let new = end_of g.R.Read.remaining c.read.new.reader in
+    let found = rw c.in-Some.is at c.in_ok-item.ensures.found in
+    let one = Listed-one old _ new items c.loop-place.last c.loop-place.place item c.in_ok-payload.payload.now
+    c.loop-place.invariant.0 c.in_ok-payload.ensures.ok.1 found.0 found.1 found.2 found.3 in
+    let pushed : c.push.new.self.items ≡ items ++ item ∷ [] = c.in_default-push.ensures.items in
+    let named : c.in_ok-copy.field-0 ≡ item.0 = c.in_ok-copy.ensures in (
+      subst (λ (xs : Domains). Listed old new xs (Some c.in_ok-copy.field-0) (c.loop-place.place + 1)) (sym pushed)
+          (subst (λ (n : Name). Listed old new (items ++ item ∷ []) (Some n) (c.loop-place.place + 1)) (sym named) one),
       omega arith,
-      c.in_ok-size.ensures.len ∙ c.loop-place.invariant.2,
-      c.in_ok-size.ensures.quiet ∙ c.loop-place.invariant.3,
     )

@@ -1,9 +1,9 @@
-use Rattle.std.proofs.Common.{◌≡◌, length}
-use Rattle.wire.specs.Counted.{end_in, faults_in}
-use Rattle.client.specs.Private.Steps.{OthersSoFar}
+use Rattle.std.proofs.Common.{◌≡◌}
+use Rattle.wire.specs.Counted.{end_in}
+use Rattle.client.specs.Private.Steps.{ShowsOthers, faults_of}
 use Rattle.client.proofs.showing.show_others.Given as goal
 
 abbrev pub invariant-loop-place : goal.invariant-loop-place
 invariant-loop-place g l =
-    OthersSoFar l.fn.form l._place (g.R.Read.remaining (end_in l.fn.from)) (g.R.Read.remaining (end_in l.from)) (g.O.Write.contents (end_in l.fn.out)) (g.O.Write.contents (end_in l.out))
-    × (length l.room ≡ length l.fn.room) × (faults_in l.from ≡ faults_in l.fn.from) × (faults_in l.out ≡ faults_in l.fn.out)
+    ShowsOthers l.fn.form l._place (g.R.Read.remaining (end_in l.fn.server.from)) (g.R.Read.remaining (end_in l.server.from)) (g.O.Write.contents (end_in l.fn.out)) (g.O.Write.contents (end_in l.out))
+    × (l.server.to ≡ l.fn.server.to) × (faults_of l.server l.out ≡ faults_of l.fn.server l.fn.out)

@@ -1,9 +1,9 @@
-//! The two ends that lead to a server.
+//! The two streams of a server.
 use wire::Counted;
 
-/// What a server is told and heard by.
+/// The streams by which a server is asked.
 #[derive(Drop)]
-pub struct Link<R, W> {
+pub struct ServerStreams<R, W> {
     /// The replies of the server.
     pub from: Counted<R>,
     /// The requests to the server.
