@@ -1,9 +1,9 @@
 -- Lemmas on the frames of all bundles.
-use Rattle.std.proofs.Common.{◌≡◌, ◌≢◌, ℕ, ◌+◌, ◌<◌, List, [], ◌∷◌, ◌++◌, length, map, take, drop, append-nil, append_assoc, length-append, arith, refl, sym, ap, ◌∙◌, subst, inl, inr, Ok, Some, None}
+use Rattle.std.proofs.Common.{◌≡◌, ◌≢◌, ℕ, ◌+◌, ◌<◌, List, [], ◌∷◌, ◌++◌, length, map, take, drop, append_assoc, length-append, arith, refl, sym, ap, ◌∙◌, subst, inl, inr, Ok, Some, None}
 use Rattle.std.specs.Prelude.{Option}
 use Rattle.std.specs.List.{flat_map, AllByRecursion}
 use Rattle.std.specs.Int.{w64, to_be_bytes}
-use Rattle.std.proofs.lemmas.List.{take_at}
+use Rattle.std.proofs.lemmas.List.{take_at, flat_map_more}
 use Rattle.std.proofs.Math.Seq.{drop-append_seam}
 use Rattle.spiffe_doc.specs.Authority.{BundleValue}
 use Rattle.spiffe_doc.specs.Bundle.{IsBundle}
@@ -93,10 +93,6 @@ module _ (count : ℕ) (items : Domains) (valid : AreValid items) (fewer : lengt
       let first = frame_first payload (item_payload front.0) rest (flat_map item_frame front.1) good (IsPayload-item front.0 next.0 next.1) front.3 in
       none front.0 next.0 next.1 (ascends_at None items front.0 front.1 (subst (Ascends None) front.2 all.1)) first.0
 
-pub flat_more : (xs : Domains) (y : Name × BundleValue) → flat_map item_frame (xs ++ y ∷ []) ≡ flat_map item_frame xs ++ frame (item_payload y)
-flat_more [] y = append-nil (item_frame y)
-flat_more (x ∷ xs) y = ap (λ r. item_frame x ++ r) (flat_more xs y) ∙ sym (append_assoc (item_frame x) (flat_map item_frame xs) (item_frame y))
-
 pub valid_more : (xs : Domains) (y : Name × BundleValue) → AreValid xs → IsName y.0 → IsBundle y.1 → AreValid (xs ++ y ∷ [])
 valid_more [] y valid name sound = ((name, sound), tt)
 valid_more (x ∷ xs) y valid name sound = (valid.0, valid_more xs y valid.1 name sound)
@@ -135,7 +131,7 @@ Listed-one old mid new items last place y payload listed took same after name so
     Ascends-one None items y listed.listing.1 (subst (λ (l : Option Name). IsAfter l y.0) listed.last_is after),
     omega (arith, listed.listing.2, length-append items (y ∷ [])),
   );
-  reads = subst (ReadsWhole old new) (ap (λ f. flat_map item_frame items ++ f) same ∙ sym (flat_more items y)) (reads_both old mid new (flat_map item_frame items) listed.reads (frame payload) took);
+  reads = subst (ReadsWhole old new) (ap (λ f. flat_map item_frame items ++ f) same ∙ flat_map_more item_frame [] items y) (reads_both old mid new (flat_map item_frame items) listed.reads (frame payload) took);
   last_is = sym (last_of-one None items y);
 }
 

@@ -1,10 +1,10 @@
 -- Lines that are asked one after another.
 use Rattle.std.proofs.Common.{◌≡◌, ◌≢◌, ℕ, ◌+◌, List, [], ◌∷◌, ◌++◌, length, Bool, true, false, Option, Result, Ok, Err, refl, sym, ap, subst, ◌∙◌, arith, append_assoc, append-nil, length-append, inl, inr}
 use Rattle.std.specs.Prelude.{◌||◌, ◌⊎◌}
-use Rattle.std.specs.List.{AllByRecursion, flat_map, list_any}
+use Rattle.std.specs.List.{flat_map, list_any}
 use Rattle.std.specs.Io.KnownBytes.{Appends, Consumes, IsAtEnd}
 use Rattle.std.proofs.KnownBytes.{Appends-nil, Appends-trans, Consumes-nil, Consumes-trans}
-use Rattle.std.proofs.lemmas.List.Concat.{flat_map-append}
+use Rattle.std.proofs.lemmas.List.{flat_map_more}
 use Rattle.std.proofs.lemmas.List.Folds.{list_any-append}
 use Rattle.wire.specs.Counted.{next_count}
 use Rattle.wire.specs.declared.error.FrontError.TheVariants as front
@@ -17,29 +17,25 @@ use Rattle.client.specs.Private.Steps.{AsksOne, BreaksOne, ReadsMore, StreamSoFa
 use Rattle.client.specs.declared.asking.Asking.{Asking}
 use Rattle.client.specs.declared.fault.AskFault.{AskFault}
 use Rattle.client.specs.declared.fault.AskFault.TheVariants.{BadLine, Unreadable, Server, Front}
-use Rattle.client.proofs.OneLine.{or_false}
+use Rattle.client.proofs.Replies.{each_append}
+use Rattle.std.proofs.Math.Bool.{or-false}
 
 -- ---- lists with one exchange more
 
 lines_then : (items : List Exchange) (x : Exchange) (rest : List ℕ) → lines_of (items ++ x ∷ []) ++ rest ≡ lines_of items ++ (x.line ++ 10 ∷ rest)
-lines_then [] x rest = ap (λ line. line ++ rest) (append-nil (x.line ++ 10 ∷ [])) ∙ append_assoc x.line (10 ∷ []) rest
-lines_then (first ∷ items) x rest =
-    let line = first.line ++ 10 ∷ [] in
-    append_assoc line (lines_of (items ++ x ∷ [])) rest ∙ ap (λ more. line ++ more) (lines_then items x rest) ∙ sym (append_assoc line (lines_of items) (x.line ++ 10 ∷ rest))
+lines_then items x rest =
+    ap (λ lines. lines ++ rest) (sym (flat_map_more (λ (x : Exchange). x.line ++ 10 ∷ []) [] items x)) ∙ append_assoc (lines_of items) (x.line ++ 10 ∷ []) rest
+    ∙ ap (λ line. lines_of items ++ line) (append_assoc x.line (10 ∷ []) rest)
 
 count_then : (count : ℕ) (items : List Exchange) (x : Exchange) → count_after count (items ++ x ∷ []) ≡ next_count (count_after count items)
 count_then count [] x = refl
 count_then count (first ∷ items) x = count_then (next_count count) items x
 
-each_then : (Is : Exchange → Type 0) (items : List Exchange) (x : Exchange) → AllByRecursion Is items → Is x → AllByRecursion Is (items ++ x ∷ [])
-each_then Is [] x each one = (one, tt)
-each_then Is (first ∷ items) x each one = (each.0, each_then Is items x each.1 one)
-
 flat_then : (f : Exchange → List ℕ) (items : List Exchange) (x : Exchange) → flat_map f items ++ f x ≡ flat_map f (items ++ x ∷ []) ++ []
-flat_then f items x = sym (append-nil (flat_map f (items ++ x ∷ [])) ∙ flat_map-append f items (x ∷ []) ∙ ap (λ more. flat_map f items ++ more) (append-nil (f x)))
+flat_then f items x = flat_map_more f [] items x ∙ sym (append-nil (flat_map f (items ++ x ∷ [])))
 
 any_then : (items : List Exchange) (x : Exchange) → list_any is_refused (items ++ x ∷ []) ≡ (list_any is_refused items || is_refused x)
-any_then items x = list_any-append is_refused items (x ∷ []) ∙ ap (λ b. list_any is_refused items || b) (or_false (is_refused x))
+any_then items x = list_any-append is_refused items (x ∷ []) ∙ ap (λ b. list_any is_refused items || b) (or-false (is_refused x))
 
 -- ---- what a line became
 
@@ -127,15 +123,8 @@ module _ (gives : Gives) (how : Asking) (old : Ends) (lines from to out : Option
 
   -- no more is read
   pub not_read : (fault : AskFault) (next : EncoderState) (lines_new : Option (List ℕ)) → IsOneLine state.kept → ReadsMore (Err fault) state next lines lines_new → AsksLines gives how (Err fault) old (ends lines_new from to out)
-  not_read (Front front.ReadFault) next lines_new one_line reads = silent (Front front.ReadFault) lines_new [] reads (subst IsOneLine (sym (append-nil state.kept)) one_line, refl)
-  not_read (Front front.Memory) next lines_new one_line reads = silent (Front front.Memory) lines_new reads.0 reads.1 refl
-  not_read (Front front.WriteFault) next lines_new one_line reads = absurd reads
-  not_read (Front front.BadLength) next lines_new one_line reads = absurd reads
-  not_read (Front front.Truncated) next lines_new one_line reads = absurd reads
-  not_read (Front front.TurnsUsed) next lines_new one_line reads = absurd reads
-  not_read (Server why) next lines_new one_line reads = absurd reads
-  not_read (BadLine n) next lines_new one_line reads = absurd reads
-  not_read (Unreadable n) next lines_new one_line reads = absurd reads
+  not_read fault next lines_new one_line (inl (is, none)) = rw is (silent (Front front.ReadFault) lines_new [] none (subst IsOneLine (sym (append-nil state.kept)) one_line, refl))
+  not_read fault next lines_new one_line (inr (is, piece, read)) = rw is (silent (Front front.Memory) lines_new piece read refl)
 
   -- a piece more is read
   pub reads_on : (next : EncoderState) (lines_new : Option (List ℕ)) → ReadsMore (Ok true) state next lines lines_new → StreamSoFar gives how old (ends lines_new from to out) next refused (turns + 1)
@@ -212,7 +201,7 @@ module _ (gives : Gives) (how : Asking) (old : Ends) (lines from to out : Option
         record {
           items = so.items ++ x ∷ [];
           done = record {
-            each = each_then (IsExchange gives how) so.items x so.done.each (encodes.2, asks.taken);
+            each = each_append (IsExchange gives how) so.items (x ∷ []) so.done.each ((encodes.2, asks.taken), tt);
             reads = subst (Consumes old.lines lines) kept so.done.reads;
             asks = subst (Appends old.to to_new) (flat_then (λ x. (traffic_of how.form x).asked) so.items x) does_one.asks;
             tells = subst (Consumes old.from from_new) (flat_then (λ x. (traffic_of how.form x).told) so.items x) does_one.tells;

@@ -15,12 +15,9 @@ use Rattle.client.specs.Private.Steps.{TriesSoFar, FailsAsking, AsksUntilTold, S
 use Rattle.client.specs.declared.asking.Asking.{Asking}
 use Rattle.client.specs.declared.asking.Form.{Form}
 use Rattle.client.specs.declared.fault.AskFault.{AskFault}
-use Rattle.client.specs.declared.fault.AskFault.TheVariants.{BadLine, Unreadable, Server, Front}
-use Rattle.client.proofs.Replies.{IsOnly, frames_append, no_other, then_kept}
-
-pub empty : (bytes : List ℕ) → length bytes ≡ 0 → bytes ≡ []
-empty [] is = refl
-empty (byte ∷ bytes) is = absurd (omega (arith, is))
+use Rattle.client.specs.declared.fault.AskFault.TheVariants.{Server, Front}
+use Rattle.client.proofs.Replies.{IsOnly, frames_append, no_frame, no_other, then_kept}
+use Rattle.std.proofs.Math.Bool.{or-false}
 
 -- a comment
 pub asks_nothing : (how : Asking) (request : List ℕ) (from to out : Option (List ℕ)) → request ≡ [] → AsksOne how request false from from to to out out
@@ -35,12 +32,8 @@ asks_nothing how request from to out none = record {
 }
 
 unanswered : (form : Form) (error : ClientError) (unsent torn : List ℕ) (left : Option (List ℕ)) → IsUnanswered error unsent torn left → BreaksOff form (Server error) [] torn unsent [] left
-unanswered form client.Memory unsent torn left why = absurd why.1
-unanswered form client.BadLength unsent torn left why = (tt, why.0, refl, why.1)
-unanswered form client.BadReply unsent torn left why = absurd why.1
-unanswered form client.Truncated unsent torn left why = (tt, why.0, refl, why.1)
-unanswered form client.ReadFault unsent torn left why = (tt, why.0, refl, why.1)
-unanswered form client.WriteFault unsent torn left why = (refl, why)
+unanswered form error unsent torn left (inl why) = rw why.0 (refl, why.1)
+unanswered form error unsent torn left (inr none) = rw none.0 (no_frame form error [] torn left tt none.1)
 
 module _ (how : Asking) (left : ℕ) (request : List ℕ) (from_old from_mid to_old to_mid : Option (List ℕ)) (so : TriesSoFar how.retries left request from_old from_mid to_old to_mid) (some : request ≢ []) (from_new to_new out : Option (List ℕ)) where
   -- one try more, after which no reply came
@@ -106,10 +99,6 @@ none_refused : (form : Form) (others : List Reply) → AllByRecursion (IsTold fo
 none_refused form [] each = refl
 none_refused form (reply ∷ others) each = ap (λ b. b || list_any is_refusal others) (no_refusal reply each.0.1) ∙ none_refused form others each.1
 
-pub or_false : (b : Bool) → (b || false) ≡ b
-or_false true = refl
-or_false false = refl
-
 module _ (how : Asking) (request : List ℕ) (reply : Reply) (from_old from_mid to_old to_new : Option (List ℕ)) (until : AsksUntilTold how.retries request reply from_old from_mid to_old to_new) (some : request ≢ []) where
   -- what is told with these replies
   told_with : (others : List Reply) (rest : List ℕ) → (reply_frames until.transient ++ frame (payload_of reply)) ++ (reply_frames others ++ rest) ≡ reply_frames (until.transient ++ reply ∷ others) ++ rest
@@ -149,26 +138,14 @@ module _ (how : Asking) (request : List ℕ) (reply : Reply) (from_old from_mid 
 
   -- the first reply cannot be shown
   pub first_not_shown : (out_old out_new : Option (List ℕ)) (fault : AskFault) → IsPayload (payload_of reply) → IsOnly reply → NotShown how.form reply (IsTold how.form false reply) fault out_old out_new → BreaksOne how fault request from_old from_mid to_old to_new out_old out_new
-  first_not_shown out_old out_new (Server client.BadReply) good only none =
-      breaks_after (Server client.BadReply) [] (frame (payload_of reply)) [] [] from_mid out_old out_new tt
+  first_not_shown out_old out_new fault good only (inl none) =
+      rw none.0 (breaks_after (Server client.BadReply) [] (frame (payload_of reply)) [] [] from_mid out_old out_new tt
       (subst (Consumes from_old from_mid) (ap (λ p. reply_frames p ++ frame (payload_of reply)) (sym (append-nil until.transient))) until.tells)
-      (subst (λ o. Appends out_old o []) (sym none.0) (Appends-nil out_old)) refl (tt, refl, refl, payload_of reply, refl, no_other how.form false reply good only none.1)
-  first_not_shown out_old out_new (Front front.WriteFault) good only none =
-      breaks_after (Front front.WriteFault) (reply ∷ []) [] none.1.front none.1.missing from_mid out_old out_new (none.0, until.last, omega arith, tt)
+      (subst (λ o. Appends out_old o []) (sym none.1) (Appends-nil out_old)) refl (tt, refl, refl, payload_of reply, refl, no_other how.form false reply good only none.2))
+  first_not_shown out_old out_new fault good only (inr (is, may, wrote)) =
+      rw is (breaks_after (Front front.WriteFault) (reply ∷ []) [] wrote.front wrote.missing from_mid out_old out_new (may, until.last, omega arith, tt)
       (subst (Consumes from_old from_mid) (sym (append-nil (reply_frames until.transient ++ frame (payload_of reply))) ∙ told_with [] []) until.tells)
-      none.1.appends (append-nil (shown how.form reply) ∙ none.1.split) (([], reply, none.1.front, refl, none.1.split), refl, refl)
-  first_not_shown out_old out_new (Server client.Memory) good only none = absurd none
-  first_not_shown out_old out_new (Server client.BadLength) good only none = absurd none
-  first_not_shown out_old out_new (Server client.Truncated) good only none = absurd none
-  first_not_shown out_old out_new (Server client.ReadFault) good only none = absurd none
-  first_not_shown out_old out_new (Server client.WriteFault) good only none = absurd none
-  first_not_shown out_old out_new (Front front.ReadFault) good only none = absurd none
-  first_not_shown out_old out_new (Front front.Memory) good only none = absurd none
-  first_not_shown out_old out_new (Front front.BadLength) good only none = absurd none
-  first_not_shown out_old out_new (Front front.Truncated) good only none = absurd none
-  first_not_shown out_old out_new (Front front.TurnsUsed) good only none = absurd none
-  first_not_shown out_old out_new (BadLine n) good only none = absurd none
-  first_not_shown out_old out_new (Unreadable n) good only none = absurd none
+      wrote.appends (append-nil (shown how.form reply) ∙ wrote.split) (([], reply, wrote.front, refl, wrote.split), refl, refl))
 
   module _ (refused : Bool) (bundles : ℕ) (out_old out_mid : Option (List ℕ)) (first : Shows how.form false reply refused bundles out_old out_mid) where
     -- a bundle is not shown
@@ -208,7 +185,7 @@ module _ (how : Asking) (request : List ℕ) (reply : Reply) (from_old from_mid 
           asks = until.asks;
           tells = tells_all;
           shows = shows_all;
-          refused_is = first.refused_is ∙ sym (ap (λ b. is_refusal reply || b) (none_refused how.form all.others all.each) ∙ or_false (is_refusal reply));
+          refused_is = first.refused_is ∙ sym (ap (λ b. is_refusal reply || b) (none_refused how.form all.others all.each) ∙ or-false (is_refusal reply));
         }
 
         -- or it keeps something back

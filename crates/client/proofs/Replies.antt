@@ -1,11 +1,11 @@
 -- Bundles that are shown one after another.
-use Rattle.std.proofs.Common.{◌≡◌, ℕ, ◌+◌, ◌<◌, List, [], ◌∷◌, ◌++◌, Bool, true, Option, Some, None, refl, sym, ap, subst, ◌∙◌, append-nil, append_assoc, length, length-append, arith}
+use Rattle.std.proofs.Common.{◌≡◌, ℕ, ◌+◌, ◌<◌, List, [], ◌∷◌, ◌++◌, Bool, true, Option, Some, None, refl, sym, ap, subst, inl, inr, ◌∙◌, append-nil, append_assoc, length, length-append, arith}
 use Rattle.std.specs.List.{AllByRecursion, flat_map}
 use Rattle.std.specs.Io.KnownBytes.{Appends, Consumes, Keeps}
 use Rattle.std.proofs.KnownBytes.{Appends-trans, Consumes-trans}
+use Rattle.std.proofs.lemmas.List.{flat_map_more}
 use Rattle.std.proofs.lemmas.List.Concat.{flat_map-append}
 use Rattle.wire.specs.Frame.{IsPayload, frame}
-use Rattle.wire.specs.declared.error.FrontError.TheVariants as front
 use Rattle.client.specs.Reading.{NoFrame}
 use Rattle.client.specs.declared.client_error.ClientError.{ClientError}
 use Rattle.client.specs.declared.client_error.ClientError.TheVariants as client
@@ -15,23 +15,14 @@ use Rattle.client.specs.Replies.{IsTold, bundles_after, reply_frames, shown}
 use Rattle.client.specs.Private.Steps.{Shows, NotShown, ShowsOthers, BreaksOthers}
 use Rattle.client.specs.declared.asking.Form.{Form}
 use Rattle.client.specs.declared.fault.AskFault.{AskFault}
-use Rattle.client.specs.declared.fault.AskFault.TheVariants.{BadLine, Unreadable, Server, Front}
+use Rattle.client.specs.declared.fault.AskFault.TheVariants.{Server}
 
 -- ---- lists
 
 pub frames_append : (xs ys : List Reply) → reply_frames (xs ++ ys) ≡ reply_frames xs ++ reply_frames ys
 frames_append xs ys = flat_map-append (λ reply. frame (payload_of reply)) xs ys
 
-pub frames_one : (reply : Reply) → reply_frames (reply ∷ []) ≡ frame (payload_of reply)
-frames_one reply = append-nil (frame (payload_of reply))
-
-pub shown_append : (form : Form) (xs ys : List Reply) → flat_map (shown form) (xs ++ ys) ≡ flat_map (shown form) xs ++ flat_map (shown form) ys
-shown_append form xs ys = flat_map-append (shown form) xs ys
-
-pub shown_one : (form : Form) (reply : Reply) → flat_map (shown form) (reply ∷ []) ≡ shown form reply
-shown_one form reply = append-nil (shown form reply)
-
-pub each_append : (Is : Reply → Type 0) (xs ys : List Reply) → AllByRecursion Is xs → AllByRecursion Is ys → AllByRecursion Is (xs ++ ys)
+pub each_append : {A : Type 0} (Is : A → Type 0) (xs ys : List A) → AllByRecursion Is xs → AllByRecursion Is ys → AllByRecursion Is (xs ++ ys)
 each_append Is [] ys a b = b
 each_append Is (x ∷ xs) ys a b = (a.0, each_append Is xs ys a.1 b)
 
@@ -59,7 +50,7 @@ no_other form later reply good only none = (good, λ other same told. none (subs
 -- ---- bundles
 
 -- no frame is read where a reply is due
-no_frame : (form : Form) (error : ClientError) (replies : List Reply) (torn : List ℕ) (left : Option (List ℕ)) → IsDue replies → NoFrame error torn left → BreaksOff form (Server error) replies torn [] [] left
+pub no_frame : (form : Form) (error : ClientError) (replies : List Reply) (torn : List ℕ) (left : Option (List ℕ)) → IsDue replies → NoFrame error torn left → BreaksOff form (Server error) replies torn [] [] left
 no_frame form client.Memory replies torn left due none = absurd none
 no_frame form client.BadLength replies torn left due none = (due, refl, refl, none)
 no_frame form client.BadReply replies torn left due none = absurd none
@@ -71,7 +62,7 @@ module _ (form : Form) (count all : ℕ) (due : count < all) (from_old from_mid 
   -- the frame of a reply is read
   reads : (from_new : Option (List ℕ)) (reply : Reply) → Consumes from_mid from_new (frame (payload_of reply)) → Consumes from_old from_new (reply_frames (so.others ++ reply ∷ []))
   reads from_new reply came =
-      subst (Consumes from_old from_new) (ap (λ f. reply_frames so.others ++ f) (sym (frames_one reply)) ∙ sym (frames_append so.others (reply ∷ [])))
+      subst (Consumes from_old from_new) (flat_map_more (λ (reply : Reply). frame (payload_of reply)) [] so.others reply)
       (Consumes-trans from_old from_mid from_new (reply_frames so.others) (frame (payload_of reply)) so.tells came)
 
   more_due : length so.others < all
@@ -83,7 +74,7 @@ module _ (form : Form) (count all : ℕ) (due : count < all) (from_old from_mid 
     long = length-append so.others (reply ∷ []) ∙ ap (λ n. n + 1) so.long;
     each = each_append (IsTold form true) so.others (reply ∷ []) so.each (shows.told, tt);
     tells = reads from_new reply came;
-    shows = subst (Appends out_old out_new) (ap (λ s. flat_map (shown form) so.others ++ s) (sym (shown_one form reply)) ∙ sym (shown_append form so.others (reply ∷ [])))
+    shows = subst (Appends out_old out_new) (flat_map_more (shown form) [] so.others reply)
         (Appends-trans out_old out_mid out_new (flat_map (shown form) so.others) (shown form reply) so.shows shows.shows);
   }
 
@@ -110,28 +101,16 @@ module _ (form : Form) (count all : ℕ) (due : count < all) (from_old from_mid 
   bad_reply payload from_new came none = torn_at client.BadReply (frame payload) from_new came (λ first is. (omega (arith, more_due, is), refl, refl, payload, refl, none))
 
   pub not_shown : (reply : Reply) (from_new out_new : Option (List ℕ)) (fault : AskFault) → IsPayload (payload_of reply) → IsOnly reply → Consumes from_mid from_new (frame (payload_of reply)) → NotShown form reply (IsTold form true reply) fault out_mid out_new → BreaksOthers form fault all from_old from_new out_old out_new
-  not_shown reply from_new out_new (Server client.BadReply) good only came none = rw none.0 (bad_reply (payload_of reply) from_new came (no_other form true reply good only none.1))
-  not_shown reply from_new out_new (Front front.WriteFault) good only came none = record {
+  not_shown reply from_new out_new fault good only came (inl none) = rw (none.0, none.1) (bad_reply (payload_of reply) from_new came (no_other form true reply good only none.2))
+  not_shown reply from_new out_new fault good only came (inr (is, told, wrote)) = rw is (record {
     others = so.others ++ reply ∷ [];
     torn = [];
-    showed = flat_map (shown form) so.others ++ none.1.front;
-    hidden = none.1.missing;
+    showed = flat_map (shown form) so.others ++ wrote.front;
+    hidden = wrote.missing;
     few = omega (arith, more_due, length-append so.others (reply ∷ []));
-    each = each_append (IsTold form true) so.others (reply ∷ []) so.each (none.0, tt);
-    split = shown_append form so.others (reply ∷ []) ∙ ap (λ s. flat_map (shown form) so.others ++ s) (shown_one form reply ∙ none.1.split) ∙ sym (append_assoc (flat_map (shown form) so.others) none.1.front none.1.missing);
+    each = each_append (IsTold form true) so.others (reply ∷ []) so.each (told, tt);
+    split = sym (flat_map_more (shown form) [] so.others reply) ∙ ap (λ s. flat_map (shown form) so.others ++ s) wrote.split ∙ sym (append_assoc (flat_map (shown form) so.others) wrote.front wrote.missing);
     tells = subst (Consumes from_old from_new) (sym (append-nil (reply_frames (so.others ++ reply ∷ [])))) (reads from_new reply came);
-    shows = Appends-trans out_old out_mid out_new (flat_map (shown form) so.others) none.1.front so.shows none.1.appends;
-    why = λ first is. ((first ∷ so.others, reply, none.1.front, refl, none.1.split), refl, refl);
-  }
-  not_shown reply from_new out_new (Server client.Memory) good only came none = absurd none
-  not_shown reply from_new out_new (Server client.BadLength) good only came none = absurd none
-  not_shown reply from_new out_new (Server client.Truncated) good only came none = absurd none
-  not_shown reply from_new out_new (Server client.ReadFault) good only came none = absurd none
-  not_shown reply from_new out_new (Server client.WriteFault) good only came none = absurd none
-  not_shown reply from_new out_new (Front front.ReadFault) good only came none = absurd none
-  not_shown reply from_new out_new (Front front.Memory) good only came none = absurd none
-  not_shown reply from_new out_new (Front front.BadLength) good only came none = absurd none
-  not_shown reply from_new out_new (Front front.Truncated) good only came none = absurd none
-  not_shown reply from_new out_new (Front front.TurnsUsed) good only came none = absurd none
-  not_shown reply from_new out_new (BadLine n) good only came none = absurd none
-  not_shown reply from_new out_new (Unreadable n) good only came none = absurd none
+    shows = Appends-trans out_old out_mid out_new (flat_map (shown form) so.others) wrote.front so.shows wrote.appends;
+    why = λ first is. ((first ∷ so.others, reply, wrote.front, refl, wrote.split), refl, refl);
+  })

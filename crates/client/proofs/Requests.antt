@@ -3,7 +3,7 @@ use Rattle.std.proofs.Common.{◌≡◌, ◌≢◌, ◌⊎◌, drop, ℕ, ◌-�
 use Rattle.std.specs.List.{flat_map}
 use Rattle.std.specs.Io.KnownBytes.{Appends, Consumes}
 use Rattle.std.proofs.KnownBytes.{Appends-trans, Consumes-nil, Consumes-trans}
-use Rattle.std.proofs.lemmas.List.Concat.{flat_map-append}
+use Rattle.std.proofs.lemmas.List.{flat_map_more}
 use Rattle.wire.specs.Frame.{IsPayload, frame}
 use Rattle.wire.specs.Output.{WritesFront}
 use Rattle.client.specs.Reading.{NoFrame}
@@ -14,31 +14,20 @@ use Rattle.client.specs.Asking.{IsTransient, IsUnanswered, NotGreeted, greeting}
 use Rattle.client.specs.declared.fault.AskFault.TheVariants.{Server}
 use Rattle.client.specs.Replies.{is_transient, reply_frames}
 use Rattle.client.specs.Private.Steps.{AsksUntilTold, TriesSoFar, FailsAsking}
-use Rattle.client.proofs.Replies.{each_append, frames_append, frames_one}
-
-asked_append : (request : List ℕ) (xs ys : List Reply) → flat_map (λ (reply : Reply). request) (xs ++ ys) ≡ flat_map (λ (reply : Reply). request) xs ++ flat_map (λ (reply : Reply). request) ys
-asked_append request xs ys = flat_map-append (λ (reply : Reply). request) xs ys
+use Rattle.client.proofs.Replies.{each_append}
 
 -- ---- one try
 
 -- the request could not be sent
 pub not_sent : (request : List ℕ) (from to_old to_new : Option (List ℕ)) → WritesFront to_old to_new request → FailsAsking request (IsUnanswered client.WriteFault) from from to_old to_new
 not_sent request from to_old to_new front =
-    record { sent = front.front; unsent = front.missing; torn = []; split = front.split; asks = front.appends; tells = Consumes-nil from; why = refl }
-
-no_reply : (error : ClientError) (torn : List ℕ) (left : Option (List ℕ)) → NoFrame error torn left → IsUnanswered error [] torn left
-no_reply client.Memory torn left none = absurd none
-no_reply client.BadLength torn left none = (refl, none)
-no_reply client.BadReply torn left none = absurd none
-no_reply client.Truncated torn left none = (refl, none)
-no_reply client.ReadFault torn left none = (refl, none)
-no_reply client.WriteFault torn left none = absurd none
+    record { sent = front.front; unsent = front.missing; torn = []; split = front.split; asks = front.appends; tells = Consumes-nil from; why = inl (refl, refl) }
 
 -- it was sent, and no reply came
 pub not_read : (error : ClientError) (request torn : List ℕ) (from_old from_new to_old to_new : Option (List ℕ)) → Appends to_old to_new request → Consumes from_old from_new torn → NoFrame error torn from_new
     → FailsAsking request (IsUnanswered error) from_old from_new to_old to_new
 not_read error request torn from_old from_new to_old to_new asks tells none =
-    record { sent = request; unsent = []; torn = torn; split = sym (append-nil request); asks = asks; tells = tells; why = no_reply error torn from_new none }
+    record { sent = request; unsent = []; torn = torn; split = sym (append-nil request); asks = asks; tells = tells; why = inr (refl, none) }
 
 -- ---- one try after the other
 
@@ -49,9 +38,9 @@ module _ (retries left : ℕ) (request : List ℕ) (from_old from_mid to_old to_
     transient = so.transient ++ reply ∷ [];
     each = each_append IsTransient so.transient (reply ∷ []) so.each (again, tt);
     count = omega (arith, so.count, some, length-append so.transient (reply ∷ []));
-    asks = subst (Appends to_old to_new) (ap (λ r. flat_map (λ (reply : Reply). request) so.transient ++ r) (sym (append-nil request)) ∙ sym (asked_append request so.transient (reply ∷ [])))
+    asks = subst (Appends to_old to_new) (flat_map_more (λ (reply : Reply). request) [] so.transient reply)
         (Appends-trans to_old to_mid to_new (flat_map (λ (reply : Reply). request) so.transient) request so.asks asks);
-    tells = subst (Consumes from_old from_new) (ap (λ f. reply_frames so.transient ++ f) (sym (frames_one reply)) ∙ sym (frames_append so.transient (reply ∷ [])))
+    tells = subst (Consumes from_old from_new) (flat_map_more (λ (reply : Reply). frame (payload_of reply)) [] so.transient reply)
         (Consumes-trans from_old from_mid from_new (reply_frames so.transient) (frame (payload_of reply)) so.tells came);
   }
 
@@ -80,14 +69,6 @@ frame_same : (a b : List ℕ) → frame a ≡ frame b → a ≡ b
 unfolding frame
 frame_same a b same = ap (drop 4) same
 
-why_not_greeted : (error : ClientError) (unsent torn : List ℕ) (left : Option (List ℕ)) → IsUnanswered error unsent torn left → NotGreeted (Server error) unsent torn left
-why_not_greeted client.BadReply unsent torn left why = absurd why.1
-why_not_greeted client.Memory unsent torn left why = why
-why_not_greeted client.BadLength unsent torn left why = why
-why_not_greeted client.Truncated unsent torn left why = why
-why_not_greeted client.ReadFault unsent torn left why = why
-why_not_greeted client.WriteFault unsent torn left why = why
-
 pub not_greeted : (error : ClientError) (request : List ℕ) (from_old from_new to_old to_new : Option (List ℕ)) → request ≡ 0 ∷ 0 ∷ 0 ∷ 2 ∷ 86 ∷ 2 ∷ [] → FailsAsking request (IsUnanswered error) from_old from_new to_old to_new
     → FailsAsking greeting (NotGreeted (Server error)) from_old from_new to_old to_new
 not_greeted error request from_old from_new to_old to_new is one = record {
@@ -97,7 +78,7 @@ not_greeted error request from_old from_new to_old to_new is one = record {
   split = sym (is ∙ greeting_bytes) ∙ one.split;
   asks = one.asks;
   tells = one.tells;
-  why = why_not_greeted error one.unsent one.torn from_new one.why;
+  why = inl one.why;
 }
 
 pub other_greeting : (payload : List ℕ) (from_old from_new to_old to_new : Option (List ℕ)) → Appends to_old to_new greeting → Consumes from_old from_new (frame payload) → IsPayload payload → payload ≢ 118 ∷ 2 ∷ []
@@ -109,5 +90,5 @@ other_greeting payload from_old from_new to_old to_new asks tells good other = r
   split = sym (append-nil greeting);
   asks = asks;
   tells = tells;
-  why = (refl, payload, good, refl, λ same. other (frame_same payload (118 ∷ 2 ∷ []) same));
+  why = inr (refl, refl, payload, good, refl, λ same. other (frame_same payload (118 ∷ 2 ∷ []) same));
 }

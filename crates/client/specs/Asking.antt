@@ -95,10 +95,10 @@ count_after count (x ∷ items) = count_after (next_count count) items
 
 -- ---- an exchange that breaks off
 
--- no reply came to a request: what of it was not sent, and what was read
+-- No reply came to a request: what of it was not sent, and what was read. It may be sent whole although a fault of the server's
+-- input is told: the writer may fail as it is flushed.
 abbrev pub IsUnanswered : ClientError → List ℕ → List ℕ → Option (List ℕ) → Type 0
-IsUnanswered client.WriteFault unsent torn left = torn ≡ []
-IsUnanswered why unsent torn left = (unsent ≡ []) × NoFrame why torn left
+IsUnanswered why unsent torn left = ((why ≡ client.WriteFault) × (torn ≡ [])) ⊎ ((unsent ≡ []) × NoFrame why torn left)
 
 -- whether the next reply is one of the bundles
 abbrev pub is_later : List Reply → Bool
@@ -208,9 +208,9 @@ IsGreeting old new asked told = Appends old.to new.to asked × Consumes old.from
 
 -- Why the server was not greeted, what of the greeting was not sent, and what was read of its reply. Out of memory, nothing is sent.
 abbrev pub NotGreeted : AskFault → List ℕ → List ℕ → Option (List ℕ) → Type 0
-NotGreeted (Server client.BadReply) unsent torn left =
-    (unsent ≡ []) × (payload : List ℕ) × IsPayload payload × (torn ≡ frame payload) × (torn ≢ greeted)
-NotGreeted (Server why) unsent torn left = IsUnanswered why unsent torn left
+NotGreeted (Server why) unsent torn left =
+    IsUnanswered why unsent torn left
+    ⊎ ((why ≡ client.BadReply) × (unsent ≡ []) × (payload : List ℕ) × IsPayload payload × (torn ≡ frame payload) × (torn ≢ greeted))
 NotGreeted (Front front.Memory) unsent torn left = (unsent ≡ greeting) × (torn ≡ [])
 NotGreeted fault unsent torn left = ⊥
 

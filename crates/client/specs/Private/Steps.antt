@@ -1,5 +1,5 @@
 -- What the steps of asking do to the ends.
-use Rattle.std.specs.Prelude.{◌≡◌, ◌≢◌, ℕ, ◌+◌, ◌<◌, ◌≤◌, Bool, true, false, List, [], ◌∷◌, ◌++◌, length, Option, Result, Ok, Err, OnOk}
+use Rattle.std.specs.Prelude.{◌≡◌, ◌≢◌, ◌⊎◌, ℕ, ◌+◌, ◌<◌, ◌≤◌, Bool, true, false, List, [], ◌∷◌, ◌++◌, length, Option, Result, Ok, Err, OnOk}
 use Rattle.std.specs.List.{AllByRecursion, flat_map, list_any}
 use Rattle.std.specs.Io.KnownBytes.{Appends, Consumes, IsAtEnd}
 use Rattle.wire.specs.Counted.{faults_in, next_count}
@@ -92,9 +92,9 @@ pub record AsksFirst (how : Asking) (request : List ℕ) (refused : Bool) (bundl
 
 -- a reply is not shown: it must not be, or the place failed
 abbrev pub NotShown : Form → Reply → Type 0 → AskFault → Option (List ℕ) → Option (List ℕ) → Type 0
-NotShown form reply May (Server client.BadReply) out_old out_new = (out_new ≡ out_old) × (May → ⊥)
-NotShown form reply May (Front front.WriteFault) out_old out_new = May × WritesFront out_old out_new (shown form reply)
-NotShown form reply May fault out_old out_new = ⊥
+NotShown form reply May fault out_old out_new =
+    ((fault ≡ Server client.BadReply) × (out_new ≡ out_old) × (May → ⊥))
+    ⊎ ((fault ≡ Front front.WriteFault) × May × WritesFront out_old out_new (shown form reply))
 
 -- so many bundles were read and shown
 pub record ShowsOthers (form : Form) (count : ℕ) (from_old from_new out_old out_new : Option (List ℕ)) : Type 0 where
@@ -143,9 +143,9 @@ abbrev pub ReadsMore : Result Bool AskFault → EncoderState → EncoderState �
 ReadsMore (Ok true) old new lines_old lines_new =
     (piece : List ℕ) × (0 < length piece) × (new.kept ≡ old.kept ++ piece) × (new.lines ≡ old.lines) × Consumes lines_old lines_new piece
 ReadsMore (Ok false) old new lines_old lines_new = (new ≡ old) × Consumes lines_old lines_new [] × IsAtEnd lines_new
-ReadsMore (Err (Front front.ReadFault)) old new lines_old lines_new = Consumes lines_old lines_new []
-ReadsMore (Err (Front front.Memory)) old new lines_old lines_new = (piece : List ℕ) × Consumes lines_old lines_new piece
-ReadsMore (Err fault) old new lines_old lines_new = ⊥
+ReadsMore (Err fault) old new lines_old lines_new =
+    ((fault ≡ Front front.ReadFault) × Consumes lines_old lines_new [])
+    ⊎ ((fault ≡ Front front.Memory) × (piece : List ℕ) × Consumes lines_old lines_new piece)
 
 -- these exchanges are done; of the lines that were read, these bytes are kept
 pub record StreamSoFar (gives : Gives) (how : Asking) (old new : Ends) (state : EncoderState) (refused : Bool) (turns : ℕ) : Type 0 where

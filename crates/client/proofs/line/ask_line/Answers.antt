@@ -1,11 +1,12 @@
 use Rattle.std.proofs.Common.{rules, ◌≡◌, ◌≢◌, [], length, Err}
-use Rattle.client.proofs.OneLine.{empty, asks_nothing, others_broken, asks_all, not_flushed}
+use Rattle.std.proofs.lemmas.List.{nil_from_length}
+use Rattle.client.proofs.OneLine.{asks_nothing, others_broken, asks_all, not_flushed}
 use Rattle.client.proofs.line.ask_line.Goals as goal
 
 pub returns-then-is_empty-clause-ok : goal.returns-then-is_empty-clause-ok
 returns-then-is_empty-clause-ok g c =
     let none : length c.args.request.now ≡ 0 = search rules in
-    asks_nothing c.args.how c.args.request.now _ _ _ (empty c.args.request.now none)
+    asks_nothing c.args.how c.args.request.now _ _ _ (nil_from_length c.args.request.now none)
 
 pub returns-in_err-show_others-clause-err : goal.returns-in_err-show_others-clause-err
 returns-in_err-show_others-clause-err g c =

@@ -48,7 +48,7 @@ returns-in_err-read_more-clause-asks g c =
     let fault = c.in_err-read_more.field-0.0 in
     let is : c.from_residual-in_err-read_more.result ≡ Err fault = search rules in
     let old = ends (g.L.Read.remaining (end_in c.args.lines.now)) (g.R.Read.remaining (end_in c.args.server.now.from)) (g.W.Write.contents (end_in c.args.server.now.to)) (g.O.Write.contents (end_in c.args.out.now)) in
-    rw is (greeted_first gives c.args.how old _ _ (Err fault) (not_read gives c.args.how _ (g.L.Read.remaining (end_in c.loop-turn.lines)) _ _ _ c.loop-turn.encoder c.loop-turn.refused c.loop-turn._turn c.loop-turn.invariant.0 fault c.read_more.new.encoder _ next.2.0 (rw next.2.2 at c.in_err-read_more.ensures.reads)) (c.in_ok-greet.ensures.asks, c.in_ok-greet.ensures.tells, refl, refl))
+    rw is (greeted_first gives c.args.how old _ _ (Err fault) (not_read gives c.args.how _ (g.L.Read.remaining (end_in c.loop-turn.lines)) _ _ _ c.loop-turn.encoder c.loop-turn.refused c.loop-turn._turn c.loop-turn.invariant.0 fault c.read_more.new.encoder _ next.2.0 c.in_err-read_more.ensures.reads) (c.in_ok-greet.ensures.asks, c.in_ok-greet.ensures.tells, refl, refl))
 
 pub returns-in_err-finish-clause-asks : goal.returns-in_err-finish-clause-asks
 returns-in_err-finish-clause-asks g c =
