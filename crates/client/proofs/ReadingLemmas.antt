@@ -34,13 +34,13 @@ cut_payload field read size four spelled some few short =
 
 -- a payload that was not read whole
 pub NoFrame-payload : (why : ClientError) (left : Option (List ℕ)) (field read : List ℕ) (size : ℕ) → length field ≡ 4 → size ≡ length_field field
-    → 0 < size → size ≤ most_payload → length read < size → StopsShort why left → NoFrame why (field ++ read) left
-NoFrame-payload Truncated left field read size four spelled some few short stops = (cut_payload field read size four spelled some few short, stops)
-NoFrame-payload ReadFault left field read size four spelled some few short stops = cut_payload field read size four spelled some few short
-NoFrame-payload BadLength left field read size four spelled some few short stops = absurd stops
-NoFrame-payload BadReply left field read size four spelled some few short stops = absurd stops
-NoFrame-payload WriteFault left field read size four spelled some few short stops = absurd stops
-NoFrame-payload Memory left field read size four spelled some few short stops = absurd stops
+    → 0 < size → size ≤ most_payload → StopsShort size why read left → NoFrame why (field ++ read) left
+NoFrame-payload Truncated left field read size four spelled some few stops = (cut_payload field read size four spelled some few stops.0, stops.1)
+NoFrame-payload ReadFault left field read size four spelled some few stops = cut_payload field read size four spelled some few stops
+NoFrame-payload BadLength left field read size four spelled some few stops = absurd stops
+NoFrame-payload BadReply left field read size four spelled some few stops = absurd stops
+NoFrame-payload WriteFault left field read size four spelled some few stops = absurd stops
+NoFrame-payload Memory left field read size four spelled some few stops = absurd stops
 
 module _ (old mid new : End) (bytes : List ℕ) (first : ReadsWhole old mid bytes) where
   -- more is read behind it

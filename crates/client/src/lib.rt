@@ -1,7 +1,7 @@
 //! The other end of a session over a map of trust bundles: a client. The stream is the one that crate `frame_front` serves.
 //!
 //! `Client` writes requests to any writer and reads their replies from any reader, and can be asked as a map
-//! itself; `write_request` only writes requests. `ask_stream` is for people and scripts: the requests are lines, and the
+//! itself; `write_request` only writes requests. `ServerStreams::ask_stream` is for people and scripts: the requests are lines, and the
 //! replies are shown as lines or as frames.
 #![tactic(auto)]
 
@@ -20,7 +20,6 @@ mod reply_room;
 mod request;
 mod server_streams;
 mod showing;
-mod stream;
 
 pub use crate::client::Client;
 pub use asking::{Asking, Form};
@@ -29,4 +28,3 @@ pub use fault::AskFault;
 pub use reading::read_frame;
 pub use request::{RequestError, write_request};
 pub use server_streams::ServerStreams;
-pub use stream::ask_stream;

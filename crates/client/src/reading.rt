@@ -1,10 +1,11 @@
 //! Reading one frame, and no byte beyond it.
-ghost use Rattle.std.specs.Prelude.{◌≡◌, ◌<◌, ℕ, List, length, take, OnOk, IfOk, IfErr};
+ghost use Rattle.std.specs.Prelude.{◌≡◌, ℕ, List, length, take, OnOk, IfOk, IfErr};
 ghost use Rattle.std.specs.Io.KnownBytes.{Consumes};
 ghost use Rattle.wire.specs.Counted.{end_in, faults_in};
 ghost use Rattle.wire.specs.Frame.{IsPayload, frame};
 ghost use Rattle.client.specs.Reading.{CountsFault, NoFrame};
-ghost use Rattle.client.specs.Private.Reads.{StopsShort};
+ghost use Rattle.client.specs.Private.Reads.{ReadsWhole, StopsReading, StopsShort};
+ghost use Rattle.wire.specs.Output.{end_of};
 
 use crate::ClientError;
 use std::io::Read;
@@ -13,12 +14,8 @@ use wire::{Counted, LENGTH_BYTES, MAX_PAYLOAD, length_field};
 /// Reads until the buffer is full.
 fn fill<R: Read>(reader: &mut Counted<R>, buffer: &mut [u8]) -> Result<(), ClientError>
     ensures len { length buffer.new ≡ length buffer.old }
-    ensures ok { OnOk result (Consumes (R.remaining (end_in reader.old)) (R.remaining (end_in reader.new)) buffer.new) }
-    ensures quiet { OnOk result (faults_in reader.new ≡ faults_in reader.old) }
-    ensures err { IfErr result (λ why. (read : List ℕ)
-        × Consumes (R.remaining (end_in reader.old)) (R.remaining (end_in reader.new)) read
-        × (length read < length buffer.old) × StopsShort why (R.remaining (end_in reader.new))) }
-    ensures counted { IfErr result (λ why. CountsFault why (faults_in reader.old) (faults_in reader.new)) }
+    ensures ok { OnOk result (ReadsWhole (end_of R.remaining reader.old) (end_of R.remaining reader.new) buffer.new) }
+    ensures err { IfErr result (λ why. StopsReading (StopsShort (length buffer.old)) why (end_of R.remaining reader.old) (end_of R.remaining reader.new)) }
 {
     let mut filled = 0;
     while filled < buffer.len() {

@@ -7,7 +7,7 @@ ghost use Rattle.commands.specs.Streams.{streams};
 
 use crate::ending::Outcome;
 use crate::fault::{Fault, ServerFault};
-use client::{AskFault, Asking, ServerStreams, ask_stream};
+use client::{AskFault, Asking, ServerStreams};
 use std::alloc::{AllocError, Global};
 use std::io::{Read, Write};
 use wire::{Counted, FrontError, TextSource};
@@ -28,7 +28,7 @@ pub fn ask_over<T: TextSource, R: Read, F: Read, S: Write, W: Write, E: Write>(
         (streams R.remaining W.contents E.contents reader.new out.new err.new)
         (server F.remaining S.contents link.old) (server F.remaining S.contents link.new) }
 {
-    match ask_stream(alloc, how, texts, reader, link, out) {
+    match link.ask_stream(alloc, how, texts, reader, out) {
         Ok(refused) => refused.status(),
         Err(AskFault::BadLine(line)) => Fault::BadLine(line).tell(err),
         Err(AskFault::Unreadable(line)) => Fault::UnreadText(line).tell(err),

@@ -1,5 +1,5 @@
 //! Lines are asked of a server whose replies are written down beforehand.
-use client::{AskFault, Asking, ClientError, Form, ServerStreams, ask_stream};
+use client::{AskFault, Asking, ClientError, Form, ServerStreams};
 use std::alloc::{AllocError, Global};
 use std::io;
 use std::io::Write;
@@ -82,7 +82,7 @@ fn ask(
     };
     let mut out = Counted::new(Vec::with_capacity(alloc, ROOM)?);
     let how = Asking { form, retries };
-    let ended = ask_stream(alloc, how, &OneText, &mut lines, &mut link, &mut out);
+    let ended = link.ask_stream(alloc, how, &OneText, &mut lines, &mut out);
     let unread = link.from.end().len();
     Ok(Left {
         ended,
@@ -379,7 +379,7 @@ fn a_full_writer_is_told(rt: HostRuntime) -> Result<(), Fail> {
             form: Form::Lines,
             retries: 0,
         };
-        let ended = ask_stream(rt.alloc(), how, &OneText, &mut lines, &mut link, &mut out);
+        let ended = link.ask_stream(rt.alloc(), how, &OneText, &mut lines, &mut out);
         is_equal_at(&ended, &Err(why), &to)?;
     }
     Ok(())

@@ -1,5 +1,5 @@
 -- What reading does to a reader.
-use Rattle.std.specs.Prelude.{◌≡◌, ℕ, List, Option, Result, Ok, Err}
+use Rattle.std.specs.Prelude.{◌≡◌, ℕ, ◌<◌, List, length, Option, Result, Ok, Err}
 use Rattle.std.specs.Io.KnownBytes.{Consumes, IsAtEnd}
 use Rattle.map_core.specs.declared.op.Op.{Op}
 use Rattle.wire.specs.Output.{End}
@@ -9,11 +9,11 @@ use Rattle.client.specs.Reading.{CountsFault}
 use Rattle.client.specs.declared.client_error.ClientError.{ClientError}
 use Rattle.client.specs.declared.client_error.ClientError.TheVariants.{Truncated, ReadFault}
 
--- Why a read stops short, and what the reader has left then.
-abbrev pub StopsShort : ClientError → Option (List ℕ) → Type 0
-StopsShort Truncated left = IsAtEnd left
-StopsShort ReadFault left = Unit {0}
-StopsShort error left = ⊥
+-- Why fewer bytes are read than so many, and what the reader has left then.
+abbrev pub StopsShort : ℕ → ClientError → List ℕ → Option (List ℕ) → Type 0
+StopsShort size Truncated read left = (length read < size) × IsAtEnd left
+StopsShort size ReadFault read left = length read < size
+StopsShort size error read left = ⊥
 
 -- These bytes are read, and no call fails.
 pub record ReadsWhole (old new : End) (bytes : List ℕ) : Type 0 where

@@ -14,10 +14,10 @@ returns-in_err-fill-2-clause-err g c =
     let failed = err_from_is_err_and c.from_residual-in_err-fill-2.result c.from_residual-in_err-fill-2.ensures.1 in
     let is_fault : c.from_residual-in_err-fill-2.result ≡ Err c.in_err-fill-2.field-0.0 = failed.1 ∙ ap Err failed.2 in
     rw is_fault (
-      field ++ cut.0,
-      Consumes-trans _ _ _ field cut.0 c.in_ok-fill.ensures.ok cut.1,
-      NoFrame-payload _ _ field cut.0 c.length_field-size.result c.in_ok-fill.ensures.len c.length_field-size.ensures.value (omega arith) (omega arith)
-          (omega (arith, cut.2, length-take-le c.length_field-size.result c.args.buffer.now (omega arith))) cut.3,
+      field ++ cut.read,
+      Consumes-trans _ _ _ field cut.read c.in_ok-fill.ensures.ok.consumes cut.consumes,
+      NoFrame-payload _ _ field cut.read c.length_field-size.result c.in_ok-fill.ensures.len c.length_field-size.ensures.value (omega arith) (omega arith)
+          (rw (length-take-le c.length_field-size.result c.args.buffer.now (omega arith)) at cut.says),
     )
 
 pub returns-clause-ok : goal.returns-clause-ok
@@ -30,5 +30,5 @@ returns-clause-ok g c =
     let whole = frame_whole field payload size c.in_ok-fill.ensures.len c.length_field-size.ensures.bytes long in (
       ap length front ∙ long,
       (omega (arith, ap length front), omega (arith, ap length front)),
-      subst (Consumes _ _) (whole ∙ ap frame (sym front)) (Consumes-trans _ _ _ field payload c.in_ok-fill.ensures.ok c.in_ok-fill-2.ensures.ok),
+      subst (Consumes _ _) (whole ∙ ap frame (sym front)) (Consumes-trans _ _ _ field payload c.in_ok-fill.ensures.ok.consumes c.in_ok-fill-2.ensures.ok.consumes),
     )
