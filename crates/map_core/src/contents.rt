@@ -3,7 +3,7 @@ ghost use Rattle.std.specs.Prelude.{◌≡◌, IfOk, OnOk, IfErr, OnErr, MatchOp
 ghost use Rattle.std.specs.FinMap as finite;
 ghost use Rattle.map_core.specs.Op.{domain_of, carries_nothing};
 ghost use Rattle.map_core.specs.declared.held.Holding.{Holding};
-ghost use Rattle.map_core.specs.declared.op.Op.TheVariants.{Set, Get};
+ghost use Rattle.map_core.specs.declared.op.Op.TheVariants.{Get};
 ghost use Rattle.map_core.specs.Private.Outcome.{reply_of, left_by};
 ghost use Rattle.map_core.specs.PlainMap.{ask, union, bundles};
 ghost use Rattle.map_core.specs.Ask.{ShowsGet};
@@ -66,7 +66,11 @@ impl Contents {
         ensures err { OnErr result (self.new ≡ self.old) }
     {
         match op {
-            Op::Set(domain, bundle) => Ok(self.set(domain, bundle)?),
+            // Nothing of a `Set` is copied.
+            Op::Set(domain, bundle) => {
+                let outcome = table::set(self.at(&domain), bundle);
+                Ok(self.settle(Some(domain), outcome)?)
+            }
             op => match self.outcome(&op) {
                 Ok(outcome) => Ok(self.settle(op.into_domain(), outcome)?),
                 Err(AllocError) => {
@@ -75,16 +79,6 @@ impl Contents {
                 }
             },
         }
-    }
-
-    /// Answers a `Set`, of which nothing is copied.
-    fn set(&mut self, domain: TrustDomain, bundle: Bundle) -> Result<Reply, AllocError>
-        ensures reply { IfOk result (λ reply. reply ≡ (ask self.old (Set domain bundle)).reply) }
-        ensures left { OnOk result (self.new ≡ (ask self.old (Set domain bundle)).map) }
-        ensures err { OnErr result (self.new ≡ self.old) }
-    {
-        let outcome = table::set(self.at(&domain), bundle);
-        self.settle(Some(domain), outcome)
     }
 
     /// The reply to the operation and, if it reports a change, the map after it. This map stays as it is.
