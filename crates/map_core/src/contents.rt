@@ -208,7 +208,10 @@ impl Contents {
     {
         let mut all = Contents::new(alloc);
         for (domain, held) in entries {
-            all.store(domain, held)?;
+            match held {
+                Holding::Published(_) => all.bundles.insert(domain, held)?,
+                Holding::Mark(sequence) => all.mark(domain, sequence)?,
+            }
         }
         Ok(all)
     }
@@ -246,7 +249,10 @@ impl Contents {
         match outcome {
             RowEffect::Kept(reply) => Ok(reply),
             RowEffect::Put(reply, held) => {
-                self.store(domain, held)?;
+                match held {
+                    Holding::Published(_) => self.bundles.insert(domain, held)?,
+                    Holding::Mark(sequence) => self.mark(domain, sequence)?,
+                }
                 Ok(reply)
             }
             RowEffect::Cleared(reply) => {
@@ -276,17 +282,6 @@ impl Contents {
         match self.bundles.get(domain) {
             Some(bundle) => Some(bundle),
             None => self.marks.get(domain),
-        }
-    }
-
-    /// Holds this under the name.
-    fn store(&mut self, domain: TrustDomain, held: Holding) -> Result<(), AllocError>
-        ensures ok { OnOk result (self.new ≡ finite.insert self.old domain held) }
-        ensures err { OnErr result (self.new ≡ self.old) }
-    {
-        match held {
-            Holding::Published(_) => self.bundles.insert(domain, held),
-            Holding::Mark(sequence) => self.mark(domain, sequence),
         }
     }
 
