@@ -40,10 +40,6 @@ pub numbered_append : (a b : List Change) → IsNumbered a → IsNumbered b → 
 numbered_append [] b p q = q
 numbered_append (c ∷ cs) b p q = (p.0, numbered_append cs b p.1 q)
 
-pub numbered_back : (a b : List Change) → IsNumbered (a ++ b) → IsNumbered b
-numbered_back [] b p = p
-numbered_back (c ∷ cs) b p = numbered_back cs b p.1
-
 pub extends_none : (s : Seen) → Extends s.log s
 extends_none s = ([], sym (append-nil s.log), tt)
 

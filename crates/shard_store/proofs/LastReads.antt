@@ -100,10 +100,6 @@ recalled n i revision s t reads r l told at same counted = let now : count n t.l
     at_most : (a b : ℕ) → a ≡ b → a ≤ b
     at_most a b e = omega arith
 
--- no shard has been read
-pub reads_none : (n : ℕ) (log : List Change) (reads : List (Option LastRead)) → reads ≡ [] → AreLastReads n log reads
-reads_none n log reads e = subst (λ (x : List (Option LastRead)). AreLastReads n log x) (sym e) (λ shard. none_here n shard log)
-
 none_more : (reads : List (Option LastRead)) (k : ℕ) → get_or (reads ++ None ∷ []) k None ≡ get_or reads k None
 none_more [] zero = refl
 none_more [] (suc k) = refl

@@ -89,9 +89,6 @@ missed_alone word found a b p q r s = omega arith
 pub even_unless : (n : ℕ) → (n % 2 ≡ 1 → ⊥) → n % 2 ≡ 0
 even_unless n h = dite (ℕ_discrete (n % 2) 0) (λ e. e) (λ ne. absurd (h (omega arith)))
 
-pub free_or : (i : ℕ) (held : Option ℕ) → held ≡ None → held ≡ Some i → ⊥
-free_or i held e h = not_some i (sym e ∙ h)
-
 -- a miss, if others made changes or have the shard
 pub missed : (n i word found : ℕ) (s t : Seen) → IsLater t s → found / 2 ≡ count n t.log i → word ≡ 2 * count n s.log i → found ≢ word
     → (IsAlone s → found % 2 ≡ 0) → Missed n i s found t

@@ -47,11 +47,6 @@ pub shown_since : {V : Type 0} (notes : V → BundleValue → V → Type 0) (n :
     → ShowsGet {E = AskError} notes (λ (answer : Result Reply AskError). ShardAnswer n op s answer u) old (Ok (Some reply)) new
 shown_since notes n op s t u old reply new l answered same = (answered_since op s t u reply l answered, same)
 
-pub shown_seen : {V : Type 0} (notes : V → BundleValue → V → Type 0) (n : ℕ) (op : Op) (s t : Seen) (reads : List (Option LastRead)) (old : V) (shown : Option Reply) (new : V)
-    → ShowsGet {E = AskError} notes (λ (answer : Result Reply AskError). ShardAnswer n op s answer t) old (Ok shown) new → AreLastReads n s.log reads → AreLastReads n t.log reads
-shown_seen notes n op s t reads old (Some reply) new shows told = reads_answered n op s t reply reads shows.0 told
-shown_seen notes n op s t reads old None new shows told = reads_answered n op s t (Found shows.0) reads shows.1 told
-
 pub answer_ranges : (n : ℕ) (op : Op) (s t : Seen) (answer : Result Reply AskError) → ShardAnswer n op s answer t → t.ranges ≡ s.ranges
 answer_ranges n op s t (Ok reply) a = a.3
 answer_ranges n op s t (Err e) a = (refused_at_later n op s t e a).1

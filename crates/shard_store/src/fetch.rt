@@ -6,7 +6,7 @@ ghost use Rattle.shard_store.specs.Private.Seat.{IsFree, HasLooked};
 ghost use Rattle.shard_store.specs.Private.Desk.{IsReady};
 ghost use Rattle.shard_store.specs.Private.LastReads.{IsAsRead};
 ghost use Rattle.shard_store.specs.Private.LastAll.{IsFetched, IsLastAll};
-ghost use Rattle.shard_store.specs.Private.Readings.{WereRead, AreConfirmed, IsMovement, IsSnapshot, IsRound};
+ghost use Rattle.shard_store.specs.Private.Readings.{WereRead, AreConfirmed, IsMovement, IsSnapshot};
 
 use crate::desk::Desk;
 use crate::holds::Hold;
@@ -67,12 +67,6 @@ impl Movement {
     }
 }
 
-/// What one round gave.
-pub(crate) enum Round {
-    Confirmed(Readings),
-    Moved(Movement),
-}
-
 impl Store {
     /// All bundles, as they stood together at one moment. What the last fetch-all was answered is answered again if no
     /// shard has changed since.
@@ -116,7 +110,7 @@ impl Store {
         Ok(LastAll { revisions, all })
     }
 
-    // Rounds until no shard has moved in one.
+    // The parts of the map after one list: rounds until no shard has moved in one.
     fn fetch_parts(&self, desk: &mut Desk) -> Result<Readings, AskError>
         requires ready { IsReady self.now.id desk.old }
         ensures ready { IsReady self.now.id desk.new }
@@ -130,27 +124,13 @@ impl Store {
             second: 0,
         };
         for _ in 0..self.rounds {
-            match self.read_round(desk)? {
-                Round::Confirmed(read) => return Ok(read),
-                Round::Moved(movement) => last = movement,
+            let read = self.collect_all(desk)?;
+            match self.confirm_all(&mut desk.seat, read.revisions.as_slice()) {
+                None => return Ok(read),
+                Some(movement) => last = movement,
             }
         }
         Err(last.into_error())
-    }
-
-    // One round: the parts of the map after one list, or a shard that has moved.
-    fn read_round(&self, desk: &mut Desk) -> Result<Round, AskError>
-        requires ready { IsReady self.now.id desk.old }
-        ensures ready { IsReady self.now.id desk.new }
-        ensures round { MatchResult result
-            (IsRound self.now.id.slots desk.old.seat.me.0.seen desk.new.seat.me.0.seen)
-            (IsRefusedAt self.now.id.slots Op.FetchAll desk.old.seat.me.0.seen desk.new.seat.me.0.seen) }
-    {
-        let read = self.collect_all(desk)?;
-        match self.confirm_all(&mut desk.seat, read.revisions.as_slice()) {
-            None => Ok(Round::Confirmed(read)),
-            Some(movement) => Ok(Round::Moved(movement)),
-        }
     }
 
     // Reads each shard, in order.

@@ -3,7 +3,6 @@ ghost use Rattle.std.specs.Prelude.{◌≡◌, ◌<◌, ◌≤◌, ◌++◌, [],
 ghost use Rattle.std.specs.List.{All};
 ghost use Rattle.map_core.specs.Ask.{ShowsGet};
 ghost use Rattle.map_core.specs.declared.op.Op.{Op};
-ghost use Rattle.map_core.specs.PlainMap.{shard_of as home_of};
 ghost use Rattle.shard_store.specs.Changes.{Extends, own_count, without_last, just_last};
 ghost use Rattle.shard_store.specs.Close.{CloseAnswer};
 ghost use Rattle.shard_store.specs.Pass.{IsOf};
@@ -130,35 +129,15 @@ impl Store {
     {
         match shard_of(&op, self.shards.slot_count()) {
             Some(shard) => {
-                let answer = self.ask_on_name(pass, shard, &op);
+                let answer = self.ask_name(&mut pass.desk, shard, &op);
                 drop(op);
                 answer
             }
             None => {
                 drop(op);
-                self.ask_on_all(pass)
+                self.ask_all(&mut pass.desk, &mut pass.last_all)
             }
         }
-    }
-
-    // Answers an operation on one name, at the shard where it is at home.
-    fn ask_on_name(&self, pass: &mut Pass, shard: usize, op: &Op) -> Result<Reply, AskError>
-        requires own { IsOf pass.old self.now }
-        requires home { home_of self.now.id.slots op.now ≡ Some shard }
-        requires shard { shard < self.now.id.slots }
-        ensures own { IsOf pass.new self.now }
-        ensures answer { StoreAnswer self.now op.now pass.old.seen result pass.new.seen }
-    {
-        self.ask_name(&mut pass.desk, shard, op)
-    }
-
-    // Answers a fetch-all.
-    fn ask_on_all(&self, pass: &mut Pass) -> Result<Reply, AskError>
-        requires own { IsOf pass.old self.now }
-        ensures own { IsOf pass.new self.now }
-        ensures answer { StoreAnswer self.now Op.FetchAll pass.old.seen result pass.new.seen }
-    {
-        self.ask_all(&mut pass.desk, &mut pass.last_all)
     }
 
     /// Answers a get of the name. The bundle that was found may be shown to the viewer where it is kept: then there is no

@@ -6,9 +6,6 @@ use Rattle.map_core.specs.PlainMap.{PlainMap, partition}
 use Rattle.shard_store.specs.declared.change.Change.{Change}
 use Rattle.shard_store.specs.declared.change.Seen.{Seen}
 use Rattle.shard_store.specs.declared.fetch.Movement.{Movement}
-use Rattle.shard_store.specs.declared.fetch.Round.{Round}
-use Rattle.shard_store.specs.declared.fetch.Round.TheVariants.{Confirmed, Moved}
-use Rattle.shard_store.specs.Promise.{IsLater, HasMoved}
 use Rattle.shard_store.specs.Rule.{SlotValue}
 use Rattle.shard_store.specs.Changes.{after, count, Extends}
 use Rattle.shard_store.specs.Numbers.{IsPart}
@@ -49,8 +46,3 @@ AreRevisions n log revisions = (length revisions ≡ n) × ((k : ℕ) → k < n 
 abbrev pub IsSnapshot : {Z : Type 0} → ℕ → Seen → Seen → List ℕ → List (Arc PlainMap Z) → Type 0
 IsSnapshot n s t revisions parts = (list : List Change) × Extends list s × Extends t.log (record { log = list; ranges = s.ranges }) × (t.ranges ≡ s.ranges)
     × (length parts ≡ n) × ArePartsOf (after list) parts × AreRevisions n list revisions
-
--- what one round of a fetch-all says
-abbrev pub IsRound : ℕ → Seen → Seen → Round → Type 0
-IsRound n s t (Confirmed read) = IsSnapshot n s t read.revisions.items read.versions.items
-IsRound n s t (Moved movement) = IsLater t s × (movement.shard < n) × HasMoved n s t movement.shard movement.first movement.second
