@@ -110,8 +110,8 @@ impl Store {
         ensures ready { IsReady self.now.id desk.new }
         ensures shown { ShowsGet V.notes (λ answer. ShardAnswer self.now.id.slots (Get domain.now) desk.old.seat.me.0.seen answer desk.new.seat.me.0.seen) (V.noted viewer.old) result (V.noted viewer.new) }
     {
-        if let Some(shown) = self.show_recalled(desk, shard, domain, viewer)? {
-            return Ok(shown);
+        if let Some(last) = self.recall(&mut desk.seat, &desk.last_reads, shard) {
+            return Ok(last.version.show(domain, viewer)?);
         }
         let reply = self.get_name(desk, shard, domain)?;
         Ok(Some(reply))
@@ -134,28 +134,5 @@ impl Store {
         let answer = self.ask_name(desk, shard, &op);
         drop(op);
         answer
-    }
-
-    // Answers a get to a viewer by what was read of the shard last, if that is still the shard's part.
-    fn show_recalled<V: Viewer>(
-        &self,
-        desk: &mut Desk,
-        shard: usize,
-        domain: &TrustDomain,
-        viewer: &mut V,
-    ) -> Result<Option<Option<Reply>>, AskError>
-        requires ready { IsReady self.now.id desk.old }
-        requires home { IsAtHome self.now.id (Get domain.now) shard }
-        ensures ready { IsReady self.now.id desk.new }
-        ensures answer { MatchResult result
-            (λ found. MatchOption found
-            (IsLater desk.new.seat.me.0.seen desk.old.seat.me.0.seen × (V.noted viewer.new ≡ V.noted viewer.old))
-            (λ shown. ShowsGet V.notes (λ answer. ShardAnswer self.now.id.slots (Get domain.now) desk.old.seat.me.0.seen answer desk.new.seat.me.0.seen) (V.noted viewer.old) (Ok shown) (V.noted viewer.new)))
-            (λ e. IsRefusedAt self.now.id.slots (Get domain.now) desk.old.seat.me.0.seen desk.new.seat.me.0.seen e × (V.noted viewer.new ≡ V.noted viewer.old)) }
-    {
-        match self.recall(&mut desk.seat, &desk.last_reads, shard) {
-            Some(last) => Ok(Some(last.version.show(domain, viewer)?)),
-            None => Ok(None),
-        }
     }
 }
