@@ -29,7 +29,7 @@ use Rattle.shard_store.specs.Steps.{view_after, Sees, HasAllNumbers}
 use Rattle.shard_store.specs.Promise.{IsLater, IsAlone, Concerns, IsReply, IsRefusedAt, IsRefused}
 use Rattle.shard_store.specs.Pass.{StoreView}
 use Rattle.shard_store.specs.Private.Seat.{IsIdle, IsWordOf, HasInHand, Holds, Missed, Writes, change_by}
-use Rattle.shard_store.proofs.Changes.{count_append, none_by_others, others_append, has_number_left, not_some, is_part_stays, is_part_of_change, same_change, part_written, home_named}
+use Rattle.shard_store.proofs.Changes.{count_append, none_by_others, others_append, has_number_left, is_part_stays, is_part_of_change, same_change, part_written, home_named}
 
 pub own_ranges : (v : View) → v.joined ≡ [] → numbers v ≡ v.seen.ranges
 own_ranges v e = ap (λ (t : List Seen). v.seen.ranges ++ numbers_of_joined t) e ∙ append-nil v.seen.ranges

@@ -1,5 +1,5 @@
 -- A get that is answered to a viewer by what was read last.
-use Rattle.std.proofs.Common.{◌≡◌, ℕ, List, Option, Some, None, sym, ap, ◌∙◌, subst}
+use Rattle.std.proofs.Common.{◌≡◌, ℕ, Option, Some, None, sym, ap, ◌∙◌, subst}
 use Rattle.std.specs.Prelude.{Result, Ok, Err, IfOk}
 use Rattle.std.specs.Result.{IsErrAnd}
 use Rattle.std.specs.declared.alloc.AllocError.{AllocError}
@@ -17,12 +17,10 @@ use Rattle.map_core.proofs.Asks.{get_changes_nothing}
 use Rattle.shard_store.specs.declared.change.Seen.{Seen}
 use Rattle.shard_store.specs.Numbers.{IsPart}
 use Rattle.shard_store.specs.Promise.{IsLater, IsReply}
-use Rattle.shard_store.specs.Private.LastReads.{AreLastReads}
 use Rattle.shard_store.specs.Private.Seat.{ShardAnswer}
-use Rattle.shard_store.specs.declared.last_reads.LastRead.{LastRead}
 use Rattle.shard_store.specs.declared.last_all.LastAll.{LastAll}
 use Rattle.shard_store.specs.Private.LastAll.{IsLastAll}
-use Rattle.shard_store.proofs.LastReads.{reads_answered, refused_at_later}
+use Rattle.shard_store.proofs.LastReads.{refused_at_later}
 use Rattle.shard_store.proofs.LastAll.{all_answered_at}
 use Rattle.shard_store.proofs.Promise.{answered_by_read, answered_since}
 

@@ -4,8 +4,7 @@ ghost use Rattle.std.specs.Arc.{arc_value};
 ghost use Rattle.shard_store.specs.declared.change.Change.{Change};
 ghost use Rattle.shard_store.specs.Private.LastReads.{AreLastReads, IsLastRead};
 
-use crate::in_hand::may_write;
-use map_core::{Contents, Op};
+use map_core::Contents;
 use std::alloc::{AllocError, Global};
 use std::sync::Arc;
 
@@ -66,16 +65,6 @@ impl LastReads {
             return;
         }
         self.by_shard[shard] = read;
-    }
-
-    /// Forgets the shard if the operation may change it: then nobody else may own its version, which is changed where it
-    /// is.
-    pub(crate) fn forget_before(&mut self, shard: usize, op: &Op)
-        ensures { (n : ℕ) (log : List Change) → AreLastReads n log self.old.by_shard.items → AreLastReads n log self.new.by_shard.items }
-    {
-        if may_write(op) {
-            self.keep(shard, None);
-        }
     }
 
     /// Makes room for so many shards. It is made before a shard is asked, so that nothing changes if it is refused.

@@ -3,8 +3,10 @@ ghost use Rattle.std.specs.Prelude.{◌≡◌, ◌/◌, ◌^◌, ◌<◌, ◌≤
 ghost use Rattle.std.specs.Arc.{arc_value};
 ghost use Rattle.shard_store.specs.Numbers.{IsPart};
 ghost use Rattle.shard_store.specs.Promise.{IsLater, IsRefusedAt};
-ghost use Rattle.shard_store.specs.Private.Seat.{IsFree, IsAtHome, Holds, IsWordOf, IsReplyRead, Missed, Writes, Tried, change_by};
+ghost use Rattle.shard_store.specs.Private.Desk.{IsReady};
+ghost use Rattle.shard_store.specs.Private.Seat.{IsFree, IsAtHome, Holds, IsWordOf, Missed, ShardAnswer, Writes, Tried, change_by};
 
+use crate::desk::Desk;
 use crate::holds::Hold;
 use crate::last_reads::LastRead;
 use crate::rule::StoreSeat;
@@ -45,26 +47,31 @@ pub(crate) fn given_up(tries: u64, failed: u64, shard: usize, word: u64) -> AskE
 }
 
 impl Store {
-    /// Tries the operation as often as it may. Beside the reply is what was read for it under a hold, if nothing was
-    /// written since.
-    pub(crate) fn ask_shard(
-        &self,
-        seat: &mut StoreSeat,
-        shard: usize,
-        op: &Op,
-    ) -> Result<(Reply, Option<LastRead>), AskError>
-        requires free { IsFree self.now.id seat.old }
+    /// One operation on one name, at the shard where it is at home. A get is answered by what was read of the shard last, if
+    /// that is still the shard's part; else what it reads under a hold is remembered. Before any other operation it is
+    /// forgotten, so that nobody but the store owns the version, which is changed where it is then.
+    pub(crate) fn ask_name(&self, desk: &mut Desk, shard: usize, op: &Op) -> Result<Reply, AskError>
+        requires ready { IsReady self.now.id desk.old }
         requires home { IsAtHome self.now.id op.now shard }
-        ensures free { IsFree self.now.id seat.new }
-        ensures answer { MatchResult result
-            (λ r. IsReplyRead self.now.id.slots shard op.now seat.old.me.0.seen r.0 r.1 seat.new.me.0.seen)
-            (IsRefusedAt self.now.id.slots op.now seat.old.me.0.seen seat.new.me.0.seen) }
+        ensures ready { IsReady self.now.id desk.new }
+        ensures answer { ShardAnswer self.now.id.slots op.now desk.old.seat.me.0.seen result desk.new.seat.me.0.seen }
     {
+        if let Op::Get(domain) = op {
+            if let Some(last) = self.recall(&mut desk.seat, &desk.last_reads, shard) {
+                return Ok(last.version.get(domain)?);
+            }
+            desk.last_reads.make_room(self.shards.slot_count())?;
+        } else {
+            desk.last_reads.keep(shard, None);
+        }
         let mut word = 0;
         let mut failed = 0;
         for _ in 0..self.tries {
-            match self.try_once(seat, shard, op)? {
-                Attempt::Replied(reply, read) => return Ok((reply, read)),
+            match self.try_once(&mut desk.seat, shard, op)? {
+                Attempt::Replied(reply, read) => {
+                    desk.last_reads.keep(shard, read);
+                    return Ok(reply);
+                }
                 Attempt::Blocked(found) => word = found,
             }
             failed += 1;
@@ -73,7 +80,7 @@ impl Store {
         Err(given_up(self.tries, failed, shard, word))
     }
 
-    // One try. A change is made where the version is, if nobody else owns it.
+    // One try. A change is made where the version is, if nobody else owns it, and the shard is let go.
     fn try_once(&self, seat: &mut StoreSeat, shard: usize, op: &Op) -> Result<Attempt, AskError>
         requires free { IsFree self.now.id seat.old }
         requires home { IsAtHome self.now.id op.now shard }
@@ -87,10 +94,21 @@ impl Store {
             Err(found) => return Ok(Attempt::Blocked(found)),
         };
         let hold = Hold { shard, word };
-        if let Some(reply) = self.change_held(seat, hold, op)? {
-            return Ok(Attempt::Replied(reply, None));
+        match self.ask_in_hand(seat, hold, op) {
+            Ok(None) => self.try_held(seat, hold, op),
+            Ok(Some(reply)) => {
+                if reply.is_change() {
+                    self.let_go_changed::<Brand>(seat, hold, op);
+                    return Ok(Attempt::Replied(reply, None));
+                }
+                self.release(seat, hold);
+                Ok(Attempt::Replied(reply, None))
+            }
+            Err(_) => {
+                self.release(seat, hold);
+                Err(AskError::Memory)
+            }
         }
-        self.try_held(seat, hold, op)
     }
 
     // One try at a shard that is held: its version is read, and the one after it made while nothing is held.

@@ -1,8 +1,8 @@
 //! Reads that hold nothing: what a pass read of a shard last is still the shard's, if its revision is.
-ghost use Rattle.std.specs.Prelude.{◌≡◌, ◌<◌, Ok, IfOk, IfSome, MatchOption, MatchResult};
+ghost use Rattle.std.specs.Prelude.{◌≡◌, ◌<◌, IfOk, IfSome};
 ghost use Rattle.map_core.specs.Ask.{ShowsGet};
 ghost use Rattle.map_core.specs.declared.op.Op.TheVariants.{Get};
-ghost use Rattle.shard_store.specs.Promise.{IsLater, IsReply, IsRefusedAt};
+ghost use Rattle.shard_store.specs.Promise.{IsLater};
 ghost use Rattle.shard_store.specs.Private.Seat.{IsFree, HasLooked, IsAtHome, ShardAnswer};
 ghost use Rattle.shard_store.specs.Private.LastReads.{AreLastReads, IsAsRead};
 ghost use Rattle.shard_store.specs.Private.Desk.{IsReady};
@@ -16,8 +16,8 @@ use spiffe_doc::TrustDomain;
 use std::alloc::AllocError;
 
 impl Store {
-    // What was read of the shard last, if the shard is as it was then. One load tells, whether the shard is held or not.
-    fn recall<'a>(
+    /// What was read of the shard last, if the shard is as it was then. One load tells, whether the shard is held or not.
+    pub(crate) fn recall<'a>(
         &self,
         seat: &mut StoreSeat,
         last_reads: &'a LastReads,
@@ -51,47 +51,6 @@ impl Store {
                 let copy = last.copy()?;
                 Ok(Some(copy))
             }
-            None => Ok(None),
-        }
-    }
-
-    /// One operation on one name, at the shard where it is at home. What is read under a hold is remembered, unless a new
-    /// version was written since: then nothing is remembered of the shard.
-    pub(crate) fn ask_name(&self, desk: &mut Desk, shard: usize, op: &Op) -> Result<Reply, AskError>
-        requires ready { IsReady self.now.id desk.old }
-        requires home { IsAtHome self.now.id op.now shard }
-        ensures ready { IsReady self.now.id desk.new }
-        ensures answer { ShardAnswer self.now.id.slots op.now desk.old.seat.me.0.seen result desk.new.seat.me.0.seen }
-    {
-        if let Some(reply) = self.get_recalled(desk, shard, op)? {
-            return Ok(reply);
-        }
-        desk.last_reads.make_room(self.shards.slot_count())?;
-        desk.last_reads.forget_before(shard, op);
-        let (reply, read) = self.ask_shard(&mut desk.seat, shard, op)?;
-        desk.last_reads.keep(shard, read);
-        Ok(reply)
-    }
-
-    // Answers a get by what was read of the shard last, if that is still the shard's part.
-    fn get_recalled(
-        &self,
-        desk: &mut Desk,
-        shard: usize,
-        op: &Op,
-    ) -> Result<Option<Reply>, AskError>
-        requires ready { IsReady self.now.id desk.old }
-        requires home { IsAtHome self.now.id op.now shard }
-        ensures ready { IsReady self.now.id desk.new }
-        ensures answer { MatchResult result
-            (λ found. MatchOption found (IsLater desk.new.seat.me.0.seen desk.old.seat.me.0.seen) (λ reply. IsReply op.now desk.old.seat.me.0.seen reply desk.new.seat.me.0.seen))
-            (IsRefusedAt self.now.id.slots op.now desk.old.seat.me.0.seen desk.new.seat.me.0.seen) }
-    {
-        let Op::Get(domain) = op else {
-            return Ok(None);
-        };
-        match self.recall(&mut desk.seat, &desk.last_reads, shard) {
-            Some(last) => Ok(Some(last.version.get(domain)?)),
             None => Ok(None),
         }
     }

@@ -98,9 +98,3 @@ module _ {Z : Type 0} where
       × (is_change reply ≡ true → HasInHand n shard (s.log ++ change_by op s ∷ []) m) × (is_change reply ≡ false → HasInHand n shard s.log m)
   AsksInHand n shard op s (Ok None) m = HasInHand n shard s.log m
   AsksInHand n shard op s (Err e) m = HasInHand n shard s.log m
-
-  -- what the version of a shard that was held says of the operation: the shard is let go, or still held if others own the version
-  abbrev pub AsksHeld : TableId → Hold → Op → Seen → Result (Option Reply) AskError → Seat (SlotValue Z) View → Type 0
-  AsksHeld z hold op s (Ok (Some reply)) p = IsFree z p × IsReply op s reply p.me.0.seen
-  AsksHeld z hold op s (Ok None) p = Holds z hold p × (p.me.0.seen ≡ s)
-  AsksHeld z hold op s (Err e) p = IsFree z p × IsRefusedAt z.slots op s p.me.0.seen e

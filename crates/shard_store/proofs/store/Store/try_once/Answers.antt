@@ -1,19 +1,18 @@
-use Rattle.std.proofs.Common.{◌≡◌, ℕ, Option, Some, None, subst}
+use Rattle.std.proofs.Common.{◌≡◌, ℕ, Option, Some, None, sym, ap, ◌∙◌, subst}
 use Rattle.std.specs.Prelude.{MatchResult, Result, Ok, Err}
-use Rattle.atomic_table.specs.Seated.{TableId}
-use Rattle.atomic_table.specs.declared.shared.Seat.{Seat}
+use Rattle.atomic_table.specs.Table.{Me}
 use Rattle.map_core.specs.declared.op.Op.{Op}
 use Rattle.map_core.specs.declared.reply.Reply.{Reply}
 use Rattle.map_core.specs.declared.reply.AskError.{AskError}
 use Rattle.shard_store.specs.declared.change.Seen.{Seen}
 use Rattle.shard_store.specs.declared.change.View.{View}
-use Rattle.shard_store.specs.declared.holds.Hold.{Hold}
 use Rattle.shard_store.specs.declared.one_shard.Attempt.{Attempt}
 use Rattle.shard_store.specs.declared.one_shard.Attempt.TheVariants.{Replied, Blocked}
 use Rattle.shard_store.specs.Promise.{IsLater, IsRefusedAt}
 use Rattle.shard_store.specs.Rule.{SlotValue}
-use Rattle.shard_store.specs.Private.Seat.{AsksHeld, Tried}
-use Rattle.shard_store.proofs.Promise.{answered_since, refused_since, missed_then, later_then, later_same, error_passed}
+use Rattle.shard_store.specs.Private.Seat.{AsksInHand, Tried}
+use Rattle.shard_store.proofs.Promise.{answered_since, refused_since, missed_then, later_then, later_same, held_still}
+use Rattle.shard_store.proofs.InHand.{changed_holds, answered_by_change}
 use Rattle.shard_store.proofs.LastReads.{none_here}
 use Rattle.shard_store.proofs.store.Store.try_once.Goals as goal
 
@@ -26,23 +25,40 @@ one_since : (n shard : ℕ) (op : Op) (s t u : Seen) (r : Result Attempt AskErro
 one_since n shard op s t u (Ok a) l r = tried_since n shard op s t u a l r
 one_since n shard op s t u (Err e) l r = refused_since n op s t u e l r
 
--- what was asked of the version, by the reply
-asked_as : {Z : Type 0} (z : TableId) (hold : Hold) (op : Op) (s : Seen) (p : Seat (SlotValue Z) View) (o o' : Option Reply) → o ≡ o' → AsksHeld z hold op s (Ok o) p → AsksHeld z hold op s (Ok o') p
-asked_as {Z} z hold op s p o o' e a = subst (λ (x : Option Reply). AsksHeld z hold op s (Ok x) p) e a
+-- what was asked of the version in hand, by the reply
+asked_as : {Z : Type 0} (n i : ℕ) (op : Op) (s : Seen) (m : Me (SlotValue Z) View) (o o' : Option Reply) → o ≡ o' → AsksInHand n i op s (Ok o) m → AsksInHand n i op s (Ok o') m
+asked_as {Z} n i op s m o o' e a = subst (λ (x : Option Reply). AsksInHand n i op s (Ok x) m) e a
 
-pub returns-in_err-reply-clause-tried : goal.returns-in_err-reply-clause-tried
-returns-in_err-reply-clause-tried c = let e = c.in_err-reply.field-0.0 in
-    error_passed c.from_residual.result e _ _ c.from_residual.ensures.1 (refused_since _ c.args.op.now c.args.seat.now.me.0.seen c.try_hold.new.seat.me.0.seen c.change_held.new.seat.me.0.seen e c.try_hold.ensures.later c.in_err-reply.ensures.asked.1)
-
-pub returns-in-Some-clause-tried : goal.returns-in-Some-clause-tried
-returns-in-Some-clause-tried c = let t = c.try_hold.new.seat.me.0.seen in let p = c.change_held.new.seat in let z = c.args.self.now.id in
-    let told = asked_as z _ c.args.op.now t p c.in_ok-reply.field-0 (Some c.in-Some.reply) c.in-Some.is c.in_ok-reply.ensures.asked in
-    (answered_since c.args.op.now c.args.seat.now.me.0.seen t p.me.0.seen c.in-Some.reply c.try_hold.ensures.later told.1, none_here z.slots c.args.shard p.me.0.seen.log)
+seen_same : (v w : View) → w ≡ v → w.seen ≡ v.seen
+seen_same v w e = ap (λ (x : View). x.seen) e
 
 pub try_held-requires-clause-held : goal.try_held-requires-clause-held
-try_held-requires-clause-held c = ((asked_as c.args.self.now.id _ c.args.op.now c.try_hold.new.seat.me.0.seen c.change_held.new.seat c.in_ok-reply.field-0 None c.in_default.is c.in_ok-reply.ensures.asked).0, c.in-Ok.ensures.found.1)
+try_held-requires-clause-held c = let q = c.ask_in_hand.new.seat in let e = c.ask_in_hand.ensures.seat in let found = c.in-Ok.ensures.found in
+    let hand = asked_as c.args.self.now.id.slots c.args.shard c.args.op.now c.try_hold.new.seat.me.0.seen q.me c.in-Ok-None.field-0 None c.in-Ok-None.field-0-is c.in-Ok-None.ensures.asked in
+    (held_still _ (record { shard = c.args.shard; word = c.in-Ok.word }) c.try_hold.new.seat q e.1 e.0 found.0.1 hand, found.1)
 
-pub returns-clause-tried : goal.returns-clause-tried
-returns-clause-tried c = let s = c.args.seat.now.me.0.seen in let t = c.try_hold.new.seat.me.0.seen in let p = c.change_held.new.seat in
-    let kept = asked_as c.args.self.now.id _ c.args.op.now t p c.in_ok-reply.field-0 None c.in_default.is c.in_ok-reply.ensures.asked in
-    one_since c.args.self.now.id.slots c.args.shard c.args.op.now s p.me.0.seen c.try_held.new.seat.me.0.seen c.try_held.result (later_same s t p.me.0.seen c.try_hold.ensures.later kept.1) c.try_held.ensures.tried
+pub returns-in-Ok-None-clause-tried : goal.returns-in-Ok-None-clause-tried
+returns-in-Ok-None-clause-tried c = let s = c.args.seat.now.me.0.seen in let t = c.try_hold.new.seat.me.0.seen in let u = c.ask_in_hand.new.seat.me.0.seen in
+    one_since c.args.self.now.id.slots c.args.shard c.args.op.now s u c.try_held.new.seat.me.0.seen c.try_held.result (later_same s t u c.try_hold.ensures.later (seen_same _ _ c.ask_in_hand.ensures.seat.1)) c.try_held.ensures.tried
+
+pub let_go_changed-requires-clause-holds : goal.let_go_changed-requires-clause-holds
+let_go_changed-requires-clause-holds c = let m = c.ask_in_hand.new.seat.me in let t = c.try_hold.new.seat.me.0.seen in
+    let told = asked_as c.args.self.now.id.slots c.args.shard c.args.op.now t m c.in-Ok-Some.field-0 (Some c.in-Ok-Some.reply) c.in-Ok-Some.field-0-is c.in-Ok-Some.ensures.asked in
+    changed_holds _ _ c.args.op.now t m (seen_same _ _ c.ask_in_hand.ensures.seat.1) (told.1 (sym c.is_change.ensures ∙ c.if-is_change.true))
+
+pub returns-then-is_change-clause-tried : goal.returns-then-is_change-clause-tried
+returns-then-is_change-clause-tried c = let t = c.try_hold.new.seat.me.0.seen in let m = c.ask_in_hand.new.seat.me in let u = c.let_go_changed.new.seat.me.0.seen in let n = c.args.self.now.id.slots in let i = c.args.shard in let reply = c.in-Ok-Some.reply in
+    let told = asked_as n i c.args.op.now t m c.in-Ok-Some.field-0 (Some reply) c.in-Ok-Some.field-0-is c.in-Ok-Some.ensures.asked in (
+      answered_since c.args.op.now c.args.seat.now.me.0.seen t u reply c.try_hold.ensures.later
+          (answered_by_change n i c.args.op.now t m.0.seen u reply c.requires.home.1 (seen_same _ _ c.ask_in_hand.ensures.seat.1) told.0 (sym c.is_change.ensures ∙ c.if-is_change.true) c.let_go_changed.ensures.written),
+      none_here n i u.log,
+    )
+
+pub release-requires : goal.release-requires
+release-requires c = let q = c.ask_in_hand.new.seat in let e = c.ask_in_hand.ensures.seat in
+    let told = asked_as c.args.self.now.id.slots c.args.shard c.args.op.now c.try_hold.new.seat.me.0.seen q.me c.in-Ok-Some.field-0 (Some c.in-Ok-Some.reply) c.in-Ok-Some.field-0-is c.in-Ok-Some.ensures.asked in
+    record { held = held_still _ (record { shard = c.args.shard; word = c.in-Ok.word }) c.try_hold.new.seat q e.1 e.0 c.in-Ok.ensures.found.0.1 (told.2 (sym c.is_change.ensures ∙ c.if-is_change.false)) }
+
+pub release-requires-in-Err-ask_in_hand : goal.release-requires-in-Err-ask_in_hand
+release-requires-in-Err-ask_in_hand c = let e = c.ask_in_hand.ensures.seat in
+    record { held = held_still _ (record { shard = c.args.shard; word = c.in-Ok.word }) c.try_hold.new.seat c.ask_in_hand.new.seat e.1 e.0 c.in-Ok.ensures.found.0.1 c.in-Err-ask_in_hand.ensures.asked }
