@@ -18,11 +18,8 @@ use Rattle.shard_store.specs.declared.change.Seen.{Seen}
 use Rattle.shard_store.specs.Numbers.{IsPart}
 use Rattle.shard_store.specs.Promise.{IsLater, IsReply}
 use Rattle.shard_store.specs.Private.Seat.{ShardAnswer}
-use Rattle.shard_store.specs.declared.last_all.LastAll.{LastAll}
-use Rattle.shard_store.specs.Private.LastAll.{IsLastAll}
 use Rattle.shard_store.proofs.LastReads.{refused_at_later}
-use Rattle.shard_store.proofs.LastAll.{all_answered_at}
-use Rattle.shard_store.proofs.Promise.{answered_by_read, answered_since}
+use Rattle.shard_store.proofs.Promise.{answered_by_read}
 
 module _ (n shard : ℕ) (op : Op) (d : Name) (s t : Seen) (part : PlainMap) (is_get : op ≡ Get d) (at : shard_of n op ≡ Some shard) (later : IsLater t s) (shows_part : IsPart n shard t.log part) where
   one : (reply : Reply) → reply ≡ (ask part (Get d)).reply → IsReply op s reply t
@@ -40,27 +37,9 @@ pub shown_error : {V : Type 0} (notes : V → BundleValue → V → Type 0) (P :
 shown_error notes P old (Ok shown) new e is answered same = absurd is
 shown_error notes P old (Err x) new e is answered same = (subst (λ (y : AskError). P (Err y)) (sym is) answered, same)
 
--- what is answered since more was seen is answered since then
-pub shown_since : {V : Type 0} (notes : V → BundleValue → V → Type 0) (n : ℕ) (op : Op) (s t u : Seen) (old : V) (reply : Reply) (new : V) → IsLater t s → IsReply op t reply u → new ≡ old
-    → ShowsGet {E = AskError} notes (λ (answer : Result Reply AskError). ShardAnswer n op s answer u) old (Ok (Some reply)) new
-shown_since notes n op s t u old reply new l answered same = (answered_since op s t u reply l answered, same)
-
 pub answer_ranges : (n : ℕ) (op : Op) (s t : Seen) (answer : Result Reply AskError) → ShardAnswer n op s answer t → t.ranges ≡ s.ranges
 answer_ranges n op s t (Ok reply) a = a.3
 answer_ranges n op s t (Err e) a = (refused_at_later n op s t e a).1
-
-pub shown_ranges : {V : Type 0} (notes : V → BundleValue → V → Type 0) (n : ℕ) (op : Op) (s t : Seen) (old : V) (shown : Result (Option Reply) AskError) (new : V)
-    → ShowsGet notes (λ (answer : Result Reply AskError). ShardAnswer n op s answer t) old shown new → t.ranges ≡ s.ranges
-shown_ranges notes n op s t old (Ok (Some reply)) new shows = answer_ranges n op s t (Ok reply) shows.0
-shown_ranges notes n op s t old (Ok None) new shows = answer_ranges n op s t (Ok (Found shows.0)) shows.1
-shown_ranges notes n op s t old (Err e) new shows = answer_ranges n op s t (Err e) shows.0
-
--- what is remembered of the last fetch-all stays so
-pub shown_all : {V : Type 0} (notes : V → BundleValue → V → Type 0) (n : ℕ) (op : Op) (s t : Seen) (remembered : Option LastAll) (old : V) (shown : Result (Option Reply) AskError) (new : V)
-    → ShowsGet notes (λ (answer : Result Reply AskError). ShardAnswer n op s answer t) old shown new → IsLastAll n s.log remembered → IsLastAll n t.log remembered
-shown_all notes n op s t remembered old (Ok (Some reply)) new shows told = all_answered_at n op s t (Ok reply) remembered shows.0 told
-shown_all notes n op s t remembered old (Ok None) new shows told = all_answered_at n op s t (Ok (Found shows.0)) remembered shows.1 told
-shown_all notes n op s t remembered old (Err e) new shows told = all_answered_at n op s t (Err e) remembered shows.0 told
 
 -- the shard of a get
 pub get_at : (n k : ℕ) (d : Name) (shard : ℕ) → k ≡ n → shard ≡ home k d → shard_of n (Get d) ≡ Some shard

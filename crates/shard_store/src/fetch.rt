@@ -159,8 +159,8 @@ impl Store {
             (λ r. IsLater desk.new.seat.me.0.seen desk.old.seat.me.0.seen × IsAsRead self.now.id.slots shard desk.new.seat.me.0.seen.log r)
             (IsRefusedAt self.now.id.slots Op.FetchAll desk.old.seat.me.0.seen desk.new.seat.me.0.seen) }
     {
-        if let Some(read) = self.recall_copy(desk, shard)? {
-            return Ok(read);
+        if let Some(last) = self.recall(&mut desk.seat, &desk.last_reads, shard) {
+            return Ok(last.copy()?);
         }
         let read = self.collect_held(&mut desk.seat, shard)?;
         let copy = read.copy()?;

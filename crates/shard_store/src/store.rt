@@ -140,8 +140,8 @@ impl Store {
         }
     }
 
-    /// Answers a get of the name. The bundle that was found may be shown to the viewer where it is kept: then there is no
-    /// reply.
+    /// Answers a get of the name. The bundle that is found by what was read last is shown to the viewer where it is kept: then
+    /// there is no reply.
     pub(crate) fn show<V: Viewer>(
         &self,
         pass: &mut Pass,
@@ -153,7 +153,11 @@ impl Store {
         ensures shown { ShowsGet V.notes (λ answer. StoreAnswer self.now (Op.Get domain.now) pass.old.seen answer pass.new.seen) (V.noted viewer.old) result (V.noted viewer.new) }
     {
         let shard = home(domain, self.shards.slot_count());
-        self.show_name(&mut pass.desk, shard, domain, viewer)
+        if let Some(last) = self.recall(&mut pass.desk.seat, &pass.desk.last_reads, shard) {
+            return Ok(last.version.show(domain, viewer)?);
+        }
+        let reply = self.get_name(&mut pass.desk, shard, domain)?;
+        Ok(Some(reply))
     }
 
     /// Puts a bundle under the name.

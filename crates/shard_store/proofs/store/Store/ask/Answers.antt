@@ -1,9 +1,6 @@
 use Rattle.std.proofs.Common.{rules, sym, ap, ◌∙◌}
-use Rattle.shard_store.specs.Changes.{own_count}
 use Rattle.shard_store.proofs.Asked.{by_all, shard_answers, all_answers}
-use Rattle.shard_store.proofs.AtTable.{ready_at, all_at_table}
-use Rattle.shard_store.proofs.LastAll.{all_answered_at}
-use Rattle.shard_store.proofs.Shown.{answer_ranges}
+use Rattle.shard_store.proofs.AtTable.{ready_at, all_at_table, answer_keeps}
 use Rattle.shard_store.proofs.store.Store.ask.Goals as goal
 
 -- an operation on one name
@@ -11,11 +8,9 @@ pub ask_name-answer-requires-clause-ready : goal.ask_name-answer-requires-clause
 ask_name-answer-requires-clause-ready c = ready_at _ _ c.pass.inside.desk (ap (λ p. p.store) c.pass.view_is ∙ c.requires.own) c.pass.invariant.0
 
 pub invariant_of-pass : goal.invariant_of-pass
-invariant_of-pass c = let s = c.pass.inside.desk.seat.me.0.seen in let u = c.ask_name-answer.new.desk.seat.me.0.seen in let n = c.args.self.now.id.slots in let all = c.pass.inside.last_all in let ready = c.ask_name-answer.ensures.ready in let answer = c.ask_name-answer.ensures.answer in (
-  ready_at _ _ c.ask_name-answer.new.desk (sym ready.0.0) ready,
-  ap own_count (answer_ranges n c.args.op s u c.ask_name-answer.result answer) ∙ c.pass.invariant.1,
-  all_at_table _ _ u all (sym ready.0.0) (all_answered_at n c.args.op s u c.ask_name-answer.result all answer (all_at_table _ _ s all (ap (λ p. p.store) c.pass.view_is ∙ c.requires.own) c.pass.invariant.2)),
-)
+invariant_of-pass c = let s = c.pass.inside.desk.seat.me.0.seen in let all = c.pass.inside.last_all in let answered = c.ask_name-answer.ensures in
+    answer_keeps c.args.self.now.id c.args.op s c.ask_name-answer.result c.ask_name-answer.new.desk c.pass.inside.numbers all answered.ready answered.answer c.pass.invariant.1
+    (all_at_table _ _ s all (ap (λ p. p.store) c.pass.view_is ∙ c.requires.own) c.pass.invariant.2)
 
 pub returns-in-Some-clause-answer : goal.returns-in-Some-clause-answer
 returns-in-Some-clause-answer c = shard_answers c.ask_name-answer.result c.args.self.now c.args.op _ _ c.ask_name-answer.new.desk.seat.me.0.seen (ap (λ p. p.seen) c.pass.view_is) c.ask_name-answer.ensures.answer
