@@ -2,10 +2,10 @@
 use Rattle.std.specs.Prelude.{◌≡◌, ℕ, List, None}
 use Rattle.map_core.specs.Name.{Name}
 use Rattle.frame_front.specs.Dump.{Domains, IsDump, IsBadDump}
-use Rattle.dump_views.specs.declared.of_dump.PemError.{PemError}
-use Rattle.dump_views.specs.declared.of_dump.PemError.TheVariants as pem
-use Rattle.dump_views.specs.declared.of_dump.DiffError.{DiffError}
-use Rattle.dump_views.specs.declared.of_dump.DiffError.TheVariants as diff
+use Rattle.dump_views.specs.declared.pem.PemError.{PemError}
+use Rattle.dump_views.specs.declared.pem.PemError.TheVariants as pem
+use Rattle.dump_views.specs.declared.diff.DiffError.{DiffError}
+use Rattle.dump_views.specs.declared.diff.DiffError.TheVariants as diff
 use Rattle.dump_views.specs.Changes.{held_under}
 
 -- it is not a dump; or it is one without the name

@@ -1,17 +1,34 @@
 //! What changed between two dumps, as lines.
-ghost use Rattle.std.specs.Prelude.{◌≡◌, ◌++◌, ◌+◌, ◌<◌, List, ℕ, Some, None, length, codes, IfOk, OnOk, OnErr};
+ghost use Rattle.std.specs.Prelude.{◌≡◌, ◌++◌, ◌+◌, ◌<◌, List, ℕ, Some, None, length, codes, IfOk, IfErr, OnOk, OnErr};
+ghost use Rattle.frame_front.specs.Dump.{Domains, IsDump};
 ghost use Rattle.map_core.specs.Laws.{Ascends};
 ghost use Rattle.map_core.specs.Name.{Name};
 ghost use Rattle.dump_views.specs.Changes.{AreChanges, Change, Added, Removed, Changed};
+ghost use Rattle.dump_views.specs.OfDump.{DiffFault};
 ghost use Rattle.dump_views.specs.ChangeLines.{added_words, bundle_words, line_of, lines_of, number_word, number_words};
 ghost use Rattle.dump_views.specs.Private.Fronts.{IsFront};
 ghost use Rattle.dump_views.specs.Private.Merging.{change_of_both, merged};
 
 use crate::authority_changes::put_authority_words;
+use frame_front::{DumpError, read_dump};
 use itoa::Buffer;
 use spiffe_doc::{Bundle, TrustDomain};
-use std::alloc::AllocError;
+use std::alloc::{AllocError, Global};
 use std::cmp::Ordering;
+use thiserror::Error;
+
+/// Why no changes between two dumps are told. The old one is judged first: if both are bad, it is blamed.
+#[derive(Clone, Copy, Debug, PartialEq, Eq, Error)]
+pub enum DiffError {
+    /// The old one is not a dump: its first frame, from 0, that is wrong, missing or too much.
+    #[error("frame {0} of the old dump is wrong, missing or too much")]
+    BadOld(u64),
+    /// The same of the new one, while the old one is a dump.
+    #[error("frame {0} of the new dump is wrong, missing or too much")]
+    BadNew(u64),
+    #[error("out of memory")]
+    Memory,
+}
 
 /// A trust domain with its bundle.
 type Domain = (TrustDomain, Bundle);
@@ -40,6 +57,35 @@ pub fn put_diff(old: &[Domain], new: &[Domain], out: &mut Vec<u8>) -> Result<(),
         out.truncate(before);
     }
     put
+}
+
+/// Appends what changed from the old dump to the new one, as `put_diff` does. If both are bad, the old one is blamed. After
+/// an error nothing is appended.
+pub fn put_dump_diff(
+    alloc: Global,
+    old: &[u8],
+    new: &[u8],
+    out: &mut Vec<u8>,
+) -> Result<(), DiffError>
+    ensures ok { OnOk result ((olds : Domains) × (news : Domains) × (changes : List (Name × Change)) × IsDump old.now olds × IsDump new.now news
+        × AreChanges olds news changes × (out.new.items ≡ out.old.items ++ lines_of changes)) }
+    ensures fault { IfErr result (λ fault. DiffFault fault old.now new.now) }
+    ensures unchanged { OnErr result (out.new.items ≡ out.old.items) }
+{
+    let olds = match read_dump(alloc, old) {
+        Ok(domains) => domains,
+        Err(DumpError::BadDump(place)) => return Err(DiffError::BadOld(place)),
+        Err(DumpError::Memory) => return Err(DiffError::Memory),
+    };
+    let news = match read_dump(alloc, new) {
+        Ok(domains) => domains,
+        Err(DumpError::BadDump(place)) => return Err(DiffError::BadNew(place)),
+        Err(DumpError::Memory) => return Err(DiffError::Memory),
+    };
+    match put_diff(olds.pairs(), news.pairs(), out) {
+        Ok(()) => Ok(()),
+        Err(_) => Err(DiffError::Memory),
+    }
 }
 
 #[tactic(auto, using(crate::proofs::FrontLemmas::front_same, crate::proofs::FrontLemmas::front_through))]

@@ -1,8 +1,11 @@
 //! The digest of a dump (FIPS 180-4).
-ghost use Rattle.std.specs.Prelude.{◌≡◌};
+ghost use Rattle.std.specs.Prelude.{◌≡◌, IfOk, IfErr};
+ghost use Rattle.frame_front.specs.Dump.{Domains, IsDump, FaultOfDump};
 ghost use Rattle.dump_views.specs.Digest.{digest_line_of};
 
+use frame_front::{DumpError, read_dump};
 use sha2::{Digest, Sha256};
+use std::alloc::Global;
 
 /// How many hexadecimal digits a SHA-256 digest has.
 const DIGITS: usize = 64;
@@ -16,4 +19,13 @@ pub fn digest_line(dump: &[u8]) -> [u8; DIGITS + 1]
     let mut line = [b'\n'; DIGITS + 1];
     let _fits = hex::encode_to_slice(digest, &mut line[..DIGITS]);
     line
+}
+
+/// The line that tells the digest of a dump, as `digest_line` does, if the bytes are a dump.
+pub fn dump_digest_line(alloc: Global, dump: &[u8]) -> Result<[u8; 65], DumpError>
+    ensures ok { IfOk result (λ line. (items : Domains) × IsDump dump.now items × (line ≡ digest_line_of dump.now)) }
+    ensures fault { IfErr result (λ fault. FaultOfDump fault dump.now) }
+{
+    let _domains = read_dump(alloc, dump)?;
+    Ok(digest_line(dump))
 }

@@ -1,18 +1,36 @@
 //! The X.509 authorities of a bundle as PEM (RFC 7468).
-ghost use Rattle.std.specs.Prelude.{◌≡◌, ◌≤◌, ◌++◌, length, OnOk, OnErr};
+ghost use Rattle.std.specs.Prelude.{◌≡◌, ◌≤◌, ◌++◌, length, Some, None, MatchOption, IfErr, OnOk, OnErr};
 ghost use Rattle.std.specs.List.{flat_map};
+ghost use Rattle.spiffe_doc.specs.Authority.{BundleValue};
+ghost use Rattle.frame_front.specs.Dump.{Domains, IsDump};
+ghost use Rattle.dump_views.specs.Changes.{held_under};
+ghost use Rattle.dump_views.specs.OfDump.{PemFault};
 ghost use Rattle.dump_views.specs.Pem.{base64_of, cut, line, pem_of, pem_of_authority, pem_of_certificate};
 ghost use Rattle.dump_views.specs.Private.Fronts.{IsFront};
 
 use base64::engine::general_purpose::STANDARD;
-use spiffe_doc::{Authorities, Authority, Bundle, Entry};
-use std::alloc::AllocError;
+use frame_front::{DumpError, read_dump};
+use spiffe_doc::{Authorities, Authority, Bundle, Entry, TrustDomain};
+use std::alloc::{AllocError, Global};
+use thiserror::Error;
 
 /// How many bytes a whole line has as base64 (RFC 7468, section 2).
 const LINE: usize = 64;
 
 /// How many bytes a whole line tells.
 const LINE_BYTES: usize = 48;
+
+/// Why no certificates of a dump are told.
+#[derive(Clone, Copy, Debug, PartialEq, Eq, Error)]
+pub enum PemError {
+    /// It is not a dump: its first frame, from 0, that is wrong, missing or too much.
+    #[error("frame {0} of the dump is wrong, missing or too much")]
+    BadDump(u64),
+    #[error("the dump has no bundle of the trust domain")]
+    NoDomain,
+    #[error("out of memory")]
+    Memory,
+}
 
 /// Appends the X.509 authorities of a bundle as PEM: for each certificate, in the document's order, its base64 in lines of
 /// 64 characters between `-----BEGIN CERTIFICATE-----` and `-----END CERTIFICATE-----` (RFC 7468, sections 2, 3 and
@@ -27,6 +45,44 @@ pub fn put_pem(bundle: &Bundle, out: &mut Vec<u8>) -> Result<(), AllocError>
         out.truncate(before);
     }
     put
+}
+
+/// Appends the X.509 authorities of a domain of a dump as PEM, as `put_pem` does. After an error nothing is appended.
+pub fn put_dump_pem(
+    alloc: Global,
+    dump: &[u8],
+    name: &TrustDomain,
+    out: &mut Vec<u8>,
+) -> Result<(), PemError>
+    ensures ok { OnOk result ((items : Domains) × (bundle : BundleValue) × IsDump dump.now items
+        × (held_under items name.now ≡ Some bundle) × (out.new.items ≡ out.old.items ++ pem_of bundle)) }
+    ensures fault { IfErr result (λ fault. PemFault fault dump.now name.now) }
+    ensures unchanged { OnErr result (out.new.items ≡ out.old.items) }
+{
+    let domains = match read_dump(alloc, dump) {
+        Ok(domains) => domains,
+        Err(DumpError::BadDump(place)) => return Err(PemError::BadDump(place)),
+        Err(DumpError::Memory) => return Err(PemError::Memory),
+    };
+    let Some(bundle) = bundle_of(domains.pairs(), name) else {
+        return Err(PemError::NoDomain);
+    };
+    match put_pem(bundle, out) {
+        Ok(()) => Ok(()),
+        Err(_) => Err(PemError::Memory),
+    }
+}
+
+/// The bundle of a name, if it has one.
+fn bundle_of<'a>(domains: &'a [(TrustDomain, Bundle)], name: &TrustDomain) -> Option<&'a Bundle>
+    ensures { MatchOption result (held_under domains.now name.now ≡ None) (λ bundle. held_under domains.now name.now ≡ Some bundle.now) }
+{
+    for domain in domains {
+        if domain.0 == *name {
+            return Some(&domain.1);
+        }
+    }
+    None
 }
 
 #[tactic(auto, using(crate::proofs::FrontLemmas::front_same, crate::proofs::FrontLemmas::front_more, crate::proofs::FrontLemmas::front_through))]

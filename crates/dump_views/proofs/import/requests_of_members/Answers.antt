@@ -25,7 +25,7 @@ loop-place-preserved c =
     let listed : c.loop-place.place < length (member_list (members_view ms)) = rw length-members inside in
     HasRead-then (member_list (members_view ms)) c.loop-place.place c.loop-place.names c.loop-place.stream.items c.loop-place.invariant
     (member_of c.member-item.result) listed (entry_at ms c.loop-place.place c.member-item.result inside at) _ _ (c.in_ok-domain.domain, c.in_ok-domain.bundle)
-    c.in_ok-domain.ensures.ok.0 c.in_ok-domain.ensures.ok.1 c.in_ok-insert_name.ensures c.in_ok-put_request.ensures
+    c.in_ok-domain.ensures.ok.0 c.in_ok-domain.ensures.ok.1 c.in_ok-insert_name.ensures c.in_ok-put_request.ensures.ok
 
 pub returns-clause-ok : goal.returns-clause-ok
 returns-clause-ok c =

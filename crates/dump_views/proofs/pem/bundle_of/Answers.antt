@@ -1,6 +1,6 @@
 use Rattle.std.proofs.Common.{sym, ◌∙◌}
 use Rattle.dump_views.proofs.Holdings.{held_here, held_later, held_nowhere}
-use Rattle.dump_views.proofs.of_dump.bundle_of.Goals as goal
+use Rattle.dump_views.proofs.pem.bundle_of.Goals as goal
 
 pub returns-then-eq : goal.returns-then-eq
 returns-then-eq c =
