@@ -15,6 +15,12 @@ domain_of (Remove d) = Some d
 domain_of (Get d) = Some d
 domain_of FetchAll = None
 
+-- whether it changes nothing, whatever it is answered
+abbrev pub is_read : Op → Bool
+is_read (Get d) = true
+is_read FetchAll = true
+is_read op = false
+
 -- whether it carries neither a bundle nor an authority
 abbrev pub carries_nothing : Op → Bool
 carries_nothing (Remove d) = true

@@ -36,17 +36,11 @@ fn modulo(total: usize, shards: usize) -> usize
 }
 
 /// The shard that an operation on one name is for; none for a fetch-all.
+#[tactic(auto, unfolding(crate::specs::PlainMap::shard_of))]
 pub fn shard_of(op: &Op, shards: usize) -> Option<usize>
     requires { 0 < shards }
     ensures shard { result ≡ shard_of shards op.now }
     ensures below { IfSome result (λ i. i < shards) }
 {
-    match op {
-        Op::Set(domain, _) => Some(home(domain, shards)),
-        Op::SetIf(domain, _, _) => Some(home(domain, shards)),
-        Op::Append(domain, _) => Some(home(domain, shards)),
-        Op::Remove(domain) => Some(home(domain, shards)),
-        Op::Get(domain) => Some(home(domain, shards)),
-        Op::FetchAll => None,
-    }
+    Some(home(op.domain()?, shards))
 }

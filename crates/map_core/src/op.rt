@@ -1,6 +1,6 @@
 //! What is asked of a map of trust bundles.
 ghost use Rattle.std.specs.Prelude.{◌≡◌, IfOk, option_copied};
-ghost use Rattle.map_core.specs.Op.{domain_of};
+ghost use Rattle.map_core.specs.Op.{domain_of, is_read as reads};
 
 use spiffe_doc::{Authority, Bundle, Memory, TrustDomain};
 use std::fmt;
@@ -63,7 +63,7 @@ impl Op {
     }
 
     /// The name that the operation is on; none for a fetch-all.
-    pub(crate) fn domain(&self) -> Option<&TrustDomain>
+    pub fn domain(&self) -> Option<&TrustDomain>
         ensures { option_copied result ≡ domain_of self.now }
     {
         match self {
@@ -71,6 +71,13 @@ impl Op {
             Op::Remove(domain) | Op::Get(domain) => Some(domain),
             Op::FetchAll => None,
         }
+    }
+
+    /// Whether the operation changes nothing, whatever it is answered.
+    pub fn is_read(&self) -> bool
+        ensures { result ≡ reads self.now }
+    {
+        matches!(self, Op::Get(_) | Op::FetchAll)
     }
 
     /// The name that the operation was on; none for a fetch-all.

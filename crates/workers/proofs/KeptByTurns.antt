@@ -9,7 +9,7 @@ use Rattle.frame_front.specs.Live.{LiveView}
 use Rattle.frame_front.specs.LiveCalls.{LiveCall, Does, DoesAll, Feed, Answer, Send}
 use Rattle.workers.specs.Gate.{AnsweredBehind}
 use Rattle.workers.proofs.KeptAlong.{all_keep}
-use Rattle.workers.specs.ReadOnly.{is_read}
+use Rattle.map_core.specs.Op.{is_read}
 use Rattle.workers.specs.AtPort.{PortAnswer}
 use Rattle.workers.specs.Connection.{ConnectionView, Turn, turn_rounds, last_rounds}
 use Rattle.workers.specs.declared.turn_end.TurnEnd.{TurnEnd}

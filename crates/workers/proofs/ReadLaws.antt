@@ -7,7 +7,8 @@ use Rattle.map_core.specs.declared.reply.AskError.{AskError}
 use Rattle.map_core.specs.PlainMap.{PlainMap, ask}
 use Rattle.map_core.specs.Ask.{AnswersPlainly, PlainAnswer}
 use Rattle.workers.specs.Gate.{AnsweredBehind}
-use Rattle.workers.specs.ReadOnly.{ReadAnswer, is_read}
+use Rattle.map_core.specs.Op.{is_read}
+use Rattle.workers.specs.ReadOnly.{ReadAnswer}
 use Rattle.map_core.proofs.Asks.{kept_left}
 use Rattle.map_core.specs.Table.{meaning}
 

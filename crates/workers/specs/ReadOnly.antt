@@ -1,19 +1,13 @@
 -- What is answered where nothing may be changed.
-use Rattle.std.specs.Prelude.{◌≡◌, Bool, true, false, Option, Result}
+use Rattle.std.specs.Prelude.{◌≡◌, Option, Result}
 use Rattle.map_core.specs.declared.op.Op.{Op}
-use Rattle.map_core.specs.declared.op.Op.TheVariants.{Get, FetchAll}
 use Rattle.map_core.specs.declared.reply.Reply.{Reply}
 use Rattle.map_core.specs.declared.reply.AskError.{AskError}
+use Rattle.map_core.specs.Op.{is_read}
 use Rattle.map_core.specs.PlainMap.{PlainMap}
 use Rattle.map_core.specs.Ask.{AnswersPlainly}
 use Rattle.workers.specs.Gate.{AnsweredBehind, gated_answers_plainly}
 use Rattle.std.proofs.Common.{refl}
-
--- a get and a fetch-all change nothing
-abbrev pub is_read : Op → Bool
-is_read (Get d) = true
-is_read FetchAll = true
-is_read op = false
 
 -- To reads the gate is open, and to all else it is shut.
 abbrev pub ReadAnswer : {S : Type 0} → (S → Op → Result Reply AskError → S → Type 0) → S → Op → Result Reply AskError → S → Type 0

@@ -1,6 +1,5 @@
 //! A map that is asked at a port.
 ghost use Rattle.std.specs.Prelude.{◌≡◌};
-ghost use Rattle.workers.specs.ReadOnly.{is_read as reads};
 
 use map_core::{Ask, AskError, Op, Reply, Viewer};
 use spiffe_doc::TrustDomain;
@@ -23,13 +22,6 @@ impl<A> AtPort<A> {
     }
 }
 
-/// Whether the operation changes nothing, whatever it is answered.
-fn is_read(op: &Op) -> bool
-    ensures { result ≡ reads op.now }
-{
-    matches!(op, Op::Get(_) | Op::FetchAll)
-}
-
 impl<A: Ask> Ask for AtPort<A> {
     ghost use Rattle.workers.specs.AtPort.{PortAnswer, port_answers_plainly};
 
@@ -40,7 +32,7 @@ impl<A: Ask> Ask for AtPort<A> {
     ghost answers_plainly = { λ old op answer new m shown answered. port_answers_plainly A.answers A.shows A.answers_plainly old.reads_only old.ask op answer new.ask m shown answered.1 };
 
     fn ask(&mut self, op: Op) -> Result<Reply, AskError> {
-        if self.reads_only && !is_read(&op) {
+        if self.reads_only && !op.is_read() {
             drop(op);
             return Err(AskError::GateShut);
         }

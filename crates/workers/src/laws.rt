@@ -4,7 +4,8 @@ ghost use Rattle.map_core.specs.declared.op.Op.{Op};
 ghost use Rattle.map_core.specs.declared.reply.Reply.{Reply};
 ghost use Rattle.map_core.specs.declared.reply.AskError.{AskError};
 ghost use Rattle.map_core.specs.PlainMap.{PlainMap, ask};
-ghost use Rattle.workers.specs.ReadOnly.{ReadAnswer, is_read};
+ghost use Rattle.map_core.specs.Op.{is_read};
+ghost use Rattle.workers.specs.ReadOnly.{ReadAnswer};
 
 use map_core::Ask;
 

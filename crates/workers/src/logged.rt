@@ -36,11 +36,7 @@ fn numbered(sequence: Option<u64>) -> Expect
 fn name_to_change(op: &Op) -> Option<&TrustDomain>
     ensures { option_copied result ≡ changed_name op.now }
 {
-    match op {
-        Op::Set(domain, _) | Op::SetIf(domain, _, _) | Op::Append(domain, _) => Some(domain),
-        Op::Remove(domain) => Some(domain),
-        Op::Get(_) | Op::FetchAll => None,
-    }
+    if op.is_read() { None } else { op.domain() }
 }
 
 /// What stands under a name by the answer to a get, if that says so. Errors only if memory ran out.
