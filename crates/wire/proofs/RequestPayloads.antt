@@ -1,6 +1,6 @@
 -- A request is read from its payload, and from no other.
 use Rattle.std.proofs.Common.{◌≡◌, inl, inr, ℕ, suc, ◌+◌, ◌<◌, ◌≤◌, ◌^◌, arith, Bool, true, nat_le, List, [], ◌∷◌, ◌++◌, length, take, drop, get_or, Option, Some, None, refl, sym, ap, subst, ◌∙◌, eqb-true, length-append, get_or-take, get_or-drop, append-nil}
-use Rattle.std.specs.Prelude.{◌==◌, ◌&&◌, if◌then◌else◌, IfSome, MatchOption}
+use Rattle.std.specs.Prelude.{◌==◌, ◌&&◌, if◌then◌else◌, option_map, IfSome, MatchOption}
 use Rattle.std.specs.Int.{w64, to_be_bytes, from_be_bytes}
 use Rattle.std.proofs.lemmas.List.{length-take-le, take-append-drop, take_at}
 use Rattle.std.proofs.Math.Seq.{drop-append_seam}
@@ -8,12 +8,13 @@ use Rattle.std.proofs.lemmas.Nat.{be_bytes_8, from_be_bytes-to_be_bytes_8}
 use Rattle.std.proofs.lemmas.Option.{same_Some, none-some}
 use Rattle.map_core.specs.declared.op.Expect.{Expect}
 use Rattle.map_core.specs.declared.op.Expect.TheVariants.{Absent, Sequence, Unnumbered}
+use Rattle.wire.specs.declared.version.Version.{Version}
 use Rattle.wire.specs.declared.version.Version.TheVariants.{One, Two}
-use Rattle.wire.specs.Fields.{expect_bytes}
+use Rattle.wire.specs.Fields.{expect_bytes, version_number}
 use Rattle.wire.specs.declared.request.RequestForm.{RequestForm}
 use Rattle.wire.specs.RequestForm.{Request, Set, SetIf, Append, Remove, Get, Fetch, Speak, request, named, payload_of, HasPayload, IsExpect}
-use Rattle.wire.specs.PayloadReading.{◌>>=◌, split_named, alone, lone_named, split_expect, set_in, set_if_in, append_in, remove_in, get_in, speak_in, request_by_letter, read_payload}
-use Rattle.wire.proofs.Cases.{bind_some, if_some}
+use Rattle.wire.specs.PayloadReading.{◌>>=◌, at_end, of_both, split_named, lone_named, split_expect, version_in, set_if_in, request_by_letter, read_payload}
+use Rattle.wire.proofs.Cases.{bind_some, bind_cases, if_some, map_some, number_cases}
 use Rattle.wire.proofs.Numbers.{both}
 
 abbrev pub AreBytes : List ℕ → Type 0
@@ -21,7 +22,7 @@ AreBytes bytes = (i : ℕ) → get_or bytes i 0 < 256
 
 -- ---- names
 
-named_found : (bytes : List ℕ) (parts : List ℕ × List ℕ) → AreBytes bytes → split_named bytes ≡ Some parts → (bytes ≡ named parts.0 ++ parts.1) × (length parts.0 < 256) × AreBytes parts.1
+pub named_found : (bytes : List ℕ) (parts : List ℕ × List ℕ) → AreBytes bytes → split_named bytes ≡ Some parts → (bytes ≡ named parts.0 ++ parts.1) × (length parts.0 < 256) × AreBytes parts.1
 unfolding split_named
 named_found [] parts fits is = absurd (none-some parts is)
 named_found (size ∷ bytes) parts fits is = elim (if_some (nat_le size (length bytes)) (Some (take size bytes, drop size bytes)) None parts is) [
@@ -40,50 +41,50 @@ named_read name rest =
     ap (λ (b : Bool). if b then Some (take (length name) (name ++ rest), drop (length name) (name ++ rest)) else None) enough
     ∙ (λ i. Some (take_at name rest (length name) refl i, drop-append_seam name rest i))
 
-alone_found : {A : Type 0} (value wanted : A) (bytes : List ℕ) → alone value bytes ≡ Some wanted → (bytes ≡ []) × (value ≡ wanted)
-alone_found value wanted [] is = (refl, same_Some value wanted is)
-alone_found value wanted (byte ∷ bytes) is = absurd (none-some wanted is)
+pub end_found : {A : Type 0} (value wanted : A) (bytes : List ℕ) → at_end value bytes ≡ Some wanted → (bytes ≡ []) × (value ≡ wanted)
+end_found value wanted [] is = (refl, same_Some value wanted is)
+end_found value wanted (byte ∷ bytes) is = absurd (none-some wanted is)
 
 lone_named_found : (bytes name : List ℕ) → AreBytes bytes → lone_named bytes ≡ Some name → (bytes ≡ named name) × (length name < 256)
 unfolding lone_named
 lone_named_found bytes name fits is =
-    let b = bind_some (split_named bytes) (λ parts. alone parts.0 parts.1) name is in
+    let b = bind_some (split_named bytes) (λ parts. at_end parts.0 parts.1) name is in
     let n = named_found bytes b.0 fits b.1 in
-    let a = alone_found b.0.0 name b.0.1 b.2 in
+    let a = end_found b.0.0 name b.0.1 b.2 in
     subst (λ (m : List ℕ). (bytes ≡ named m) × (length m < 256)) a.1 (n.0 ∙ ap (λ rest. named b.0.0 ++ rest) a.0 ∙ append-nil (named b.0.0), n.1)
 
 lone_named_read : (name : List ℕ) → lone_named (named name) ≡ Some name
 unfolding lone_named
-lone_named_read name = ap (λ o. o >>= λ parts. alone parts.0 parts.1) (ap split_named (sym (append-nil (named name))) ∙ named_read name [])
+lone_named_read name = ap (λ o. o >>= λ parts. at_end parts.0 parts.1) (ap split_named (sym (append-nil (named name))) ∙ named_read name [])
 
 -- ---- expectations
 
 eight_fit : (bytes : List ℕ) → AreBytes bytes → from_be_bytes w64 bytes < 2 ^ 64
 eight_fit bytes fits = omega (arith, fits 0, fits 1, fits 2, fits 3, fits 4, fits 5, fits 6, fits 7)
 
-sequence_found : (kind : ℕ) (bytes : List ℕ) (parts : Expect × List ℕ) → AreBytes (kind ∷ bytes) → (kind == 1 ≡ true) × (nat_le 8 (length bytes) ≡ true) → ◌≡◌ {A = Option (Expect × List ℕ)} (Some (Sequence (from_be_bytes w64 (take 8 bytes)), drop 8 bytes)) (Some parts)
-    → (kind ∷ bytes ≡ expect_bytes parts.0 ++ parts.1) × IsExpect parts.0
-sequence_found kind bytes parts fits tests is =
-    let enough : 8 ≤ length bytes = grind (arith, tests.1) in
-    let long = length-take-le 8 bytes enough in
-    let small : AreBytes (take 8 bytes) = λ i. grind (arith, get_or-take, fits (suc i)) in
-    let eight = be_bytes_8 (take 8 bytes) (from_be_bytes w64 (take 8 bytes)) long small refl in
-    subst (λ (p : Expect × List ℕ). (kind ∷ bytes ≡ expect_bytes p.0 ++ p.1) × IsExpect p.0) (same_Some (Sequence (from_be_bytes w64 (take 8 bytes)), drop 8 bytes) parts is)
-    ((λ i. eqb-true kind 1 tests.0 i ∷ sym (take-append-drop 8 bytes) i) ∙ ap (λ front. 1 ∷ front ++ drop 8 bytes) (sym eight), eight_fit (take 8 bytes) small)
+-- what is told of what follows a kind, at a kind that is equal
+abbrev Expected : List ℕ → Expect × List ℕ → Type 0
+Expected bytes parts = (bytes ≡ expect_bytes parts.0 ++ parts.1) × IsExpect parts.0
 
-expect_found : (bytes : List ℕ) (parts : Expect × List ℕ) → AreBytes bytes → split_expect bytes ≡ Some parts → (bytes ≡ expect_bytes parts.0 ++ parts.1) × IsExpect parts.0
+sequence_found : (bytes : List ℕ) (parts : Expect × List ℕ) → AreBytes bytes → nat_le 8 (length bytes) ≡ true → ◌≡◌ {A = Option (Expect × List ℕ)} (Some (Sequence (from_be_bytes w64 (take 8 bytes)), drop 8 bytes)) (Some parts) → Expected (1 ∷ bytes) parts
+sequence_found bytes parts fits enough is =
+    let long = length-take-le 8 bytes (grind (arith, enough)) in
+    let small : AreBytes (take 8 bytes) = λ i. grind (arith, get_or-take, fits i) in
+    let eight = be_bytes_8 (take 8 bytes) (from_be_bytes w64 (take 8 bytes)) long small refl in
+    subst (Expected (1 ∷ bytes)) (same_Some (Sequence (from_be_bytes w64 (take 8 bytes)), drop 8 bytes) parts is)
+    ((λ i. 1 ∷ sym (take-append-drop 8 bytes) i) ∙ ap (λ front. 1 ∷ front ++ drop 8 bytes) (sym eight), eight_fit (take 8 bytes) small)
+
+expect_found : (bytes : List ℕ) (parts : Expect × List ℕ) → AreBytes bytes → split_expect bytes ≡ Some parts → Expected bytes parts
 unfolding split_expect
 expect_found [] parts fits is = absurd (none-some parts is)
-expect_found (kind ∷ bytes) parts fits is = elim (if_some (kind == 0) (Some (Absent, bytes)) _ parts is) [
-  | inl h ↦ subst (λ (p : Expect × List ℕ). (kind ∷ bytes ≡ expect_bytes p.0 ++ p.1) × IsExpect p.0) (same_Some (Absent, bytes) parts h.1) (ap (λ k. k ∷ bytes) (eqb-true kind 0 h.0), tt)
-  | inr h ↦ elim (if_some ((kind == 1) && nat_le 8 (length bytes)) (Some (Sequence (from_be_bytes w64 (take 8 bytes)), drop 8 bytes)) _ parts h.1) [
-    | inl k ↦ sequence_found kind bytes parts fits (both (kind == 1) (nat_le 8 (length bytes)) k.0) k.1
-    | inr k ↦ elim (if_some (kind == 2) (Some (Unnumbered, bytes)) None parts k.1) [
-      | inl l ↦ subst (λ (p : Expect × List ℕ). (kind ∷ bytes ≡ expect_bytes p.0 ++ p.1) × IsExpect p.0) (same_Some (Unnumbered, bytes) parts l.1) (ap (λ k. k ∷ bytes) (eqb-true kind 2 l.0), tt)
-      | inr l ↦ absurd (none-some parts l.1)
-    ]
-  ]
-]
+expect_found (kind ∷ bytes) parts fits is =
+    number_cases kind 0 _ _ parts is (λ k is. at k (subst (Expected (0 ∷ bytes)) (same_Some (Absent, bytes) parts is) (refl, tt))) (λ is. elim (if_some ((kind == 1) && nat_le 8 (length bytes)) _ _ parts is) [
+      | inl h ↦ let tests = both (kind == 1) (nat_le 8 (length bytes)) h.0 in at (eqb-true kind 1 tests.0) (sequence_found bytes parts (λ i. fits (suc i)) tests.1 h.1)
+      | inr h ↦ number_cases kind 2 _ _ parts h.1 (λ k is. at k (subst (Expected (2 ∷ bytes)) (same_Some (Unnumbered, bytes) parts is) (refl, tt))) (λ is. absurd (none-some parts is))
+    ])
+  where
+    at : {known : ℕ} → kind ≡ known → Expected (known ∷ bytes) parts → Expected (kind ∷ bytes) parts
+    at same found = ((λ i. same i ∷ bytes) ∙ found.0, found.1)
 
 expect_read : (e : Expect) (rest : List ℕ) → IsExpect e → split_expect (expect_bytes e ++ rest) ≡ Some (e, rest)
 unfolding split_expect
@@ -94,89 +95,83 @@ expect_read (Sequence n) rest fits =
     ap (λ (b : Bool). if b then Some (Sequence (from_be_bytes w64 (take 8 (to_be_bytes w64 n ++ rest))), rest) else None) enough
     ∙ ap (λ (m : ℕ). Some (Sequence m, rest)) (from_be_bytes-to_be_bytes_8 n fits)
 
+-- ---- versions
+
+pub version_found : (bytes : List ℕ) (v : Version) → version_in bytes ≡ Some v → bytes ≡ version_number v ∷ []
+unfolding version_in
+version_found [] v is = absurd (none-some v is)
+version_found (number ∷ bytes) v is =
+    number_cases number 1 (at_end One bytes) _ v is (λ one is. spelled One one is) (λ is.
+    number_cases number 2 (at_end Two bytes) None v is (λ two is. spelled Two two is) (λ is.
+    absurd (none-some v is)))
+  where
+    spelled : (w : Version) → number ≡ version_number w → at_end w bytes ≡ Some v → number ∷ bytes ≡ version_number v ∷ []
+    spelled w same is =
+        let end = end_found w v bytes is in
+        (λ i. same i ∷ end.0 i) ∙ ap (λ x. version_number x ∷ []) end.1
+
+pub version_read : (v : Version) → version_in (version_number v ∷ []) ≡ Some v
+unfolding version_in
+version_read One = refl
+version_read Two = refl
+
 -- ---- requests
 
 abbrev Found : ℕ → List ℕ → Request → Type 0
 Found letter bytes r = (letter ∷ bytes ≡ payload_of r) × HasPayload r
 
-set_found : (letter : ℕ) (bytes : List ℕ) (r : Request) → AreBytes bytes → letter ≡ 83 → set_in bytes ≡ Some r → Found letter bytes r
-unfolding set_in
-set_found letter bytes r fits l is =
-    let b = bind_some (split_named bytes) (λ parts. Some (Set parts.0 parts.1)) r is in
-    let n = named_found bytes b.0 fits b.1 in
-    subst (λ (q : Request). Found letter bytes q) (same_Some (Set b.0.0 b.0.1) r b.2) (λ i. l i ∷ n.0 i, n.1)
+-- a request that ends with a text
+text_found : (letter : ℕ) (form : List ℕ → List ℕ → Request) (bytes : List ℕ) (r : Request) → ((name text : List ℕ) → length name < 256 → Found letter (named name ++ text) (form name text))
+    → AreBytes bytes → option_map (of_both form) (split_named bytes) ≡ Some r → Found letter bytes r
+text_found letter form bytes r spelled fits is =
+    let m = map_some (of_both form) (split_named bytes) r is in
+    let n = named_found bytes m.0 fits m.1 in
+    let s = spelled m.0.0 m.0.1 n.1 in
+    subst (λ (q : Request). Found letter bytes q) m.2 ((λ i. letter ∷ n.0 i) ∙ s.0, s.1)
 
-append_found : (letter : ℕ) (bytes : List ℕ) (r : Request) → AreBytes bytes → letter ≡ 65 → append_in bytes ≡ Some r → Found letter bytes r
-unfolding append_in
-append_found letter bytes r fits l is =
-    let b = bind_some (split_named bytes) (λ parts. Some (Append parts.0 parts.1)) r is in
-    let n = named_found bytes b.0 fits b.1 in
-    subst (λ (q : Request). Found letter bytes q) (same_Some (Append b.0.0 b.0.1) r b.2) (λ i. l i ∷ n.0 i, n.1)
+-- a request of a name only
+name_found : (letter : ℕ) (form : List ℕ → Request) (bytes : List ℕ) (r : Request) → ((name : List ℕ) → length name < 256 → Found letter (named name) (form name))
+    → AreBytes bytes → option_map form (lone_named bytes) ≡ Some r → Found letter bytes r
+name_found letter form bytes r spelled fits is =
+    let m = map_some form (lone_named bytes) r is in
+    let n = lone_named_found bytes m.0 fits m.1 in
+    let s = spelled m.0 n.1 in
+    subst (λ (q : Request). Found letter bytes q) m.2 ((λ i. letter ∷ n.0 i) ∙ s.0, s.1)
 
-remove_found : (letter : ℕ) (bytes : List ℕ) (r : Request) → AreBytes bytes → letter ≡ 82 → remove_in bytes ≡ Some r → Found letter bytes r
-unfolding remove_in
-remove_found letter bytes r fits l is =
-    let b = bind_some (lone_named bytes) (λ name. Some (Remove name)) r is in
-    let n = lone_named_found bytes b.0 fits b.1 in
-    subst (λ (q : Request). Found letter bytes q) (same_Some (Remove b.0) r b.2) (λ i. l i ∷ n.0 i, n.1)
-
-get_found : (letter : ℕ) (bytes : List ℕ) (r : Request) → AreBytes bytes → letter ≡ 71 → get_in bytes ≡ Some r → Found letter bytes r
-unfolding get_in
-get_found letter bytes r fits l is =
-    let b = bind_some (lone_named bytes) (λ name. Some (Get name)) r is in
-    let n = lone_named_found bytes b.0 fits b.1 in
-    subst (λ (q : Request). Found letter bytes q) (same_Some (Get b.0) r b.2) (λ i. l i ∷ n.0 i, n.1)
-
-set_if_found : (letter : ℕ) (bytes : List ℕ) (r : Request) → AreBytes bytes → letter ≡ 67 → set_if_in bytes ≡ Some r → Found letter bytes r
+set_if_found : (bytes : List ℕ) (r : Request) → AreBytes bytes → set_if_in bytes ≡ Some r → Found 67 bytes r
 unfolding set_if_in
-set_if_found letter bytes r fits l is =
-    let b = bind_some (split_named bytes) (λ parts. split_expect parts.1 >>= λ expected. Some (SetIf parts.0 expected.0 expected.1)) r is in
-    let d = bind_some (split_expect b.0.1) (λ expected. Some (SetIf b.0.0 expected.0 expected.1)) r b.2 in
-    let n = named_found bytes b.0 fits b.1 in
-    let e = expect_found b.0.1 d.0 n.2 d.1 in
-    subst (λ (q : Request). Found letter bytes q) (same_Some (SetIf b.0.0 d.0.0 d.0.1) r d.2) ((λ i. l i ∷ n.0 i) ∙ (λ i. 67 ∷ named b.0.0 ++ e.0 i), (n.1, e.1))
+set_if_found bytes r fits is =
+    bind_cases (split_named bytes) _ r is (λ parts split more.
+    bind_cases (split_expect parts.1) _ r more (λ expected told is.
+    let n = named_found bytes parts fits split in
+    let e = expect_found parts.1 expected n.2 told in
+    subst (λ (q : Request). Found 67 bytes q) (same_Some (SetIf parts.0 expected.0 expected.1) r is) ((λ i. 67 ∷ n.0 i) ∙ (λ i. 67 ∷ named parts.0 ++ e.0 i), (n.1, e.1))))
 
-speak_found : (letter : ℕ) (bytes : List ℕ) (r : Request) → letter ≡ 86 → speak_in bytes ≡ Some r → Found letter bytes r
-unfolding speak_in
-speak_found letter [] r l is = absurd (none-some r is)
-speak_found letter (number ∷ byte ∷ bytes) r l is = absurd (none-some r is)
-speak_found letter (number ∷ []) r l is = elim (if_some (number == 1) (Some (Speak One)) _ r is) [
-  | inl h ↦ subst (λ (q : Request). Found letter (number ∷ []) q) (same_Some (Speak One) r h.1) (λ i. l i ∷ eqb-true number 1 h.0 i ∷ [], tt)
-  | inr h ↦ elim (if_some (number == 2) (Some (Speak Two)) None r h.1) [
-    | inl k ↦ subst (λ (q : Request). Found letter (number ∷ []) q) (same_Some (Speak Two) r k.1) (λ i. l i ∷ eqb-true number 2 k.0 i ∷ [], tt)
-    | inr k ↦ absurd (none-some r k.1)
-  ]
-]
+speak_found : (bytes : List ℕ) (r : Request) → option_map Speak (version_in bytes) ≡ Some r → Found 86 bytes r
+speak_found bytes r is =
+    let m = map_some Speak (version_in bytes) r is in
+    let v = version_found bytes m.0 m.1 in
+    subst (λ (q : Request). Found 86 bytes q) m.2 (λ i. 86 ∷ v i, tt)
 
-fetch_found : (letter : ℕ) (bytes : List ℕ) (r : Request) → letter ≡ 70 → alone Fetch bytes ≡ Some r → Found letter bytes r
-fetch_found letter bytes r l is =
-    let a = alone_found Fetch r bytes is in
-    subst (λ (q : Request). Found letter bytes q) a.1 (λ i. l i ∷ a.0 i, tt)
+fetch_found : (bytes : List ℕ) (r : Request) → at_end Fetch bytes ≡ Some r → Found 70 bytes r
+fetch_found bytes r is =
+    let a = end_found Fetch r bytes is in
+    subst (λ (q : Request). Found 70 bytes q) a.1 (λ i. 70 ∷ a.0 i, tt)
 
 by_letter_found : (letter : ℕ) (bytes : List ℕ) (r : Request) → AreBytes bytes → request_by_letter letter bytes ≡ Some r → Found letter bytes r
 unfolding request_by_letter
-by_letter_found letter bytes r fits is = elim (if_some (letter == 83) (set_in bytes) _ r is) [
-  | inl h ↦ set_found letter bytes r fits (eqb-true letter 83 h.0) h.1
-  | inr h ↦ elim (if_some (letter == 65) (append_in bytes) _ r h.1) [
-    | inl k ↦ append_found letter bytes r fits (eqb-true letter 65 k.0) k.1
-    | inr k ↦ elim (if_some (letter == 82) (remove_in bytes) _ r k.1) [
-      | inl l ↦ remove_found letter bytes r fits (eqb-true letter 82 l.0) l.1
-      | inr l ↦ elim (if_some (letter == 71) (get_in bytes) _ r l.1) [
-        | inl m ↦ get_found letter bytes r fits (eqb-true letter 71 m.0) m.1
-        | inr m ↦ elim (if_some (letter == 70) (alone Fetch bytes) _ r m.1) [
-          | inl n ↦ fetch_found letter bytes r (eqb-true letter 70 n.0) n.1
-          | inr n ↦ elim (if_some (letter == 86) (speak_in bytes) _ r n.1) [
-            | inl o ↦ speak_found letter bytes r (eqb-true letter 86 o.0) o.1
-            | inr o ↦ elim (if_some (letter == 67) (set_if_in bytes) None r o.1) [
-              | inl p ↦ set_if_found letter bytes r fits (eqb-true letter 67 p.0) p.1
-              | inr p ↦ absurd (none-some r p.1)
-            ]
-          ]
-        ]
-      ]
-    ]
-  ]
-]
+by_letter_found letter bytes r fits is =
+    number_cases letter 83 _ _ r is (λ l is. at l (text_found 83 Set bytes r (λ name text short. (refl, short)) fits is)) (λ is.
+    number_cases letter 65 _ _ r is (λ l is. at l (text_found 65 Append bytes r (λ name text short. (refl, short)) fits is)) (λ is.
+    number_cases letter 82 _ _ r is (λ l is. at l (name_found 82 Remove bytes r (λ name short. (refl, short)) fits is)) (λ is.
+    number_cases letter 71 _ _ r is (λ l is. at l (name_found 71 Get bytes r (λ name short. (refl, short)) fits is)) (λ is.
+    number_cases letter 70 _ _ r is (λ l is. at l (fetch_found bytes r is)) (λ is.
+    number_cases letter 86 _ _ r is (λ l is. at l (speak_found bytes r is)) (λ is.
+    number_cases letter 67 _ _ r is (λ l is. at l (set_if_found bytes r fits is)) (λ is.
+    absurd (none-some r is))))))))
+  where
+    at : {known : ℕ} → letter ≡ known → Found known bytes r → Found letter bytes r
+    at same found = ((λ i. same i ∷ bytes) ∙ found.0, found.1)
 
 pub payload_found : (payload : List ℕ) (r : Request) → AreBytes payload → read_payload payload ≡ Some r → (payload ≡ payload_of r) × HasPayload r
 unfolding read_payload
@@ -186,17 +181,16 @@ payload_found (letter ∷ bytes) r fits is = by_letter_found letter bytes r (λ 
 -- ---- and back
 
 pub payload_read : (r : Request) → HasPayload r → read_payload (payload_of r) ≡ Some r
-unfolding read_payload request_by_letter set_in append_in remove_in get_in speak_in set_if_in
-payload_read (Set name text) fits = ap (λ o. o >>= λ parts. Some (Set parts.0 parts.1)) (named_read name text)
+unfolding read_payload request_by_letter set_if_in
+payload_read (Set name text) fits = ap (option_map (of_both Set)) (named_read name text)
 payload_read (SetIf name expect text) fits =
     ap (λ o. o >>= λ parts. split_expect parts.1 >>= λ expected. Some (SetIf parts.0 expected.0 expected.1)) (named_read name (expect_bytes expect ++ text))
     ∙ ap (λ o. o >>= λ expected. Some (SetIf name expected.0 expected.1)) (expect_read expect text fits.1)
-payload_read (Append name text) fits = ap (λ o. o >>= λ parts. Some (Append parts.0 parts.1)) (named_read name text)
-payload_read (Remove name) fits = ap (λ o. o >>= λ word. Some (Remove word)) (lone_named_read name)
-payload_read (Get name) fits = ap (λ o. o >>= λ word. Some (Get word)) (lone_named_read name)
+payload_read (Append name text) fits = ap (option_map (of_both Append)) (named_read name text)
+payload_read (Remove name) fits = ap (option_map Remove) (lone_named_read name)
+payload_read (Get name) fits = ap (option_map Get) (lone_named_read name)
 payload_read Fetch fits = refl
-payload_read (Speak One) fits = refl
-payload_read (Speak Two) fits = refl
+payload_read (Speak version) fits = ap (option_map Speak) (version_read version)
 
 -- ---- what a reader tells
 

@@ -1,8 +1,9 @@
 -- How a request is read from the payload of a frame.
-use Rattle.std.specs.Prelude.{ℕ, List, [], ◌∷◌, length, take, drop, nat_le, ◌==◌, ◌&&◌, if◌then◌else◌, Option, Some, None}
+use Rattle.std.specs.Prelude.{ℕ, List, [], ◌∷◌, length, take, drop, nat_le, ◌==◌, ◌&&◌, if◌then◌else◌, Option, Some, None, option_map}
 use Rattle.std.specs.Int.{w64, from_be_bytes}
 use Rattle.map_core.specs.declared.op.Expect.{Expect}
 use Rattle.map_core.specs.declared.op.Expect.TheVariants.{Absent, Sequence, Unnumbered}
+use Rattle.wire.specs.declared.version.Version.{Version}
 use Rattle.wire.specs.declared.version.Version.TheVariants.{One, Two}
 use Rattle.wire.specs.RequestForm.{Request, Set, SetIf, Append, Remove, Get, Fetch, Speak}
 
@@ -17,14 +18,14 @@ split_named [] = None
 split_named (size ∷ bytes) = if nat_le size (length bytes) then Some (take size bytes, drop size bytes) else None
 
 -- nothing follows
-abbrev pub alone : {A : Type 0} → A → List ℕ → Option A
-alone value [] = Some value
-alone value (byte ∷ bytes) = None
+abbrev pub at_end : {A : Type 0} → A → List ℕ → Option A
+at_end value [] = Some value
+at_end value (byte ∷ bytes) = None
 
 unfoldable pub lone_named : List ℕ → Option (List ℕ)
 lone_named bytes = do
   parts ← split_named bytes
-  alone parts.0 parts.1
+  at_end parts.0 parts.1
 
 -- an expectation, and what follows it: 0, or 1 and a sequence in 8 bytes, or 2
 unfoldable pub split_expect : List ℕ → Option (Expect × List ℕ)
@@ -35,10 +36,15 @@ split_expect (kind ∷ bytes) =
     else if kind == 2 then Some (Unnumbered, bytes)
     else None
 
-unfoldable pub set_in : List ℕ → Option Request
-set_in bytes = do
-  parts ← split_named bytes
-  Some (Set parts.0 parts.1)
+-- 1 or 2, and nothing after it
+unfoldable pub version_in : List ℕ → Option Version
+version_in [] = None
+version_in (number ∷ bytes) =
+    if number == 1 then at_end One bytes else if number == 2 then at_end Two bytes else None
+
+-- what is made of two parts
+abbrev pub of_both : {A : Type 0} → (List ℕ → List ℕ → A) → List ℕ × List ℕ → A
+of_both form parts = form parts.0 parts.1
 
 unfoldable pub set_if_in : List ℕ → Option Request
 set_if_in bytes = do
@@ -46,34 +52,14 @@ set_if_in bytes = do
   expected ← split_expect parts.1
   Some (SetIf parts.0 expected.0 expected.1)
 
-unfoldable pub append_in : List ℕ → Option Request
-append_in bytes = do
-  parts ← split_named bytes
-  Some (Append parts.0 parts.1)
-
-unfoldable pub remove_in : List ℕ → Option Request
-remove_in bytes = do
-  name ← lone_named bytes
-  Some (Remove name)
-
-unfoldable pub get_in : List ℕ → Option Request
-get_in bytes = do
-  name ← lone_named bytes
-  Some (Get name)
-
-unfoldable pub speak_in : List ℕ → Option Request
-speak_in [] = None
-speak_in (number ∷ []) = if number == 1 then Some (Speak One) else if number == 2 then Some (Speak Two) else None
-speak_in (number ∷ byte ∷ bytes) = None
-
 unfoldable pub request_by_letter : ℕ → List ℕ → Option Request
 request_by_letter letter bytes =
-    if letter == 83 then set_in bytes
-    else if letter == 65 then append_in bytes
-    else if letter == 82 then remove_in bytes
-    else if letter == 71 then get_in bytes
-    else if letter == 70 then alone Fetch bytes
-    else if letter == 86 then speak_in bytes
+    if letter == 83 then option_map (of_both Set) (split_named bytes)
+    else if letter == 65 then option_map (of_both Append) (split_named bytes)
+    else if letter == 82 then option_map Remove (lone_named bytes)
+    else if letter == 71 then option_map Get (lone_named bytes)
+    else if letter == 70 then at_end Fetch bytes
+    else if letter == 86 then option_map Speak (version_in bytes)
     else if letter == 67 then set_if_in bytes
     else None
 

@@ -1,10 +1,10 @@
 //! Frames: a length of 4 bytes, big-endian, and a payload of that many bytes.
-ghost use Rattle.std.specs.Prelude.{◌≡◌, ◌≤◌, ◌<◌, ◌^◌, ◌++◌, ◌+◌, length, take, drop, IfOk, IfErr, IfSome, IfNone, OnOk};
+ghost use Rattle.std.specs.Prelude.{◌≡◌, ◌≤◌, ◌<◌, ◌^◌, ◌++◌, ◌+◌, length, take, drop, IfOk, IfErr, IfSome, IfNone, OnOk, OnErr};
 ghost use Rattle.std.specs.Int.{w32, to_be_bytes};
 ghost use Rattle.wire.specs.Frame.{IsPayload, IsUnfinished, IsBadLength, frame, length_field as stated_length};
 
 use crate::FrontError;
-use std::alloc::AllocError;
+use spiffe_doc::Memory;
 
 /// The most bytes of a payload. A payload has at least one.
 pub const MAX_PAYLOAD: usize = 1_049_000;
@@ -44,13 +44,32 @@ pub fn first_frame(bytes: &[u8]) -> Result<Option<&[u8]>, FrontError>
     Ok(Some(payload))
 }
 
-/// Adds a frame whose payload comes in two parts.
-pub fn put_frame(out: &mut Vec<u8>, front: &[u8], rest: &[u8]) -> Result<(), AllocError>
+/// Adds a frame whose payload comes in two parts. If memory is refused, nothing is added.
+pub fn put_frame(out: &mut Vec<u8>, front: &[u8], rest: &[u8]) -> Result<(), Memory>
     requires { length front.now + length rest.now < 2 ^ 32 }
-    ensures { OnOk result (out.new.items ≡ out.old.items ++ frame (front.now ++ rest.now)) }
+    ensures ok { OnOk result (out.new.items ≡ out.old.items ++ frame (front.now ++ rest.now)) }
+    ensures err { OnErr result (out.new.items ≡ out.old.items) }
 {
+    let before = out.len();
     let size = (front.len() + rest.len()) as u32;
     out.extend_from_slice(&size.to_be_bytes())?;
-    out.extend_from_slice(front)?;
-    out.extend_from_slice(rest)
+    if let Err(refused) = append(out, front, rest) {
+        out.truncate(before);
+        return Err(refused);
+    }
+    Ok(())
+}
+
+/// Appends both, or nothing.
+pub(crate) fn append(out: &mut Vec<u8>, head: &[u8], text: &[u8]) -> Result<(), Memory>
+    ensures ok { OnOk result (out.new.items ≡ out.old.items ++ (head.now ++ text.now)) }
+    ensures err { OnErr result (out.new.items ≡ out.old.items) }
+{
+    let before = out.len();
+    out.extend_from_slice(head)?;
+    if let Err(refused) = out.extend_from_slice(text) {
+        out.truncate(before);
+        return Err(refused);
+    }
+    Ok(())
 }

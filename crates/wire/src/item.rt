@@ -1,5 +1,5 @@
 //! A trust domain and its bundle: as a reply to a fetch-all tells them, and as a request sets them.
-ghost use Rattle.std.specs.Prelude.{◌≡◌, ◌≤◌, ◌+◌, ◌∷◌, ◌++◌, length, true, false, IfOk, OnOk};
+ghost use Rattle.std.specs.Prelude.{◌≡◌, ◌≤◌, ◌+◌, ◌∷◌, ◌++◌, length, true, false, IfOk, OnOk, OnErr};
 ghost use Rattle.spiffe_doc.specs.Text.{text_of};
 ghost use Rattle.wire.specs.Frame.{frame};
 ghost use Rattle.wire.specs.Items.{item_of};
@@ -9,7 +9,7 @@ ghost use Rattle.map_core.specs.Laws.{IsAfter};
 use crate::frame::put_frame;
 use crate::judge::read_named_bundle;
 use crate::refusal::Refusal;
-use crate::request_payload::split_named;
+use crate::request::payload::split_named;
 use arrayvec::ArrayVec;
 use spiffe_doc::{Bundle, DocumentReader, Memory, TrustDomain};
 use std::alloc::{AllocError, Global};
@@ -79,7 +79,7 @@ pub fn is_after(last: &Option<TrustDomain>, domain: &TrustDomain) -> bool
 }
 
 /// Adds a request that ends with a document: its letter, the domain's name, an expectation of no byte or one, and the
-/// canonical text of the bundle.
+/// canonical text of the bundle. If memory is refused, nothing is added.
 pub fn put_request(
     stream: &mut Vec<u8>,
     letter: u8,
@@ -88,8 +88,9 @@ pub fn put_request(
     bundle: &Bundle,
 ) -> Result<(), Memory>
     requires { length expectation.now ≤ 1 }
-    ensures { OnOk result (stream.new.items
+    ensures ok { OnOk result (stream.new.items
         ≡ stream.old.items ++ frame (letter ∷ length domain.now ∷ domain.now ++ (expectation.now ++ text_of bundle.now))) }
+    ensures err { OnErr result (stream.new.items ≡ stream.old.items) }
 {
     let name = domain.as_str().as_bytes();
     let text = canonical_text(bundle);

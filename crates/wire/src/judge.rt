@@ -7,7 +7,7 @@ ghost use Rattle.wire.specs.Judge.{request_of, judged, named_bundle, parse_name,
 use crate::Version;
 use crate::refusal::Refusal;
 use crate::request::RequestForm;
-use crate::request_payload::request_of_payload;
+use crate::request::payload::request_of_payload;
 use map_core::Op;
 use spiffe_doc::{Authority, Bundle, DocumentReader, TrustDomain, read_entry};
 use std::alloc::Global;

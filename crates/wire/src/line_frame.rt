@@ -2,12 +2,13 @@
 ghost use Rattle.std.specs.Prelude.{◌≡◌, ◌++◌, List, ℕ, drop, Err, OnOk, OnErr, MatchOption, false, true};
 ghost use Rattle.wire.specs.Frame.{frame};
 ghost use Rattle.wire.specs.Encoding.{Becomes, IsBadLine, NamesUnreadable, is_comment as comment};
-ghost use Rattle.wire.specs.RequestForm.{IsFramed, is_text_name, payload_of, request, with_text as other_text};
+ghost use Rattle.wire.specs.RequestForm.{IsFramed, is_text_name, payload_of, request};
 
+use crate::frame::append;
 use crate::request::RequestForm;
-use crate::request_line::request_of_line;
+use crate::request::line::request_of_line;
 use crate::text_source::{TextError, TextSource};
-use std::alloc::{AllocError, Global};
+use std::alloc::Global;
 
 /// Why one line becomes nothing.
 #[derive(Clone, Copy)]
@@ -30,20 +31,6 @@ pub(crate) fn text_name(text: &[u8]) -> Option<&[u8]>
     match text {
         [b'@', name @ ..] => Some(name),
         _ => None,
-    }
-}
-
-impl<'a> RequestForm<'a> {
-    /// The same request with another text, if it has one.
-    fn with_text(&self, text: &'a [u8]) -> RequestForm<'a>
-        ensures { request result ≡ other_text (request self.now) text.now }
-    {
-        match self {
-            RequestForm::Set(name, _) => RequestForm::Set(name, text),
-            RequestForm::SetIf(name, expect, _) => RequestForm::SetIf(name, *expect, text),
-            RequestForm::Append(name, _) => RequestForm::Append(name, text),
-            _ => *self,
-        }
     }
 }
 
@@ -89,18 +76,4 @@ fn put_frame(form: &RequestForm<'_>, out: &mut Vec<u8>) -> Result<(), LineError>
         Ok(()) => Ok(()),
         Err(_) => Err(LineError::Memory),
     }
-}
-
-/// Appends both, or nothing.
-pub(crate) fn append(out: &mut Vec<u8>, head: &[u8], text: &[u8]) -> Result<(), AllocError>
-    ensures ok { OnOk result (out.new.items ≡ out.old.items ++ (head.now ++ text.now)) }
-    ensures err { OnErr result (out.new.items ≡ out.old.items) }
-{
-    let before = out.len();
-    out.extend_from_slice(head)?;
-    if let Err(refused) = out.extend_from_slice(text) {
-        out.truncate(before);
-        return Err(refused);
-    }
-    Ok(())
 }

@@ -2,10 +2,10 @@
 ghost use Rattle.std.specs.Prelude.{◌≡◌, ◌∷◌, [], ◌++◌, List, ℕ, Err, MatchOption, OnOk, OnErr};
 ghost use Rattle.wire.specs.Decoding.{IsLineOf, IsRequestLine, IsReplyLine};
 
+use crate::frame::append;
 use crate::head::Head;
-use crate::line_frame::append;
-use crate::reply_payload::reply_of_payload;
-use crate::request_payload::request_of_payload;
+use crate::reply::payload::reply_of_payload;
+use crate::request::payload::request_of_payload;
 use std::alloc::AllocError;
 use thiserror::Error;
 

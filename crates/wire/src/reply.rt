@@ -1,6 +1,9 @@
-//! Replies, as lines and as payloads.
+//! Replies as values. `payload` and `line` read and write them.
 ghost use Rattle.std.specs.Prelude.{◌≡◌};
-ghost use Rattle.wire.specs.ReplyForm.{kind_of as number_kind, is_error_code as error_code};
+ghost use Rattle.wire.specs.ReplyForm.{reply, text_of, kind_of as number_kind, is_error_code as error_code};
+
+pub(crate) mod line;
+pub(crate) mod payload;
 
 use crate::Version;
 use map_core::Expect;
@@ -35,6 +38,19 @@ pub enum ReplyForm<'a> {
     Memory,
     /// The port is for reads only, or a gate was shut, and the request was not asked.
     Shut,
+}
+
+impl<'a> ReplyForm<'a> {
+    /// The text that the line of the reply ends with; nothing if it has none.
+    pub fn text(&self) -> &'a [u8]
+        ensures { result.now ≡ text_of (reply self.now) }
+    {
+        match self {
+            ReplyForm::Found(text) => text,
+            ReplyForm::Bundle(_, text) => text,
+            _ => &[],
+        }
+    }
 }
 
 /// What a refusal says beside its number.

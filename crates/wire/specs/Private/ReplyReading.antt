@@ -3,19 +3,12 @@ use Rattle.std.specs.Prelude.{ℕ, List, [], ◌∷◌, length, take, drop, nat_
 use Rattle.std.specs.Int.{w32, w64, from_be_bytes}
 use Rattle.map_core.specs.declared.op.Expect.{Expect}
 use Rattle.map_core.specs.declared.op.Expect.TheVariants.{Absent, Sequence, Unnumbered}
-use Rattle.wire.specs.declared.version.Version.{Version}
-use Rattle.wire.specs.declared.version.Version.TheVariants.{One, Two}
 use Rattle.wire.specs.ReplyForm.{is_error_code, Reply, Stored, Unchanged, Removed, Appended, Found, All, Bundle, Speaks, Refused, Moved, Held, Worn, Memory, Shut, kind_of}
 use Rattle.wire.specs.declared.reply.Detail.{Detail}
 use Rattle.wire.specs.declared.reply.Detail.TheVariants.{Nothing, Place, SequenceOf, Expected}
 use Rattle.wire.specs.declared.reply.Kind.{Kind}
 use Rattle.wire.specs.declared.reply.Kind.TheVariants.{Bare, OfPlace, OfSequence, OfExpect}
-use Rattle.wire.specs.PayloadReading.{◌>>=◌}
-
--- nothing follows
-abbrev pub at_end : {A : Type 0} → A → List ℕ → Option A
-at_end value [] = Some value
-at_end value (byte ∷ bytes) = None
+use Rattle.wire.specs.PayloadReading.{◌>>=◌, at_end, of_both, split_named, version_in}
 
 -- a number of 4 bytes, and nothing more
 unfoldable pub short_number : List ℕ → Option ℕ
@@ -50,18 +43,6 @@ detail_in OfExpect bytes = option_map Expected (expect_in bytes)
 unfoldable pub split_at : ℕ → List ℕ → Option (List ℕ × List ℕ)
 split_at size bytes = if nat_le size (length bytes) then Some (take size bytes, drop size bytes) else None
 
--- a name after its length, and a text
-unfoldable pub bundle_in : List ℕ → Option Reply
-bundle_in [] = None
-bundle_in (size ∷ bytes) = do
-  parts ← split_at size bytes
-  Some (Bundle parts.0 parts.1)
-
-unfoldable pub version_in : List ℕ → Option Version
-version_in [] = None
-version_in (number ∷ bytes) =
-    if number == 1 then at_end One bytes else if number == 2 then at_end Two bytes else None
-
 unfoldable pub moved_in : List ℕ → Option Reply
 moved_in bytes = do
   parts ← split_at 4 bytes
@@ -95,7 +76,7 @@ reply_by_letter letter bytes =
     else if letter == 100 then at_end Removed bytes
     else if letter == 112 then option_map Appended (sequence_in bytes)
     else if letter == 97 then option_map All (long_number bytes)
-    else if letter == 105 then bundle_in bytes
+    else if letter == 105 then option_map (of_both Bundle) (split_named bytes)
     else if letter == 118 then option_map Speaks (version_in bytes)
     else None
 

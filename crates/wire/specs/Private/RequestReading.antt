@@ -1,4 +1,4 @@
--- How a request is read from a line, and from a payload.
+-- How a request is read from a line.
 use Rattle.std.specs.Prelude.{ℕ, ◌^◌, List, [], ◌∷◌, length, codes, decimal, nat_lt, bytes_eq, ◌==◌, ◌&&◌, if◌then◌else◌, Option, Some, None, option_map}
 use Rattle.std.specs.Str.Parse.{digits_value}
 use Rattle.map_core.specs.declared.op.Expect.{Expect}
@@ -6,9 +6,7 @@ use Rattle.map_core.specs.declared.op.Expect.TheVariants.{Absent, Sequence, Unnu
 use Rattle.wire.specs.declared.version.Version.{Version}
 use Rattle.wire.specs.declared.version.Version.TheVariants.{One, Two}
 use Rattle.wire.specs.RequestForm.{Request, Set, SetIf, Append, Remove, Get, Fetch, Speak}
-use Rattle.wire.specs.PayloadReading.{◌>>=◌}
-
--- ---- from a line
+use Rattle.wire.specs.PayloadReading.{◌>>=◌, of_both}
 
 abbrev pub after_byte : ℕ → Option (List ℕ × List ℕ) → Option (List ℕ × List ℕ)
 after_byte byte None = None
@@ -56,10 +54,11 @@ expect_of word =
     else if bytes_eq word (codes "none") then Some Unnumbered
     else option_map Sequence (number_of word)
 
-unfoldable pub set_of : List ℕ → Option Request
-set_of bytes = do
-  parts ← split_name bytes
-  Some (Set parts.0 parts.1)
+unfoldable pub version_of : List ℕ → Option Version
+version_of word =
+    if bytes_eq word (codes "1") then Some One
+    else if bytes_eq word (codes "2") then Some Two
+    else None
 
 unfoldable pub set_if_of : List ℕ → Option Request
 set_if_of bytes = do
@@ -68,40 +67,14 @@ set_if_of bytes = do
   expect ← expect_of rest.0
   Some (SetIf parts.0 expect rest.1)
 
-unfoldable pub append_of : List ℕ → Option Request
-append_of bytes = do
-  parts ← split_name bytes
-  Some (Append parts.0 parts.1)
-
-unfoldable pub remove_of : List ℕ → Option Request
-remove_of bytes = do
-  name ← lone_name bytes
-  Some (Remove name)
-
-unfoldable pub get_of : List ℕ → Option Request
-get_of bytes = do
-  name ← lone_name bytes
-  Some (Get name)
-
-unfoldable pub version_of : List ℕ → Option Version
-version_of word =
-    if bytes_eq word (codes "1") then Some One
-    else if bytes_eq word (codes "2") then Some Two
-    else None
-
-unfoldable pub speak_of : List ℕ → Option Request
-speak_of word = do
-  version ← version_of word
-  Some (Speak version)
-
 unfoldable pub request_by_verb : List ℕ → List ℕ → Option Request
 request_by_verb verb rest =
-    if bytes_eq verb (codes "set") then set_of rest
-    else if bytes_eq verb (codes "get") then get_of rest
-    else if bytes_eq verb (codes "append") then append_of rest
-    else if bytes_eq verb (codes "remove") then remove_of rest
+    if bytes_eq verb (codes "set") then option_map (of_both Set) (split_name rest)
+    else if bytes_eq verb (codes "get") then option_map Get (lone_name rest)
+    else if bytes_eq verb (codes "append") then option_map (of_both Append) (split_name rest)
+    else if bytes_eq verb (codes "remove") then option_map Remove (lone_name rest)
     else if bytes_eq verb (codes "setif") then set_if_of rest
-    else if bytes_eq verb (codes "version") then speak_of rest
+    else if bytes_eq verb (codes "version") then option_map Speak (version_of rest)
     else None
 
 abbrev pub request_by_split : List ℕ → Option (List ℕ × List ℕ) → Option Request

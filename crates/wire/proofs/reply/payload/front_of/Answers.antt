@@ -1,7 +1,7 @@
 use Rattle.std.proofs.Common.{◌≡◌, ◌+◌, [], ◌∷◌, ◌∙◌, ap, length, ◌++◌, arith, rules}
 use Rattle.std.specs.Int.{w32, to_be_bytes}
 use Rattle.wire.proofs.FrameLemmas.{frame_in_parts}
-use Rattle.wire.proofs.reply_frame.front_of.Goals as goal
+use Rattle.wire.proofs.reply.payload.front_of.Goals as goal
 
 pub returns-clause-whole : goal.returns-clause-whole
 returns-clause-whole c =

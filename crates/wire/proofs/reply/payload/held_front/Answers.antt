@@ -1,7 +1,7 @@
 use Rattle.std.proofs.Common.{◌≡◌, [], ◌∷◌, ◌∙◌, ap, ◌++◌, rules}
 use Rattle.std.specs.Int.{w32, w64, to_be_bytes}
 use Rattle.wire.specs.Frame.{frame}
-use Rattle.wire.proofs.reply_frame.held_front.Goals as goal
+use Rattle.wire.proofs.reply.payload.held_front.Goals as goal
 
 pub returns-clause-whole : goal.returns-clause-whole
 returns-clause-whole c =

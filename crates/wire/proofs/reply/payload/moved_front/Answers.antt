@@ -1,7 +1,7 @@
 use Rattle.std.proofs.Common.{◌≡◌, [], ◌∷◌, ◌∙◌, ap, ◌++◌, append_assoc, rules}
 use Rattle.std.specs.Int.{w32, w64, to_be_bytes}
 use Rattle.wire.specs.Frame.{frame}
-use Rattle.wire.proofs.reply_frame.moved_front.Goals as goal
+use Rattle.wire.proofs.reply.payload.moved_front.Goals as goal
 
 pub returns-clause-whole : goal.returns-clause-whole
 returns-clause-whole c =

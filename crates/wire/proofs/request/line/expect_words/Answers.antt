@@ -1,7 +1,7 @@
 use Rattle.std.proofs.Common.{[], ◌∷◌, ◌++◌, ap, ◌∙◌}
 use Rattle.wire.specs.RequestForm.{expect_word}
 use Rattle.wire.proofs.Heads.{expect_is_line, spaced_is_line}
-use Rattle.wire.proofs.request_words.expect_words.Goals as goal
+use Rattle.wire.proofs.request.line.expect_words.Goals as goal
 
 pub returns-clause-plain : goal.returns-clause-plain
 returns-clause-plain c =

@@ -1,5 +1,5 @@
 use Rattle.wire.proofs.RequestLines.{found_is, only_is}
-use Rattle.wire.proofs.request_line.request_of_line.Goals as goal
+use Rattle.wire.proofs.request.line.request_of_line.Goals as goal
 
 pub returns-clause-found : goal.returns-clause-found
 returns-clause-found c = found_is c.args.line.now c.read_line.result c.read_line.ensures

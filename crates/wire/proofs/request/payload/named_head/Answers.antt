@@ -1,7 +1,7 @@
 use Rattle.std.proofs.Common.{◌≡◌, ◌+◌, arith, rules, ◌++◌, length, ap, ◌∙◌, length-append}
 use Rattle.std.specs.Int.{w32, to_be_bytes}
 use Rattle.wire.proofs.Heads.{frame_in_parts}
-use Rattle.wire.proofs.request_frame.named_head.Goals as goal
+use Rattle.wire.proofs.request.payload.named_head.Goals as goal
 
 pub returns : goal.returns
 returns c =
