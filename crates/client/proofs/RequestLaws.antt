@@ -7,7 +7,7 @@ use Rattle.map_core.specs.declared.op.Op.TheVariants.{Set, SetIf, Append, Remove
 use Rattle.map_core.specs.PlainMap.{PlainMap, ask}
 use Rattle.wire.specs.declared.version.Version.{Version}
 use Rattle.wire.specs.declared.version.Version.TheVariants.{One, Two}
-use Rattle.wire.specs.declared.judge.Request.TheVariants.{Ask, SetVersion}
+use Rattle.wire.specs.declared.judge.Judged.TheVariants.{Ask, SetVersion}
 use Rattle.wire.specs.Frame.{frame, stream_of}
 use Rattle.wire.specs.RequestForm as form
 use Rattle.wire.specs.RequestForm.{HasPayload}

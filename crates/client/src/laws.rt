@@ -6,7 +6,7 @@ ghost use Rattle.map_core.specs.declared.op.Op.{Op};
 ghost use Rattle.wire.specs.Frame.{stream_of};
 ghost use Rattle.wire.specs.declared.version.Version.{Version};
 ghost use Rattle.wire.specs.declared.version.Version.TheVariants.{One, Two};
-ghost use Rattle.wire.specs.declared.judge.Request.TheVariants.{Ask, SetVersion};
+ghost use Rattle.wire.specs.declared.judge.Judged.TheVariants.{Ask, SetVersion};
 ghost use Rattle.wire.specs.Judge.{request_of};
 ghost use Rattle.frame_front.specs.PlainSession.{answers_to, state_after};
 ghost use Rattle.client.specs.Request.{is_written, IsValidOp, request_payload, request_payloads, request_preface, request_bytes};

@@ -14,7 +14,7 @@ use Rattle.spiffe_doc.proofs.DocumentLaws.{IsBundle-document}
 use Rattle.map_core.specs.Name.{Name}
 use Rattle.map_core.specs.declared.op.Op.TheVariants.{Set}
 use Rattle.wire.specs.declared.version.Version.TheVariants.{One}
-use Rattle.wire.specs.declared.judge.Request.TheVariants.{Ask}
+use Rattle.wire.specs.declared.judge.Judged.TheVariants.{Ask}
 use Rattle.wire.specs.RequestForm as form
 use Rattle.wire.specs.Judge.{request_of}
 use Rattle.wire.proofs.JudgeLemmas.{request_read}

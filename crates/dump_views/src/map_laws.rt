@@ -6,7 +6,7 @@ ghost use Rattle.spiffe_doc.specs.Document.{json_tree};
 ghost use Rattle.spiffe_doc.specs.Text.{text_of};
 ghost use Rattle.map_core.specs.declared.op.Op.TheVariants.{Set};
 ghost use Rattle.wire.specs.declared.version.Version.TheVariants.{One};
-ghost use Rattle.wire.specs.declared.judge.Request.TheVariants.{Ask};
+ghost use Rattle.wire.specs.declared.judge.Judged.TheVariants.{Ask};
 ghost use Rattle.wire.specs.Judge.{request_of};
 ghost use Rattle.frame_front.specs.Dump.{Domains, IsDump, AreValid};
 ghost use Rattle.dump_views.specs.Map.{map_tree, map_text, shown, AreOrdered};

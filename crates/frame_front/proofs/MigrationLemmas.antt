@@ -25,7 +25,7 @@ use Rattle.map_core.specs.Name.{Name, name_cmp}
 use Rattle.map_core.specs.Table.{meaning, set_if}
 use Rattle.map_core.specs.PlainMap.{PlainMap, put, ask, bundles, bundles_among}
 use Rattle.wire.specs.declared.version.Version.TheVariants.{One, Two}
-use Rattle.wire.specs.declared.judge.Request.TheVariants.{Ask, SetVersion}
+use Rattle.wire.specs.declared.judge.Judged.TheVariants.{Ask, SetVersion}
 use Rattle.wire.specs.declared.refusal.Refusal.{Refusal}
 use Rattle.wire.specs.Frame.{IsPayload, HasFrames, stream_of}
 use Rattle.wire.specs.Refusal.{name_refusal, document_refusal}

@@ -15,8 +15,8 @@ use Rattle.wire.specs.Frame.{IsPayload, frame, stream_of}
 use Rattle.wire.specs.declared.error.FrontError.{FrontError}
 use Rattle.wire.specs.declared.error.FrontError.TheVariants.{BadLength, Truncated, ReadFault, WriteFault, TurnsUsed, Memory}
 use Rattle.wire.specs.declared.version.Version.TheVariants.{One}
-use Rattle.wire.specs.declared.judge.Request.{Request}
-use Rattle.wire.specs.declared.judge.Request.TheVariants.{Ask, SetVersion}
+use Rattle.wire.specs.declared.judge.Judged.{Judged}
+use Rattle.wire.specs.declared.judge.Judged.TheVariants.{Ask, SetVersion}
 use Rattle.wire.specs.declared.refusal.Refusal.{Refusal}
 use Rattle.wire.specs.Judge.{request_of}
 use Rattle.wire.specs.Answers.{is_error_reply}
@@ -28,14 +28,14 @@ use Rattle.frame_front.proofs.BegunTexts.{NoErrors, no_errors-append, each_befor
 use Rattle.frame_front.proofs.ReplyLemmas.{not_both, want_is_error, version_answers, plain_goes_out, errors_keep, one_answers}
 
 -- an answer to a payload that reads so, over the plain map
-pub record PlainStep (state : SessionState PlainMap) (read : Result Request Refusal) (text : List ℕ) (new : SessionState PlainMap) : Type 0 where
+pub record PlainStep (state : SessionState PlainMap) (read : Result Judged Refusal) (text : List ℕ) (new : SessionState PlainMap) : Type 0 where
   pub text_is : text ≡ text_for state read
   pub new_is : new ≡ state_for state read
 
 module _ {S : Type 0} (answers : S → Op → Result Reply AskError → S → Type 0) (shows : S → Option PlainMap)
     (plainly : AnswersPlainly answers shows) where
   -- one payload that is read
-  plain_request : (read : Result Request Refusal) (old new : SessionState S) (text : List ℕ) (m : PlainMap) → shows old.1 ≡ Some m
+  plain_request : (read : Result Judged Refusal) (old new : SessionState S) (text : List ℕ) (m : PlainMap) → shows old.1 ≡ Some m
       → AnswersRequest answers read old text new
       → (n : PlainMap) × (shows new.1 ≡ Some n) × (is_error_reply text ≡ false → PlainStep (old.0, m) read text (new.0, n))
   plain_request (Err refusal) old new text m shown answer =
@@ -52,7 +52,7 @@ module _ {S : Type 0} (answers : S → Op → Result Reply AskError → S → Ty
         },
       )
 
-  error_request : (read : Result Request Refusal) (old new : SessionState S) (text : List ℕ) (m : PlainMap) → shows old.1 ≡ Some m
+  error_request : (read : Result Judged Refusal) (old new : SessionState S) (text : List ℕ) (m : PlainMap) → shows old.1 ≡ Some m
       → AnswersRequest answers read old text new → is_error_reply text ≡ true → (shows new.1 ≡ Some m) × (new.0 ≡ old.0)
   error_request (Err refusal) old new text m shown answer tells = (ap (λ (s : SessionState S). shows s.1) answer.1 ∙ shown, ap (λ (s : SessionState S). s.0) answer.1)
   error_request (Ok (SetVersion version)) old new text m shown answer tells = absurd (not_both (is_error_reply text) tells (ap is_error_reply answer.0 ∙ version_answers version))

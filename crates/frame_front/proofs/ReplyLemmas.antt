@@ -16,8 +16,8 @@ use Rattle.map_core.specs.Ask.{PlainAnswer, ContentsAnswer}
 use Rattle.map_core.proofs.MapLaws.{ask_keeps}
 use Rattle.wire.specs.declared.version.Version.{Version}
 use Rattle.wire.specs.declared.version.Version.TheVariants.{One, Two}
-use Rattle.wire.specs.declared.judge.Request.{Request}
-use Rattle.wire.specs.declared.judge.Request.TheVariants.{Ask, SetVersion}
+use Rattle.wire.specs.declared.judge.Judged.{Judged}
+use Rattle.wire.specs.declared.judge.Judged.TheVariants.{Ask, SetVersion}
 use Rattle.wire.specs.declared.refusal.Refusal.{Refusal}
 use Rattle.wire.specs.declared.refusal.Refusal.TheVariants.{BadRequest, BadName, BadDocument, PassedOver, Memory}
 use Rattle.wire.specs.Frame.{frame}
@@ -126,7 +126,7 @@ module _ {S : Type 0} (answers : S → Op → Result Reply AskError → S → Ty
   answer_answers op (Err e) old new text answered (inl same) none = absurd (none (inr (e, (old, op, new, answered), same)))
   answer_answers op (Err e) old new text answered (inr want) none = absurd want.0
 
-  request_answers : (read : Result Request Refusal) (old new : SessionState S) (text : List ℕ) → AnswersRequest answers read old text new
+  request_answers : (read : Result Judged Refusal) (old new : SessionState S) (text : List ℕ) → AnswersRequest answers read old text new
       → ¬ (TellsError answers text) → is_error_reply text ≡ false
   request_answers (Err refusal) old new text answer none = refusal_answers refusal text answer.0 (λ same. none (inl same))
   request_answers (Ok (SetVersion version)) old new text answer none = ap is_error_reply answer.0 ∙ version_answers version

@@ -4,8 +4,8 @@ use Rattle.map_core.specs.declared.op.Op.{Op}
 use Rattle.map_core.specs.declared.reply.Reply.{Reply as Said}
 use Rattle.map_core.specs.declared.reply.AskError.{AskError}
 use Rattle.wire.specs.declared.version.Version.{Version}
-use Rattle.wire.specs.declared.judge.Request.{Request}
-use Rattle.wire.specs.declared.judge.Request.TheVariants.{Ask, SetVersion}
+use Rattle.wire.specs.declared.judge.Judged.{Judged}
+use Rattle.wire.specs.declared.judge.Judged.TheVariants.{Ask, SetVersion}
 use Rattle.wire.specs.declared.refusal.Refusal.{Refusal}
 use Rattle.wire.specs.Frame.{frame}
 use Rattle.wire.specs.Answers.{memory_frame, GoesOut, answer_forms, request_refusal_form}
@@ -32,7 +32,7 @@ pub session_has_lines : {S : Type 0} (answers : S → Op → Result Said AskErro
 session_has_lines answers version next old new payload text bytes valid (inr refused) = no_memory text refused.0
 session_has_lines answers version next old new payload text bytes valid (inl told) = by (request_of version payload) refl told
   where
-    by : (r : Result Request Refusal) → request_of version payload ≡ r → AnswersRequest answers r (version, old) text (next, new) → HaveLines text
+    by : (r : Result Judged Refusal) → request_of version payload ≡ r → AnswersRequest answers r (version, old) text (next, new) → HaveLines text
     by (Err refusal) e a = let reply = refusals_have_lines version payload refusal bytes e in one_reply (request_refusal_form refusal) text a.0 reply
     by (Ok (SetVersion v)) e a = let reply = versions_have_lines v in one_reply (Speaks v) text a.0 reply
     by (Ok (Ask op)) e a = goes_out a.0 text (valid op a.0 a.1) a.2

@@ -11,8 +11,8 @@ use Rattle.map_core.specs.declared.reply.Reply.{Reply}
 use Rattle.map_core.specs.declared.reply.Reply.TheVariants.{Found}
 use Rattle.map_core.specs.declared.reply.AskError.{AskError}
 use Rattle.wire.specs.declared.refusal.Refusal.{Refusal}
-use Rattle.wire.specs.declared.judge.Request.{Request}
-use Rattle.wire.specs.declared.judge.Request.TheVariants.{Ask}
+use Rattle.wire.specs.declared.judge.Judged.{Judged}
+use Rattle.wire.specs.declared.judge.Judged.TheVariants.{Ask}
 use Rattle.wire.specs.declared.version.Version.{Version}
 use Rattle.wire.specs.Answers.{reply_frames}
 use Rattle.wire.specs.RequestForm as form
@@ -38,7 +38,7 @@ module _ {S : Type 0} (answers : S → Op → Result Reply AskError → S → Ty
       → AnswersNow answers None (version, old) (judged version (form.Get name)) (version, new) ready ready_new
   shown_now version name is none shows = let s = shown_none none shows in let text : List ℕ = 102 ∷ text_of s.0 in (
     reply_frames (Found s.0),
-    inl (subst (λ (r : Result Request Refusal). AnswersRequest answers r (version, old) (reply_frames (Found s.0)) (version, new)) (sym (request_get version name d is)) (Ok (Found s.0), s.1, inl refl, refl)),
+    inl (subst (λ (r : Result Judged Refusal). AnswersRequest answers r (version, old) (reply_frames (Found s.0)) (version, new)) (sym (request_get version name d is)) (Ok (Found s.0), s.1, inl refl, refl)),
     omega (arith, length-frame text [], ap length (append-nil (reply_frames (Found s.0)))),
     reply_answers (Found s.0),
     s.2.0,

@@ -9,8 +9,8 @@ use Rattle.map_core.specs.PlainMap.{PlainMap, ask}
 use Rattle.wire.specs.declared.error.FrontError.{FrontError}
 use Rattle.wire.specs.declared.error.FrontError.TheVariants.{WriteFault}
 use Rattle.wire.specs.declared.version.Version.TheVariants.{One}
-use Rattle.wire.specs.declared.judge.Request.{Request}
-use Rattle.wire.specs.declared.judge.Request.TheVariants.{Ask, SetVersion}
+use Rattle.wire.specs.declared.judge.Judged.{Judged}
+use Rattle.wire.specs.declared.judge.Judged.TheVariants.{Ask, SetVersion}
 use Rattle.wire.specs.declared.refusal.Refusal.{Refusal}
 use Rattle.wire.specs.Frame.{stream_of, IsPayload}
 use Rattle.wire.specs.Judge.{request_of}
@@ -19,13 +19,13 @@ use Rattle.frame_front.specs.Session.{SessionState, EndsAt}
 use Rattle.frame_front.specs.Transcript.{EndsInput, UsesTurns, IsReadIn}
 
 -- the answer to a payload that reads so
-abbrev pub text_for : SessionState PlainMap → Result Request Refusal → List ℕ
+abbrev pub text_for : SessionState PlainMap → Result Judged Refusal → List ℕ
 text_for state (Err refusal) = refusal_frame refusal
 text_for state (Ok (SetVersion version)) = version_frame version
 text_for state (Ok (Ask op)) = reply_frames (ask state.1 op).reply
 
 -- and the state after it
-abbrev pub state_for : SessionState PlainMap → Result Request Refusal → SessionState PlainMap
+abbrev pub state_for : SessionState PlainMap → Result Judged Refusal → SessionState PlainMap
 state_for state (Err refusal) = state
 state_for state (Ok (SetVersion version)) = (version, state.1)
 state_for state (Ok (Ask op)) = (state.0, (ask state.1 op).map)

@@ -7,8 +7,8 @@ use Rattle.map_core.specs.declared.reply.AskError.{AskError}
 use Rattle.wire.specs.declared.error.FrontError.{FrontError}
 use Rattle.wire.specs.declared.error.FrontError.TheVariants.{BadLength, Truncated, ReadFault, WriteFault, TurnsUsed, Memory}
 use Rattle.wire.specs.declared.version.Version.{Version}
-use Rattle.wire.specs.declared.judge.Request.{Request}
-use Rattle.wire.specs.declared.judge.Request.TheVariants.{Ask, SetVersion}
+use Rattle.wire.specs.declared.judge.Judged.{Judged}
+use Rattle.wire.specs.declared.judge.Judged.TheVariants.{Ask, SetVersion}
 use Rattle.wire.specs.declared.refusal.Refusal.{Refusal}
 use Rattle.wire.specs.Frame.{stream_of, IsPayload, IsUnfinished, IsBadLength}
 use Rattle.wire.specs.Judge.{request_of}
@@ -20,7 +20,7 @@ SessionState S = Version × S
 
 module _ {S : Type 0} (answers : S → Op → Result Reply AskError → S → Type 0) where
   -- A payload that reads so may be answered by this text, when memory suffices to read it.
-  abbrev pub AnswersRequest : Result Request Refusal → SessionState S → List ℕ → SessionState S → Type 0
+  abbrev pub AnswersRequest : Result Judged Refusal → SessionState S → List ℕ → SessionState S → Type 0
   -- a refusal asks nothing
   AnswersRequest (Err refusal) old text new = (text ≡ refusal_frame refusal) × (new ≡ old)
   -- a version is set, and nothing is asked

@@ -21,6 +21,6 @@ pub use dump::{DumpError, migrate, read_dump};
 pub use live::LiveSession;
 pub use session::serve;
 pub use wire::{
-    Counted, Decoder, FaultyReader, FaultyWriter, FrontError, Refusal, Request, Version,
+    Counted, Decoder, FaultyReader, FaultyWriter, FrontError, Judged, Refusal, Version,
     read_request,
 };

@@ -13,7 +13,7 @@ use map_core::{Ask, Viewer};
 use spiffe_doc::{Bundle, DocumentReader, Memory};
 use std::alloc::Global;
 use wire::{
-    Refusal, Request, RequestForm, Version, canonical_text, found_front, read_name,
+    Judged, Refusal, RequestForm, Version, canonical_text, found_front, read_name,
     request_of_payload,
 };
 
@@ -83,8 +83,8 @@ impl Replies {
                 None => return false,
             },
             Some(form) => match form.judge(self.alloc, documents, self.version) {
-                Ok(Request::Ask(op)) => answer_reply(ask.ask(op)),
-                Ok(Request::SetVersion(wanted)) => {
+                Ok(Judged::Ask(op)) => answer_reply(ask.ask(op)),
+                Ok(Judged::SetVersion(wanted)) => {
                     self.version = wanted;
                     version_reply(wanted)
                 }

@@ -2,8 +2,8 @@
 use Rattle.std.proofs.Common.{◌≡◌, Some, Result, Ok, Err, ap}
 use Rattle.std.proofs.lemmas.Option.{same_Some, none-some}
 use Rattle.map_core.specs.declared.op.Op.{Op}
-use Rattle.wire.specs.declared.judge.Request.{Request as Judged}
-use Rattle.wire.specs.declared.judge.Request.TheVariants.{Ask, SetVersion}
+use Rattle.wire.specs.declared.judge.Judged.{Judged}
+use Rattle.wire.specs.declared.judge.Judged.TheVariants.{Ask, SetVersion}
 use Rattle.wire.specs.declared.refusal.Refusal.{Refusal}
 use Rattle.wire.specs.declared.version.Version.TheVariants.{Two}
 use Rattle.wire.specs.RequestForm.{Request}

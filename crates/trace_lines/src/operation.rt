@@ -5,7 +5,7 @@ ghost use Rattle.trace_lines.specs.Private.EventReading.{Reads, operation_of};
 use map_core::Op;
 use spiffe_doc::DocumentReader;
 use std::alloc::Global;
-use wire::{Refusal, Request, RequestForm, Version};
+use wire::{Judged, Refusal, RequestForm, Version};
 
 /// Why one line gives no event.
 #[derive(Drop)]
@@ -22,7 +22,7 @@ pub(crate) fn read_operation(alloc: Global, form: &RequestForm<'_>) -> Result<Op
 {
     let mut documents = DocumentReader::new(alloc);
     match form.judge(alloc, &mut documents, Version::Two) {
-        Ok(Request::Ask(op)) => Ok(op),
+        Ok(Judged::Ask(op)) => Ok(op),
         Err(Refusal::Memory) => Err(LineError::Memory),
         _ => Err(LineError::NoEvent),
     }

@@ -12,7 +12,7 @@ use Rattle.map_core.specs.declared.op.Op.TheVariants as op
 use Rattle.map_core.specs.declared.op.Expect.{Expect}
 use Rattle.wire.specs.declared.version.Version.{Version}
 use Rattle.wire.specs.declared.version.Version.TheVariants.{Two}
-use Rattle.wire.specs.declared.judge.Request.TheVariants.{Ask}
+use Rattle.wire.specs.declared.judge.Judged.TheVariants.{Ask}
 use Rattle.wire.specs.declared.refusal.Refusal.{Refusal}
 use Rattle.wire.specs.RequestForm.{Set, SetIf, Append, Remove, Get}
 use Rattle.wire.specs.Judge.{◌>>=◌, name_or_refusal, parse_name, bundle_or_refusal, parse_bundle, authority_or_refusal, parse_authority, named_bundle, judged}

@@ -10,8 +10,8 @@ use Rattle.map_core.specs.Name.{Name}
 use Rattle.map_core.specs.declared.op.Op.TheVariants as op
 use Rattle.wire.specs.declared.version.Version.{Version}
 use Rattle.wire.specs.declared.version.Version.TheVariants.{One, Two}
-use Rattle.wire.specs.declared.judge.Request.{Request as Judged}
-use Rattle.wire.specs.declared.judge.Request.TheVariants.{Ask, SetVersion}
+use Rattle.wire.specs.declared.judge.Judged.{Judged}
+use Rattle.wire.specs.declared.judge.Judged.TheVariants.{Ask, SetVersion}
 use Rattle.wire.specs.declared.refusal.Refusal.{Refusal}
 use Rattle.wire.specs.declared.refusal.Refusal.TheVariants.{BadRequest, PassedOver}
 use Rattle.wire.specs.Refusal.{name_refusal, document_refusal}

@@ -12,9 +12,9 @@ use map_core::Op;
 use spiffe_doc::{Authority, Bundle, DocumentReader, TrustDomain, read_entry};
 use std::alloc::Global;
 
-/// What a payload asks.
+/// What a payload asks, once it is judged.
 #[derive(Drop)]
-pub enum Request {
+pub enum Judged {
     /// An operation on the map.
     Ask(Op),
     /// The version that the session has from now on.
@@ -24,7 +24,7 @@ pub enum Request {
 /// Reads a payload as a request. Refusals come in this order: no request at all, a bad name, a bad
 /// document or key; out of memory at any point.
 #[tactic(auto, unfolding(crate::specs::Judge::request_of))]
-pub fn read_request(alloc: Global, version: Version, payload: &[u8]) -> Result<Request, Refusal>
+pub fn read_request(alloc: Global, version: Version, payload: &[u8]) -> Result<Judged, Refusal>
     ensures { Gives Refusal.Memory result (request_of version payload.now) }
 {
     let Some(form) = request_of_payload(payload) else {
@@ -43,7 +43,7 @@ impl<'a> RequestForm<'a> {
         alloc: Global,
         documents: &mut DocumentReader,
         version: Version,
-    ) -> Result<Request, Refusal>
+    ) -> Result<Judged, Refusal>
         ensures { Gives Refusal.Memory result (judged version (request self.now)) }
     {
         let op = match *self {
@@ -65,9 +65,9 @@ impl<'a> RequestForm<'a> {
             RequestForm::Remove(name) => Op::Remove(read_name(alloc, name)?),
             RequestForm::Get(name) => Op::Get(read_name(alloc, name)?),
             RequestForm::Fetch => Op::FetchAll,
-            RequestForm::Speak(wanted) => return Ok(Request::SetVersion(wanted)),
+            RequestForm::Speak(wanted) => return Ok(Judged::SetVersion(wanted)),
         };
-        Ok(Request::Ask(op))
+        Ok(Judged::Ask(op))
     }
 }
 

@@ -41,7 +41,7 @@ pub use field::{FIELD_BYTES, Field, expect_bytes, sequence_bytes};
 pub use frame::{LENGTH_BYTES, MAX_PAYLOAD, first_frame, length_field, put_frame};
 pub use head::{HEAD_BYTES, Head};
 pub use item::{ITEM_HEAD_BYTES, canonical_text, is_after, item_front, put_request, read_item};
-pub use judge::{Request, read_name, read_request};
+pub use judge::{Judged, read_name, read_request};
 pub use line_decoder::LineDecoder;
 pub use output::{tell, tell_flushed, write_both, write_flushed, write_whole};
 pub use payload_line::{PayloadError, put_line_of};

@@ -6,8 +6,8 @@ use Rattle.map_core.specs.declared.reply.Reply.{Reply}
 use Rattle.map_core.specs.declared.reply.AskError.{AskError}
 use Rattle.wire.specs.declared.counted.Counted.{Counted}
 use Rattle.wire.specs.declared.error.FrontError.{FrontError}
-use Rattle.wire.specs.declared.judge.Request.{Request}
-use Rattle.wire.specs.declared.judge.Request.TheVariants.{Ask, SetVersion}
+use Rattle.wire.specs.declared.judge.Judged.{Judged}
+use Rattle.wire.specs.declared.judge.Judged.TheVariants.{Ask, SetVersion}
 use Rattle.wire.specs.declared.refusal.Refusal.{Refusal}
 use Rattle.wire.specs.Judge.{request_of}
 use Rattle.frame_front.specs.Session.{SessionState, AnswersRequest, Answers, AnswersAll}
@@ -25,7 +25,7 @@ module _ {S T : Type 0} (answers : S → Op → Result Reply AskError → S → 
   same_seen : (old new : SessionState S) → Stays old.1 → new ≡ old → Stays new.1 × (seen_state new ≡ seen_state old)
   same_seen old new stays e = (subst (λ (s : SessionState S). Stays s.1) (sym e) stays, ap seen_state e)
 
-  request_seen : (r : Result Request Refusal) (old : SessionState S) (text : List ℕ) (new : SessionState S) → Stays old.1
+  request_seen : (r : Result Judged Refusal) (old : SessionState S) (text : List ℕ) (new : SessionState S) → Stays old.1
       → AnswersRequest answers r old text new → Stays new.1 × AnswersRequest answers_seen r (seen_state old) text (seen_state new)
   request_seen (Err refusal) old text new stays a = let s = same_seen old new stays a.1 in (s.0, (a.0, s.1))
   request_seen (Ok (SetVersion version)) old text new stays a = let s = same_seen (version, old.1) new stays a.1 in (s.0, (a.0, s.1))

@@ -9,7 +9,7 @@ use Rattle.map_core.specs.declared.reply.Reply.TheVariants.{Found}
 use Rattle.map_core.specs.declared.reply.AskError.{AskError}
 use Rattle.spiffe_doc.specs.Text.{text_of}
 use Rattle.wire.specs.Answers.{is_error_reply, item_frame, memory_frame, reply_frames}
-use Rattle.wire.specs.declared.judge.Request.{Request}
+use Rattle.wire.specs.declared.judge.Judged.{Judged}
 use Rattle.wire.specs.declared.refusal.Refusal.{Refusal}
 use Rattle.frame_front.specs.Live.{most_part}
 use Rattle.frame_front.specs.Session.{SessionState, AnswersRequest}
@@ -51,18 +51,18 @@ abbrev pub stores_found : List ℕ → BundleValue → List ℕ → Type 0
 stores_found ready bundle new = (new ≡ ready ++ reply_frames (Found bundle)) × (length (text_of bundle) ≤ 1048576)
 
 -- a payload that reads so is answered by this text
-abbrev pub AnswersRead : {S : Type 0} → (S → Op → Result Reply AskError → S → Type 0) → SessionState S → Result Request Refusal → List ℕ → SessionState S → Type 0
+abbrev pub AnswersRead : {S : Type 0} → (S → Op → Result Reply AskError → S → Type 0) → SessionState S → Result Judged Refusal → List ℕ → SessionState S → Type 0
 AnswersRead answers old read text new = AnswersRequest answers read old text new ⊎ ((text ≡ memory_frame) × (new ≡ old))
 
 -- It is answered, by an error of whoever was asked or not, and the text of the answer waits: what is left of it, after what is ready.
 abbrev pub AnswersLater : {S : Type 0} → (S → Op → Result Reply AskError → S → Type 0)
-    → Bool → SessionState S → Result Request Refusal → SessionState S → List ℕ → List ℕ → List ℕ → Type 0
+    → Bool → SessionState S → Result Judged Refusal → SessionState S → List ℕ → List ℕ → List ℕ → Type 0
 AnswersLater answers is_error old read new ready_old ready_new left =
     (text : List ℕ) × AnswersRead answers old read text new × (5 ≤ length text) × (is_error ≡ is_error_reply text) × (ready_new ++ left ≡ ready_old ++ text)
 
 -- It is answered by this text, which is to come after what is ready; or by that of a bundle, which has come there.
 abbrev pub AnswersNow : {S : Type 0} → (S → Op → Result Reply AskError → S → Type 0)
-    → Option (List ℕ) → SessionState S → Result Request Refusal → SessionState S → List ℕ → List ℕ → Type 0
+    → Option (List ℕ) → SessionState S → Result Judged Refusal → SessionState S → List ℕ → List ℕ → Type 0
 AnswersNow answers (Some text) old read new ready_old ready_new = AnswersRead answers old read text new × (ready_new ≡ ready_old)
 AnswersNow answers None old read new ready_old ready_new =
     (text : List ℕ) × AnswersRead answers old read text new × (5 ≤ length text) × (is_error_reply text ≡ false) × (ready_new ≡ ready_old ++ text)

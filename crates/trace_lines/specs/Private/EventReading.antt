@@ -5,8 +5,8 @@ use Rattle.step_core.specs.declared.event.Event.{Event}
 use Rattle.step_core.specs.declared.event.Event.TheVariants.{Begin, Step, Quit, End}
 use Rattle.step_core.specs.declared.event.Why.{Why}
 use Rattle.step_core.specs.declared.event.Why.TheVariants.{Held, Memory}
-use Rattle.wire.specs.declared.judge.Request.{Request as Judged}
-use Rattle.wire.specs.declared.judge.Request.TheVariants.{Ask}
+use Rattle.wire.specs.declared.judge.Judged.{Judged}
+use Rattle.wire.specs.declared.judge.Judged.TheVariants.{Ask}
 use Rattle.wire.specs.declared.refusal.Refusal.{Refusal}
 use Rattle.wire.specs.declared.version.Version.TheVariants.{Two}
 use Rattle.wire.specs.RequestForm.{Request}
