@@ -78,7 +78,7 @@ module _ (form : Form) (count all : ℕ) (due : count < all) (from_old from_mid 
         (Appends-trans out_old out_mid out_new (flat_map (shown form) so.others) (shown form reply) so.shows shows.shows);
   }
 
-  -- what is read where the next reply is due is none that may come there
+  -- what is read where the next reply is due is not one that may come there
   torn_at : (error : ClientError) (torn : List ℕ) (from_new : Option (List ℕ)) → Consumes from_mid from_new torn
       → ((first : Reply) → all ≡ bundles_after first → BreaksOff form (Server error) (first ∷ so.others) torn [] [] from_new) → BreaksOthers form (Server error) all from_old from_new out_old out_mid
   torn_at error torn from_new came why = record {
