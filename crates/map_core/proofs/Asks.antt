@@ -1,20 +1,21 @@
 -- What an operation answers and leaves, by the row of the table that it means.
-use Rattle.std.proofs.Common.{◌≡◌, false, Option, Some, Result, Ok, Err, IfOk, refl, sym, ap, subst, ◌∙◌, arith}
+use Rattle.std.proofs.Common.{◌≡◌, ◌⊎◌, inl, inr, ℕ, List, Bool, false, cond, bytes_eq, Option, Some, None, Result, Ok, Err, IfOk, refl, sym, ap, subst, ◌∙◌, arith}
 use Rattle.std.specs.FinMap as finite
 use Rattle.spiffe_doc.specs.Authority.{BundleValue}
 use Rattle.map_core.specs.declared.op.Op.{Op}
-use Rattle.map_core.specs.declared.op.Op.TheVariants.{Get, FetchAll}
+use Rattle.map_core.specs.declared.op.Op.TheVariants.{Get, FetchAll, FetchUnless}
 use Rattle.map_core.specs.declared.held.Holding.{Holding}
 use Rattle.map_core.specs.declared.held.Holding.TheVariants.{Published}
 use Rattle.map_core.specs.declared.reply.Reply.{Reply}
-use Rattle.map_core.specs.declared.reply.Reply.TheVariants.{All, Found}
+use Rattle.map_core.specs.declared.reply.Reply.TheVariants.{All, Same, Found}
 use Rattle.map_core.specs.declared.table.RowEffect as program
 use Rattle.map_core.specs.declared.table.RowEffect.TheVariants.{Kept}
 use Rattle.map_core.specs.Name.{Name}
-use Rattle.map_core.specs.Op.{domain_of}
+use Rattle.map_core.specs.Op.{domain_of, known_of}
+use Rattle.map_core.specs.Dump.{digest}
 use Rattle.map_core.specs.Private.Outcome.{reply_of, held_after, outcome_at, left_by}
 use Rattle.map_core.specs.Reply.{is_change}
-use Rattle.map_core.specs.Table.{Effect, OnName, On_name, meaning, get}
+use Rattle.map_core.specs.Table.{Effect, OnName, On_name, meaning, get, fetched}
 use Rattle.map_core.specs.PlainMap.{PlainMap, put, bundles, ask_on, ask}
 use Rattle.map_core.proofs.Maps.{put-same}
 
@@ -56,14 +57,10 @@ get_left m held d is = grind (arith, put-same)
 get_quiet : (held : Option Holding) → is_change (get held).reply ≡ false
 get_quiet held = grind arith
 
--- ---- a look and a fetch-all change nothing
+-- ---- a get changes nothing
 pub get_changes_nothing : (m : PlainMap) (op : Op) (d : Name) → op ≡ Get d → false ≡ is_change (ask m op).reply
 unfolding ask meaning
 get_changes_nothing m op d is = sym (get_quiet (finite.get m d)) ∙ ap (λ (x : Op). is_change (ask m x).reply) (sym is)
-
-pub fetch_all_changes_nothing : (m : PlainMap) (op : Op) → op ≡ FetchAll → false ≡ is_change (ask m op).reply
-unfolding ask meaning
-fetch_all_changes_nothing m op is = ap (λ (x : Op). is_change (ask m x).reply) (sym is)
 
 -- the reply of the row of Get, at what the name holds
 pub get_reply : {E : Type 0} (m : PlainMap) (d : Name) (r : Result Reply E) (held : Option Holding) → held ≡ finite.get m d → IfOk r (λ reply. reply ≡ (get held).reply) → IfOk r (λ reply. reply ≡ (ask m (Get d)).reply)
@@ -81,13 +78,28 @@ unfolding ask meaning
 kept_left m op d reply is =
     ap (λ (x : Op). left_by m (domain_of x) (Kept reply)) is ∙ get_left m (finite.get m d) d refl ∙ ap (λ (x : Op). (ask m x).map) (sym is)
 
-pub fetch_all_reply : (m : PlainMap) (op : Op) → op ≡ FetchAll → (ask m op).reply ≡ All (bundles m)
-unfolding ask meaning
-fetch_all_reply m op is = ap (λ (x : Op). (ask m x).reply) is
+-- ---- an operation on all names
+pub is_on_all : (op : Op) → (op ≡ FetchAll) ⊎ ((known : List ℕ) × (op ≡ FetchUnless known)) → domain_of op ≡ None
+is_on_all op (inl is) = ap domain_of is
+is_on_all op (inr is) = ap domain_of is.1
 
-pub fetch_all_left : (m : PlainMap) (op : Op) (o : program.RowEffect) → op ≡ FetchAll → left_by m (domain_of op) o ≡ (ask m op).map
+same_or_all : (b : Bool) (items : List (Name × BundleValue)) → is_change (cond b Same (All items)) ≡ false
+same_or_all b items = grind arith
+
+pub fetched_quiet : (known : Option (List ℕ)) (items : List (Name × BundleValue)) → is_change (fetched known items) ≡ false
+fetched_quiet None items = refl
+fetched_quiet (Some known) items = same_or_all (bytes_eq known (digest items)) items
+
+pub fetched_reply : (m : PlainMap) (op : Op) → domain_of op ≡ None → (ask m op).reply ≡ fetched (known_of op) (bundles m)
 unfolding ask meaning
-fetch_all_left m op o is = ap (λ (x : Op). left_by m (domain_of x) o) is ∙ ap (λ (x : Op). (ask m x).map) (sym is)
+fetched_reply m op none = grind arith
+
+pub fetched_left : (m : PlainMap) (op : Op) (o : program.RowEffect) → domain_of op ≡ None → left_by m (domain_of op) o ≡ (ask m op).map
+unfolding ask meaning
+fetched_left m op o none = grind arith
+
+pub fetched_changes_nothing : (m : PlainMap) (op : Op) → domain_of op ≡ None → false ≡ is_change (ask m op).reply
+fetched_changes_nothing m op none = sym (ap is_change (fetched_reply m op none) ∙ fetched_quiet (known_of op) (bundles m))
 
 pub fetch_all : (m : PlainMap) → (ask m FetchAll).reply ≡ All (bundles m)
-fetch_all m = fetch_all_reply m FetchAll refl
+fetch_all m = fetched_reply m FetchAll refl

@@ -2,6 +2,7 @@ pub mod Name
 pub mod Op
 pub mod Snapshot
 pub mod Reply
+pub mod Dump
 pub mod Table
 pub mod PlainMap
 pub mod Union

@@ -8,10 +8,9 @@ use Rattle.map_core.specs.declared.op.Op.{Op}
 use Rattle.map_core.specs.declared.held.Holding.{Holding}
 use Rattle.map_core.specs.declared.held.Holding.TheVariants.{Published, Mark}
 use Rattle.map_core.specs.declared.reply.Reply.{Reply}
-use Rattle.map_core.specs.declared.reply.Reply.TheVariants.{All}
 use Rattle.map_core.specs.Name.{Name, name_cmp}
 use Rattle.map_core.specs.Op.{domain_of}
-use Rattle.map_core.specs.Table.{OnName, On_name, On_all, meaning}
+use Rattle.map_core.specs.Table.{OnName, On_name, On_all, meaning, fetched}
 
 -- a finite map from names to what they hold: two of them that hold the same under each name are one
 abbrev pub PlainMap : Type 0
@@ -36,10 +35,10 @@ pub record AskResult : Type 0 where
   pub reply : Reply
   pub map : PlainMap
 
--- the row is asked what the name holds, and what it leaves is put back; a fetch-all shows all bundles
+-- the row is asked what the name holds, and what it leaves is put back; a fetch-all tells of all bundles
 abbrev pub ask_on : PlainMap → OnName → AskResult
 ask_on m (On_name d table) = let outcome = table (finite.get m d) in record { reply = outcome.reply; map = put m d outcome.held }
-ask_on m On_all = record { reply = All (bundles m); map = m }
+ask_on m (On_all known) = record { reply = fetched known (bundles m); map = m }
 
 -- what an operation is answered, and what is held then
 unfoldable pub ask : PlainMap → Op → AskResult

@@ -1,5 +1,5 @@
 -- The table of operations on one name: the reply, and what the name holds then, follow from what it held.
-use Rattle.std.specs.Prelude.{ℕ, Bool, false, Option, Some, None, option_map, Result, Ok, Err, nat_lt, if◌then◌else◌}
+use Rattle.std.specs.Prelude.{ℕ, Bool, false, List, bytes_eq, Option, Some, None, option_map, Result, Ok, Err, nat_lt, if◌then◌else◌}
 use Rattle.spiffe_doc.specs.Authority.{BundleValue}
 use Rattle.spiffe_doc.specs.Equal.{bundle_eq}
 use Rattle.spiffe_doc.specs.Append.{appended}
@@ -7,16 +7,17 @@ use Rattle.spiffe_doc.specs.declared.authority.Authority.{Authority}
 use Rattle.spiffe_doc.specs.declared.error.AppendError.{AppendError}
 use Rattle.spiffe_doc.specs.declared.error.AppendError.TheVariants as cannot
 use Rattle.map_core.specs.declared.op.Op.{Op}
-use Rattle.map_core.specs.declared.op.Op.TheVariants.{Set, SetIf, Append, Remove, Get, FetchAll}
+use Rattle.map_core.specs.declared.op.Op.TheVariants.{Set, SetIf, Append, Remove, Get, FetchAll, FetchUnless}
 use Rattle.map_core.specs.declared.op.Expect.{Expect}
 use Rattle.map_core.specs.declared.op.Expect.TheVariants.{Absent, Sequence, Unnumbered}
 use Rattle.map_core.specs.declared.held.Holding.{Holding}
 use Rattle.map_core.specs.declared.held.Holding.TheVariants.{Published, Mark}
 use Rattle.map_core.specs.declared.reply.Reply.{Reply}
-use Rattle.map_core.specs.declared.reply.Reply.TheVariants.{Stored, Unchanged, Appended, Removed, Found, Refused}
+use Rattle.map_core.specs.declared.reply.Reply.TheVariants.{Stored, Unchanged, Appended, Removed, Found, All, Same, Refused}
 use Rattle.map_core.specs.declared.reply.MapRefusal.TheVariants.{NoDomain, Stale, KidTaken, TooMany, TooLong, SequenceFull, NotExpected}
 use Rattle.map_core.specs.Name.{Name}
 use Rattle.map_core.specs.Op.{expect_eq}
+use Rattle.map_core.specs.Dump.{digest}
 
 -- what an operation on one name gives: the reply, and what the name holds then
 pub record Effect : Type 0 where
@@ -96,10 +97,16 @@ get None = keep (Refused NoDomain) None
 get (Some (Mark s)) = keep (Refused NoDomain) (Some (Mark s))
 get (Some (Published b)) = keep (Found b) (Some (Published b))
 
--- an operation is on one name, by a row of the table, or on all names
+-- FetchAll and FetchUnless: all bundles, unless their digest is the one that is known. Of two lists of bundles with one digest, one may
+-- be taken for the other
+abbrev pub fetched : Option (List ℕ) → List (Name × BundleValue) → Reply
+fetched None items = All items
+fetched (Some known) items = if bytes_eq known (digest items) then Same else All items
+
+-- an operation is on one name, by a row of the table, or on all names, where a digest may be known
 pub data OnName : Type 0 where
   On_name : Name → (Option Holding → Effect) → OnName
-  On_all : OnName
+  On_all : Option (List ℕ) → OnName
 
 -- what each operation is on, and its row
 unfoldable pub meaning : Op → OnName
@@ -108,4 +115,5 @@ meaning (SetIf d expect b) = On_name d (set_if expect b)
 meaning (Append d a) = On_name d (append a)
 meaning (Remove d) = On_name d remove
 meaning (Get d) = On_name d get
-meaning FetchAll = On_all
+meaning FetchAll = On_all None
+meaning (FetchUnless known) = On_all (Some known)

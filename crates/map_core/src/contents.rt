@@ -122,6 +122,7 @@ impl Contents {
             Op::Remove(domain) => Ok(table::remove(self.at(domain)).into_is_change()),
             Op::Get(_) => Ok(false),
             Op::FetchAll => Ok(false),
+            Op::FetchUnless(_) => Ok(false),
             _ => Ok(self.outcome(op)?.into_is_change()),
         }
     }
@@ -229,7 +230,9 @@ impl Contents {
             Op::Append(domain, authority) => table::append(self.alloc, self.at(domain), authority),
             Op::Remove(domain) => Ok(table::remove(self.at(domain))),
             Op::Get(domain) => Ok(RowEffect::Kept(self.get(domain)?)),
-            Op::FetchAll => Ok(RowEffect::Kept(Reply::All(self.snapshot()?))),
+            Op::FetchAll | Op::FetchUnless(_) => {
+                Ok(RowEffect::Kept(self.snapshot()?.into_reply(op.known())))
+            }
         }
     }
 

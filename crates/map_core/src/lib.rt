@@ -6,6 +6,7 @@
 
 mod ask;
 mod contents;
+mod dump;
 mod held;
 pub mod home;
 pub mod laws;
@@ -16,6 +17,7 @@ mod union;
 
 pub use ask::{Ask, Viewer};
 pub use contents::Contents;
+pub use dump::{DIGEST_BYTES, DumpDigest, canonical_text, item_front};
 pub use held::Holding;
 pub use op::{Expect, Op};
 pub use reply::{AskError, MapRefusal, Reply, Snapshot};

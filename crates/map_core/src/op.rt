@@ -1,7 +1,8 @@
 //! What is asked of a map of trust bundles.
 ghost use Rattle.std.specs.Prelude.{◌≡◌, IfOk, option_copied};
-ghost use Rattle.map_core.specs.Op.{domain_of, is_read as reads};
+ghost use Rattle.map_core.specs.Op.{domain_of, known_of, is_read as reads};
 
+use crate::dump::DumpDigest;
 use spiffe_doc::{Authority, Bundle, Memory, TrustDomain};
 use std::fmt;
 use std::fmt::{Display, Formatter, Write};
@@ -27,7 +28,7 @@ impl Display for Expect {
     }
 }
 
-/// An operation. All but `FetchAll` are on one name.
+/// An operation. All but the last two are on one name.
 #[derive(Drop)]
 pub enum Op {
     /// Stores the bundle, unless an equal one stands there or its sequence is lower than the one that stands
@@ -43,6 +44,8 @@ pub enum Op {
     Get(TrustDomain),
     /// Asks for all bundles as they stand together.
     FetchAll,
+    /// The same, unless they have this digest: the SHA-256 of their dump.
+    FetchUnless(DumpDigest),
 }
 
 impl Op {
@@ -59,6 +62,7 @@ impl Op {
             Op::Remove(domain) => Ok(Op::Remove(domain.copy()?)),
             Op::Get(domain) => Ok(Op::Get(domain.copy()?)),
             Op::FetchAll => Ok(Op::FetchAll),
+            Op::FetchUnless(known) => Ok(Op::FetchUnless(*known)),
         }
     }
 
@@ -69,7 +73,17 @@ impl Op {
         match self {
             Op::Set(domain, _) | Op::SetIf(domain, _, _) | Op::Append(domain, _) => Some(domain),
             Op::Remove(domain) | Op::Get(domain) => Some(domain),
-            Op::FetchAll => None,
+            Op::FetchAll | Op::FetchUnless(_) => None,
+        }
+    }
+
+    /// The digest of the bundles that whoever fetches has already, if it is told.
+    pub fn known(&self) -> Option<DumpDigest>
+        ensures { result ≡ known_of self.now }
+    {
+        match self {
+            Op::FetchUnless(known) => Some(*known),
+            _ => None,
         }
     }
 
@@ -77,7 +91,7 @@ impl Op {
     pub fn is_read(&self) -> bool
         ensures { result ≡ reads self.now }
     {
-        matches!(self, Op::Get(_) | Op::FetchAll)
+        matches!(self, Op::Get(_) | Op::FetchAll | Op::FetchUnless(_))
     }
 
     /// The name that the operation was on; none for a fetch-all.
@@ -93,7 +107,7 @@ impl Op {
             }
             Op::Remove(domain) => Some(domain),
             Op::Get(domain) => Some(domain),
-            Op::FetchAll => None,
+            Op::FetchAll | Op::FetchUnless(_) => None,
         }
     }
 }

@@ -2,7 +2,10 @@
 ghost use Rattle.std.specs.Prelude.{◌≡◌, length, IfOk, MatchResult};
 ghost use Rattle.map_core.specs.Reply.{is_change, refusal_number, error_number};
 ghost use Rattle.map_core.specs.Snapshot.{pairs_of};
+ghost use Rattle.map_core.specs.Dump.{digest};
+ghost use Rattle.map_core.specs.Table.{fetched};
 
+use crate::dump::{DumpDigest, digest_of};
 use crate::op::Expect;
 use spiffe_doc::{Bundle, Memory, TrustDomain};
 use std::alloc::{AllocError, Global};
@@ -105,6 +108,23 @@ impl Snapshot {
     {
         self.pairs.get().len()
     }
+
+    /// The digest of the bundles: the SHA-256 of their dump. It goes through all of their texts.
+    pub fn digest(&self) -> DumpDigest
+        ensures { result ≡ digest self.now }
+    {
+        digest_of(self.pairs())
+    }
+
+    /// The reply of a fetch-all: these bundles, unless their digest is the one that is known.
+    pub fn into_reply(self, known: Option<DumpDigest>) -> Reply
+        ensures { result ≡ fetched known self }
+    {
+        match known {
+            Some(known) if known == self.digest() => Reply::Same,
+            _ => Reply::All(self),
+        }
+    }
 }
 
 impl Pairs {
@@ -133,6 +153,8 @@ pub enum Reply {
     Found(Bundle),
     /// All bundles.
     All(Snapshot),
+    /// All bundles have the digest that was known.
+    Same,
     /// Nothing has changed, for this reason.
     Refused(MapRefusal),
 }

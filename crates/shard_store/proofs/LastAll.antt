@@ -17,8 +17,8 @@ use Rattle.shard_store.specs.declared.last_all.LastAll.{LastAll}
 use Rattle.shard_store.specs.Changes.{after, count}
 use Rattle.shard_store.specs.Pass.{StoreView}
 use Rattle.shard_store.specs.Promise.{IsLater, IsReply, IsRefusedAt, IsRefused}
-use Rattle.shard_store.specs.Private.Readings.{AreConfirmed, IsSnapshot}
-use Rattle.shard_store.specs.Private.LastAll.{WasAll, IsLastAll, IsFetched}
+use Rattle.shard_store.specs.Private.Readings.{AreConfirmed, AreRevisions, IsSnapshot}
+use Rattle.shard_store.specs.Private.LastAll.{IsDigestOf, WasAll, IsLastAll, IsFetched}
 use Rattle.shard_store.proofs.Changes.{count_append, counts_one}
 use Rattle.shard_store.proofs.LastReads.{Begins, begins_answered, refused_at_later}
 use Rattle.shard_store.proofs.Promise.{alone_later, extends_then, later_then}
@@ -30,7 +30,7 @@ same_all r q e = cc
 -- it stays so
 pub all_longer : (n : ℕ) (log more : List Change) (remembered : Option LastAll) → Begins log more → IsLastAll n log remembered → IsLastAll n more remembered
 all_longer n log more remembered b told last e = let was = told last e in
-    (was.0, was.1 ++ b.0, b.1 ∙ (ap (λ (x : List Change). x ++ b.0) was.2 ∙ append_assoc was.0 was.1 b.0), was.3, was.4)
+    (was.0, was.1 ++ b.0, b.1 ∙ (ap (λ (x : List Change). x ++ b.0) was.2 ∙ append_assoc was.0 was.1 b.0), was.3, was.4, was.5)
 
 pub all_later : (n : ℕ) (s t : Seen) (remembered : Option LastAll) → IsLater t s → IsLastAll n s.log remembered → IsLastAll n t.log remembered
 all_later n s t remembered l told = all_longer n s.log t.log remembered (l.0.0, l.0.1) told
@@ -61,8 +61,13 @@ still_all n log last some was still = let seen = was.0 in let new = was.1 in
     was.4 ∙ ap (λ (x : List Change). bundles (after x)) (sym (was.2 ∙ (ap (λ (x : List Change). seen ++ x) none ∙ append-nil seen)))
 
 -- what was fetched may be answered, and remembered
-pub fetched : {Z : Type 0} (n : ℕ) (s t : Seen) (vs : List (Arc PlainMap Z)) (last : LastAll) (x : IsSnapshot n s t last.revisions.items vs) → last.all ≡ bundles (after x.0) → IsFetched n s t last
-fetched {Z} n s t vs last x is = (all_answered s t x.0 last.all x.1 x.2 x.3 is, (x.0, x.2.0, x.2.1, x.6, is))
+pub fetched : {Z : Type 0} (n : ℕ) (s t : Seen) (vs : List (Arc PlainMap Z)) (last : LastAll) (x : IsSnapshot n s t last.revisions.items vs) → last.all ≡ bundles (after x.0) → IsDigestOf last.all last.digest → IsFetched n s t last
+fetched {Z} n s t vs last x is found = (all_answered s t x.0 last.all x.1 x.2 x.3 is, (x.0, x.2.0, x.2.1, x.6, is, found))
+
+-- it is still so once a reply was given by it
+pub was_all : (n : ℕ) (log : List Change) (old new : LastAll) → new.revisions.items ≡ old.revisions.items → new.all ≡ old.all → IsDigestOf old.all new.digest → WasAll n log old → WasAll n log new
+was_all n log old new revisions all found was =
+    (was.0, was.1, was.2, subst (AreRevisions n was.0) (sym revisions) was.3, all ∙ was.4, subst (λ items. IsDigestOf items new.digest) (sym all) found)
 
 -- it may be remembered as it is
 pub kept_all : (n : ℕ) (log : List Change) (remembered : Option LastAll) (last : LastAll) → remembered ≡ Some last → WasAll n log last → IsLastAll n log remembered

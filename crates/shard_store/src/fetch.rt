@@ -1,6 +1,7 @@
 //! A fetch-all: each shard is read, and then each revision is confirmed by one load, which holds nothing.
-ghost use Rattle.std.specs.Prelude.{◌≡◌, ◌<◌, [], ◌∷◌, ◌++◌, length, OnOk, MatchResult, MatchOption};
+ghost use Rattle.std.specs.Prelude.{◌≡◌, ◌<◌, [], ◌∷◌, ◌++◌, length, None, OnOk, MatchResult, MatchOption};
 ghost use Rattle.map_core.specs.declared.op.Op.{Op};
+ghost use Rattle.map_core.specs.PlainMap.{shard_of};
 ghost use Rattle.shard_store.specs.Promise.{IsLater, IsReply, IsRefusedAt, IsRefused};
 ghost use Rattle.shard_store.specs.Private.Seat.{IsFree, HasLooked};
 ghost use Rattle.shard_store.specs.Private.Desk.{IsReady};
@@ -68,29 +69,32 @@ impl Movement {
 }
 
 impl Store {
-    /// All bundles, as they stood together at one moment. What the last fetch-all was answered is answered again if no
-    /// shard has changed since.
+    /// Answers an operation on all names, by the bundles as they stood together at one moment. By what the last one was
+    /// answered, this one is answered too if no shard has changed since.
     pub(crate) fn ask_all(
         &self,
         desk: &mut Desk,
         last_all: &mut Option<LastAll>,
+        op: &Op,
     ) -> Result<Reply, AskError>
+        requires each { shard_of self.now.id.slots op.now ≡ None }
         requires ready { IsReady self.now.id desk.old }
         requires all { IsLastAll self.now.id.slots desk.old.seat.me.0.seen.log last_all.old }
         ensures ready { IsReady self.now.id desk.new }
         ensures all { IsLastAll self.now.id.slots desk.new.seat.me.0.seen.log last_all.new }
         ensures answer { MatchResult result
-            (λ reply. IsReply Op.FetchAll desk.old.seat.me.0.seen reply desk.new.seat.me.0.seen)
-            (IsRefused self.now Op.FetchAll desk.old.seat.me.0.seen desk.new.seat.me.0.seen) }
+            (λ reply. IsReply op.now desk.old.seat.me.0.seen reply desk.new.seat.me.0.seen)
+            (IsRefused self.now op.now desk.old.seat.me.0.seen desk.new.seat.me.0.seen) }
     {
-        if let Some(all) = self.recall_all(&mut desk.seat, last_all)? {
-            return Ok(Reply::All(all));
+        let known = op.known();
+        if let Some(recalled) = self.recall_all(&mut desk.seat, last_all, known)? {
+            return Ok(recalled);
         }
         *last_all = None;
         let mut last = self.fetch_anew(desk)?;
-        let shared = last.all.share(self.alloc)?;
+        let reply = last.reply(self.alloc, known)?;
         *last_all = Some(last);
-        Ok(Reply::All(shared))
+        Ok(reply)
     }
 
     // All bundles, read from the shards.
@@ -107,7 +111,11 @@ impl Store {
             versions,
         } = self.fetch_parts(desk)?;
         let all = all_of(self.alloc, versions.as_slice())?;
-        Ok(LastAll { revisions, all })
+        Ok(LastAll {
+            revisions,
+            all,
+            digest: None,
+        })
     }
 
     // The parts of the map after one list: rounds until no shard has moved in one.

@@ -19,7 +19,7 @@ use crate::pass::Pass;
 use crate::rule::{ShardTable, Slot, StoreSeat};
 use atomic_table::Table;
 use map_core::home::{home, shard_of};
-use map_core::{AskError, Contents, Expect, Op, Reply, Viewer};
+use map_core::{AskError, Contents, DumpDigest, Expect, Op, Reply, Viewer};
 use spiffe_doc::{Authority, Bundle, Memory, TrustDomain};
 use std::alloc::{AllocError, Global};
 use std::marker::{Brand, Model};
@@ -134,8 +134,9 @@ impl Store {
                 answer
             }
             None => {
+                let answer = self.ask_all(&mut pass.desk, &mut pass.last_all, &op);
                 drop(op);
-                self.ask_all(&mut pass.desk, &mut pass.last_all)
+                answer
             }
         }
     }
@@ -228,6 +229,16 @@ impl Store {
         ensures answer { StoreAnswer self.now Op.FetchAll pass.old.seen result pass.new.seen }
     {
         self.ask(pass, Op::FetchAll)
+    }
+
+    /// The same, unless they had this digest then: the SHA-256 of their dump. The pass remembers the digest of what it was
+    /// answered last: while no shard changes, nothing is hashed again.
+    pub fn fetch_unless(&self, pass: &mut Pass, known: DumpDigest) -> Result<Reply, AskError>
+        requires own { IsOf pass.old self.now }
+        ensures own { IsOf pass.new self.now }
+        ensures answer { StoreAnswer self.now (Op.FetchUnless known) pass.old.seen result pass.new.seen }
+    {
+        self.ask(pass, Op::FetchUnless(known))
     }
 
     /// Takes the shard, by one try. Other passes are refused there until the shard is let go. If another pass has it,

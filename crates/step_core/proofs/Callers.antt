@@ -7,7 +7,8 @@ use Rattle.std.specs.declared.cmp.Ordering.{Ordering}
 use Rattle.std.specs.declared.cmp.Ordering.TheVariants.{Equal}
 use Rattle.std.specs.BTreeMap.{BTreeMap, is_at}
 use Rattle.std.specs.BTreeMap as tree
-use Rattle.step_core.specs.Phase.{Phase, is_idle, has_point}
+use Rattle.map_core.specs.Op.{known_of}
+use Rattle.step_core.specs.Phase.{is_idle, has_point}
 use Rattle.step_core.specs.Run.{Run}
 use Rattle.step_core.specs.Private.Shown.{IsCaller}
 use Rattle.step_core.specs.declared.driver.Running.{Running}
@@ -62,7 +63,7 @@ caller_kept n rounds run next points now d number (Some running) keeps places ap
       caller = ap (λ (x : ℕ). (next.records x).caller) keeps.current ∙ keeps.begun_by (run.current d) below ∙ h.caller;
       op = keeps.op ∙ h.op ∙ sym (keeps.asked (run.current d) below) ∙ ap (λ (x : ℕ). (next.records x).op) (sym keeps.current);
       busy = ap is_idle keeps.phase ∙ h.busy;
-      task = h.task ∙ ap (λ (x : Phase). record { shards = n; rounds = rounds; phase = x }) (sym keeps.phase);
+      task = h.task ∙ (λ i. record { shards = n; rounds = rounds; known = known_of (sym keeps.op i); phase = sym keeps.phase i });
       place = places running.number (has_point running.task.phase) running.place apart h.place;
     }
 

@@ -2,9 +2,10 @@
 use Rattle.std.proofs.Common.{◌≡◌, ℕ, ◌+◌, ◌<◌, ◌≤◌, false, cond, List, [], ◌∷◌, ◌++◌, length, Some, None, Ok, Err, ◌⊎◌, arith, length-append, refl, sym, ap, subst, ◌∙◌, inl, inr, ⊎_elim}
 use Rattle.std.proofs.lemmas.Grind.{elements}
 use Rattle.map_core.specs.declared.op.Op.{Op}
-use Rattle.map_core.specs.declared.op.Op.TheVariants.{FetchAll}
 use Rattle.map_core.specs.Reply.{is_change}
-use Rattle.map_core.specs.PlainMap.{PlainMap, ask, shard_of, partition}
+use Rattle.map_core.specs.Op.{known_of}
+use Rattle.map_core.specs.Table.{fetched}
+use Rattle.map_core.specs.PlainMap.{PlainMap, bundles, ask, shard_of, partition}
 use Rattle.map_core.proofs.MapLaws.{ask_keeps, part_reply, part_home, part_away, fetch_keeps, together_is, fetch_reply}
 use Rattle.step_core.specs.World.{with_at}
 use Rattle.step_core.specs.Shard.{ShardVersion, reading}
@@ -130,9 +131,9 @@ sure_more n k s readings m small is h j l =
     }
 
 -- all readings are confirmed
-pub all_sure : (n : ℕ) (s : ℕ → ShardVersion) (readings : List ShardVersion) (m : PlainMap) (op : Op) → 0 < n → shard_of n op ≡ None → ((j : ℕ) → j < n → Seen n n s readings m j) → snapshot_reply n readings ≡ (ask m op).reply
+pub all_sure : (n : ℕ) (s : ℕ → ShardVersion) (readings : List ShardVersion) (m : PlainMap) (op : Op) → 0 < n → shard_of n op ≡ None → ((j : ℕ) → j < n → Seen n n s readings m j) → snapshot_reply n (known_of op) readings ≡ (ask m op).reply
 all_sure n s readings m op h none seen =
-    ap (λ (q : PlainMap). (ask q FetchAll).reply) (together_is n m (λ j. (reading readings j).part) h (λ j l. (seen j l).sure l)) ∙ sym (fetch_reply n m op none)
+    ap (λ (q : PlainMap). fetched (known_of op) (bundles q)) (together_is n m (λ j. (reading readings j).part) h (λ j l. (seen j l).sure l)) ∙ sym (fetch_reply n m op none)
 
 -- a shard that is put back
 put_back_at : (s : ℕ → ShardVersion) (i j : ℕ) → with_at s i (s i) j ≡ s j

@@ -6,6 +6,7 @@ use Rattle.map_core.specs.declared.reply.AskError.{AskError}
 use Rattle.map_core.specs.declared.reply.AskError.TheVariants.{Moved}
 use Rattle.map_core.specs.declared.reply.Reply.{Reply}
 use Rattle.map_core.specs.PlainMap.{shard_of}
+use Rattle.map_core.specs.Op.{known_of}
 use Rattle.step_core.specs.World.{with_at, Turn, turn, to_phase, refusal}
 use Rattle.step_core.specs.Shard.{ShardVersion, reading, step_on, of_shard}
 use Rattle.step_core.specs.Phase.{Phase, Idle, Waiting, Collecting, Confirming, Done, after_reading, after_confirming, snapshot_reply, after_disturbance, confirm, wrote_shard, is_open, start_phase, start_phase_at, is_idle}
@@ -79,9 +80,9 @@ scan_collects n rounds s count round now base some h =
     by_number (λ b. Scan n rounds s count (cond b (Confirming round now 0) (Collecting round now))) (length now) n
     (λ is. (some, base, subst (λ (x : ℕ). Round round count s now x base) is h)) (λ _. (base, h))
 
-scan_confirmed : (n rounds : ℕ) (s : ℕ → ShardVersion) (count round : ℕ) (readings : List ShardVersion) (k base : ℕ) → k < n → Round round count s readings n base → Scan n rounds s count (after_confirming n round readings (k + 1))
-scan_confirmed n rounds s count round readings k base small h =
-    by_number (λ b. Scan n rounds s count (cond b (Done (Ok (snapshot_reply n readings))) (Confirming round readings (k + 1)))) (k + 1) n
+scan_confirmed : (n rounds : ℕ) (known : Option (List ℕ)) (s : ℕ → ShardVersion) (count round : ℕ) (readings : List ShardVersion) (k base : ℕ) → k < n → Round round count s readings n base → Scan n rounds s count (after_confirming n known round readings (k + 1))
+scan_confirmed n rounds known s count round readings k base small h =
+    by_number (λ b. Scan n rounds s count (cond b (Done (Ok (snapshot_reply n known readings))) (Confirming round readings (k + 1)))) (k + 1) n
     (λ _ shard first second is. cc) (λ ne. (omega (arith, small, ne), base, h))
 
 no_reading : (count base round : ℕ) (s : ℕ → ShardVersion) → round ≤ count → Round (round + 1) count s [] 0 count
@@ -92,13 +93,13 @@ scan_disturbed n rounds s count round k base first second l =
     by_number (λ b. Scan n rounds s count (cond b (Done (Err (Moved k first second))) (Collecting (round + 1) []))) round rounds
     (λ same _ _ _ _. omega (arith, same, l)) (λ _. (count, no_reading count base round s l))
 
-scan_confirm : (n rounds : ℕ) (s : ℕ → ShardVersion) (count round : ℕ) (readings : List ShardVersion) (k base : ℕ) → k < n → Round round count s readings n base → Scan n rounds s count (confirm n rounds round readings k (s k).revision)
-scan_confirm n rounds s count round readings k base small h =
+scan_confirm : (n rounds : ℕ) (known : Option (List ℕ)) (s : ℕ → ShardVersion) (count round : ℕ) (readings : List ShardVersion) (k base : ℕ) → k < n → Round round count s readings n base → Scan n rounds s count (confirm n rounds known round readings k (s k).revision)
+scan_confirm n rounds known s count round readings k base small h =
     let read = (reading readings k).revision in
     let now = (s k).revision in
     let one = h.bounded k small in
-    by_number (λ b. Scan n rounds s count (cond b (after_confirming n round readings (k + 1)) (after_disturbance rounds round k read now))) read now
-    (λ _. scan_confirmed n rounds s count round readings k base small h)
+    by_number (λ b. Scan n rounds s count (cond b (after_confirming n known round readings (k + 1)) (after_disturbance rounds round k read now))) read now
+    (λ _. scan_confirmed n rounds known s count round readings k base small h)
     (λ ne. scan_disturbed n rounds s count round k base read now (omega (arith, ne, one.grown, one.risen, h.earlier)))
 
 -- a step on one shard is not refused as moved
@@ -109,7 +110,7 @@ scan_turn : (n rounds : ℕ) (s : ℕ → ShardVersion) (op : Op) (count : ℕ) 
 scan_turn n rounds s op count Idle some h = tt
 scan_turn n rounds s op count (Waiting i) some h = λ shard first second is. absurd (never_moved i (s i) op shard first second is)
 scan_turn n rounds s op count (Collecting round readings) some h = scan_collects n rounds s count round (readings ++ s (length readings) ∷ []) h.0 some (round_more round count s readings h.0 h.1)
-scan_turn n rounds s op count (Confirming round readings k) some h = scan_confirm n rounds s count round readings k h.1 h.0 h.2
+scan_turn n rounds s op count (Confirming round readings k) some h = scan_confirm n rounds (known_of op) s count round readings k h.1 h.0 h.2
 scan_turn n rounds s op count (Done reply) some h = h
 
 -- ---- a step raises a revision by one at most, and only if it writes
@@ -133,7 +134,7 @@ turn_rise : (n rounds : ℕ) (s : ℕ → ShardVersion) (op : Op) (phase : Phase
 turn_rise n rounds s op Idle = level s Idle
 turn_rise n rounds s op (Waiting i) = step_rise s op i
 turn_rise n rounds s op (Collecting round readings) = level s (after_reading n round (readings ++ s (length readings) ∷ []))
-turn_rise n rounds s op (Confirming round readings k) = level s (confirm n rounds round readings k (s k).revision)
+turn_rise n rounds s op (Confirming round readings k) = level s (confirm n rounds (known_of op) round readings k (s k).revision)
 turn_rise n rounds s op (Done reply) = level s (Done reply)
 
 -- ---- along a run

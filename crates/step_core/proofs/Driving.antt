@@ -16,6 +16,7 @@ use Rattle.step_core.specs.declared.trace.OpRecord.{OpRecord}
 use Rattle.step_core.specs.Run.{Point, Run, update_points, numbers, act}
 use Rattle.step_core.proofs.Acts.{begin, pass, give_up, turn_of, act_is}
 use Rattle.step_core.specs.Records.{no_record}
+use Rattle.map_core.specs.Op.{known_of}
 use Rattle.step_core.specs.TaskView.{TaskView}
 use Rattle.step_core.specs.Task.{IsWantOf, out_of_memory}
 use Rattle.step_core.specs.Private.Driver.{positions, IsPlaced, place_after, observation_by, left_by, update_positions, with_wrote, with_end}
@@ -70,7 +71,7 @@ begun_unplaced at = grind arith
 
 -- an operation begins
 pub begun_shown : (n rounds : ℕ) (old new : Driver) (run : Run) (c : ℕ) (op : Op) (x : Running) (entry : OpRecord) → IsShown n rounds old run → tree.get nat_cmp old.callers c ≡ None → new.rounds ≡ old.rounds
-    → new.shards.items ≡ old.shards.items → AtCaller old.callers new.callers c (Some x) → x.number ≡ length old.ops.items → x.task ≡ record { shards = n; rounds = rounds; phase = start_phase n op }
+    → new.shards.items ≡ old.shards.items → AtCaller old.callers new.callers c (Some x) → x.number ≡ length old.ops.items → x.task ≡ record { shards = n; rounds = rounds; known = known_of op; phase = start_phase n op }
     → new.ops.items ≡ old.ops.items ++ entry ∷ [] → entry ≡ record { caller = c; op = op; first = run.events; last = None; reply = None; wrote = false } → new.points.items ≡ old.points.items
     → IsShown n rounds new (act n rounds run (Begin c op))
 begun_shown n rounds old new run c op x entry h none same shards at number task ops entry_is points =
@@ -87,7 +88,7 @@ begun_shown n rounds old new run c op x entry h none same shards at number task 
       caller = ap (λ (r : OpRecord). r.caller) begun;
       op = with_at_same run.world.ops c op c refl ∙ sym (ap (λ (r : OpRecord). r.op) begun);
       busy = ap is_idle phase ∙ begun_busy (shard_of n op);
-      task = task ∙ ap (λ (p : Phase). record { shards = n; rounds = rounds; phase = p }) (sym phase);
+      task = task ∙ (λ i. record { shards = n; rounds = rounds; known = known_of (sym (with_at_same run.world.ops c op c refl) i); phase = sym phase i });
       place = subst (λ (b : Bool). IsPlaced old.points.items x.number b x.place) (sym unplaced)
           (subst (λ (k : ℕ). IsPlaced old.points.items k false x.place) (sym numbered) (new_unplaced old.points.items run.count x.place h.known));
     } in
@@ -138,16 +139,17 @@ turn_busy : (n rounds : ℕ) (s : ℕ → ShardVersion) (op : Op) (p : Phase) �
 turn_busy n rounds s op p h = grind arith
 
 -- a task after an answer, if there was memory
-pub given_task : (n rounds : ℕ) (x new : TaskView) (p : Phase) (a b : Observation) → x ≡ record { shards = n; rounds = rounds; phase = p } → new.shards ≡ x.shards → new.rounds ≡ x.rounds
-    → (new.phase ≡ give x.shards x.rounds x.phase a) ⊎ (new.phase ≡ out_of_memory) → (new.phase ≡ out_of_memory → ⊥) → a ≡ b → new ≡ record { shards = n; rounds = rounds; phase = give n rounds x.phase b }
-given_task n rounds x new p a b is s r phase memory same =
-    let given : new.phase ≡ give x.shards x.rounds x.phase a = ⊎_elim (λ (e : new.phase ≡ give x.shards x.rounds x.phase a). e) (λ (e : new.phase ≡ out_of_memory). absurd (memory e)) phase in
-    (λ i. record { shards = s i; rounds = r i; phase = given i }) ∙ (λ i. record { shards = (is i).shards; rounds = (is i).rounds; phase = give (is i).shards (is i).rounds x.phase (same i) })
+pub given_task : (n rounds : ℕ) (known : Option (List ℕ)) (x new : TaskView) (p : Phase) (a b : Observation) → x ≡ record { shards = n; rounds = rounds; known = known; phase = p } → new.shards ≡ x.shards → new.rounds ≡ x.rounds → new.known ≡ x.known
+    → (new.phase ≡ give x.shards x.rounds x.known x.phase a) ⊎ (new.phase ≡ out_of_memory) → (new.phase ≡ out_of_memory → ⊥) → a ≡ b → new ≡ record { shards = n; rounds = rounds; known = known; phase = give n rounds known x.phase b }
+given_task n rounds known x new p a b is s r k phase memory same =
+    let given : new.phase ≡ give x.shards x.rounds x.known x.phase a = ⊎_elim (λ (e : new.phase ≡ give x.shards x.rounds x.known x.phase a). e) (λ (e : new.phase ≡ out_of_memory). absurd (memory e)) phase in
+    (λ i. record { shards = s i; rounds = r i; known = k i; phase = given i })
+    ∙ (λ i. record { shards = (is i).shards; rounds = (is i).rounds; known = (is i).known; phase = give (is i).shards (is i).rounds (is i).known x.phase (same i) })
 
 -- an operation goes on
 pub stepped_shown : (n rounds : ℕ) (old new : Driver) (run : Run) (c : ℕ) (x y : Running) (op : Op) → IsShown n rounds old run → tree.get nat_cmp old.callers c ≡ Some x → is_done x.task.phase ≡ false → IsWantOf n (wants x.task.phase)
     → op ≡ (get_or old.ops.items x.number no_record).op → new.rounds ≡ old.rounds → new.shards.items ≡ left_by old.shards.items op (wants x.task.phase) → AtCaller old.callers new.callers c (Some y) → y.number ≡ x.number
-    → y.task ≡ record { shards = n; rounds = rounds; phase = give n rounds x.task.phase (observation_by old.shards.items op (wants x.task.phase)) }
+    → y.task ≡ record { shards = n; rounds = rounds; known = known_of (run.world.ops c); phase = give n rounds (known_of (run.world.ops c)) x.task.phase (observation_by old.shards.items op (wants x.task.phase)) }
     → new.ops.items ≡ set old.ops.items x.number (with_wrote (get_or old.ops.items x.number no_record) (wrote_shard y.task.phase))
     → new.points.items ≡ update_positions (has_point x.task.phase) (has_point y.task.phase) x.number x.place old.points.items → y.place ≡ place_after (has_point x.task.phase) (has_point y.task.phase) x.place old.points.items
     → IsShown n rounds new (act n rounds run (Step c))
@@ -162,7 +164,7 @@ stepped_shown n rounds old new run c x y op h some undone inside op_is same shar
     let op_same : op ≡ run.world.ops c = op_is ∙ ap (λ (r : OpRecord). r.op) (h.records.each x.number own.known) ∙ ap (λ (q : ℕ). (run.records q).op) own.number ∙ sym own.op in
     let inside' : IsWantOf n (wants p) = subst (λ (q : Phase). IsWantOf n (wants q)) phase_is inside in
     let undone' : is_done p ≡ false = sym (ap is_done phase_is) ∙ undone in
-    let told : y.task.phase ≡ t.phase = ap (λ (v : TaskView). v.phase) task ∙ (λ i. give n rounds (phase_is i) (observation_by old.shards.items (op_same i) (wants (phase_is i))))
+    let told : y.task.phase ≡ t.phase = ap (λ (v : TaskView). v.phase) task ∙ (λ i. give n rounds (known_of (run.world.ops c)) (phase_is i) (observation_by old.shards.items (op_same i) (wants (phase_is i))))
     ∙ told_alike n rounds old.shards.items run.world.shards (run.world.ops c) p h.shards inside' undone' in
     let phase_now : next.world.phases c ≡ t.phase = with_at_same run.world.phases c t.phase c refl in
     let had = has_point x.task.phase in
@@ -176,7 +178,7 @@ stepped_shown n rounds old new run c x y op h some undone inside op_is same shar
       caller = with_at_keep (λ (r : OpRecord). r.caller) run.records (run.current c) passed refl (run.current c) ∙ own.caller;
       op = own.op ∙ sym (with_at_keep (λ (r : OpRecord). r.op) run.records (run.current c) passed refl (run.current c));
       busy = ap is_idle phase_now ∙ turn_busy n rounds run.world.shards (run.world.ops c) p (undone_open p own.busy undone');
-      task = task ∙ ap (λ (q : Phase). record { shards = n; rounds = rounds; phase = q }) (sym (ap (λ (v : TaskView). v.phase) task) ∙ told ∙ sym phase_now);
+      task = task ∙ ap (λ (q : Phase). record { shards = n; rounds = rounds; known = known_of (run.world.ops c); phase = q }) (sym (ap (λ (v : TaskView). v.phase) task) ∙ told ∙ sym phase_now);
       place = subst (λ (k : ℕ). IsPlaced now k has y.place) (sym number) (subst (IsPlaced now x.number has) (sym place) (own_placed had has there x.number x.place own.place));
     } in
     subst (IsShown n rounds new) (sym (act_is n rounds run (Step c) ∙ ap (λ b. cond b next run) (undone_open p own.busy undone')))

@@ -3,6 +3,7 @@ use Rattle.std.proofs.Common.{◌≡◌, ℕ, suc, ◌<◌, false, cond, List, [
 use Rattle.std.proofs.Math.ListN.{get_or-append}
 use Rattle.std.proofs.Math.Seq.{get_or-append_seam}
 use Rattle.map_core.specs.declared.op.Op.{Op}
+use Rattle.map_core.specs.Op.{known_of}
 use Rattle.step_core.specs.World.{with_at, turn}
 use Rattle.step_core.specs.Shard.{ShardVersion, fresh_shard, reading, step_on, of_shard}
 use Rattle.step_core.specs.Phase.{Phase, Idle, Waiting, Collecting, Confirming, Done, Replied, Seen, Revision, wants, give, is_done}
@@ -39,11 +40,11 @@ shard_set n list s i v w is small h = record { size = length-set list i v ∙ h.
 
 -- what the list of shards tells is what the machine's step tells
 pub told_alike : (n rounds : ℕ) (list : List ShardVersion) (s : ℕ → ShardVersion) (op : Op) (phase : Phase) → ShowsShards n list s → IsWantOf n (wants phase) → is_done phase ≡ false
-    → give n rounds phase (observation_by list op (wants phase)) ≡ (turn n rounds s op phase).phase
+    → give n rounds (known_of op) phase (observation_by list op (wants phase)) ≡ (turn n rounds s op phase).phase
 told_alike n rounds list s op Idle h inside open_now = refl
-told_alike n rounds list s op (Waiting i) h inside open_now = ap (λ (v : ShardVersion). give n rounds (Waiting i) (Replied (of_shard i (step_on v op).answer))) (h.each i inside)
-told_alike n rounds list s op (Collecting round readings) h inside open_now = ap (λ (v : ShardVersion). give n rounds (Collecting round readings) (Seen v)) (h.each (length readings) inside)
-told_alike n rounds list s op (Confirming round readings k) h inside open_now = ap (λ (v : ShardVersion). give n rounds (Confirming round readings k) (Revision v.revision)) (h.each k inside)
+told_alike n rounds list s op (Waiting i) h inside open_now = ap (λ (v : ShardVersion). give n rounds (known_of op) (Waiting i) (Replied (of_shard i (step_on v op).answer))) (h.each i inside)
+told_alike n rounds list s op (Collecting round readings) h inside open_now = ap (λ (v : ShardVersion). give n rounds (known_of op) (Collecting round readings) (Seen v)) (h.each (length readings) inside)
+told_alike n rounds list s op (Confirming round readings k) h inside open_now = ap (λ (v : ShardVersion). give n rounds (known_of op) (Confirming round readings k) (Revision v.revision)) (h.each k inside)
 told_alike n rounds list s op (Done reply) h inside open_now = refl
 
 pub left_alike : (n rounds : ℕ) (list : List ShardVersion) (s : ℕ → ShardVersion) (op : Op) (phase : Phase) → ShowsShards n list s → IsWantOf n (wants phase)

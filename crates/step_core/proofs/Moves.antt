@@ -7,6 +7,7 @@ use Rattle.map_core.specs.declared.reply.Reply.{Reply}
 use Rattle.map_core.specs.Reply.{is_change}
 use Rattle.map_core.specs.PlainMap.{PlainMap, AskResult, ask, shard_of}
 use Rattle.map_core.proofs.MapLaws.{fetch_keeps}
+use Rattle.map_core.specs.Op.{known_of}
 use Rattle.step_core.specs.World.{with_at, Turn, turn}
 use Rattle.step_core.specs.Shard.{ShardVersion, reading, last_revision, StepResult, step_on, of_shard}
 use Rattle.step_core.specs.Phase.{Phase, Idle, Waiting, Collecting, Confirming, Done, after_reading, after_confirming, snapshot_reply, after_disturbance, confirm, is_open, has_point}
@@ -61,9 +62,9 @@ collects n s op round readings h none small sofar =
     (λ ne. record { advance = stay s; ok = (none, omega (arith, length-append {A = ShardVersion}, small, ne), read); point = λ m shows. shows })
 
 confirms : (n : ℕ) (s : ℕ → ShardVersion) (op : Op) (round : ℕ) (readings : List ShardVersion) (k : ℕ) → 0 < n → shard_of n op ≡ None → k < n → (reading readings k).revision ≡ (s k).revision
-    → Move n s op (Confirming round readings k) (to s (after_confirming n round readings (k + 1)))
+    → Move n s op (Confirming round readings k) (to s (after_confirming n (known_of op) round readings (k + 1)))
 confirms n s op round readings k h none small is =
-    by_number (λ b. Move n s op (Confirming round readings k) (to s (cond b (Done (Ok (snapshot_reply n readings))) (Confirming round readings (k + 1))))) (k + 1) n
+    by_number (λ b. Move n s op (Confirming round readings k) (to s (cond b (Done (Ok (snapshot_reply n (known_of op) readings))) (Confirming round readings (k + 1))))) (k + 1) n
     (λ full. record {
       advance = stay s;
       ok = tt;
@@ -79,11 +80,11 @@ disturbs n rounds s op round readings k first second h none =
     (λ _. record { advance = stay s; ok = (none, h, λ j l. absurd (omega (arith, l))); point = (none, λ m shows. shows) })
 
 compares : (n rounds : ℕ) (s : ℕ → ShardVersion) (op : Op) (round : ℕ) (readings : List ShardVersion) (k : ℕ) → 0 < n → shard_of n op ≡ None → k < n
-    → Move n s op (Confirming round readings k) (to s (confirm n rounds round readings k (s k).revision))
+    → Move n s op (Confirming round readings k) (to s (confirm n rounds (known_of op) round readings k (s k).revision))
 compares n rounds s op round readings k h none small =
     let read = (reading readings k).revision in
     let now = (s k).revision in
-    by_number (λ b. Move n s op (Confirming round readings k) (to s (cond b (after_confirming n round readings (k + 1)) (after_disturbance rounds round k read now)))) read now
+    by_number (λ b. Move n s op (Confirming round readings k) (to s (cond b (after_confirming n (known_of op) round readings (k + 1)) (after_disturbance rounds round k read now)))) read now
     (confirms n s op round readings k h none small) (λ _. disturbs n rounds s op round readings k read now h none)
 
 -- each step of the machine is such a move

@@ -3,16 +3,15 @@ use Rattle.std.proofs.Common.{◌≡◌, ℕ, ◌<◌, nat_lt, ◌&&◌, Bool, t
 use Rattle.std.proofs.lemmas.Bool.Decides.{nat_tests}
 use Rattle.std.specs.FinMap as finite
 use Rattle.map_core.specs.declared.op.Op.{Op}
-use Rattle.map_core.specs.declared.op.Op.TheVariants.{FetchAll}
 use Rattle.map_core.specs.declared.reply.Reply.{Reply}
-use Rattle.map_core.specs.declared.reply.Reply.TheVariants.{All}
-use Rattle.map_core.specs.Table.{meaning}
+use Rattle.map_core.specs.Op.{known_of}
+use Rattle.map_core.specs.Table.{meaning, fetched}
 use Rattle.map_core.specs.PlainMap.{PlainMap, ask, bundles}
 use Rattle.step_core.specs.declared.trace.OpRecord.{OpRecord}
 use Rattle.step_core.specs.Run.{run_of, order_of}
 use Rattle.step_core.specs.Records.{took_effect_by, took_effect}
 use Rattle.step_core.proofs.Legal.{Replies}
-use Rattle.step_core.specs.Laws.{map_after, ShowsOneMoment}
+use Rattle.step_core.specs.Laws.{is_fetch_all, map_after, ShowsOneMoment}
 use Rattle.step_core.proofs.Points.{split-times}
 use Rattle.step_core.proofs.Legality.{one_order}
 
@@ -24,9 +23,9 @@ found records q reply is m (r ∷ before) after h = found records q reply is (as
 once : (q count t : ℕ) (s : Bool) → q < count → s ≡ true → t ≡ cond (nat_lt q count && s) 1 0 → 0 < t
 once q count t s l e is = grind (arith, nat_tests)
 
-fetch_all_reply : (m : PlainMap) (op : Op) → op ≡ FetchAll → (ask m op).reply ≡ All (bundles m)
+fetch_all_reply : (m : PlainMap) (op : Op) → is_fetch_all op ≡ true → (ask m op).reply ≡ fetched (known_of op) (bundles m)
 unfolding ask meaning
-fetch_all_reply m op is = ap (λ (x : Op). (ask m x).reply) is
+fetch_all_reply m op is = grind (arith, is)
 
 pub shows_one_moment : ShowsOneMoment
 shows_one_moment n rounds events some q reply known op is =

@@ -1,9 +1,10 @@
 -- What is confirmed has stood since it was read.
-use Rattle.std.proofs.Common.{◌≡◌, ℕ, ◌+◌, ◌<◌, ◌≤◌, ◌==◌, Bool, true, false, cond, List, [], ◌∷◌, ◌++◌, length, Ok, Err, ◌⊎◌, inl, inr, ⊎_elim, arith, length-append, refl, sym, ap, subst, ◌∙◌}
+use Rattle.std.proofs.Common.{◌≡◌, ℕ, ◌+◌, ◌<◌, ◌≤◌, ◌==◌, Bool, true, false, cond, List, [], ◌∷◌, ◌++◌, length, Option, Ok, Err, ◌⊎◌, inl, inr, ⊎_elim, arith, length-append, refl, sym, ap, subst, ◌∙◌}
 use Rattle.map_core.specs.declared.op.Op.{Op}
 use Rattle.map_core.specs.declared.reply.AskError.TheVariants.{Moved}
 use Rattle.step_core.specs.declared.event.Event.{Event}
 use Rattle.step_core.specs.declared.event.Event.TheVariants.{Begin, Step, Quit, End}
+use Rattle.map_core.specs.Op.{known_of}
 use Rattle.step_core.specs.World.{World, Turn, turn, next, after_turn, with_operation, to_phase, world_from}
 use Rattle.step_core.specs.Shard.{ShardVersion, fresh_shard, reading}
 use Rattle.step_core.specs.Phase.{Phase, Idle, Waiting, Collecting, Confirming, Done, after_reading, after_confirming, snapshot_reply, after_disturbance, confirm, start_phase, is_idle, is_open, is_done}
@@ -30,8 +31,8 @@ collected_keeps n round k now v readings h =
     by_test (λ b. Kept round k v (cond b (Confirming now readings 0) (Collecting now readings))) (length readings == n)
     (λ _. ⊎_elim inl (λ (p : (now ≡ round) × ((k < length readings) × (reading readings k ≡ v))). inr (p.0, p.1.1)) h) (λ _. h)
 
-confirmed_keeps : (n round k now : ℕ) (v : ShardVersion) (readings : List ShardVersion) (j : ℕ) → In round now (reading readings k ≡ v) → Kept round k v (after_confirming n now readings j)
-confirmed_keeps n round k now v readings j h = by_test (λ b. Kept round k v (cond b (Done (Ok (snapshot_reply n readings))) (Confirming now readings j))) (j == n) (λ _. tt) (λ _. h)
+confirmed_keeps : (n : ℕ) (known : Option (List ℕ)) (round k now : ℕ) (v : ShardVersion) (readings : List ShardVersion) (j : ℕ) → In round now (reading readings k ≡ v) → Kept round k v (after_confirming n known now readings j)
+confirmed_keeps n known round k now v readings j h = by_test (λ b. Kept round k v (cond b (Done (Ok (snapshot_reply n known readings))) (Confirming now readings j))) (j == n) (λ _. tt) (λ _. h)
 
 disturbed_keeps : (rounds round k now : ℕ) (v : ShardVersion) (j first second : ℕ) → round ≤ now → Kept round k v (after_disturbance rounds now j first second)
 disturbed_keeps rounds round k now v j first second l =
@@ -40,10 +41,10 @@ disturbed_keeps rounds round k now v j first second l =
 not_before : (round now : ℕ) (P : Type 0) → In round now P → round ≤ now
 not_before round now P h = ⊎_elim (λ (l : round < now). omega (arith, l)) (λ (p : (now ≡ round) × P). omega (arith, p.0)) h
 
-confirm_keeps : (n rounds round k now : ℕ) (v : ShardVersion) (readings : List ShardVersion) (j second : ℕ) → In round now (reading readings k ≡ v) → Kept round k v (confirm n rounds now readings j second)
-confirm_keeps n rounds round k now v readings j second h =
-    by_test (λ b. Kept round k v (cond b (after_confirming n now readings (j + 1)) (after_disturbance rounds now j (reading readings j).revision second))) ((reading readings j).revision == second)
-    (λ _. confirmed_keeps n round k now v readings (j + 1) h) (λ _. disturbed_keeps rounds round k now v j (reading readings j).revision second (not_before round now (reading readings k ≡ v) h))
+confirm_keeps : (n rounds : ℕ) (known : Option (List ℕ)) (round k now : ℕ) (v : ShardVersion) (readings : List ShardVersion) (j second : ℕ) → In round now (reading readings k ≡ v) → Kept round k v (confirm n rounds known now readings j second)
+confirm_keeps n rounds known round k now v readings j second h =
+    by_test (λ b. Kept round k v (cond b (after_confirming n known now readings (j + 1)) (after_disturbance rounds now j (reading readings j).revision second))) ((reading readings j).revision == second)
+    (λ _. confirmed_keeps n known round k now v readings (j + 1) h) (λ _. disturbed_keeps rounds round k now v j (reading readings j).revision second (not_before round now (reading readings k ≡ v) h))
 
 turn_keeps : (n rounds : ℕ) (s : ℕ → ShardVersion) (op : Op) (round k : ℕ) (v : ShardVersion) (phase : Phase) → Kept round k v phase → Kept round k v (turn n rounds s op phase).phase
 turn_keeps n rounds s op round k v Idle h = tt
@@ -52,7 +53,7 @@ turn_keeps n rounds s op round k v (Collecting now readings) h =
     let x = s (length readings) in
     collected_keeps n round k now v (readings ++ x ∷ [])
     (⊎_elim inl (λ (p : (now ≡ round) × ((k < length readings) × (reading readings k ≡ v))). inr (p.0, (omega (arith, length-append {A = ShardVersion}, p.1.0), get_or-append readings (x ∷ []) fresh_shard k p.1.0 ∙ p.1.1))) h)
-turn_keeps n rounds s op round k v (Confirming now readings j) h = confirm_keeps n rounds round k now v readings j (s j).revision h
+turn_keeps n rounds s op round k v (Confirming now readings j) h = confirm_keeps n rounds (known_of op) round k now v readings j (s j).revision h
 turn_keeps n rounds s op round k v (Done reply) h = tt
 
 -- along events that begin nothing of the caller: one that it asks to begin while it is not idle does not fit

@@ -2,9 +2,10 @@
 use Rattle.std.specs.Prelude.{◌≡◌, ℕ, ◌<◌, ◌≤◌, not, Bool, true, false, cond, List, [], ◌∷◌, ◌++◌, map, filter, length, Some, None, Ok, IsPermutation}
 use Rattle.std.specs.FinMap as finite
 use Rattle.map_core.specs.declared.op.Op.{Op}
-use Rattle.map_core.specs.declared.op.Op.TheVariants.{FetchAll}
+use Rattle.map_core.specs.declared.op.Op.TheVariants.{FetchAll, FetchUnless}
 use Rattle.map_core.specs.declared.reply.Reply.{Reply}
-use Rattle.map_core.specs.declared.reply.Reply.TheVariants.{All}
+use Rattle.map_core.specs.Op.{known_of}
+use Rattle.map_core.specs.Table.{fetched}
 use Rattle.map_core.specs.PlainMap.{PlainMap, ask, bundles}
 use Rattle.step_core.specs.declared.trace.OpRecord.{OpRecord}
 use Rattle.step_core.specs.declared.event.Event.{Event}
@@ -28,6 +29,7 @@ HasPlaces =
 
 abbrev pub is_fetch_all : Op → Bool
 is_fetch_all FetchAll = true
+is_fetch_all (FetchUnless known) = true
 is_fetch_all op = false
 
 -- the operation, with its reply if it is of this kind
@@ -53,13 +55,14 @@ abbrev pub map_after : (ℕ → OpRecord) → PlainMap → List ℕ → PlainMap
 map_after records m [] = m
 map_after records m (r ∷ rs) = map_after records (ask m (records r).op).map rs
 
--- A fetch-all that is answered shows all bundles of the map as it is at its place in the order.
+-- A fetch-all that is answered shows all bundles of the map as it is at its place in the order, or says that they have the digest that
+-- it knows.
 abbrev pub ShowsOneMoment : Type 0
 ShowsOneMoment =
     (n rounds : ℕ) (events : List Event) → 0 < n →
     let run = run_of n rounds events in
-    (q : ℕ) (reply : Reply) → q < run.count → (run.records q).op ≡ FetchAll → (run.records q).reply ≡ Some (Ok reply)
-    → (before after : List ℕ) × (order_of run ≡ before ++ q ∷ after) × (reply ≡ All (bundles (map_after run.records finite.empty before)))
+    (q : ℕ) (reply : Reply) → q < run.count → is_fetch_all (run.records q).op ≡ true → (run.records q).reply ≡ Some (Ok reply)
+    → (before after : List ℕ) × (order_of run ≡ before ++ q ∷ after) × (reply ≡ fetched (known_of (run.records q).op) (bundles (map_after run.records finite.empty before)))
 
 -- The order by points is a linearization of the run.
 abbrev pub HasOneOrder : Type 0

@@ -1,12 +1,12 @@
 -- One operation by itself: how far it is, what it wants to be told, and what it does with that.
 use Rattle.std.specs.Prelude.{ℕ, ◌+◌, ◌==◌, Bool, true, false, cond, List, [], ◌∷◌, ◌++◌, length, Option, Some, None, Result, Ok, Err}
 use Rattle.map_core.specs.declared.op.Op.{Op}
-use Rattle.map_core.specs.declared.op.Op.TheVariants.{FetchAll}
 use Rattle.map_core.specs.declared.reply.Reply.{Reply}
 use Rattle.map_core.specs.declared.reply.AskError.{AskError}
 use Rattle.map_core.specs.declared.reply.AskError.TheVariants.{Moved}
 use Rattle.map_core.specs.Reply.{is_change}
-use Rattle.map_core.specs.PlainMap.{ask, shard_of, merge}
+use Rattle.map_core.specs.PlainMap.{bundles, shard_of, merge}
+use Rattle.map_core.specs.Table.{fetched}
 use Rattle.step_core.specs.declared.task.Want.{Want}
 use Rattle.step_core.specs.declared.task.Want.TheVariants as want
 use Rattle.step_core.specs.Shard.{ShardVersion, reading}
@@ -47,28 +47,28 @@ wants phase = want.Done
 abbrev pub after_reading : ℕ → ℕ → List ShardVersion → Phase
 after_reading n round readings = cond (length readings == n) (Confirming round readings 0) (Collecting round readings)
 
--- the reply of a fetch-all that was confirmed: the plain map's, on the parts together
-abbrev pub snapshot_reply : ℕ → List ShardVersion → Reply
-snapshot_reply n readings = (ask (merge n (λ j. (reading readings j).part)) FetchAll).reply
+-- the reply of a fetch-all that was confirmed: the bundles of the parts together, by the digest that it knows
+abbrev pub snapshot_reply : ℕ → Option (List ℕ) → List ShardVersion → Reply
+snapshot_reply n known readings = fetched known (bundles (merge n (λ j. (reading readings j).part)))
 
-abbrev pub after_confirming : ℕ → ℕ → List ShardVersion → ℕ → Phase
-after_confirming n round readings k = cond (k == n) (Done (Ok (snapshot_reply n readings))) (Confirming round readings k)
+abbrev pub after_confirming : ℕ → Option (List ℕ) → ℕ → List ShardVersion → ℕ → Phase
+after_confirming n known round readings k = cond (k == n) (Done (Ok (snapshot_reply n known readings))) (Confirming round readings k)
 
 -- a round that met another revision: all readings are thrown away, and the last round ends the operation
 abbrev pub after_disturbance : ℕ → ℕ → ℕ → ℕ → ℕ → Phase
 after_disturbance rounds round k first second = cond (round == rounds) (Done (Err (Moved k first second))) (Collecting (round + 1) [])
 
 -- the revision of shard k is compared with the one that was read
-abbrev pub confirm : ℕ → ℕ → ℕ → List ShardVersion → ℕ → ℕ → Phase
-confirm n rounds round readings k now =
-    cond ((reading readings k).revision == now) (after_confirming n round readings (k + 1)) (after_disturbance rounds round k (reading readings k).revision now)
+abbrev pub confirm : ℕ → ℕ → Option (List ℕ) → ℕ → List ShardVersion → ℕ → ℕ → Phase
+confirm n rounds known round readings k now =
+    cond ((reading readings k).revision == now) (after_confirming n known round readings (k + 1)) (after_disturbance rounds round k (reading readings k).revision now)
 
 -- after it was told what it wanted; anything else changes nothing
-abbrev pub give : ℕ → ℕ → Phase → Observation → Phase
-give n rounds (Waiting i) (Replied reply) = Done reply
-give n rounds (Collecting round readings) (Seen v) = after_reading n round (readings ++ v ∷ [])
-give n rounds (Confirming round readings k) (Revision now) = confirm n rounds round readings k now
-give n rounds phase told = phase
+abbrev pub give : ℕ → ℕ → Option (List ℕ) → Phase → Observation → Phase
+give n rounds known (Waiting i) (Replied reply) = Done reply
+give n rounds known (Collecting round readings) (Seen v) = after_reading n round (readings ++ v ∷ [])
+give n rounds known (Confirming round readings k) (Revision now) = confirm n rounds known round readings k now
+give n rounds known phase told = phase
 
 abbrev pub is_idle : Phase → Bool
 is_idle Idle = true

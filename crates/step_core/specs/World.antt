@@ -4,6 +4,7 @@ use Rattle.map_core.specs.declared.op.Op.{Op}
 use Rattle.map_core.specs.declared.op.Op.TheVariants.{FetchAll}
 use Rattle.map_core.specs.declared.reply.AskError.{AskError}
 use Rattle.map_core.specs.declared.reply.AskError.TheVariants.{Memory, Held}
+use Rattle.map_core.specs.Op.{known_of}
 use Rattle.step_core.specs.declared.event.Event.{Event}
 use Rattle.step_core.specs.declared.event.Event.TheVariants.{Begin, Step, Quit, End}
 use Rattle.step_core.specs.declared.event.Why.{Why}
@@ -31,9 +32,9 @@ pub record Turn : Type 0 where
 -- the operation is told what it wants of the shards
 abbrev pub turn_by : ℕ → ℕ → (ℕ → ShardVersion) → Op → Phase → Want → Turn
 turn_by n rounds shards op phase (want.Do i) =
-    let stepped = step_on (shards i) op in record { shards = with_at shards i stepped.shard; phase = give n rounds phase (Replied (of_shard i stepped.answer)) }
-turn_by n rounds shards op phase (want.Collect i) = record { shards = shards; phase = give n rounds phase (Seen (shards i)) }
-turn_by n rounds shards op phase (want.Confirm i) = record { shards = shards; phase = give n rounds phase (Revision (shards i).revision) }
+    let stepped = step_on (shards i) op in record { shards = with_at shards i stepped.shard; phase = give n rounds (known_of op) phase (Replied (of_shard i stepped.answer)) }
+turn_by n rounds shards op phase (want.Collect i) = record { shards = shards; phase = give n rounds (known_of op) phase (Seen (shards i)) }
+turn_by n rounds shards op phase (want.Confirm i) = record { shards = shards; phase = give n rounds (known_of op) phase (Revision (shards i).revision) }
 turn_by n rounds shards op phase want.Done = record { shards = shards; phase = phase }
 
 -- one step of a caller

@@ -44,7 +44,8 @@ pub fn one_order()
     ensures { HasOneOrder }
 {}
 
-/// A fetch-all that is answered shows all bundles as they stood together at one moment of that order.
+/// A fetch-all that is answered shows all bundles as they stood together at one moment of that order, or says that they
+/// had the digest that it knows then.
 pub fn shows_one_moment()
     ensures { ShowsOneMoment }
 {}

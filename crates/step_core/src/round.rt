@@ -6,10 +6,19 @@ ghost use Rattle.step_core.specs.Task.{phase_of, is_last_confirm, out_of_memory}
 ghost use Rattle.step_core.specs.Private.Progress.{IsInside, HasRoom};
 
 use crate::task::State;
-use map_core::{AskError, Contents, Reply, Union};
+use map_core::{AskError, Contents, DumpDigest, Reply, Union};
 use std::alloc::{AllocError, Global};
 use std::marker::Model;
 use std::sync::Arc;
+
+/// Over how many shards an operation is, and within how many rounds; and the digest of the bundles that whoever fetches
+/// has already, if it is told.
+#[derive(Clone, Copy)]
+pub(crate) struct Terms {
+    pub shards: usize,
+    pub rounds: usize,
+    pub known: Option<DumpDigest>,
+}
 
 /// A shard as it was read.
 #[derive(Drop)]
@@ -78,27 +87,26 @@ pub(crate) fn after_reading(
 /// The revision that the shard at this place has now is compared with the one that was read.
 pub(crate) fn compare(
     alloc: Global,
-    shards: usize,
-    rounds: usize,
+    terms: Terms,
     round: usize,
     mut readings: Vec<Reading>,
     place: usize,
     now: u64,
 ) -> State
-    requires all { length readings.items ≡ shards }
-    requires room { shards ≤ vec_capacity readings }
-    requires place { place < shards }
-    requires round { round ≤ rounds }
-    ensures inside { IsInside shards rounds (phase_of result) }
-    ensures room { HasRoom shards result }
-    ensures phase { (phase_of result ≡ confirm shards rounds round readings.items place now) ⊎ (phase_of result ≡ out_of_memory) }
-    ensures exact { is_last_confirm shards (Confirming round readings.items place) (Revision now) ≡ false → phase_of result ≡ confirm shards rounds round readings.items place now }
+    requires all { length readings.items ≡ terms.shards }
+    requires room { terms.shards ≤ vec_capacity readings }
+    requires place { place < terms.shards }
+    requires round { round ≤ terms.rounds }
+    ensures inside { IsInside terms.shards terms.rounds (phase_of result) }
+    ensures room { HasRoom terms.shards result }
+    ensures phase { (phase_of result ≡ confirm terms.shards terms.rounds terms.known round readings.items place now) ⊎ (phase_of result ≡ out_of_memory) }
+    ensures exact { is_last_confirm terms.shards (Confirming round readings.items place) (Revision now) ≡ false → phase_of result ≡ confirm terms.shards terms.rounds terms.known round readings.items place now }
 {
     let read = readings[place].revision();
     if read == now {
-        return after_confirming(alloc, shards, rounds, round, readings, place + 1);
+        return after_confirming(alloc, terms, round, readings, place + 1);
     }
-    if round == rounds {
+    if round == terms.rounds {
         let moved = AskError::Moved {
             shard: place,
             first: read,
@@ -113,37 +121,40 @@ pub(crate) fn compare(
 // This many readings are confirmed.
 fn after_confirming(
     alloc: Global,
-    shards: usize,
-    rounds: usize,
+    terms: Terms,
     round: usize,
     readings: Vec<Reading>,
     count: usize,
 ) -> State
-    requires all { length readings.items ≡ shards }
-    requires room { shards ≤ vec_capacity readings }
-    requires count { count ≤ shards }
-    requires round { round ≤ rounds }
-    ensures inside { IsInside shards rounds (phase_of result) }
-    ensures room { HasRoom shards result }
-    ensures phase { (phase_of result ≡ after_confirming shards round readings.items count) ⊎ (phase_of result ≡ out_of_memory) }
-    ensures exact { (count == shards) ≡ false → phase_of result ≡ after_confirming shards round readings.items count }
+    requires all { length readings.items ≡ terms.shards }
+    requires room { terms.shards ≤ vec_capacity readings }
+    requires count { count ≤ terms.shards }
+    requires round { round ≤ terms.rounds }
+    ensures inside { IsInside terms.shards terms.rounds (phase_of result) }
+    ensures room { HasRoom terms.shards result }
+    ensures phase { (phase_of result ≡ after_confirming terms.shards terms.known round readings.items count) ⊎ (phase_of result ≡ out_of_memory) }
+    ensures exact { (count == terms.shards) ≡ false → phase_of result ≡ after_confirming terms.shards terms.known round readings.items count }
 {
-    if count != shards {
+    if count != terms.shards {
         return State::Confirming(round, readings, count);
     }
-    match merge_readings(alloc, &readings) {
+    match merge_readings(alloc, terms.known, &readings) {
         Ok(reply) => State::Done(Ok(reply)),
         Err(_) => State::Done(Err(AskError::Memory)),
     }
 }
 
-// The reply of a fetch-all on these readings, together.
-fn merge_readings(alloc: Global, readings: &[Reading]) -> Result<Reply, AskError>
-    ensures { IfOk result (λ r. r ≡ snapshot_reply (length readings.now) readings.now) }
+// The reply of a fetch-all on these readings, together, by the digest that it knows.
+fn merge_readings(
+    alloc: Global,
+    known: Option<DumpDigest>,
+    readings: &[Reading],
+) -> Result<Reply, AskError>
+    ensures { IfOk result (λ r. r ≡ snapshot_reply (length readings.now) known readings.now) }
 {
     let mut all = Union::new(alloc);
     for reading in readings {
         all = all.add(reading.contents())?;
     }
-    Ok(Reply::All(all.into_snapshot()?))
+    Ok(all.into_snapshot()?.into_reply(known))
 }

@@ -1,9 +1,9 @@
 //! The shards of one caller.
-ghost use Rattle.std.specs.Prelude.{◌≡◌, ◌<◌, ◌≤◌, ◌⊎◌, ◌+◌, ℕ, IfOk, OnOk, IfErr, OnErr, length, Some};
+ghost use Rattle.std.specs.Prelude.{◌≡◌, ◌<◌, ◌≤◌, ◌⊎◌, ◌+◌, ℕ, IfOk, OnOk, IfErr, OnErr, length, Some, None};
 ghost use Rattle.std.specs.FinMap as finite;
 ghost use Rattle.map_core.specs.Ask.{ShowsGet};
 ghost use Rattle.map_core.specs.PlainMap.{ask, shard_of};
-ghost use Rattle.map_core.specs.declared.op.Op.TheVariants.{FetchAll, Get};
+ghost use Rattle.map_core.specs.declared.op.Op.TheVariants.{Get};
 ghost use Rattle.step_core.specs.Phase.{Waiting};
 ghost use Rattle.step_core.specs.Shard.{fresh_shard, reading};
 ghost use Rattle.step_core.specs.Shards.{map_of, after_step, after_step_at, IsWorn, Refuses, ShardsAnswer};
@@ -64,8 +64,9 @@ impl Shards {
         match shard_of(&op, self.shards.len()) {
             Some(place) => self.ask_name(place, op),
             None => {
+                let answer = self.fetch_all(&op);
                 drop(op);
-                self.fetch_all()
+                answer
             }
         }
     }
@@ -101,12 +102,13 @@ impl Shards {
         replied(task, answer)
     }
 
-    // All bundles of all shards. Nobody else changes a shard, so one round is enough.
-    fn fetch_all(&self) -> Result<Reply, AskError>
-        ensures reply { IfOk result (λ reply. reply ≡ (ask (map_of self.now) FetchAll).reply) }
+    // Answers an operation on all names. Nobody else changes a shard, so one round is enough.
+    fn fetch_all(&self, op: &Op) -> Result<Reply, AskError>
+        requires all { shard_of (length self.now) op.now ≡ None }
+        ensures reply { IfOk result (λ reply. reply ≡ (ask (map_of self.now) op.now).reply) }
         ensures refused { IfErr result (λ e. e ≡ AskError.Memory) }
     {
-        let mut task = Task::begin(self.alloc, &Op::FetchAll, self.shards.len(), 1)?;
+        let mut task = Task::begin(self.alloc, op, self.shards.len(), 1)?;
         for shard in &self.shards {
             let (revision, contents) = shard.share()?;
             task.give(Answer::Seen { revision, contents });

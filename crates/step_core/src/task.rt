@@ -1,12 +1,13 @@
 //! One operation, one step at a time.
 ghost use Rattle.std.specs.Prelude.{◌≡◌, ◌<◌, ◌⊎◌, IfOk, true, false};
+ghost use Rattle.map_core.specs.Op.{known_of};
 ghost use Rattle.step_core.specs.Phase.{start_phase, wants, give, is_done, wrote_shard, has_point, Done};
 ghost use Rattle.step_core.specs.Task.{phase_of, observation_of, IsWantOf, is_last_confirm, out_of_memory};
 ghost use Rattle.step_core.specs.Private.Progress.{IsInside, HasRoom, is_out_of_memory};
 
 use crate::home::shard_of;
 use crate::round;
-use crate::round::Reading;
+use crate::round::{Reading, Terms};
 use map_core::{AskError, Contents, Op, Reply};
 use spiffe_doc::Memory;
 use std::alloc::Global;
@@ -54,8 +55,7 @@ pub(crate) enum State {
 #[derive(Drop)]
 pub struct Task {
     alloc: Global,
-    shards: usize,
-    rounds: usize,
+    terms: Terms,
     state: State,
 }
 
@@ -70,9 +70,9 @@ impl Model for Task {
 
     ghost coded = { Prim.hlevel (codes, plain_map_code) };
 
-    ghost view = { λ task. record { shards = task.shards; rounds = task.rounds; phase = phase_of task.state } };
+    ghost view = { λ task. record { shards = task.terms.shards; rounds = task.terms.rounds; known = task.terms.known; phase = phase_of task.state } };
 
-    ghost invariant = { λ task. IsInside task.shards task.rounds (phase_of task.state) × HasRoom task.shards task.state };
+    ghost invariant = { λ task. IsInside task.terms.shards task.terms.rounds (phase_of task.state) × HasRoom task.terms.shards task.state };
 }
 
 impl Task {
@@ -80,16 +80,20 @@ impl Task {
     pub fn begin(alloc: Global, op: &Op, shards: usize, rounds: usize) -> Result<Task, Memory>
         requires shards { 0 < shards }
         requires rounds { 0 < rounds }
-        ensures { IfOk result (λ task. task ≡ record { shards = shards; rounds = rounds; phase = start_phase shards op.now }) }
+        ensures { IfOk result (λ task. task ≡ record { shards = shards; rounds = rounds; known = known_of op.now; phase = start_phase shards op.now }) }
     {
         let state = match shard_of(op, shards) {
             Some(shard) => State::Waiting(shard),
             None => State::Collecting(1, Vec::with_capacity(alloc, shards)?),
         };
-        Ok(Task {
-            alloc,
+        let terms = Terms {
             shards,
             rounds,
+            known: op.known(),
+        };
+        Ok(Task {
+            alloc,
+            terms,
             state,
         })
     }
@@ -112,11 +116,12 @@ impl Task {
     pub fn give(&mut self, answer: Answer)
         ensures shards { self.new.shards ≡ self.old.shards }
         ensures rounds { self.new.rounds ≡ self.old.rounds }
-        ensures phase { (self.new.phase ≡ give self.old.shards self.old.rounds self.old.phase (observation_of answer)) ⊎ (self.new.phase ≡ out_of_memory) }
-        ensures exact { is_last_confirm self.old.shards self.old.phase (observation_of answer) ≡ false → self.new.phase ≡ give self.old.shards self.old.rounds self.old.phase (observation_of answer) }
+        ensures known { self.new.known ≡ self.old.known }
+        ensures phase { (self.new.phase ≡ give self.old.shards self.old.rounds self.old.known self.old.phase (observation_of answer)) ⊎ (self.new.phase ≡ out_of_memory) }
+        ensures exact { is_last_confirm self.old.shards self.old.phase (observation_of answer) ≡ false → self.new.phase ≡ give self.old.shards self.old.rounds self.old.known self.old.phase (observation_of answer) }
     {
         let state = std::mem::replace(&mut self.state, State::Done(Err(AskError::Memory)));
-        self.state = give(self.alloc, self.shards, self.rounds, state, answer);
+        self.state = give(self.alloc, self.terms, state, answer);
     }
 
     /// Whether the operation has its place among all operations.
@@ -189,27 +194,27 @@ impl Task {
 }
 
 // The state after an answer.
-fn give(alloc: Global, shards: usize, rounds: usize, state: State, answer: Answer) -> State
-    requires inside { IsInside shards rounds (phase_of state) }
-    requires room { HasRoom shards state }
-    ensures inside { IsInside shards rounds (phase_of result) }
-    ensures room { HasRoom shards result }
-    ensures phase { (phase_of result ≡ give shards rounds (phase_of state) (observation_of answer)) ⊎ (phase_of result ≡ out_of_memory) }
-    ensures exact { is_last_confirm shards (phase_of state) (observation_of answer) ≡ false → phase_of result ≡ give shards rounds (phase_of state) (observation_of answer) }
+fn give(alloc: Global, terms: Terms, state: State, answer: Answer) -> State
+    requires inside { IsInside terms.shards terms.rounds (phase_of state) }
+    requires room { HasRoom terms.shards state }
+    ensures inside { IsInside terms.shards terms.rounds (phase_of result) }
+    ensures room { HasRoom terms.shards result }
+    ensures phase { (phase_of result ≡ give terms.shards terms.rounds terms.known (phase_of state) (observation_of answer)) ⊎ (phase_of result ≡ out_of_memory) }
+    ensures exact { is_last_confirm terms.shards (phase_of state) (observation_of answer) ≡ false → phase_of result ≡ give terms.shards terms.rounds terms.known (phase_of state) (observation_of answer) }
 {
     match (state, answer) {
         (State::Waiting(_), Answer::Replied(reply)) => State::Done(reply),
         (State::Collecting(round, readings), Answer::Seen { revision, contents }) => {
             round::after_reading(
-                shards,
-                rounds,
+                terms.shards,
+                terms.rounds,
                 round,
                 readings,
                 Reading::new(revision, contents),
             )
         }
         (State::Confirming(round, readings, place), Answer::Revision(now)) => {
-            round::compare(alloc, shards, rounds, round, readings, place, now)
+            round::compare(alloc, terms, round, readings, place, now)
         }
         (state, _) => state,
     }

@@ -74,7 +74,7 @@ fn refusal_text(alloc: Global, why: MapRefusal) -> Result<String, AllocError> {
     }
 }
 
-/// A reply: `stored`, `appended 6`, `found 6/1`, `all 1 a 6/1`, `refused 30`.
+/// A reply: `stored`, `appended 6`, `found 6/1`, `all 1 a 6/1`, `same`, `refused 30`.
 pub fn reply_text(alloc: Global, shown: Shown, reply: &Reply) -> Result<String, AllocError> {
     match reply {
         Reply::Stored => String::from_str(alloc, "stored"),
@@ -89,6 +89,7 @@ pub fn reply_text(alloc: Global, shown: Shown, reply: &Reply) -> Result<String, 
             format!(in alloc; "found {bundle}")
         }
         Reply::All(all) => snapshot_text(alloc, shown, all),
+        Reply::Same => String::from_str(alloc, "same"),
         Reply::Refused(why) => refusal_text(alloc, *why),
     }
 }

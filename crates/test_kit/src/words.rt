@@ -1,5 +1,6 @@
 //! Operations, as words.
-use map_core::{Expect, Op};
+use hex::FromHex;
+use map_core::{DumpDigest, Expect, Op};
 use spiffe_doc::{Authority, Bundle, DocError, TrustDomain, read_document, read_entry};
 use std::alloc::{AllocError, Global};
 use std::test::Fail;
@@ -101,11 +102,21 @@ fn named(alloc: Global, domain: TrustDomain, verb: &str, rest: &str) -> Result<O
     }
 }
 
-/// The operation of a line: `set a 5`, `setif a absent 5`, `append a k`, `remove a`, `get a` or `fetch`.
+/// A digest of 64 hexadecimal digits.
+fn digest(word: &str) -> Result<DumpDigest, Fail> {
+    match <DumpDigest as FromHex>::from_hex(word) {
+        Ok(digest) => Ok(digest),
+        Err(_) => Err(Fail::from("the word is no digest")),
+    }
+}
+
+/// The operation of a line: `set a 5`, `setif a absent 5`, `append a k`, `remove a`, `get a`, `fetch` or `fetch unless`
+/// with a digest.
 pub fn operation(alloc: Global, line: &str) -> Result<Op, Fail> {
     let (verb, rest) = line.split_once(' ').unwrap_or((line, ""));
     let (name, rest) = rest.split_once(' ').unwrap_or((rest, ""));
     match verb {
+        "fetch" if name == "unless" => Ok(Op::FetchUnless(digest(rest)?)),
         "fetch" => Ok(Op::FetchAll),
         _ => named(alloc, TrustDomain::parse(alloc, name)?, verb, rest),
     }

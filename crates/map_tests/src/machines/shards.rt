@@ -6,11 +6,28 @@ use step_core::{Event, Shards, Trace, run_events};
 use test_kit::{Shown, is_equal, operation, play};
 
 /// What is asked, and what is answered.
-static ROWS: [(&str, &str); 13] = [
+static ROWS: [(&str, &str); 17] = [
     ("fetch", "all 0"),
+    // The SHA-256 of the dump of no domains, and of that of `a` below.
+    (
+        "fetch unless 9cf4b161f3571e751912f9a78ae2015c4fb288afe59c798f5452a18d6254c893",
+        "same",
+    ),
+    (
+        "fetch unless ce63fbe9ae39fbb5db7e5c7f35c4630b6e662da041ff81ee66ff807889cc20a2",
+        "all 0",
+    ),
     ("set a {\"keys\":[]}", "stored"),
     ("get a", "found {\"keys\":[]}"),
     ("fetch", "all 1 a {\"keys\":[]}"),
+    (
+        "fetch unless ce63fbe9ae39fbb5db7e5c7f35c4630b6e662da041ff81ee66ff807889cc20a2",
+        "same",
+    ),
+    (
+        "fetch unless 9cf4b161f3571e751912f9a78ae2015c4fb288afe59c798f5452a18d6254c893",
+        "all 1 a {\"keys\":[]}",
+    ),
     ("set b {\"keys\":[],\"spiffe_sequence\":9}", "stored"),
     (
         "append b {\"kty\":\"RSA\",\"use\":\"jwt-svid\",\"kid\":\"k\",\"n\":\"AQAB\",\"e\":\"AQAB\"}",

@@ -37,6 +37,54 @@ fn one_pass_remembers_removed_sequences(rt: HostRuntime) -> Result<(), Fail> {
     play(rt.alloc(), Shown::Counted, &mut seated, &REMOVED)
 }
 
+/// A pass that remembers the digest of what it fetched last: the SHA-256 of the dump of no domains, and of that of `a` with the
+/// document `{"keys":[]}`.
+static UNLESS: [Row; 12] = [
+    (
+        "fetch unless 9cf4b161f3571e751912f9a78ae2015c4fb288afe59c798f5452a18d6254c893",
+        "same",
+    ),
+    ("fetch", "all 0"),
+    (
+        "fetch unless 9cf4b161f3571e751912f9a78ae2015c4fb288afe59c798f5452a18d6254c893",
+        "same",
+    ),
+    (
+        "fetch unless ce63fbe9ae39fbb5db7e5c7f35c4630b6e662da041ff81ee66ff807889cc20a2",
+        "all 0",
+    ),
+    ("set a -", "stored"),
+    (
+        "fetch unless 9cf4b161f3571e751912f9a78ae2015c4fb288afe59c798f5452a18d6254c893",
+        "all 1 a -/0",
+    ),
+    (
+        "fetch unless ce63fbe9ae39fbb5db7e5c7f35c4630b6e662da041ff81ee66ff807889cc20a2",
+        "same",
+    ),
+    (
+        "fetch unless ce63fbe9ae39fbb5db7e5c7f35c4630b6e662da041ff81ee66ff807889cc20a2",
+        "same",
+    ),
+    ("fetch", "all 1 a -/0"),
+    ("remove a", "removed"),
+    (
+        "fetch unless ce63fbe9ae39fbb5db7e5c7f35c4630b6e662da041ff81ee66ff807889cc20a2",
+        "all 0",
+    ),
+    (
+        "fetch unless 9cf4b161f3571e751912f9a78ae2015c4fb288afe59c798f5452a18d6254c893",
+        "same",
+    ),
+];
+
+#[test]
+fn a_pass_fetches_unless_a_digest_is_known(rt: HostRuntime) -> Result<(), Fail> {
+    let (store, pass) = Store::new(rt.alloc(), 2, 2, 1)?;
+    let mut seated = Seated::new(&store, pass);
+    play(rt.alloc(), Shown::Counted, &mut seated, &UNLESS)
+}
+
 /// What a front is answered.
 static SEATED: [Row; 4] = [
     ("get a", "refused 30"),

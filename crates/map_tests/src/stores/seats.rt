@@ -43,6 +43,7 @@ fn call(store: &Store, pass: &mut Pass, op: Op) -> Result<Reply, AskError>
         Op::Remove(domain) => store.remove(pass, domain),
         Op::Get(domain) => store.get(pass, domain),
         Op::FetchAll => store.fetch_all(pass),
+        Op::FetchUnless(known) => store.fetch_unless(pass, known),
     }
 }
 

@@ -1,7 +1,10 @@
 -- What a pass remembers of its last fetch-all.
-use Rattle.std.specs.Prelude.{◌≡◌, ℕ, List, ◌++◌, Option, Some}
+use Rattle.std.specs.Prelude.{◌≡◌, ℕ, List, ◌++◌, Option, Some, IfSome}
+use Rattle.spiffe_doc.specs.Authority.{BundleValue}
 use Rattle.map_core.specs.declared.op.Op.TheVariants.{FetchAll}
 use Rattle.map_core.specs.declared.reply.Reply.TheVariants.{All}
+use Rattle.map_core.specs.Name.{Name}
+use Rattle.map_core.specs.Dump.{digest}
 use Rattle.map_core.specs.PlainMap.{bundles}
 use Rattle.shard_store.specs.declared.change.Change.{Change}
 use Rattle.shard_store.specs.declared.change.Seen.{Seen}
@@ -10,9 +13,14 @@ use Rattle.shard_store.specs.Changes.{after}
 use Rattle.shard_store.specs.Promise.{IsReply}
 use Rattle.shard_store.specs.Private.Readings.{AreRevisions}
 
--- at some point of the log the shards, n of them, had these revisions, and these were all bundles
+-- the digest that is remembered, if any, is that of the bundles
+abbrev pub IsDigestOf : List (Name × BundleValue) → Option (List ℕ) → Type 0
+IsDigestOf all remembered = IfSome remembered (λ found. found ≡ digest all)
+
+-- at some point of the log the shards, n of them, had these revisions, and these were all bundles; and the digest is theirs
 abbrev pub WasAll : ℕ → List Change → LastAll → Type 0
 WasAll n log last = (seen : List Change) × (new : List Change) × (log ≡ seen ++ new) × AreRevisions n seen last.revisions.items × (last.all ≡ bundles (after seen))
+    × IsDigestOf last.all last.digest
 
 -- so it was, if anything is remembered
 abbrev pub IsLastAll : ℕ → List Change → Option LastAll → Type 0

@@ -2,6 +2,7 @@
 use Rattle.std.specs.Prelude.{◌≡◌, ℕ, ◌<◌, true, false, List, length, get_or, Option, Some, None}
 use Rattle.std.specs.Ordering.{nat_cmp}
 use Rattle.std.specs.BTreeMap as tree
+use Rattle.map_core.specs.Op.{known_of}
 use Rattle.step_core.specs.Shard.{ShardVersion, reading}
 use Rattle.step_core.specs.Phase.{Idle, has_point, is_idle}
 use Rattle.step_core.specs.declared.trace.OpRecord.{OpRecord}
@@ -28,7 +29,7 @@ pub record ShowsCaller (n rounds : ℕ) (run : Run) (points : List (Option ℕ))
   pub caller : (run.records (run.current c)).caller ≡ c
   pub op : run.world.ops c ≡ (run.records (run.current c)).op
   pub busy : is_idle (run.world.phases c) ≡ false
-  pub task : running.task ≡ record { shards = n; rounds = rounds; phase = run.world.phases c }
+  pub task : running.task ≡ record { shards = n; rounds = rounds; known = known_of (run.world.ops c); phase = run.world.phases c }
   pub place : IsPlaced points running.number (has_point running.task.phase) running.place
 
 -- an idle caller has no operation

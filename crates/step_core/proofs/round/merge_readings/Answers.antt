@@ -1,9 +1,8 @@
 use Rattle.std.proofs.Common.{◌≡◌, ◌+◌, ◌<◌, ◌≤◌, ℕ, List, length, get_or, add-one, arith, refl, sym, ap, ◌∙◌}
-use Rattle.map_core.specs.declared.reply.Reply.TheVariants.{All}
 use Rattle.map_core.specs.PlainMap.{PlainMap, merge, union, bundles}
+use Rattle.map_core.specs.Table.{fetched}
 use Rattle.step_core.specs.Shard.{ShardVersion, reading}
 use Rattle.std.proofs.lemmas.Grind.{elements}
-use Rattle.map_core.proofs.Asks.{fetch_all}
 use Rattle.step_core.proofs.round.merge_readings.Goals as goal
 
 together-next : (k : ℕ) (f : ℕ → PlainMap) → merge (k + 1) f ≡ union (merge k f) (f k)
@@ -35,4 +34,4 @@ returns c =
     let f : ℕ → PlainMap = (λ j. (reading c.args.readings.now j).part) in
     let whole = same_index c.loop-reading.reading-index (length c.args.readings.now) c.loop-reading.auto.reading-index-end c.loop-reading-test.false in
     let all = c.loop-reading.invariant ∙ ap (λ (x : ℕ). merge x f) whole in
-    ap All (c.in_ok-into_snapshot.ensures ∙ ap bundles all) ∙ sym (fetch_all (merge (length c.args.readings.now) f))
+    c.into_reply.ensures ∙ ap (fetched c.args.known) (c.in_ok-into_snapshot.ensures ∙ ap bundles all)

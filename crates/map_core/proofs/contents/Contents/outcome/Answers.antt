@@ -1,12 +1,11 @@
 -- Each operation on one name gives the outcome of its row.
 use Rattle.std.proofs.Common.{sym, ap, ◌∙◌}
 use Rattle.spiffe_doc.specs.Authority.{BundleValue}
-use Rattle.map_core.specs.declared.reply.Reply.TheVariants.{All}
 use Rattle.map_core.specs.declared.op.Op.{Op}
 use Rattle.map_core.specs.Op.{domain_of}
 use Rattle.map_core.specs.PlainMap.{ask}
-use Rattle.map_core.specs.Table.{On_name, meaning, set, set_if, append, remove}
-use Rattle.map_core.proofs.Asks.{row_reply, row_left, IfOk-row_reply, IfOk-row_left, fetch_all_reply, fetch_all_left, kept_left}
+use Rattle.map_core.specs.Table.{On_name, meaning, set, set_if, append, remove, fetched}
+use Rattle.map_core.proofs.Asks.{row_reply, row_left, IfOk-row_reply, IfOk-row_left, fetched_reply, fetched_left, is_on_all, kept_left}
 use Rattle.map_core.proofs.contents.Contents.outcome.Goals as goal
 
 pub returns-in_ok-copy-in-Set-clause-reply : goal.returns-in_ok-copy-in-Set-clause-reply
@@ -48,7 +47,10 @@ pub returns-in_ok-get-in-Get-clause-left : goal.returns-in_ok-get-in-Get-clause-
 returns-in_ok-get-in-Get-clause-left c = kept_left c.args.self.now c.args.op.now c.in-Get.domain _ c.in-Get.is
 
 pub returns-in_ok-snapshot-in-FetchAll-clause-reply : goal.returns-in_ok-snapshot-in-FetchAll-clause-reply
-returns-in_ok-snapshot-in-FetchAll-clause-reply c = ap All c.in_ok-snapshot-in-FetchAll.ensures ∙ sym (fetch_all_reply c.args.self.now c.args.op.now c.in-FetchAll.is)
+returns-in_ok-snapshot-in-FetchAll-clause-reply c =
+    c.into_reply.ensures
+    ∙ (λ i. fetched (c.known.ensures i) (c.in_ok-snapshot-in-FetchAll.ensures i))
+    ∙ sym (fetched_reply c.args.self.now c.args.op.now (is_on_all c.args.op.now c.in-FetchAll.is))
 
 pub returns-in_ok-snapshot-in-FetchAll-clause-left : goal.returns-in_ok-snapshot-in-FetchAll-clause-left
-returns-in_ok-snapshot-in-FetchAll-clause-left c = fetch_all_left c.args.self.now c.args.op.now _ c.in-FetchAll.is
+returns-in_ok-snapshot-in-FetchAll-clause-left c = fetched_left c.args.self.now c.args.op.now _ (is_on_all c.args.op.now c.in-FetchAll.is)

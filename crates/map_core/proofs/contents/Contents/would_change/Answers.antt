@@ -1,8 +1,9 @@
 use Rattle.std.proofs.Common.{◌≡◌, Bool, Ok, ap, ◌∙◌}
+use Rattle.map_core.specs.Op.{domain_of}
 use Rattle.map_core.specs.Reply.{is_change}
 use Rattle.map_core.specs.Table.{meaning, remove}
 use Rattle.map_core.specs.PlainMap.{ask}
-use Rattle.map_core.proofs.Asks.{row_reply, get_changes_nothing, fetch_all_changes_nothing}
+use Rattle.map_core.proofs.Asks.{row_reply, get_changes_nothing, fetched_changes_nothing}
 use Rattle.map_core.proofs.contents.Contents.would_change.Goals as goal
 
 pub returns-in-Remove : goal.returns-in-Remove
@@ -19,5 +20,10 @@ returns-in-Get c =
 
 pub returns-in-FetchAll : goal.returns-in-FetchAll
 returns-in-FetchAll c =
-    let told = fetch_all_changes_nothing c.args.self.now c.args.op.now c.in-FetchAll.is in
+    let told = fetched_changes_nothing c.args.self.now c.args.op.now (ap domain_of c.in-FetchAll.is) in
+    record { told = told; always = λ h. ap (λ (b : Bool). Ok b) told }
+
+pub returns-in-FetchUnless : goal.returns-in-FetchUnless
+returns-in-FetchUnless c =
+    let told = fetched_changes_nothing c.args.self.now c.args.op.now (ap domain_of c.in-FetchUnless.is) in
     record { told = told; always = λ h. ap (λ (b : Bool). Ok b) told }

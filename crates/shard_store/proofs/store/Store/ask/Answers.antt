@@ -1,5 +1,6 @@
-use Rattle.std.proofs.Common.{rules, sym, ap, ◌∙◌}
-use Rattle.shard_store.proofs.Asked.{by_all, shard_answers, all_answers}
+use Rattle.std.proofs.Common.{◌≡◌, rules, sym, ap, ◌∙◌}
+use Rattle.map_core.specs.PlainMap.{shard_of}
+use Rattle.shard_store.proofs.Asked.{shard_answers, all_answers}
 use Rattle.shard_store.proofs.AtTable.{ready_at, all_at_table, answer_keeps}
 use Rattle.shard_store.proofs.store.Store.ask.Goals as goal
 
@@ -15,13 +16,16 @@ invariant_of-pass c = let s = c.pass.inside.desk.seat.me.0.seen in let all = c.p
 pub returns-in-Some-clause-answer : goal.returns-in-Some-clause-answer
 returns-in-Some-clause-answer c = shard_answers c.ask_name-answer.result c.args.self.now c.args.op _ _ c.ask_name-answer.new.desk.seat.me.0.seen (ap (λ p. p.seen) c.pass.view_is) c.ask_name-answer.ensures.answer
 
--- a fetch-all
-pub ask_all-requires-clause-ready : goal.ask_all-requires-clause-ready
-ask_all-requires-clause-ready c = ready_at _ _ c.pass.inside.desk (ap (λ p. p.store) c.pass.view_is ∙ c.requires.own) c.pass.invariant.0
+-- an operation on all names
+pub ask_all-answer-requires-clause-each : goal.ask_all-answer-requires-clause-each
+ask_all-answer-requires-clause-each c = let size : c.slot_count.result ≡ c.args.self.now.id.slots = search rules in
+    ap (λ k. shard_of k c.args.op) (sym size) ∙ sym c.in-None.ensures.shard
 
-pub ask_all-requires-clause-all : goal.ask_all-requires-clause-all
-ask_all-requires-clause-all c = all_at_table _ _ c.pass.inside.desk.seat.me.0.seen c.pass.inside.last_all (ap (λ p. p.store) c.pass.view_is ∙ c.requires.own) c.pass.invariant.2
+pub ask_all-answer-requires-clause-ready : goal.ask_all-answer-requires-clause-ready
+ask_all-answer-requires-clause-ready c = ready_at _ _ c.pass.inside.desk (ap (λ p. p.store) c.pass.view_is ∙ c.requires.own) c.pass.invariant.0
+
+pub ask_all-answer-requires-clause-all : goal.ask_all-answer-requires-clause-all
+ask_all-answer-requires-clause-all c = all_at_table _ _ c.pass.inside.desk.seat.me.0.seen c.pass.inside.last_all (ap (λ p. p.store) c.pass.view_is ∙ c.requires.own) c.pass.invariant.2
 
 pub returns-in-None-clause-answer : goal.returns-in-None-clause-answer
-returns-in-None-clause-answer c = by_all c.ask_all.result c.slot_count.result c.args.self.now c.args.op _ c.ask_all.new.desk.seat.me.0.seen (sym c.in-None.ensures.shard) (search rules)
-    (all_answers c.ask_all.result c.args.self.now _ _ c.ask_all.new.desk.seat.me.0.seen (ap (λ p. p.seen) c.pass.view_is) c.ask_all.ensures.answer)
+returns-in-None-clause-answer c = all_answers c.ask_all-answer.result c.args.self.now c.args.op _ _ c.ask_all-answer.new.desk.seat.me.0.seen (ap (λ p. p.seen) c.pass.view_is) c.ask_all-answer.ensures.answer

@@ -1,4 +1,4 @@
-use Rattle.std.proofs.Common.{List, Global, sym, subst}
+use Rattle.std.proofs.Common.{List, Global, None, sym, subst}
 use Rattle.std.specs.declared.sync.Arc.{Arc}
 use Rattle.map_core.specs.declared.reply.AskError.TheVariants.{Memory}
 use Rattle.map_core.specs.PlainMap.{PlainMap}
@@ -25,5 +25,5 @@ returns-in_err-all-clause-answer c = let read = c.in_ok-revisions.field-0 in
 
 pub returns-clause-answer : goal.returns-clause-answer
 returns-clause-answer c = let x = c.in_ok-revisions.ensures.parts in let read = c.in_ok-revisions.field-0 in
-    fetched c.args.self.now.id.slots c.args.desk.now.seat.me.0.seen c.fetch_parts.new.desk.seat.me.0.seen read.versions.items (record { revisions = read.revisions; all = c.in_ok-all.all }) x
-    (c.in_ok-all.ensures (after x.0) (subst (λ (l : List (Arc PlainMap Global)). ArePartsOf (after x.0) l) (sym c.as_slice.ensures.value) x.5))
+    fetched c.args.self.now.id.slots c.args.desk.now.seat.me.0.seen c.fetch_parts.new.desk.seat.me.0.seen read.versions.items (record { revisions = read.revisions; all = c.in_ok-all.all; digest = None }) x
+    (c.in_ok-all.ensures (after x.0) (subst (λ (l : List (Arc PlainMap Global)). ArePartsOf (after x.0) l) (sym c.as_slice.ensures.value) x.5)) tt

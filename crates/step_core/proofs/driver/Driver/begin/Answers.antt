@@ -2,6 +2,7 @@ use Rattle.std.proofs.Common.{false, refl, sym, ◌∙◌, ◌≡◌, Option, No
 use Rattle.step_core.specs.declared.trace.OpRecord.{OpRecord}
 use Rattle.step_core.specs.declared.driver.Running.{Running}
 use Rattle.step_core.specs.declared.driver.Driver.{Driver}
+use Rattle.map_core.specs.Op.{known_of}
 use Rattle.step_core.specs.Phase.{start_phase}
 use Rattle.step_core.proofs.Callers.{at_caller}
 use Rattle.step_core.proofs.Driving.{begun_shown}
@@ -22,7 +23,7 @@ returns-clause-acts c = λ n rounds run time h.
     begun_shown n rounds old new run c.args.caller c.args.op.now x entry h (none_there _ (sym c.contains_key.ensures ∙ c.if-contains_key.false)) refl refl
     (at_caller old.callers c.insert.new.self c.args.caller (Some x) c.in_ok-insert.ensures.updates)
     number
-    (c.in_ok-task.ensures ∙ (λ i. record { shards = size i; rounds = h.rounds_are i; phase = start_phase (size i) c.args.op.now }))
+    (c.in_ok-task.ensures ∙ (λ i. record { shards = size i; rounds = h.rounds_are i; known = known_of c.args.op.now; phase = start_phase (size i) c.args.op.now }))
     c.in_ok-push.ensures.items
     (λ i. record { caller = c.args.caller; op = c.in_ok-copy.ensures i; first = sym time i; last = None; reply = None; wrote = false })
     refl

@@ -35,7 +35,7 @@ returns-clause-acts c = λ n rounds run h.
     (at_caller_twice old.callers c.remove.new.self c.insert-2.new.self c.args.caller None (Some y) (at_caller old.callers c.remove.new.self c.args.caller None c.in-Some.ensures.updates)
     (at_caller c.remove.new.self c.insert-2.new.self c.args.caller (Some y) c.in_ok-insert-2.ensures.updates))
     refl
-    (given_task n rounds x.task c.give.new.self _ _ _ own.task c.give.ensures.shards c.give.ensures.rounds c.give.ensures.phase (λ e. not_both _ (c.is_out_of_memory.ensures ∙ ap is_out_of_memory e) c.if-is_out_of_memory.false)
+    (given_task n rounds _ x.task c.give.new.self _ _ _ own.task c.give.ensures.shards c.give.ensures.rounds c.give.ensures.known c.give.ensures.phase (λ e. not_both _ (c.is_out_of_memory.ensures ∙ ap is_out_of_memory e) c.if-is_out_of_memory.false)
     (c.in_ok-answer.ensures.observed ∙ (λ i. observation_by (c.deref_mut.ensures.value i) op (want_is i))))
     (with_items_is old.ops c.mark.new.ops (c.mark.auto.ops ∙ c.deref_mut-2.ensures.len) ∙ c.mark.ensures.marked ∙ (λ i. set (c.deref_mut-2.ensures.value i) x.number (with_wrote (get_or (c.deref_mut-2.ensures.value i) x.number no_record) (c.has_written.ensures i))))
     (c.in_ok-running.ensures.points ∙ (λ i. update_positions (c.has_point-had_point.ensures i) (c.has_point-has_point.ensures i) x.number x.place old.points.items))
