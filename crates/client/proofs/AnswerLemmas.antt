@@ -22,7 +22,7 @@ use Rattle.wire.proofs.FrameLemmas.{frame_first, none_at_end}
 use Rattle.frame_front.proofs.ReplyLemmas.{not_both}
 use Rattle.wire.specs.declared.reply.Detail.TheVariants.{Nothing, SequenceOf, Expected}
 use Rattle.wire.specs.declared.reply.ReplyForm.{ReplyForm}
-use Rattle.wire.specs.ReplyForm.{Reply, Stored, Unchanged, Removed, Appended, Found, All, Refused, Moved, Held, Worn, Memory, Shut, HasPayload, kind_of, payload_of, reply as said}
+use Rattle.wire.specs.ReplyForm.{Reply, Stored, Unchanged, Removed, Appended, Found, All, Refused, Moved, Held, Worn, Memory, Same, Shut, HasPayload, kind_of, payload_of, reply as said}
 use Rattle.wire.proofs.AnswerLines.{answers_are_frames}
 use Rattle.client.specs.Answer.{Answer, MayAnswer, IsValidAnswer, is_code_for}
 use Rattle.client.specs.Client.{BeginsNoReply, NoReply}
@@ -105,6 +105,7 @@ is_read (Ok (map_reply.Appended (Some n))) valid =
     (Appended (Some (low n)), (low_fits n, ap (λ bytes. 112 ∷ 1 ∷ bytes) (low_bytes n), (omega arith, omega arith), tt))
 is_read (Ok (map_reply.Found bundle)) valid = (Found (text_of bundle), found_read bundle valid)
 is_read (Ok (map_reply.All items)) valid = (All (length items), (valid.2, refl, (omega arith, omega arith), (items, refl, refl)))
+is_read (Ok map_reply.Same) valid = (Same, (tt, refl, (omega arith, omega arith), tt))
 is_read (Ok (map_reply.Refused why)) valid = refusal_read why
 is_read (Err error.Memory) valid = (Memory, (tt, refl, (omega arith, omega arith), tt))
 is_read (Err (error.Worn shard)) valid = (Worn (shard_number shard), (shard_fits shard, refl, (omega arith, omega arith), tt))

@@ -1,20 +1,18 @@
 -- Lemmas on what a client reads.
 use Rattle.std.proofs.Common.{◌≡◌, ◌≢◌, ℕ, List, [], ◌∷◌, ◌++◌, refl, sym, ap, ◌∙◌, inl, inr, arith, append_assoc, Result, Ok, Err}
-use Rattle.std.specs.Prelude.{Option}
+use Rattle.std.specs.Prelude.{Option, Some, None}
 use Rattle.std.specs.Io.KnownBytes.{Appends}
 use Rattle.std.specs.List.{flat_map}
 use Rattle.std.proofs.lemmas.List.{append_cancel_left}
-use Rattle.spiffe_doc.specs.Authority.{BundleValue}
-use Rattle.map_core.specs.Name.{Name}
 use Rattle.map_core.specs.declared.op.Op.{Op}
-use Rattle.map_core.specs.declared.op.Op.TheVariants.{Set, SetIf, Append, Remove, Get, FetchAll}
-use Rattle.map_core.specs.declared.op.Expect.{Expect}
 use Rattle.wire.specs.Frame.{IsPayload, HasFrames, frame}
 use Rattle.wire.specs.Answers.{answer_frames}
-use Rattle.client.specs.Request.{request_bytes}
+use Rattle.wire.specs.declared.version.Version.{Version}
+use Rattle.wire.specs.Fields.{version_number}
+use Rattle.client.specs.Request.{request_bytes, version_for}
 use Rattle.client.specs.Reading.{NoFrame}
 use Rattle.client.specs.Answer.{Answer}
-use Rattle.client.specs.Client.{Breaks, BeginsNoReply, reply_preface, reply_bytes, Ends, Exchange, IsBroken}
+use Rattle.client.specs.Client.{Breaks, BeginsNoReply, reply_preface, spoken_bytes, reply_bytes, Ends, Exchange, IsBroken}
 use Rattle.client.specs.Private.Reads.{ReadsWhole, ReadsReply}
 use Rattle.wire.specs.Output.{End}
 use Rattle.client.proofs.ReadingLemmas.{reads_both, stops_behind}
@@ -32,29 +30,25 @@ frame_breaks op BadReply read left none = absurd none
 frame_breaks op WriteFault read left none = absurd none
 frame_breaks op Memory read left none = absurd none
 
--- the reply that version 2 is set
-abbrev version_set : List ℕ
-version_set = 118 ∷ 2 ∷ []
+-- the reply that a version is set
+abbrev version_set : Version → List ℕ
+version_set version = 118 ∷ version_number version ∷ []
 
-version_payload : IsPayload version_set
-version_payload = (omega arith, omega arith)
+version_payload : (version : Version) → IsPayload (version_set version)
+version_payload version = (omega arith, omega arith)
 
 -- frames behind that of the version
-behind_version : (op : Op) (read rest : List ℕ) (payloads : List (List ℕ)) → HasFrames read payloads rest
-    → (before : List (List ℕ)) × HasFrames (reply_preface op ++ read) (before ++ payloads) rest
-behind_version (Set d b) read rest payloads framed = ([], framed)
-behind_version (SetIf d expect b) read rest payloads framed = (
-  version_set ∷ [],
+behind_version : (wanted : Option Version) (read rest : List ℕ) (payloads : List (List ℕ)) → HasFrames read payloads rest
+    → (before : List (List ℕ)) × HasFrames (spoken_bytes wanted ++ read) (before ++ payloads) rest
+behind_version None read rest payloads framed = ([], framed)
+behind_version (Some version) read rest payloads framed = (
+  version_set version ∷ [],
   record {
-    whole = ap (λ r. frame version_set ++ r) framed.whole ∙ sym (append_assoc (frame version_set) (flat_map frame payloads) rest);
-    each = (version_payload, framed.each);
+    whole = ap (λ r. frame (version_set version) ++ r) framed.whole ∙ sym (append_assoc (frame (version_set version)) (flat_map frame payloads) rest);
+    each = (version_payload version, framed.each);
     ends = framed.ends;
   },
 )
-behind_version (Append d a) read rest payloads framed = ([], framed)
-behind_version (Remove d) read rest payloads framed = ([], framed)
-behind_version (Get d) read rest payloads framed = ([], framed)
-behind_version FetchAll read rest payloads framed = ([], framed)
 
 -- no reply behind the one to the version
 breaks_behind : (op : Op) (why : ClientError) (read : List ℕ) (left : Option (List ℕ)) → Breaks op answer_frames why read left
@@ -64,28 +58,31 @@ breaks_behind op ReadFault read left breaks = λ a may valid same. breaks a may 
 breaks_behind op BadReply read left breaks = λ rest a may valid same.
     breaks rest a may valid (append_cancel_left (reply_preface op) (answer_frames a) (read ++ rest) (same ∙ append_assoc (reply_preface op) read rest))
 breaks_behind op BadLength read left breaks =
-    let framed = behind_version op read breaks.1 breaks.0 breaks.2 in
+    let framed = behind_version (version_for op) read breaks.1 breaks.0 breaks.2 in
     (framed.0 ++ breaks.0, breaks.1, framed.1, breaks.3)
 breaks_behind op WriteFault read left breaks = absurd breaks
 breaks_behind op Memory read left breaks = tt
 
-module _ (d : Name) (expect : Expect) (b : BundleValue) where
+module _ (op : Op) (version : Version) (needed : version_for op ≡ Some version) where
+  is_behind : (a : Answer) → reply_bytes op a ≡ frame (version_set version) ++ answer_frames a
+  is_behind a = ap (λ o. spoken_bytes o ++ answer_frames a) needed
+
   -- if the reply to the version was not read
   pub version_breaks : (why : ClientError) (read : List ℕ) (left : Option (List ℕ)) → NoFrame why read left
-      → Breaks (SetIf d expect b) (reply_bytes (SetIf d expect b)) why read left
+      → Breaks op (reply_bytes op) why read left
   version_breaks Truncated read left none =
-      (λ a may valid same. none_at_end version_set (answer_frames a) read version_payload (sym same) (inl none.0), none.1)
-  version_breaks ReadFault read left none = λ a may valid same. none_at_end version_set (answer_frames a) read version_payload (sym same) (inl none)
+      (λ a may valid same. none_at_end (version_set version) (answer_frames a) read (version_payload version) (sym same ∙ is_behind a) (inl none.0), none.1)
+  version_breaks ReadFault read left none = λ a may valid same.
+      none_at_end (version_set version) (answer_frames a) read (version_payload version) (sym same ∙ is_behind a) (inl none)
   version_breaks BadLength read left none = ([], read, record { whole = refl; each = tt; ends = inr none.0 }, none.0)
   version_breaks BadReply read left none = absurd none
   version_breaks WriteFault read left none = absurd none
   version_breaks Memory read left none = absurd none
 
   -- another reply
-  pub other_version : (payload : List ℕ) → IsPayload payload → payload ≢ 118 ∷ 2 ∷ []
-      → BeginsNoReply (SetIf d expect b) (reply_bytes (SetIf d expect b)) (frame payload)
+  pub other_version : (payload : List ℕ) → IsPayload payload → payload ≢ version_set version → BeginsNoReply op (reply_bytes op) (frame payload)
   other_version payload good other rest a may valid same =
-      other (sym (frame_first version_set payload (answer_frames a) rest version_payload good same).0)
+      other (sym (frame_first (version_set version) payload (answer_frames a) rest (version_payload version) good (sym (is_behind a) ∙ same)).0)
 
 -- behind the reply to the version
 pub behind_preface : (op : Op) (old mid new : End) → ReadsWhole old mid (reply_preface op) → (r : Result Answer ClientError) → ReadsReply op answer_frames r mid new → ReadsReply op (reply_bytes op) r old new

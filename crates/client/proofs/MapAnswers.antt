@@ -1,5 +1,5 @@
 -- What a map answers is of a kind that the operation may have.
-use Rattle.std.proofs.Common.{◌≡◌, ℕ, List, ◌∷◌, ◌++◌, refl, ap, ◌∙◌, Result, Ok, Err, Some, None, Bool, true, false}
+use Rattle.std.proofs.Common.{◌≡◌, ℕ, List, ◌∷◌, ◌++◌, refl, ap, ◌∙◌, Result, Ok, Err, Some, None, Bool, true, false, bytes_eq}
 use Rattle.std.specs.Prelude.{Option, if◌then◌else◌}
 use Rattle.std.specs.FinMap as finite
 use Rattle.spiffe_doc.specs.Authority.{BundleValue}
@@ -9,15 +9,16 @@ use Rattle.spiffe_doc.specs.declared.authority.Authority.{Authority}
 use Rattle.spiffe_doc.specs.declared.error.AppendError.{AppendError}
 use Rattle.spiffe_doc.specs.declared.error.AppendError.TheVariants as cannot
 use Rattle.map_core.specs.declared.op.Op.{Op}
-use Rattle.map_core.specs.declared.op.Op.TheVariants.{Set, SetIf, Append, Remove, Get, FetchAll}
+use Rattle.map_core.specs.declared.op.Op.TheVariants.{Set, SetIf, Append, Remove, Get, FetchAll, FetchUnless}
 use Rattle.map_core.specs.declared.held.Holding.{Holding}
 use Rattle.map_core.specs.declared.held.Holding.TheVariants.{Published, Mark}
-use Rattle.map_core.specs.declared.reply.Reply.TheVariants.{Unchanged, Refused}
+use Rattle.map_core.specs.declared.reply.Reply.TheVariants.{Unchanged, All, Same, Refused}
 use Rattle.map_core.specs.declared.reply.MapRefusal.TheVariants.{Stale, NotExpected}
 use Rattle.map_core.specs.Name.{Name}
 use Rattle.map_core.specs.Op.{expect_eq}
 use Rattle.map_core.specs.Table.{meaning, keep, store, store_after, is_lower, set, expectation, append, append_to, append_refusal, remove, get}
-use Rattle.map_core.specs.PlainMap.{PlainMap, ask}
+use Rattle.map_core.specs.Dump.{digest}
+use Rattle.map_core.specs.PlainMap.{PlainMap, bundles, ask}
 use Rattle.wire.specs.Frame.{frame}
 use Rattle.wire.specs.Answers.{code_of}
 use Rattle.client.specs.Answer.{MayAnswer, is_code_for}
@@ -86,6 +87,10 @@ get_answers d None = fits (Get d) 30 _ refl
 get_answers d (Some (Mark s)) = fits (Get d) 30 _ refl
 get_answers d (Some (Published b)) = fits (Get d) 102 _ refl
 
+unless_answers : (known : List ℕ) (same : Bool) (items : List (Name × BundleValue)) → MayAnswer (FetchUnless known) (Ok (if same then Same else All items))
+unless_answers known true items = fits (FetchUnless known) 101 _ refl
+unless_answers known false items = ap (is_code_for (FetchUnless known)) (first_code 97 _ _)
+
 pub map_answers : (m : PlainMap) (op : Op) → MayAnswer op (Ok (ask m op).reply)
 unfolding ask meaning
 map_answers m (Set d b) = set_answers (Set d b) refl refl refl b (finite.get m d)
@@ -95,3 +100,4 @@ map_answers m (Append d a) = append_answers d a (finite.get m d)
 map_answers m (Remove d) = remove_answers d (finite.get m d)
 map_answers m (Get d) = get_answers d (finite.get m d)
 map_answers m FetchAll = ap (is_code_for FetchAll) (first_code 97 _ _)
+map_answers m (FetchUnless known) = unless_answers known (bytes_eq known (digest (bundles m))) (bundles m)

@@ -61,7 +61,7 @@ module _ (retries left : ℕ) (request : List ℕ) (from_old from_mid to_old to_
 
 -- ---- the greeting
 
-pub greeting_bytes : (0 ∷ 0 ∷ 0 ∷ 2 ∷ 86 ∷ 2 ∷ []) ≡ greeting
+pub greeting_bytes : (0 ∷ 0 ∷ 0 ∷ 2 ∷ 86 ∷ 3 ∷ []) ≡ greeting
 unfolding frame
 greeting_bytes = refl
 
@@ -69,7 +69,7 @@ frame_same : (a b : List ℕ) → frame a ≡ frame b → a ≡ b
 unfolding frame
 frame_same a b same = ap (drop 4) same
 
-pub not_greeted : (error : ClientError) (request : List ℕ) (from_old from_new to_old to_new : Option (List ℕ)) → request ≡ 0 ∷ 0 ∷ 0 ∷ 2 ∷ 86 ∷ 2 ∷ [] → FailsAsking request (IsUnanswered error) from_old from_new to_old to_new
+pub not_greeted : (error : ClientError) (request : List ℕ) (from_old from_new to_old to_new : Option (List ℕ)) → request ≡ 0 ∷ 0 ∷ 0 ∷ 2 ∷ 86 ∷ 3 ∷ [] → FailsAsking request (IsUnanswered error) from_old from_new to_old to_new
     → FailsAsking greeting (NotGreeted (Server error)) from_old from_new to_old to_new
 not_greeted error request from_old from_new to_old to_new is one = record {
   sent = one.sent;
@@ -81,7 +81,7 @@ not_greeted error request from_old from_new to_old to_new is one = record {
   why = inl one.why;
 }
 
-pub other_greeting : (payload : List ℕ) (from_old from_new to_old to_new : Option (List ℕ)) → Appends to_old to_new greeting → Consumes from_old from_new (frame payload) → IsPayload payload → payload ≢ 118 ∷ 2 ∷ []
+pub other_greeting : (payload : List ℕ) (from_old from_new to_old to_new : Option (List ℕ)) → Appends to_old to_new greeting → Consumes from_old from_new (frame payload) → IsPayload payload → payload ≢ 118 ∷ 3 ∷ []
     → FailsAsking greeting (NotGreeted (Server client.BadReply)) from_old from_new to_old to_new
 other_greeting payload from_old from_new to_old to_new asks tells good other = record {
   sent = greeting;
@@ -90,5 +90,5 @@ other_greeting payload from_old from_new to_old to_new asks tells good other = r
   split = sym (append-nil greeting);
   asks = asks;
   tells = tells;
-  why = inr (refl, refl, payload, good, refl, λ same. other (frame_same payload (118 ∷ 2 ∷ []) same));
+  why = inr (refl, refl, payload, good, refl, λ same. other (frame_same payload (118 ∷ 3 ∷ []) same));
 }

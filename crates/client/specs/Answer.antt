@@ -2,7 +2,7 @@
 use Rattle.std.specs.Prelude.{◌≡◌, ◌<◌, ◌^◌, ℕ, length, Bool, true, ◌==◌, ◌||◌, None, Result, Ok}
 use Rattle.spiffe_doc.specs.Bundle.{IsBundle}
 use Rattle.map_core.specs.declared.op.Op.{Op}
-use Rattle.map_core.specs.declared.op.Op.TheVariants.{Set, SetIf, Append, Remove, Get, FetchAll}
+use Rattle.map_core.specs.declared.op.Op.TheVariants.{Set, SetIf, Append, Remove, Get, FetchAll, FetchUnless}
 use Rattle.map_core.specs.declared.reply.Reply.{Reply}
 use Rattle.map_core.specs.declared.reply.Reply.TheVariants.{Found, All}
 use Rattle.map_core.specs.declared.reply.AskError.{AskError}
@@ -17,7 +17,7 @@ Answer = Result Reply AskError
 
 -- ---- which answers an operation may have
 
--- s, u, p, d, f and a, and the numbers of refusals
+-- s, u, p, d, f, a and e, and the numbers of refusals
 abbrev pub is_reply_code_for : Op → ℕ → Bool
 is_reply_code_for (Set d b) code = (code == 115) || ((code == 117) || (code == 31))
 is_reply_code_for (SetIf d expect b) code = (code == 115) || ((code == 117) || ((code == 31) || (code == 36)))
@@ -26,6 +26,7 @@ is_reply_code_for (Append d a) code =
 is_reply_code_for (Remove d) code = (code == 100) || (code == 30)
 is_reply_code_for (Get d) code = (code == 102) || (code == 30)
 is_reply_code_for FetchAll code = code == 97
+is_reply_code_for (FetchUnless known) code = (code == 97) || (code == 101)
 
 -- those, and the numbers of errors
 abbrev pub is_code_for : Op → ℕ → Bool

@@ -195,12 +195,12 @@ pub record AsksLines (gives : Gives) (how : Asking) (result : Result Bool AskFau
 
 -- ---- the greeting
 
--- the request for version 2 of the session, and its reply
+-- the request for version 3 of the session, and its reply
 abbrev pub greeting : List ℕ
-greeting = frame (86 ∷ 2 ∷ [])
+greeting = frame (86 ∷ 3 ∷ [])
 
 abbrev pub greeted : List ℕ
-greeted = frame (118 ∷ 2 ∷ [])
+greeted = frame (118 ∷ 3 ∷ [])
 
 -- no line was read, and nothing shown
 abbrev pub IsGreeting : Ends → Ends → List ℕ → List ℕ → Type 0

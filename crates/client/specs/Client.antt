@@ -3,23 +3,26 @@ use Rattle.std.specs.Prelude.{◌≡◌, ◌≢◌, ◌⊎◌, ℕ, List, ◌++�
 use Rattle.std.specs.Io.KnownBytes.{Appends, Consumes, IsAtEnd}
 use Rattle.wire.specs.Counted.{end_in, faults_in, next_count}
 use Rattle.map_core.specs.declared.op.Op.{Op}
-use Rattle.map_core.specs.declared.op.Op.TheVariants.{SetIf}
 use Rattle.map_core.specs.declared.reply.AskError.TheVariants as error
-use Rattle.wire.specs.declared.version.Version.TheVariants.{Two}
+use Rattle.wire.specs.declared.version.Version.{Version}
 use Rattle.client.specs.declared.client_error.ClientError.{ClientError}
 use Rattle.client.specs.declared.client_error.ClientError.TheVariants.{Memory, BadLength, BadReply, Truncated, ReadFault, WriteFault}
 use Rattle.wire.specs.Frame.{HasFrames, IsBadLength}
 use Rattle.wire.specs.Answers.{answer_frames, version_frame}
 use Rattle.wire.specs.Output.{WritesFront}
-use Rattle.client.specs.Request.{request_bytes, is_written}
+use Rattle.client.specs.Request.{request_bytes, is_written, version_for}
 use Rattle.client.specs.Reading.{CountsFault}
 use Rattle.client.specs.Answer.{Answer, MayAnswer, IsValidAnswer}
 use Rattle.client.specs.declared.server_streams.ServerStreams.{ServerStreams}
 
--- the reply to the request that sets version 2
+-- the reply to the request that sets a version
+abbrev pub spoken_bytes : Option Version → List ℕ
+spoken_bytes None = []
+spoken_bytes (Some version) = version_frame version
+
+-- it comes before the one to the operation's own request
 abbrev pub reply_preface : Op → List ℕ
-reply_preface (SetIf d expect b) = version_frame Two
-reply_preface op = []
+reply_preface op = spoken_bytes (version_for op)
 
 -- what is read if this is the answer
 abbrev pub reply_bytes : Op → Answer → List ℕ

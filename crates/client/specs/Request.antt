@@ -1,16 +1,19 @@
 -- The bytes of a request.
-use Rattle.std.specs.Prelude.{◌≡◌, ℕ, List, ◌∷◌, ◌++◌, length, nat_le, Bool, true, false, []}
+use Rattle.std.specs.Prelude.{◌≡◌, ℕ, List, ◌∷◌, ◌++◌, length, nat_le, Bool, true, false, [], Option, Some, None}
 use Rattle.spiffe_doc.specs.Text.{entry_text, text_of}
 use Rattle.spiffe_doc.specs.Name.{IsName}
 use Rattle.spiffe_doc.specs.Authority.{IsAuthority}
 use Rattle.spiffe_doc.specs.Bundle.{IsBundle}
 use Rattle.map_core.specs.declared.op.Op.{Op}
-use Rattle.map_core.specs.declared.op.Op.TheVariants.{Set, SetIf, Append, Remove, Get, FetchAll}
+use Rattle.map_core.specs.declared.op.Op.TheVariants.{Set, SetIf, Append, Remove, Get, FetchAll, FetchUnless}
 use Rattle.client.specs.declared.request.RequestError.{RequestError}
 use Rattle.client.specs.declared.request.RequestError.TheVariants.{Memory, TooLong, WriteFault}
+use Rattle.wire.specs.declared.version.Version.{Version}
+use Rattle.wire.specs.declared.version.Version.TheVariants.{Two, Three}
+use Rattle.wire.specs.Fields.{version_number}
 use Rattle.wire.specs.Frame.{frame}
 use Rattle.wire.specs.RequestForm as form
-use Rattle.wire.specs.RequestForm.{Request, IsExpect, payload_of}
+use Rattle.wire.specs.RequestForm.{Request, IsDigest, IsExpect, payload_of}
 
 -- the request that says an operation
 abbrev pub request_form : Op → Request
@@ -20,23 +23,48 @@ request_form (Append d a) = form.Append d (entry_text a)
 request_form (Remove d) = form.Remove d
 request_form (Get d) = form.Get d
 request_form FetchAll = form.Fetch
+request_form (FetchUnless known) = form.FetchUnless known
 
 abbrev pub request_payload : Op → List ℕ
 request_payload op = payload_of (request_form op)
 
--- C is of version 2, so the request that sets this version comes before it
+-- the version of the session that an operation needs, if it is not the first
+abbrev pub version_for : Op → Option Version
+version_for (SetIf d expect b) = Some Two
+version_for (FetchUnless known) = Some Three
+version_for op = None
+
+abbrev pub least_of : Option Version → ℕ
+least_of None = 1
+least_of (Some version) = version_number version
+
+-- the first version in which it can be asked
+abbrev pub least_version : Op → ℕ
+least_version op = least_of (version_for op)
+
+-- the payload of the request that sets a version
+abbrev pub speak_payload : Version → List ℕ
+speak_payload version = payload_of (form.Speak version)
+
+abbrev pub speak_bytes : Option Version → List ℕ
+speak_bytes None = []
+speak_bytes (Some version) = frame (speak_payload version)
+
+-- it comes before the operation's own request
 abbrev pub request_preface : Op → List ℕ
-request_preface (SetIf d expect b) = frame (86 ∷ 2 ∷ [])
-request_preface op = []
+request_preface op = speak_bytes (version_for op)
 
 -- what is written of an operation
 abbrev pub request_bytes : Op → List ℕ
 request_bytes op = request_preface op ++ frame (request_payload op)
 
 -- the payloads of an operation's requests, one after the other
+abbrev pub payloads_behind : Option Version → List ℕ → List (List ℕ)
+payloads_behind None payload = payload ∷ []
+payloads_behind (Some version) payload = speak_payload version ∷ payload ∷ []
+
 abbrev pub request_payloads : Op → List (List ℕ)
-request_payloads (SetIf d expect b) = (86 ∷ 2 ∷ []) ∷ request_payload (SetIf d expect b) ∷ []
-request_payloads op = request_payload op ∷ []
+request_payloads op = payloads_behind (version_for op) (request_payload op)
 
 -- Whether the request of an operation is written: each but an append of an authority whose text is over the limit of
 -- documents.
@@ -62,3 +90,4 @@ IsValidOp (Append d a) = IsName d × IsAuthority a
 IsValidOp (Remove d) = IsName d
 IsValidOp (Get d) = IsName d
 IsValidOp FetchAll = Unit {0}
+IsValidOp (FetchUnless known) = IsDigest known

@@ -37,6 +37,7 @@ fn is_code_for(op: &Op, code: u8) -> bool
             Op::Remove(_) => matches!(code, b'd' | 30),
             Op::Get(_) => matches!(code, b'f' | 30),
             Op::FetchAll => code == b'a',
+            Op::FetchUnless(_) => matches!(code, b'a' | b'e'),
         }
 }
 
@@ -125,6 +126,7 @@ fn read_first(alloc: Global, reply: &ReplyForm<'_>) -> Result<Option<First>, All
                 .map(First::Reply),
         ),
         ReplyForm::All(count) => Ok(Some(First::Count(count))),
+        ReplyForm::Same => Ok(Some(First::Reply(Reply::Same))),
         ReplyForm::Bundle(_, _) | ReplyForm::Speaks(_) => Ok(None),
         _ => Ok(read_error(reply).map(First::Error)),
     }

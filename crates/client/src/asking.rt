@@ -5,6 +5,8 @@
 pub enum Form {
     /// A line for each reply.
     Lines,
+    /// A line for each reply, but of the reply to a get only its bundle.
+    Texts,
     /// The frames as they came, so that those of a fetch are a dump.
     Frames,
 }

@@ -9,9 +9,9 @@ ghost use Rattle.client.specs.Private.Requests.{document_part};
 
 use crate::answer::{First, judge_payload};
 use crate::listing::read_listing;
-use crate::reply::is_version_two;
+use crate::reply::is_version;
 use crate::reply_room::ReplyRoom;
-use crate::request::{request_document, send_request};
+use crate::request::{request_document, send_request, version_for};
 use crate::{ClientError, ServerStreams};
 use map_core::{Ask, AskError, Op, Reply, Snapshot};
 use std::alloc::Global;
@@ -123,7 +123,7 @@ impl<R: Read, W: Write> Ask for Client<R, W> {
     }
 }
 
-/// Reads the reply to the request that sets version 2, if that request comes before the operation's.
+/// Reads the reply to the request that sets the version, if one comes before the operation's.
 fn read_preface<R: Read>(
     reader: &mut Counted<R>,
     room: &mut ReplyRoom,
@@ -132,11 +132,11 @@ fn read_preface<R: Read>(
     ensures ok { OnOk result (ReadsWhole (end_of R.remaining reader.old) (end_of R.remaining reader.new) (reply_preface op.now)) }
     ensures err { IfErr result (λ why. StopsReading (Breaks op.now (reply_bytes op.now)) why (end_of R.remaining reader.old) (end_of R.remaining reader.new)) }
 {
-    let Op::SetIf(_, _, _) = op else {
+    let Some(version) = version_for(op) else {
         return Ok(());
     };
     let payload = room.read(reader)?;
-    if is_version_two(payload) {
+    if is_version(payload, version) {
         Ok(())
     } else {
         Err(ClientError::BadReply)

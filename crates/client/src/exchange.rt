@@ -9,11 +9,11 @@ ghost use Rattle.client.specs.Asking.{greeting, greeted, IsUnanswered, NotGreete
 ghost use Rattle.client.specs.declared.fault.AskFault.TheVariants.{Server};
 ghost use Rattle.client.specs.Private.Steps.{FailsAsking};
 
-use crate::reply::is_version_two;
+use crate::reply::is_version;
 use crate::reply_room::ReplyRoom;
 use crate::{ClientError, ServerStreams};
 use std::io::{Read, Write};
-use wire::{Counted, write_flushed};
+use wire::{Counted, Version, write_flushed};
 
 /// Sends all of the bytes, and sees that the writer keeps nothing back.
 fn send<W: Write>(to: &mut Counted<W>, bytes: &[u8]) -> Result<(), ClientError>
@@ -49,7 +49,7 @@ pub(crate) fn ask_once<'a, R: Read, W: Write>(
     Ok(payload)
 }
 
-/// Sets version 2 of the session, which conditional sets need.
+/// Sets version 3 of the session, in which all requests can be asked.
 pub(crate) fn greet<R: Read, W: Write>(
     server: &mut ServerStreams<R, W>,
     room: &mut ReplyRoom,
@@ -63,8 +63,8 @@ pub(crate) fn greet<R: Read, W: Write>(
     ensures read_fault { result ≡ Err ReadFault → faults_in server.new.from ≡ next_count (faults_in server.old.from) }
     ensures write_fault { result ≡ Err WriteFault → faults_in server.new.to ≡ next_count (faults_in server.old.to) }
 {
-    let payload = ask_once(server, &[0, 0, 0, 2, b'V', 2], room)?;
-    if is_version_two(payload) {
+    let payload = ask_once(server, &[0, 0, 0, 2, b'V', 3], room)?;
+    if is_version(payload, Version::Three) {
         Ok(())
     } else {
         Err(ClientError::BadReply)

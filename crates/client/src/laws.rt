@@ -1,24 +1,24 @@
 //! Laws of what a client writes and reads, over the definitions.
-ghost use Rattle.std.specs.Prelude.{◌≡◌, [], ◌∷◌, Ok, true};
+ghost use Rattle.std.specs.Prelude.{◌≡◌, ◌≤◌, [], Ok, true};
 ghost use Rattle.std.specs.List.{concat};
 ghost use Rattle.map_core.specs.PlainMap.{PlainMap, ask};
 ghost use Rattle.map_core.specs.declared.op.Op.{Op};
 ghost use Rattle.wire.specs.Frame.{stream_of};
 ghost use Rattle.wire.specs.declared.version.Version.{Version};
-ghost use Rattle.wire.specs.declared.version.Version.TheVariants.{One, Two};
 ghost use Rattle.wire.specs.declared.judge.Judged.TheVariants.{Ask, SetVersion};
+ghost use Rattle.wire.specs.Fields.{version_number};
 ghost use Rattle.wire.specs.Judge.{request_of};
 ghost use Rattle.frame_front.specs.PlainSession.{answers_to, state_after};
-ghost use Rattle.client.specs.Request.{is_written, IsValidOp, request_payload, request_payloads, request_preface, request_bytes};
+ghost use Rattle.client.specs.Request.{is_written, IsValidOp, least_version, request_payload, request_payloads, request_bytes, speak_payload};
 ghost use Rattle.client.specs.Client.{reply_bytes};
 ghost use Rattle.client.specs.Answer.{MayAnswer};
 
-/// A request that is written is read as its operation: in version 2, and in version 1 unless the request
-/// for version 2 comes before it.
+/// A request that is written is read as its operation, in each version from that on which it needs; and the request that sets
+/// a version as this.
 pub fn requests_are_read_as_asked()
-    ensures second { (op : Op) → is_written op ≡ true → IsValidOp op → request_of Two (request_payload op) ≡ Ok (Ask op) }
-    ensures first { (op : Op) → is_written op ≡ true → IsValidOp op → request_preface op ≡ [] → request_of One (request_payload op) ≡ Ok (Ask op) }
-    ensures version { (version : Version) → request_of version (86 ∷ 2 ∷ []) ≡ Ok (SetVersion Two) }
+    ensures asked { (version : Version) (op : Op) → is_written op ≡ true → IsValidOp op → least_version op ≤ version_number version
+        → request_of version (request_payload op) ≡ Ok (Ask op) }
+    ensures version { (version wanted : Version) → request_of version (speak_payload wanted) ≡ Ok (SetVersion wanted) }
 {}
 
 /// A session of any version answers what a client writes by what it reads as the map's own reply, and

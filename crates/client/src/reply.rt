@@ -1,9 +1,10 @@
 //! What replies are to a client.
 ghost use Rattle.std.specs.Prelude.{◌≡◌, ◌≢◌, ◌∷◌, [], ◌⊎◌, ◌≤◌, true, false};
 ghost use Rattle.wire.specs.ReplyForm.{reply as said};
-ghost use Rattle.client.specs.Replies.{bundles_after as bundles_of, is_bundle as bundle, is_transient as again, is_refusal as refusal};
+ghost use Rattle.wire.specs.Fields.{version_number};
+ghost use Rattle.client.specs.Replies.{bundles_after as bundles_of, has_bundle as one_bundle, is_bundle as bundle, is_transient as again, is_refusal as refusal};
 
-use wire::ReplyForm;
+use wire::{ReplyForm, Version};
 
 /// After such a reply the request is asked again.
 fn is_transient(reply: &ReplyForm<'_>) -> bool
@@ -54,10 +55,17 @@ pub(crate) fn is_bundle(reply: &ReplyForm<'_>) -> bool
     matches!(reply, ReplyForm::Bundle(_, _))
 }
 
-/// Whether the payload is that of the reply that version 2 is set.
-pub(crate) fn is_version_two(payload: &[u8]) -> bool
-    ensures yes { result ≡ true → payload.now ≡ 118 ∷ 2 ∷ [] }
-    ensures no { result ≡ false → payload.now ≢ 118 ∷ 2 ∷ [] }
+/// Whether the reply holds the bundle that was asked for.
+pub(crate) fn has_bundle(reply: &ReplyForm<'_>) -> bool
+    ensures { result ≡ one_bundle (said reply.now) }
 {
-    matches!(payload, [b'v', 2])
+    matches!(reply, ReplyForm::Found(_))
+}
+
+/// Whether the payload is that of the reply that the version is set.
+pub(crate) fn is_version(payload: &[u8], version: Version) -> bool
+    ensures yes { result ≡ true → payload.now ≡ 118 ∷ version_number version ∷ [] }
+    ensures no { result ≡ false → payload.now ≢ 118 ∷ version_number version ∷ [] }
+{
+    payload == [b'v', version.number()].as_slice()
 }

@@ -3,19 +3,19 @@ ghost use Rattle.std.specs.Prelude.{◌≡◌, ◌⊎◌, ◌<◌, ◌≤◌, �
 ghost use Rattle.std.specs.Io.KnownBytes.{Appends};
 ghost use Rattle.std.specs.Cow.{cow_slice_items};
 ghost use Rattle.wire.specs.Counted.{end_in, faults_in, next_count};
-ghost use Rattle.wire.specs.RequestForm.{request, IsFramed};
+ghost use Rattle.wire.specs.RequestForm.{request, FetchUnless, IsFramed};
 ghost use Rattle.wire.specs.Output.{WritesFront};
-ghost use Rattle.client.specs.Request.{request_bytes, request_form as form_of, is_append, is_written as can_be_written, IsUnwritable};
+ghost use Rattle.client.specs.Request.{request_bytes, request_form as form_of, is_append, is_written as can_be_written, version_for as version_of, IsUnwritable};
 ghost use Rattle.client.specs.Private.Requests.{document_part};
 
-use map_core::Op;
+use map_core::{DumpDigest, Op};
 use spiffe_doc::{TrustDomain, write_entry};
 use std::alloc::{AllocError, Global};
 use std::borrow::CowSlice;
 use std::io::Write;
 use thiserror::Error;
 use wire::head::{Head, head_of, put};
-use wire::{Counted, FrontError, RequestForm, canonical_text, write_both};
+use wire::{Counted, FrontError, RequestForm, Version, canonical_text, write_both};
 
 /// Why a request was not written, or not whole.
 #[derive(Clone, Copy, Debug, PartialEq, Eq, Error)]
@@ -32,8 +32,8 @@ pub enum RequestError {
 /// The longest document that a request may end with.
 const MAX_DOCUMENT: usize = 1_048_576;
 
-/// Writes the request for an operation, and sees that the writer keeps nothing back. Before a request to
-/// conditional set comes the one that sets version 2 of the session.
+/// Writes the request for an operation, and sees that the writer keeps nothing back. If the
+/// operation needs a version of the session that is not the first, the request that sets it comes before.
 ///
 /// Nothing is written of an append whose authority has a text of over 1,048,576 bytes, or for whose text
 /// there is no memory. If the writer fails, a front of the request may be written.
@@ -82,7 +82,9 @@ pub(crate) fn request_document<'a>(
             }
             Ok(Some(CowSlice::Owned(text)))
         }
-        Op::Remove(_) | Op::Get(_) | Op::FetchAll => Ok(Some(CowSlice::Borrowed(&[]))),
+        Op::Remove(_) | Op::Get(_) | Op::FetchAll | Op::FetchUnless(_) => {
+            Ok(Some(CowSlice::Borrowed(&[])))
+        }
     }
 }
 
@@ -121,6 +123,25 @@ fn request_form<'a>(op: &'a Op, text: &'a [u8]) -> RequestForm<'a>
         Op::Remove(domain) => RequestForm::Remove(name_of(domain)),
         Op::Get(domain) => RequestForm::Get(name_of(domain)),
         Op::FetchAll => RequestForm::Fetch,
+        Op::FetchUnless(known) => fetch_unless(known),
+    }
+}
+
+fn fetch_unless<'a>(known: &DumpDigest) -> RequestForm<'a>
+    ensures form { request result ≡ FetchUnless known.now }
+    ensures framed { IsFramed (request result) }
+{
+    RequestForm::FetchUnless(*known)
+}
+
+/// The version of the session that the operation needs, if it is not the first.
+pub(crate) fn version_for(op: &Op) -> Option<Version>
+    ensures { result ≡ version_of op.now }
+{
+    match op {
+        Op::SetIf(_, _, _) => Some(Version::Two),
+        Op::FetchUnless(_) => Some(Version::Three),
+        _ => None,
     }
 }
 
@@ -140,10 +161,10 @@ fn request_head(op: &Op, document: &[u8]) -> Head
     let Some(head) = request_form(op, document).frame_head() else {
         unreachable!();
     };
-    let Op::SetIf(_, _, _) = op else {
+    let Some(version) = version_for(op) else {
         return head;
     };
-    let mut both = head_of(&[0, 0, 0, 2, b'V', 2]);
+    let mut both = head_of(&[0, 0, 0, 2, b'V', version.number()]);
     put(&mut both, head.as_slice());
     both
 }

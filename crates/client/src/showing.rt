@@ -5,14 +5,15 @@ ghost use Rattle.wire.specs.Counted.{end_in, faults_in, next_count};
 ghost use Rattle.wire.specs.Frame.{IsPayload, frame as frame_of};
 ghost use Rattle.wire.specs.Output.{WritesFront};
 ghost use Rattle.wire.specs.declared.error.FrontError.TheVariants.{WriteFault};
-ghost use Rattle.wire.specs.ReplyForm.{HasPayload, payload_of, reply as said};
+ghost use Rattle.wire.specs.ReplyForm.{HasPayload, IsLined, payload_of, reply as said};
 ghost use Rattle.client.specs.Replies.{CanBeShown, IsTold, shown};
 ghost use Rattle.client.specs.Private.Steps.{Shows, NotShown, ShowsOthers, BreaksOthers, Blames, faults_of};
+ghost use Rattle.client.specs.declared.asking.Form.TheVariants.{Texts};
 ghost use Rattle.client.specs.declared.fault.AskFault.TheVariants.{Front};
 
 use crate::asking::Form;
 use crate::fault::AskFault;
-use crate::reply::{bundles_after, is_bundle, is_refusal};
+use crate::reply::{bundles_after, has_bundle, is_bundle, is_refusal};
 use crate::reply_room::ReplyRoom;
 use crate::{ClientError, ServerStreams};
 use std::io::{Read, Write};
@@ -71,7 +72,25 @@ fn write_reply<O: Write>(
             Some(head) => write_parts(head.as_slice(), reply.text(), b"\n", out),
             None => Err(AskFault::Server(ClientError::BadReply)),
         },
+        Form::Texts => write_text(reply, out),
         Form::Frames => write_frame(payload, out),
+    }
+}
+
+/// Writes the bundle that was asked for, or the line of another reply.
+fn write_text<O: Write>(reply: &ReplyForm<'_>, out: &mut Counted<O>) -> Result<(), AskFault>
+    ensures ok { OnOk result (IsLined (said reply.now) × Appends (O.contents (end_in out.old)) (O.contents (end_in out.new)) (shown Texts (said reply.now))) }
+    ensures quiet { OnOk result (faults_in out.new ≡ faults_in out.old) }
+    ensures err { IfErr result (λ fault. NotShown Texts (said reply.now) (IsLined (said reply.now)) fault (O.contents (end_in out.old)) (O.contents (end_in out.new))) }
+    ensures counted { result ≡ Err (Front WriteFault) → faults_in out.new ≡ next_count (faults_in out.old) }
+{
+    let Some(head) = reply.line_head() else {
+        return Err(AskFault::Server(ClientError::BadReply));
+    };
+    if has_bundle(reply) {
+        write_parts(b"", reply.text(), b"\n", out)
+    } else {
+        write_parts(head.as_slice(), reply.text(), b"\n", out)
     }
 }
 

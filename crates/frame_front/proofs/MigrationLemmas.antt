@@ -110,7 +110,7 @@ valid_items (p ∷ ps) (i ∷ is) reads = (valid_item p i reads.0, valid_items p
 
 set_read : (item : Name × BundleValue) → IsName item.0 → IsBundle item.1 → request_of Two (request_for item) ≡ Ok (Ask (SetIf item.0 Absent item.1))
 set_read item is valid =
-    request_read Two (form.SetIf item.0 Absent (text_of item.1)) (omega (arith, is.short), tt) ∙ set_if_asks item.0 Absent item.1 is valid
+    request_read Two (form.SetIf item.0 Absent (text_of item.1)) (omega (arith, is.short), tt) ∙ set_if_asks Two item.0 Absent item.1 (omega arith) is valid
 
 -- ---- it is stored, and stands last
 

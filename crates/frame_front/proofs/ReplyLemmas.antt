@@ -5,7 +5,7 @@ use Rattle.spiffe_doc.specs.declared.name.NameError.TheVariants as name
 use Rattle.spiffe_doc.specs.declared.error.DocError.TheVariants as doc
 use Rattle.map_core.specs.declared.op.Op.{Op}
 use Rattle.map_core.specs.declared.reply.Reply.{Reply}
-use Rattle.map_core.specs.declared.reply.Reply.TheVariants.{Stored, Unchanged, Appended, Removed, Found, All, Refused}
+use Rattle.map_core.specs.declared.reply.Reply.TheVariants.{Stored, Unchanged, Appended, Removed, Found, All, Same, Refused}
 use Rattle.map_core.specs.declared.reply.MapRefusal.{MapRefusal}
 use Rattle.map_core.specs.declared.reply.MapRefusal.TheVariants.{NoDomain, Stale, KidTaken, TooMany, TooLong, SequenceFull, NotExpected}
 use Rattle.map_core.specs.declared.reply.AskError.{AskError}
@@ -15,7 +15,7 @@ use Rattle.map_core.specs.PlainMap.{PlainMap, ask}
 use Rattle.map_core.specs.Ask.{PlainAnswer, ContentsAnswer}
 use Rattle.map_core.proofs.MapLaws.{ask_keeps}
 use Rattle.wire.specs.declared.version.Version.{Version}
-use Rattle.wire.specs.declared.version.Version.TheVariants.{One, Two}
+use Rattle.wire.specs.declared.version.Version.TheVariants.{One, Two, Three}
 use Rattle.wire.specs.declared.judge.Judged.{Judged}
 use Rattle.wire.specs.declared.judge.Judged.TheVariants.{Ask, SetVersion}
 use Rattle.wire.specs.declared.refusal.Refusal.{Refusal}
@@ -45,6 +45,7 @@ want_is_error text same = ap is_error_reply same ∙ one_frame_tells 22 []
 pub version_answers : (version : Version) → is_error_reply (version_frame version) ≡ false
 version_answers One = one_frame_tells 118 _
 version_answers Two = one_frame_tells 118 _
+version_answers Three = one_frame_tells 118 _
 
 refused_answers : (why : MapRefusal) → is_error_reply (reply_frames (Refused why)) ≡ false
 refused_answers NoDomain = one_frame_tells 30 _
@@ -63,6 +64,7 @@ reply_answers (Appended sequence) = one_frame_tells 112 _
 reply_answers Removed = one_frame_tells 100 _
 reply_answers (Found bundle) = one_frame_tells 102 _
 reply_answers (All items) = frame_tells 97 _ _
+reply_answers Same = one_frame_tells 101 _
 reply_answers (Refused why) = refused_answers why
 
 error_tells : (e : AskError) → is_error_reply (answer_frames (Err e)) ≡ true
@@ -92,6 +94,7 @@ errors_keep (Ok Unchanged) m shown op text plain (inr want) tells = absurd want.
 errors_keep (Ok (Appended sequence)) m shown op text plain (inr want) tells = absurd want.0
 errors_keep (Ok Removed) m shown op text plain (inr want) tells = absurd want.0
 errors_keep (Ok (Found bundle)) m shown op text plain (inr want) tells = absurd want.0
+errors_keep (Ok Same) m shown op text plain (inr want) tells = absurd want.0
 errors_keep (Ok (Refused why)) m shown op text plain (inr want) tells = absurd want.0
 errors_keep (Err e) m shown op text plain out tells = plain
 

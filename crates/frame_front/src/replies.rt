@@ -2,9 +2,9 @@
 ghost use Rattle.std.specs.Prelude.{◌≡◌, ◌+◌, ◌≤◌, [], length};
 ghost use Rattle.frame_front.specs.Live.{most_part};
 ghost use Rattle.wire.specs.Judge.{judged, request_of};
-ghost use Rattle.wire.specs.RequestForm.{Get};
+ghost use Rattle.wire.specs.RequestForm.{Get, request};
 ghost use Rattle.wire.specs.declared.version.Version.TheVariants.{One};
-ghost use Rattle.frame_front.specs.Private.Pending.{AnswersLater, AnswersNow, reply_left};
+ghost use Rattle.frame_front.specs.Private.Pending.{AnswersLater, AnswersNow, AnswersRead, reply_left};
 
 use crate::pending::{PendingReply, store_both};
 use crate::reply::{ReplyBytes, answer_reply, refusal_reply, version_reply};
@@ -82,14 +82,7 @@ impl Replies {
                 Some(reply) => reply,
                 None => return false,
             },
-            Some(form) => match form.judge(self.alloc, documents, self.version) {
-                Ok(Judged::Ask(op)) => answer_reply(ask.ask(op)),
-                Ok(Judged::SetVersion(wanted)) => {
-                    self.version = wanted;
-                    version_reply(wanted)
-                }
-                Err(refusal) => refusal_reply(refusal),
-            },
+            Some(form) => answer_form(self.alloc, documents, &mut self.version, ask, &form),
             None => refusal_reply(Refusal::BadRequest),
         };
         let is_error = reply.is_error();
@@ -113,5 +106,26 @@ impl Replies {
             Ok(Some(reply)) => Some(answer_reply(Ok(reply))),
             Err(error) => Some(answer_reply(Err(error))),
         }
+    }
+}
+
+/// The reply to a request of any kind. Out of line, so that a get pays for no other request.
+#[inline(never)]
+fn answer_form<A: Ask>(
+    alloc: Global,
+    documents: &mut DocumentReader,
+    version: &mut Version,
+    ask: &mut A,
+    form: &RequestForm<'_>,
+) -> ReplyBytes
+    ensures { AnswersRead A.answers (version.old, ask.old) (judged version.old (request form.now)) result (version.new, ask.new) }
+{
+    match form.judge(alloc, documents, *version) {
+        Ok(Judged::Ask(op)) => answer_reply(ask.ask(op)),
+        Ok(Judged::SetVersion(wanted)) => {
+            *version = wanted;
+            version_reply(wanted)
+        }
+        Err(refusal) => refusal_reply(refusal),
     }
 }

@@ -28,9 +28,9 @@ impl TextSource for OneText {
     }
 }
 
-const GREETING: &[u8] = b"\x00\x00\x00\x02V\x02";
+const GREETING: &[u8] = b"\x00\x00\x00\x02V\x03";
 
-const GREETED: &[u8] = b"\x00\x00\x00\x02v\x02";
+const GREETED: &[u8] = b"\x00\x00\x00\x02v\x03";
 
 const MEMORY: &[u8] = b"\x00\x00\x00\x01\x16";
 
@@ -44,6 +44,9 @@ const ALL_OF_TWO: &[u8] = b"\x00\x00\x00\x09a\x00\x00\x00\x00\x00\x00\x00\x02";
 const BUNDLE_A: &[u8] = b"\x00\x00\x00\x0ei\x01a{\"keys\":[]}";
 
 const BUNDLE_B: &[u8] = b"\x00\x00\x00\x0ei\x01b{\"keys\":[]}";
+
+/// A reply to a get whose text has a line feed.
+const FOUND_TWO_LINES: &[u8] = b"\x00\x00\x00\x04f{\n}";
 
 /// Room for all that is asked or shown, so that no write takes memory.
 const ROOM: usize = 256;
@@ -321,6 +324,32 @@ fn frames_are_shown_as_they_came(rt: HostRuntime) -> Result<(), Fail> {
     let dump = joined(alloc, DUMP)?;
     let found = (left.ended, left.shown.as_slice(), left.unread);
     is_equal(&found, &(Ok(true), dump.as_slice(), STORED.len()))
+}
+
+/// Lines that are asked for texts, with the replies to them and what is shown: only what a get found loses its verb.
+const TEXT_LINES: &[u8] = b"get a\nget a\nfetch\nset a @doc\n";
+
+const TEXTS: &[u8] =
+    b"{\"keys\":[]}\nrefused 30\nall 2\nbundle a {\"keys\":[]}\nbundle b {\"keys\":[]}\nstored\n";
+
+#[test]
+fn texts_are_shown_alone(rt: HostRuntime) -> Result<(), Fail> {
+    let alloc = rt.alloc();
+    let replies = [
+        GREETED, FOUND, ABSENT, ALL_OF_TWO, BUNDLE_A, BUNDLE_B, STORED,
+    ];
+    let left = ask(alloc, Form::Texts, 0, TEXT_LINES, &replies)?;
+    is_equal(&(left.ended, left.shown.as_slice()), &(Ok(true), TEXTS))?;
+    // A text of two lines would be none.
+    let torn = ask(
+        alloc,
+        Form::Texts,
+        0,
+        b"get a\n",
+        &[GREETED, FOUND_TWO_LINES],
+    )?;
+    let bad = Err(AskFault::Server(ClientError::BadReply));
+    is_equal(&(torn.ended, torn.shown.as_slice()), &(bad, b"".as_slice()))
 }
 
 /// To be run with each allocation refused in turn: it passes only if nothing was refused.

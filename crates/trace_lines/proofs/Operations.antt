@@ -5,7 +5,7 @@ use Rattle.map_core.specs.declared.op.Op.{Op}
 use Rattle.wire.specs.declared.judge.Judged.{Judged}
 use Rattle.wire.specs.declared.judge.Judged.TheVariants.{Ask, SetVersion}
 use Rattle.wire.specs.declared.refusal.Refusal.{Refusal}
-use Rattle.wire.specs.declared.version.Version.TheVariants.{Two}
+use Rattle.wire.specs.declared.version.Version.TheVariants.{Three}
 use Rattle.wire.specs.RequestForm.{Request}
 use Rattle.wire.specs.Judge.{judged}
 use Rattle.trace_lines.specs.EventLine.{AsksFor}
@@ -18,7 +18,7 @@ asked_found (Err refusal) o is = absurd (none-some o is)
 
 pub operation_found : (r : Request) (o : Op) → operation_of r ≡ Some o → AsksFor r o
 unfolding operation_of
-operation_found r o is = asked_found (judged Two r) o is
+operation_found r o is = asked_found (judged Three r) o is
 
 pub operation_read : (r : Request) (o : Op) → AsksFor r o → operation_of r ≡ Some o
 unfolding operation_of

@@ -6,13 +6,13 @@ use Rattle.step_core.specs.declared.event.Event.TheVariants.{Begin, Step, Quit, 
 use Rattle.step_core.specs.declared.event.Why.{Why}
 use Rattle.step_core.specs.declared.event.Why.TheVariants.{Held, Memory}
 use Rattle.wire.specs.declared.judge.Judged.TheVariants.{Ask}
-use Rattle.wire.specs.declared.version.Version.TheVariants.{Two}
+use Rattle.wire.specs.declared.version.Version.TheVariants.{Three}
 use Rattle.wire.specs.Judge.{judged}
 use Rattle.wire.specs.RequestForm.{Request, HasLine, line_of, ◌then◌}
 
--- A request asks for an operation as in a session of version 2. One that only sets the version asks for none.
+-- A request asks for an operation as in a session of version 3. One that only sets the version asks for none.
 abbrev pub AsksFor : Request → Op → Type 0
-AsksFor request asked = judged Two request ≡ Ok (Ask asked)
+AsksFor request asked = judged Three request ≡ Ok (Ask asked)
 
 -- why an operation is given up: memory ran out, or another caller held the shard at this revision
 abbrev pub why_words : Why → List ℕ

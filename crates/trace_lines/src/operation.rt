@@ -21,7 +21,7 @@ pub(crate) fn read_operation(alloc: Global, form: &RequestForm<'_>) -> Result<Op
     ensures { Reads result (operation_of (request form.now)) }
 {
     let mut documents = DocumentReader::new(alloc);
-    match form.judge(alloc, &mut documents, Version::Two) {
+    match form.judge(alloc, &mut documents, Version::Three) {
         Ok(Judged::Ask(op)) => Ok(op),
         Err(Refusal::Memory) => Err(LineError::Memory),
         _ => Err(LineError::NoEvent),

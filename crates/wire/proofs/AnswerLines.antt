@@ -18,7 +18,7 @@ use Rattle.wire.specs.Frame.{frame}
 use Rattle.wire.specs.declared.reply.Detail.{Detail}
 use Rattle.wire.specs.declared.reply.Detail.TheVariants.{Nothing, Place, SequenceOf, Expected}
 use Rattle.wire.specs.RequestForm.{IsOneLine, ◌then◌}
-use Rattle.wire.specs.ReplyForm.{Reply, Appended, All, Refused, Moved, Held, Worn, IsLined, HasLine, HasPayload, SequenceFits, DetailFits, IsRefusal, kind_of, refusal_words, line_of, payload_of, Stored, Unchanged, Removed, Found, Bundle, Speaks, Memory, Shut}
+use Rattle.wire.specs.ReplyForm.{Reply, Appended, All, Refused, Moved, Held, Worn, IsLined, HasLine, HasPayload, SequenceFits, DetailFits, IsRefusal, kind_of, refusal_words, line_of, payload_of, Stored, Unchanged, Removed, Found, Same, Bundle, Speaks, Memory, Shut}
 use Rattle.wire.specs.Decoding.{IsReplyLine}
 use Rattle.wire.specs.Answers.{answer_frames, item_frame, detail_of, refusal_form, shard_number, error_form, reply_form, answer_form, bundles_of, bundle_form, answer_forms}
 use Rattle.wire.specs.Laws.{IsAnswer, IsItem}
@@ -116,6 +116,7 @@ said_is_lined said.Removed is = (tt, refl)
 said_is_lined (said.Appended sequence) is = appended_is_lined sequence is
 said_is_lined (said.Found bundle) is = found_is_lined bundle is
 said_is_lined (said.All items) is = all_is_lined (length items) is.0
+said_is_lined said.Same is = (tt, refl)
 said_is_lined (said.Refused refusal) is = refusal_is_lined refusal (refused_fits refusal is)
 
 pub answer_is_lined : (answer : Result Said AskError) → IsAnswer answer → IsLined (answer_form answer)
@@ -131,6 +132,7 @@ has_payload (Appended sequence) has = has
 has_payload (Found text) has = has
 has_payload (All count) has = has
 has_payload (Bundle name text) has = has.1
+has_payload Same has = has
 has_payload (Speaks version) has = has
 has_payload (Refused number detail) has = has
 has_payload (Moved shard first second) has = has
@@ -153,6 +155,7 @@ all_told (Ok said.Removed) is = tt
 all_told (Ok (said.Appended sequence)) is = tt
 all_told (Ok (said.Found bundle)) is = tt
 all_told (Ok (said.All items)) is = bundles_are_told items is.1
+all_told (Ok said.Same) is = tt
 all_told (Ok (said.Refused refusal)) is = tt
 all_told (Err e) is = tt
 
@@ -175,6 +178,7 @@ answers_are_frames (Ok said.Removed) = one_frame _
 answers_are_frames (Ok (said.Appended sequence)) = one_frame _
 answers_are_frames (Ok (said.Found bundle)) = one_frame _
 answers_are_frames (Ok (said.All items)) = ap (λ rest. frame (payload_of (All (length items))) ++ rest) (items_are_frames items)
+answers_are_frames (Ok said.Same) = one_frame _
 answers_are_frames (Ok (said.Refused NoDomain)) = one_frame _
 answers_are_frames (Ok (said.Refused (Stale sequence))) = one_frame _
 answers_are_frames (Ok (said.Refused KidTaken)) = one_frame _

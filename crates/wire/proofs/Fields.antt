@@ -1,17 +1,21 @@
 -- Numbers, expectations and versions as words.
-use Rattle.std.proofs.Common.{◌≡◌, ◌⊎◌, inl, inr, ℕ, ◌<◌, ◌^◌, arith, Bool, true, false, List, [], ◌∷◌, Some, None, refl, ap, subst, ◌∙◌, ne_eqb}
+use Rattle.std.proofs.Common.{◌≡◌, ◌⊎◌, inl, inr, ℕ, ◌<◌, ◌^◌, arith, Bool, true, false, List, [], ◌∷◌, Some, None, Result, Ok, Err, refl, sym, ap, subst, ◌∙◌, ne_eqb}
 use Rattle.std.specs.List.{list_any}
 use Rattle.std.specs.Prelude.{◌==◌, ◌||◌, codes, decimal, bytes_eq, if◌then◌else◌, option_map}
 use Rattle.std.specs.Str.Parse.{AllDigits}
 use Rattle.std.proofs.lemmas.Fmt.{decimal_is_IsNumeral}
 use Rattle.std.proofs.lemmas.Str.Parse.{digit_from_value}
 use Rattle.std.proofs.lemmas.Option.{same_Some, none-some}
+use Rattle.std.proofs.lemmas.Slice.Eq.{bytes_eq-Decides}
+use Rattle.hex.specs.declared.error.FromHexError.{FromHexError}
+use Rattle.hex.specs.Hex.{encode_lower, decode_sized}
+use Rattle.hex.proofs.HexLemmas.{decode_of-ok, decode_sized-ok, decode_sized-twice, decode_sized-encode_lower}
 use Rattle.map_core.specs.declared.op.Expect.{Expect}
 use Rattle.map_core.specs.declared.op.Expect.TheVariants.{Absent, Sequence, Unnumbered}
 use Rattle.wire.specs.declared.version.Version.{Version}
-use Rattle.wire.specs.declared.version.Version.TheVariants.{One, Two}
-use Rattle.wire.specs.RequestForm.{IsExpect, IsWord, expect_word, version_word}
-use Rattle.wire.specs.Private.RequestReading.{number_of, expect_of, version_of}
+use Rattle.wire.specs.declared.version.Version.TheVariants.{One, Two, Three}
+use Rattle.wire.specs.RequestForm.{IsExpect, IsDigest, IsWord, expect_word, version_word}
+use Rattle.wire.specs.Private.RequestReading.{number_of, expect_of, version_of, written_as, digest_of}
 use Rattle.wire.proofs.Numbers.{number_found, number_of-decimal}
 use Rattle.wire.proofs.Cases.{if_some, same_bytes, map_some}
 
@@ -70,9 +74,12 @@ pub version_found : (word : List ℕ) (v : Version) → version_of word ≡ Some
 unfolding version_of
 version_found word v is = elim (if_some (bytes_eq word (codes "1")) (Some One) _ v is) [
   | inl h ↦ same_bytes word (codes "1") h.0 ∙ ap version_word (same_Some One v h.1)
-  | inr h ↦ elim (if_some (bytes_eq word (codes "2")) (Some Two) None v h.1) [
+  | inr h ↦ elim (if_some (bytes_eq word (codes "2")) (Some Two) _ v h.1) [
     | inl k ↦ same_bytes word (codes "2") k.0 ∙ ap version_word (same_Some Two v k.1)
-    | inr k ↦ absurd (none-some v k.1)
+    | inr k ↦ elim (if_some (bytes_eq word (codes "3")) (Some Three) None v k.1) [
+      | inl l ↦ same_bytes word (codes "3") l.0 ∙ ap version_word (same_Some Three v l.1)
+      | inr l ↦ absurd (none-some v l.1)
+    ]
   ]
 ]
 
@@ -80,3 +87,31 @@ pub version_read : (v : Version) → version_of (version_word v) ≡ Some v
 unfolding version_of
 version_read One = refl
 version_read Two = refl
+version_read Three = refl
+
+-- ---- digests
+
+pub digest_found : (word digest : List ℕ) → digest_of word ≡ Some digest → (word ≡ encode_lower digest) × IsDigest digest
+unfolding digest_of
+digest_found word digest is = by (decode_sized word 32) refl is
+  where
+    by : (o : Result (List ℕ) FromHexError) → decode_sized word 32 ≡ o → written_as word o ≡ Some digest → (word ≡ encode_lower digest) × IsDigest digest
+    by (Err why) e h = absurd (none-some digest h)
+    by (Ok bytes) e h = elim (if_some (bytes_eq (encode_lower bytes) word) (Some bytes) None digest h) [
+      | inl k ↦
+          let twice = decode_sized-ok word 32 bytes e in
+          let ok = decode_of-ok word bytes (sym (decode_sized-twice word 32 twice) ∙ e) in
+          let long = ok.2 in
+          let is : IsDigest bytes = (omega (arith, twice, long), ok.3) in
+          let same = same_Some bytes digest k.1 in
+          (sym (same_bytes (encode_lower bytes) word k.0) ∙ ap encode_lower same, subst IsDigest same is)
+      | inr k ↦ absurd (none-some digest k.1)
+    ]
+
+itself : (word digest : List ℕ) (o : Result (List ℕ) FromHexError) → o ≡ Ok digest → encode_lower digest ≡ word → written_as word o ≡ Some digest
+itself word digest o is same =
+    ap (written_as word) is ∙ ap (λ (b : Bool). if b then Some digest else None) ((bytes_eq-Decides (encode_lower digest) word).1 same)
+
+pub digest_read : (digest : List ℕ) → IsDigest digest → digest_of (encode_lower digest) ≡ Some digest
+unfolding digest_of
+digest_read digest is = itself (encode_lower digest) digest _ (decode_sized-encode_lower digest 32 is.0 is.1) refl

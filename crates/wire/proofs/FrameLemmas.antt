@@ -4,6 +4,7 @@ use Rattle.std.proofs.lemmas.List.{append_cancel_left, length-take-le, take-appe
 use Rattle.std.proofs.lemmas.Nat.{be_bytes_4, from_be_bytes-to_be_bytes_4}
 use Rattle.std.specs.Int.{w32, to_be_bytes}
 use Rattle.std.specs.List.{AllByRecursion}
+pub use Rattle.map_core.proofs.Dumps.{frame_in_parts}
 use Rattle.wire.specs.Frame.{IsPayload, IsUnfinished, IsBadLength, HasFrames, frame, length_field, stream_of, most_payload}
 
 -- a front of four bytes, what they say, and the rest
@@ -86,16 +87,6 @@ both_streams (p ∷ ps) (q ∷ qs) r s same each_p each_q end_r end_s =
 -- a stream has one list of frames, and one rest
 pub frames_unique : (stream : List ℕ) (ps qs : List (List ℕ)) (r s : List ℕ) → HasFrames stream ps r → HasFrames stream qs s → (ps ≡ qs) × (r ≡ s)
 frames_unique stream ps qs r s a b = both_streams ps qs r s (sym a.whole ∙ b.whole) a.each b.each a.ends b.ends
-
--- a length, and then the payload in two parts, is a frame
-pub frame_in_parts : (out front rest : List ℕ) (n : ℕ) → n ≡ length front + length rest
-    → ((out ++ to_be_bytes w32 n) ++ front) ++ rest ≡ out ++ frame (front ++ rest)
-unfolding frame
-frame_in_parts out front rest n lengths =
-    let whole : n ≡ length (front ++ rest) = omega (arith, length-append front rest) in
-    append_assoc (out ++ to_be_bytes w32 n) front rest
-    ∙ append_assoc out (to_be_bytes w32 n) (front ++ rest)
-    ∙ ap (λ k. out ++ (to_be_bytes w32 k ++ (front ++ rest))) whole
 
 pub longer_by_frame : (p rest : List ℕ) → 4 + length rest ≤ length (frame p ++ rest)
 longer_by_frame p rest = omega (arith, length-frame p rest, length-append p rest)

@@ -1,10 +1,10 @@
 -- What holds of each reason why a request is refused holds of all of them.
 use Rattle.std.proofs.Common.{◌≡◌, ℕ, List, refl, ap, Option, Some, None, Result, Ok, Err}
 use Rattle.wire.specs.declared.version.Version.{Version}
-use Rattle.wire.specs.declared.version.Version.TheVariants.{One, Two}
+use Rattle.wire.specs.declared.version.Version.TheVariants.{One, Two, Three}
 use Rattle.wire.specs.declared.refusal.Refusal.{Refusal}
 use Rattle.wire.specs.declared.refusal.Refusal.TheVariants.{BadRequest}
-use Rattle.wire.specs.RequestForm.{Request, Set, SetIf, Append, Remove, Get, Fetch, Speak, HasPayload, payload_of, name_of}
+use Rattle.wire.specs.RequestForm.{Request, Set, SetIf, Append, Remove, Get, Fetch, FetchUnless, Speak, HasPayload, payload_of, name_of}
 use Rattle.wire.specs.PayloadReading.{read_payload}
 use Rattle.wire.specs.Judge.{◌>>=◌, parse_name, parse_bundle, parse_authority, named_bundle, judged, judged_if, request_of}
 use Rattle.wire.proofs.RequestPayloads.{payload_read}
@@ -35,10 +35,14 @@ module _ (P : Refusal → Type 0) where
     refused_form version (Set name text) first = refused_then (named_bundle name text) _ (refused_named name text first) (λ item. tt)
     refused_form One (SetIf name expect text) first = bad
     refused_form Two (SetIf name expect text) first = refused_then (named_bundle name text) _ (refused_named name text first) (λ item. tt)
+    refused_form Three (SetIf name expect text) first = refused_then (named_bundle name text) _ (refused_named name text first) (λ item. tt)
     refused_form version (Append name text) first = refused_then (parse_name name) _ first (λ domain. refused_then (parse_authority text) _ (authority text) (λ a. tt))
     refused_form version (Remove name) first = refused_then (parse_name name) _ first (λ domain. tt)
     refused_form version (Get name) first = refused_then (parse_name name) _ first (λ domain. tt)
     refused_form version Fetch first = tt
+    refused_form One (FetchUnless known) first = bad
+    refused_form Two (FetchUnless known) first = bad
+    refused_form Three (FetchUnless known) first = tt
     refused_form version (Speak wanted) first = tt
 
     -- of a payload, if it holds of the name of the request that it is

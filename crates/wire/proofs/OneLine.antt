@@ -3,7 +3,7 @@ use Rattle.std.proofs.Common.{◌≡◌, ℕ, List, [], false, None, refl, sym, 
 use Rattle.std.proofs.lemmas.Option.{same_Some, none-some}
 use Rattle.wire.specs.Frame.{frame}
 use Rattle.wire.specs.RequestForm as requests
-use Rattle.wire.specs.RequestForm.{Request, Set, SetIf, Append, Remove, Get, Fetch, Speak, HasLine, IsFramed, HasPayload, line_of, payload_of, text_of, with_text}
+use Rattle.wire.specs.RequestForm.{Request, Set, SetIf, Append, Remove, Get, Fetch, FetchUnless, Speak, HasLine, IsFramed, HasPayload, line_of, payload_of, text_of, with_text}
 use Rattle.wire.specs.ReplyForm as replies
 use Rattle.wire.specs.ReplyForm.{kind_of}
 use Rattle.wire.specs.Decoding.{IsLineOf, IsRequestLine, IsReplyLine}
@@ -23,6 +23,7 @@ unread (Append name text) = refl
 unread (Remove name) = refl
 unread (Get name) = refl
 unread Fetch = refl
+unread (FetchUnless known) = refl
 unread (Speak version) = refl
 
 one_request : (payload one other : List ℕ) → IsRequestLine payload one → IsRequestLine payload other → one ≡ other
@@ -53,6 +54,7 @@ asks (Append name text) = refl
 asks (Remove name) = refl
 asks (Get name) = refl
 asks Fetch = refl
+asks (FetchUnless known) = refl
 asks (Speak version) = refl
 
 -- a frame carries its payload, and its numbers fit
@@ -63,6 +65,7 @@ has_payload (Append name text) has framed = framed.0
 has_payload (Remove name) has framed = framed.0
 has_payload (Get name) has framed = framed.0
 has_payload Fetch has framed = tt
+has_payload (FetchUnless known) has framed = has
 has_payload (Speak version) has framed = tt
 
 becomes : (gives : Gives) (request : Request) → HasLine request → IsFramed request → requests.IsLined request → Becomes gives (line_of request, frame (payload_of request))
@@ -72,6 +75,7 @@ becomes gives (Append name text) has framed lined = inr (refl, (Append name text
 becomes gives (Remove name) has framed lined = inr (refl, (Remove name, [], has, refl, inr (lined.2, refl), framed, refl))
 becomes gives (Get name) has framed lined = inr (refl, (Get name, [], has, refl, inr (lined.2, refl), framed, refl))
 becomes gives Fetch has framed lined = inr (refl, (Fetch, [], has, refl, inr (lined.2, refl), framed, refl))
+becomes gives (FetchUnless known) has framed lined = inr (refl, (FetchUnless known, [], has, refl, inr (lined.2, refl), framed, refl))
 becomes gives (Speak version) has framed lined = inr (refl, (Speak version, [], has, refl, inr (lined.2, refl), framed, refl))
 
 pub decodes : (request : Request) → HasLine request → IsFramed request → requests.IsLined request

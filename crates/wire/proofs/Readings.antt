@@ -1,5 +1,5 @@
 -- What is written of names, bundles and authorities is read again.
-use Rattle.std.proofs.Common.{◌≡◌, ◌≤◌, length, ap, ◌∙◌, refl, Result, Ok}
+use Rattle.std.proofs.Common.{◌≡◌, ◌≤◌, arith, length, ap, ◌∙◌, refl, Result, Ok}
 use Rattle.spiffe_doc.specs.Authority.{IsAuthority, BundleValue}
 use Rattle.spiffe_doc.specs.declared.authority.Authority.{Authority}
 use Rattle.spiffe_doc.specs.Bundle.{IsBundle}
@@ -11,7 +11,8 @@ use Rattle.map_core.specs.Name.{Name}
 use Rattle.map_core.specs.declared.op.Op.TheVariants as op
 use Rattle.map_core.specs.declared.op.Expect.{Expect}
 use Rattle.wire.specs.declared.version.Version.{Version}
-use Rattle.wire.specs.declared.version.Version.TheVariants.{Two}
+use Rattle.wire.specs.declared.version.Version.TheVariants.{One, Two, Three}
+use Rattle.wire.specs.Fields.{version_number}
 use Rattle.wire.specs.declared.judge.Judged.TheVariants.{Ask}
 use Rattle.wire.specs.declared.refusal.Refusal.{Refusal}
 use Rattle.wire.specs.RequestForm.{Set, SetIf, Append, Remove, Get}
@@ -41,9 +42,16 @@ pub set_asks : (version : Version) (d : Name) (b : BundleValue) → IsName d →
 unfolding judged
 set_asks version d b name valid = ap (λ (r : Result (Name × BundleValue) Refusal). r >>= (λ item. Ok (Ask (op.Set item.0 item.1)))) (named_bundle-item d b name valid)
 
-pub set_if_asks : (d : Name) (expect : Expect) (b : BundleValue) → IsName d → IsBundle b → judged Two (SetIf d expect (text_of b)) ≡ Ok (Ask (op.SetIf d expect b))
+set_if_item : (d : Name) (expect : Expect) (b : BundleValue) → IsName d → IsBundle b
+    → (named_bundle d (text_of b) >>= (λ item. Ok (Ask (op.SetIf item.0 expect item.1)))) ≡ Ok (Ask (op.SetIf d expect b))
+set_if_item d expect b name valid = ap (λ (r : Result (Name × BundleValue) Refusal). r >>= (λ item. Ok (Ask (op.SetIf item.0 expect item.1)))) (named_bundle-item d b name valid)
+
+pub set_if_asks : (version : Version) (d : Name) (expect : Expect) (b : BundleValue) → 2 ≤ version_number version → IsName d → IsBundle b
+    → judged version (SetIf d expect (text_of b)) ≡ Ok (Ask (op.SetIf d expect b))
 unfolding judged
-set_if_asks d expect b name valid = ap (λ (r : Result (Name × BundleValue) Refusal). r >>= (λ item. Ok (Ask (op.SetIf item.0 expect item.1)))) (named_bundle-item d b name valid)
+set_if_asks One d expect b may name valid = absurd (omega (arith, may))
+set_if_asks Two d expect b may name valid = set_if_item d expect b name valid
+set_if_asks Three d expect b may name valid = set_if_item d expect b name valid
 
 pub append_asks : (version : Version) (d : Name) (a : Authority) → IsName d → IsAuthority a → length (entry_text a) ≤ 1048576
     → judged version (Append d (entry_text a)) ≡ Ok (Ask (op.Append d a))

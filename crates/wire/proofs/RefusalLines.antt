@@ -13,10 +13,10 @@ use Rattle.spiffe_doc.specs.Name.{is_name_byte, trust_domain}
 use Rattle.spiffe_doc.specs.Document.{document, entry}
 use Rattle.map_core.specs.Name.{Name}
 use Rattle.wire.specs.declared.version.Version.{Version}
-use Rattle.wire.specs.declared.version.Version.TheVariants.{One, Two}
+use Rattle.wire.specs.declared.version.Version.TheVariants.{One, Two, Three}
 use Rattle.wire.specs.declared.refusal.Refusal.{Refusal}
 use Rattle.wire.specs.declared.refusal.Refusal.TheVariants.{BadRequest, BadName, BadDocument, PassedOver, Memory}
-use Rattle.wire.specs.RequestForm.{Request, Set, SetIf, Append, Remove, Get, Fetch, Speak, HasPayload, name_of}
+use Rattle.wire.specs.RequestForm.{Request, Set, SetIf, Append, Remove, Get, Fetch, FetchUnless, Speak, HasPayload, name_of}
 use Rattle.wire.specs.Judge.{name_or_refusal, parse_name, bundle_or_refusal, parse_bundle, authority_or_refusal, parse_authority, request_of}
 use Rattle.wire.proofs.JudgeLemmas.{IfRefused, refused_payload}
 use Rattle.wire.proofs.RequestPayloads.{payload_found}
@@ -119,6 +119,7 @@ short_name (Append name text) has = has
 short_name (Remove name) has = has
 short_name (Get name) has = has
 short_name Fetch has = omega arith
+short_name (FetchUnless known) has = omega arith
 short_name (Speak version) has = omega arith
 
 told_request : (version : Version) (payload : List ℕ) → ((i : ℕ) → get_or payload i 0 < 256) → IsToldIfRefused (request_of version payload)
@@ -172,3 +173,4 @@ refusals_have_lines version payload refusal bytes is = has_reply refusal (subst 
 pub versions_have_lines : (version : Version) → IsReplyLine (payload_of (Speaks version)) (line_of (Speaks version))
 versions_have_lines One = lined_is_told (Speaks One) (tt, refl)
 versions_have_lines Two = lined_is_told (Speaks Two) (tt, refl)
+versions_have_lines Three = lined_is_told (Speaks Three) (tt, refl)

@@ -1,15 +1,16 @@
 -- A request is read from its line, and from no other.
 use Rattle.std.proofs.Common.{◌≡◌, ℕ, List, Option, Some, None, refl, sym, ap, subst, ◌∙◌}
-use Rattle.std.specs.Prelude.{codes, option_map, IfSome, MatchOption}
+use Rattle.hex.specs.Hex.{encode_lower}
+use Rattle.std.specs.Prelude.{codes, bytes_eq, if◌then◌else◌, option_map, IfSome, MatchOption}
 use Rattle.std.proofs.lemmas.Option.{same_Some, none-some}
 use Rattle.wire.specs.declared.request.RequestForm.{RequestForm}
-use Rattle.wire.specs.RequestForm.{Request, Set, SetIf, Append, Remove, Get, Fetch, Speak, request, line_of, HasLine, IsWord, IsNameWord, expect_word, version_word, ◌then◌}
+use Rattle.wire.specs.RequestForm.{Request, Set, SetIf, Append, Remove, Get, Fetch, FetchUnless, Speak, request, line_of, HasLine, IsWord, IsNameWord, expect_word, version_word, ◌then◌}
 use Rattle.wire.specs.PayloadReading.{◌>>=◌, of_both}
-use Rattle.wire.specs.Private.RequestReading.{split_word, split_name, lone_name, expect_of, version_of, set_if_of, request_by_verb, request_by_split, read_line}
+use Rattle.wire.specs.Private.RequestReading.{split_word, split_name, lone_name, expect_of, version_of, digest_of, fetch_unless_of, set_if_of, request_by_verb, request_by_split, read_line}
 use Rattle.wire.proofs.Words.{split_found, split_then, split_alone}
 use Rattle.wire.proofs.Cases.{bind_cases, map_some, word_cases}
 use Rattle.wire.proofs.Names.{name_split_found, name_split_then, name_lone_found, name_lone_alone}
-use Rattle.wire.proofs.Fields.{expect_found, expect_read, expect_is_word, version_found, version_read}
+use Rattle.wire.proofs.Fields.{expect_found, expect_read, expect_is_word, version_found, version_read, digest_found, digest_read}
 
 -- ---- requests
 
@@ -43,6 +44,17 @@ set_if_found rest r is =
     let w = expect_found words.0 expect told in
     subst (λ (q : Request). Found (codes "setif") rest q) (same_Some (SetIf parts.0 expect words.1) r is) ((λ i. codes "setif" then s.0 i) ∙ (λ i. codes "setif" then parts.0 then t.0 i) ∙ (λ i. codes "setif" then parts.0 then w.0 i then words.1), (s.1, w.1)))))
 
+fetch_unless_found : (rest : List ℕ) (r : Request) → fetch_unless_of rest ≡ Some r → Found (codes "fetch") rest r
+unfolding fetch_unless_of
+fetch_unless_found rest r is =
+    bind_cases (split_word rest) _ r is (λ parts split more.
+    word_cases parts.0 (codes "unless") _ _ r more (λ word is.
+    let m = map_some FetchUnless (digest_of parts.1) r is in
+    let s = split_found rest parts split in
+    let d = digest_found parts.1 m.0 m.1 in
+    subst (λ (q : Request). Found (codes "fetch") rest q) m.2 ((λ i. codes "fetch" then s.0 i) ∙ (λ i. codes "fetch" then word i then d.0 i), d.1)) (λ is.
+    absurd (none-some r is)))
+
 speak_found : (rest : List ℕ) (r : Request) → option_map Speak (version_of rest) ≡ Some r → Found (codes "version") rest r
 speak_found rest r is =
     let m = map_some Speak (version_of rest) r is in
@@ -57,8 +69,9 @@ by_verb_found verb rest r is =
     word_cases verb (codes "append") _ _ r is (λ v is. at v (text_found (codes "append") Append rest r (λ name text word. (refl, word)) is)) (λ is.
     word_cases verb (codes "remove") _ _ r is (λ v is. at v (name_found (codes "remove") Remove rest r (λ name word. (refl, word)) is)) (λ is.
     word_cases verb (codes "setif") _ _ r is (λ v is. at v (set_if_found rest r is)) (λ is.
+    word_cases verb (codes "fetch") _ _ r is (λ v is. at v (fetch_unless_found rest r is)) (λ is.
     word_cases verb (codes "version") _ _ r is (λ v is. at v (speak_found rest r is)) (λ is.
-    absurd (none-some r is)))))))
+    absurd (none-some r is))))))))
   where
     at : {known : List ℕ} → verb ≡ known → Found known rest r → Found verb rest r
     at same found = ((λ i. same i then rest) ∙ found.0, found.1)
@@ -83,7 +96,7 @@ unfolding read_line
 verb_read verb rest r word is = ap (request_by_split (verb then rest)) (split_then verb rest word) ∙ is
 
 pub line_read : (r : Request) → HasLine r → read_line (line_of r) ≡ Some r
-unfolding read_line request_by_verb set_if_of
+unfolding read_line request_by_verb set_if_of fetch_unless_of
 line_read (Set name text) word = verb_read (codes "set") (name then text) (Set name text) refl (ap (option_map (of_both Set)) (name_split_then name text word))
 line_read (SetIf name expect text) fits = verb_read (codes "setif") (name then expect_word expect then text) (SetIf name expect text) refl
     (ap (λ o. o >>= λ parts. split_word parts.1 >>= λ more. expect_of more.0 >>= λ wanted. Some (SetIf parts.0 wanted more.1)) (name_split_then name (expect_word expect then text) fits.0)
@@ -93,6 +106,9 @@ line_read (Append name text) word = verb_read (codes "append") (name then text) 
 line_read (Remove name) word = verb_read (codes "remove") name (Remove name) refl (ap (option_map Remove) (name_lone_alone name word))
 line_read (Get name) word = verb_read (codes "get") name (Get name) refl (ap (option_map Get) (name_lone_alone name word))
 line_read Fetch nothing = ap (request_by_split (codes "fetch")) (split_alone (codes "fetch") refl)
+line_read (FetchUnless known) digest = verb_read (codes "fetch") (codes "unless" then encode_lower known) (FetchUnless known) refl
+    (ap (λ o. o >>= λ parts. if bytes_eq parts.0 (codes "unless") then option_map FetchUnless (digest_of parts.1) else None) (split_then (codes "unless") (encode_lower known) refl)
+    ∙ ap (option_map FetchUnless) (digest_read known digest))
 line_read (Speak version) nothing = verb_read (codes "version") (version_word version) (Speak version) refl (ap (option_map Speak) (version_read version))
 
 -- ---- what a reader tells

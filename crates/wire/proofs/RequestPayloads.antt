@@ -9,11 +9,11 @@ use Rattle.std.proofs.lemmas.Option.{same_Some, none-some}
 use Rattle.map_core.specs.declared.op.Expect.{Expect}
 use Rattle.map_core.specs.declared.op.Expect.TheVariants.{Absent, Sequence, Unnumbered}
 use Rattle.wire.specs.declared.version.Version.{Version}
-use Rattle.wire.specs.declared.version.Version.TheVariants.{One, Two}
+use Rattle.wire.specs.declared.version.Version.TheVariants.{One, Two, Three}
 use Rattle.wire.specs.Fields.{expect_bytes, version_number}
 use Rattle.wire.specs.declared.request.RequestForm.{RequestForm}
-use Rattle.wire.specs.RequestForm.{Request, Set, SetIf, Append, Remove, Get, Fetch, Speak, request, named, payload_of, HasPayload, IsExpect}
-use Rattle.wire.specs.PayloadReading.{◌>>=◌, at_end, of_both, split_named, lone_named, split_expect, version_in, set_if_in, request_by_letter, read_payload}
+use Rattle.wire.specs.RequestForm.{Request, Set, SetIf, Append, Remove, Get, Fetch, FetchUnless, Speak, request, named, payload_of, HasPayload, IsDigest, IsExpect}
+use Rattle.wire.specs.PayloadReading.{◌>>=◌, at_end, of_both, split_named, lone_named, split_expect, version_in, digest_in, set_if_in, request_by_letter, read_payload}
 use Rattle.wire.proofs.Cases.{bind_some, bind_cases, if_some, map_some, number_cases}
 use Rattle.wire.proofs.Numbers.{both}
 
@@ -102,8 +102,9 @@ unfolding version_in
 version_found [] v is = absurd (none-some v is)
 version_found (number ∷ bytes) v is =
     number_cases number 1 (at_end One bytes) _ v is (λ one is. spelled One one is) (λ is.
-    number_cases number 2 (at_end Two bytes) None v is (λ two is. spelled Two two is) (λ is.
-    absurd (none-some v is)))
+    number_cases number 2 (at_end Two bytes) _ v is (λ two is. spelled Two two is) (λ is.
+    number_cases number 3 (at_end Three bytes) None v is (λ three is. spelled Three three is) (λ is.
+    absurd (none-some v is))))
   where
     spelled : (w : Version) → number ≡ version_number w → at_end w bytes ≡ Some v → number ∷ bytes ≡ version_number v ∷ []
     spelled w same is =
@@ -114,6 +115,21 @@ pub version_read : (v : Version) → version_in (version_number v ∷ []) ≡ So
 unfolding version_in
 version_read One = refl
 version_read Two = refl
+version_read Three = refl
+
+-- ---- digests
+
+digest_found : (bytes digest : List ℕ) → AreBytes bytes → digest_in bytes ≡ Some digest → (bytes ≡ digest) × IsDigest digest
+unfolding digest_in
+digest_found bytes digest fits is =
+    number_cases (length bytes) 32 (Some bytes) None digest is (λ long is.
+    let same = same_Some bytes digest is in
+    (same, subst IsDigest same (long, fits))) (λ is.
+    absurd (none-some digest is))
+
+digest_read : (digest : List ℕ) → IsDigest digest → digest_in digest ≡ Some digest
+unfolding digest_in
+digest_read digest is = ap (λ (n : ℕ). if n == 32 then Some digest else None) is.0
 
 -- ---- requests
 
@@ -147,6 +163,12 @@ set_if_found bytes r fits is =
     let e = expect_found parts.1 expected n.2 told in
     subst (λ (q : Request). Found 67 bytes q) (same_Some (SetIf parts.0 expected.0 expected.1) r is) ((λ i. 67 ∷ n.0 i) ∙ (λ i. 67 ∷ named parts.0 ++ e.0 i), (n.1, e.1))))
 
+fetch_unless_found : (bytes : List ℕ) (r : Request) → AreBytes bytes → option_map FetchUnless (digest_in bytes) ≡ Some r → Found 85 bytes r
+fetch_unless_found bytes r fits is =
+    let m = map_some FetchUnless (digest_in bytes) r is in
+    let d = digest_found bytes m.0 fits m.1 in
+    subst (λ (q : Request). Found 85 bytes q) m.2 (λ i. 85 ∷ d.0 i, d.1)
+
 speak_found : (bytes : List ℕ) (r : Request) → option_map Speak (version_in bytes) ≡ Some r → Found 86 bytes r
 speak_found bytes r is =
     let m = map_some Speak (version_in bytes) r is in
@@ -166,9 +188,10 @@ by_letter_found letter bytes r fits is =
     number_cases letter 82 _ _ r is (λ l is. at l (name_found 82 Remove bytes r (λ name short. (refl, short)) fits is)) (λ is.
     number_cases letter 71 _ _ r is (λ l is. at l (name_found 71 Get bytes r (λ name short. (refl, short)) fits is)) (λ is.
     number_cases letter 70 _ _ r is (λ l is. at l (fetch_found bytes r is)) (λ is.
+    number_cases letter 85 _ _ r is (λ l is. at l (fetch_unless_found bytes r fits is)) (λ is.
     number_cases letter 86 _ _ r is (λ l is. at l (speak_found bytes r is)) (λ is.
     number_cases letter 67 _ _ r is (λ l is. at l (set_if_found bytes r fits is)) (λ is.
-    absurd (none-some r is))))))))
+    absurd (none-some r is)))))))))
   where
     at : {known : ℕ} → letter ≡ known → Found known bytes r → Found letter bytes r
     at same found = ((λ i. same i ∷ bytes) ∙ found.0, found.1)
@@ -190,6 +213,7 @@ payload_read (Append name text) fits = ap (option_map (of_both Append)) (named_r
 payload_read (Remove name) fits = ap (option_map Remove) (lone_named_read name)
 payload_read (Get name) fits = ap (option_map Get) (lone_named_read name)
 payload_read Fetch fits = refl
+payload_read (FetchUnless known) fits = ap (option_map FetchUnless) (digest_read known fits)
 payload_read (Speak version) fits = ap (option_map Speak) (version_read version)
 
 -- ---- what a reader tells

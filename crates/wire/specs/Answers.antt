@@ -1,6 +1,5 @@
 -- What a map answers and what a session answers, as replies, and the bytes in which they go out.
-use Rattle.std.specs.Prelude.{◌≡◌, ℕ, ◌-◌, ◌^◌, List, [], ◌∷◌, ◌++◌, length, get_or, map, min, Option, Some, None, Result, Ok, Err, ◌⊎◌, Bool}
-use Rattle.std.specs.List.{flat_map}
+use Rattle.std.specs.Prelude.{◌≡◌, ℕ, ◌-◌, ◌^◌, List, [], ◌∷◌, length, get_or, map, min, Option, Some, None, Result, Ok, Err, ◌⊎◌, Bool}
 use Rattle.spiffe_doc.specs.Authority.{BundleValue}
 use Rattle.spiffe_doc.specs.Text.{text_of}
 use Rattle.map_core.specs.Name.{Name}
@@ -15,10 +14,13 @@ use Rattle.wire.specs.declared.refusal.Refusal.{Refusal}
 use Rattle.wire.specs.declared.refusal.Refusal.TheVariants as refused
 use Rattle.wire.specs.Refusal.{refusal_number as request_refusal_number, refusal_place}
 use Rattle.wire.specs.declared.version.Version.{Version}
+use Rattle.map_core.specs.Dump.{dump}
+-- a domain of all bundles: its name and its canonical text
+pub use Rattle.map_core.specs.Dump.{item_frame}
 use Rattle.wire.specs.Frame.{frame}
 use Rattle.wire.specs.declared.reply.Detail.{Detail}
 use Rattle.wire.specs.declared.reply.Detail.TheVariants.{Nothing, Place, SequenceOf, Expected}
-use Rattle.wire.specs.ReplyForm.{Reply, payload_of, is_error_code, Speaks, Stored, Unchanged, Removed, Appended, Found, All, Bundle, Refused, Moved, Held, Worn, Memory, Shut}
+use Rattle.wire.specs.ReplyForm.{Reply, payload_of, is_error_code, Speaks, Stored, Unchanged, Removed, Appended, Found, All, Same, Bundle, Refused, Moved, Held, Worn, Memory, Shut}
 
 -- what a refusal of a map says beside its number
 abbrev pub detail_of : MapRefusal → Detail
@@ -48,6 +50,7 @@ reply_form said.Removed = Removed
 reply_form (said.Appended sequence) = Appended sequence
 reply_form (said.Found bundle) = Found (text_of bundle)
 reply_form (said.All items) = All (length items)
+reply_form said.Same = Same
 reply_form (said.Refused refusal) = refusal_form refusal
 
 abbrev pub answer_form : Result Said AskError → Reply
@@ -81,13 +84,9 @@ request_refusal_form refusal = Refused (request_refusal_number refusal) (place_d
 abbrev pub reply_frame : Reply → List ℕ
 reply_frame reply = frame (payload_of reply)
 
--- a domain of all bundles: its name and its canonical text
-abbrev pub item_frame : Name × BundleValue → List ℕ
-item_frame item = reply_frame (bundle_form item)
-
--- one frame, and for all bundles one more for each
+-- one frame, and for all bundles one more for each, which are their dump
 abbrev pub reply_frames : Said → List ℕ
-reply_frames (said.All items) = reply_frame (All (length items)) ++ flat_map item_frame items
+reply_frames (said.All items) = dump items
 reply_frames reply = reply_frame (reply_form reply)
 
 abbrev pub answer_frames : Result Said AskError → List ℕ

@@ -9,13 +9,13 @@ use Rattle.spiffe_doc.specs.declared.authority.Authority.{Authority}
 use Rattle.map_core.specs.Name.{Name}
 use Rattle.map_core.specs.declared.op.Op.TheVariants as op
 use Rattle.wire.specs.declared.version.Version.{Version}
-use Rattle.wire.specs.declared.version.Version.TheVariants.{One, Two}
+use Rattle.wire.specs.declared.version.Version.TheVariants.{One, Three}
 use Rattle.wire.specs.declared.judge.Judged.{Judged}
 use Rattle.wire.specs.declared.judge.Judged.TheVariants.{Ask, SetVersion}
 use Rattle.wire.specs.declared.refusal.Refusal.{Refusal}
 use Rattle.wire.specs.declared.refusal.Refusal.TheVariants.{BadRequest, PassedOver}
 use Rattle.wire.specs.Refusal.{name_refusal, document_refusal}
-use Rattle.wire.specs.RequestForm.{Request, Set, SetIf, Append, Remove, Get, Fetch, Speak}
+use Rattle.wire.specs.RequestForm.{Request, Set, SetIf, Append, Remove, Get, Fetch, FetchUnless, Speak}
 use Rattle.wire.specs.PayloadReading.{read_payload}
 
 infixl 10 ◌>>=◌
@@ -55,13 +55,13 @@ named_bundle name text = do
   bundle ← parse_bundle text
   Ok (domain, bundle)
 
--- What a request asks in a session of this version. A conditional set is of version 2.
+-- What a request asks in a session of this version. A conditional set is of version 2, and a conditional fetch of version 3.
 unfoldable pub judged : Version → Request → Result Judged Refusal
 judged version (Set name text) = do
   item ← named_bundle name text
   Ok (Ask (op.Set item.0 item.1))
 judged One (SetIf name expect text) = Err BadRequest
-judged Two (SetIf name expect text) = do
+judged version (SetIf name expect text) = do
   item ← named_bundle name text
   Ok (Ask (op.SetIf item.0 expect item.1))
 judged version (Append name text) = do
@@ -75,6 +75,8 @@ judged version (Get name) = do
   domain ← parse_name name
   Ok (Ask (op.Get domain))
 judged version Fetch = Ok (Ask op.FetchAll)
+judged Three (FetchUnless known) = Ok (Ask (op.FetchUnless known))
+judged version (FetchUnless known) = Err BadRequest
 judged version (Speak wanted) = Ok (SetVersion wanted)
 
 abbrev pub judged_if : Version → Option Request → Result Judged Refusal

@@ -4,8 +4,8 @@ use Rattle.std.specs.Int.{w64, from_be_bytes}
 use Rattle.map_core.specs.declared.op.Expect.{Expect}
 use Rattle.map_core.specs.declared.op.Expect.TheVariants.{Absent, Sequence, Unnumbered}
 use Rattle.wire.specs.declared.version.Version.{Version}
-use Rattle.wire.specs.declared.version.Version.TheVariants.{One, Two}
-use Rattle.wire.specs.RequestForm.{Request, Set, SetIf, Append, Remove, Get, Fetch, Speak}
+use Rattle.wire.specs.declared.version.Version.TheVariants.{One, Two, Three}
+use Rattle.wire.specs.RequestForm.{Request, Set, SetIf, Append, Remove, Get, Fetch, FetchUnless, Speak}
 
 infixl 10 ◌>>=◌
 abbrev pub ◌>>=◌ : {A B : Type 0} → Option A → (A → Option B) → Option B
@@ -36,11 +36,18 @@ split_expect (kind ∷ bytes) =
     else if kind == 2 then Some (Unnumbered, bytes)
     else None
 
--- 1 or 2, and nothing after it
+-- 1, 2 or 3, and nothing after it
 unfoldable pub version_in : List ℕ → Option Version
 version_in [] = None
 version_in (number ∷ bytes) =
-    if number == 1 then at_end One bytes else if number == 2 then at_end Two bytes else None
+    if number == 1 then at_end One bytes
+    else if number == 2 then at_end Two bytes
+    else if number == 3 then at_end Three bytes
+    else None
+
+-- a digest, and nothing after it
+unfoldable pub digest_in : List ℕ → Option (List ℕ)
+digest_in bytes = if length bytes == 32 then Some bytes else None
 
 -- what is made of two parts
 abbrev pub of_both : {A : Type 0} → (List ℕ → List ℕ → A) → List ℕ × List ℕ → A
@@ -59,6 +66,7 @@ request_by_letter letter bytes =
     else if letter == 82 then option_map Remove (lone_named bytes)
     else if letter == 71 then option_map Get (lone_named bytes)
     else if letter == 70 then at_end Fetch bytes
+    else if letter == 85 then option_map FetchUnless (digest_in bytes)
     else if letter == 86 then option_map Speak (version_in bytes)
     else if letter == 67 then set_if_in bytes
     else None

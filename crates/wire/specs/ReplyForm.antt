@@ -1,9 +1,10 @@
 -- Replies as lines of text, and as the payloads of frames.
 use Rattle.std.specs.Prelude.{◌≡◌, ℕ, ◌<◌, ◌^◌, List, [], ◌∷◌, ◌++◌, length, codes, decimal, Bool, true, false, ◌==◌, ◌||◌, if◌then◌else◌, Option, Some, None}
 use Rattle.std.specs.Int.{w32, w64, to_be_bytes}
+use Rattle.map_core.specs.Dump.{count_payload, bundle_payload}
 use Rattle.wire.specs.declared.version.Version.{Version}
 use Rattle.wire.specs.Fields.{expect_bytes, sequence_bytes, version_number}
-use Rattle.wire.specs.RequestForm.{IsExpect, IsNameWord, IsOneLine, expect_word, named, version_word, ◌then◌}
+use Rattle.wire.specs.RequestForm.{IsExpect, IsNameWord, IsOneLine, expect_word, version_word, ◌then◌}
 use Rattle.wire.specs.declared.reply.Detail.{Detail}
 use Rattle.wire.specs.declared.reply.Detail.TheVariants.{Nothing, Place, SequenceOf, Expected}
 use Rattle.wire.specs.declared.reply.Kind.{Kind}
@@ -20,6 +21,7 @@ pub data Reply : Type 0 where
   Found : (text : List ℕ) → Reply
   All : (count : ℕ) → Reply
   Bundle : (name text : List ℕ) → Reply
+  Same : Reply
   Speaks : (version : Version) → Reply
   Refused : (number : ℕ) (detail : Detail) → Reply
   Moved : (shard first second : ℕ) → Reply
@@ -37,6 +39,7 @@ reply (borrowed.Appended sequence) = Appended sequence
 reply (borrowed.Found text) = Found text.now
 reply (borrowed.All count) = All count
 reply (borrowed.Bundle name text) = Bundle name.now text.now
+reply borrowed.Same = Same
 reply (borrowed.Speaks version) = Speaks version
 reply (borrowed.Refused number detail) = Refused number detail
 reply (borrowed.Moved shard first second) = Moved shard first second
@@ -111,6 +114,7 @@ line_of (Appended sequence) = codes "appended" then sequence_word sequence
 line_of (Found text) = codes "found" then text
 line_of (All count) = codes "all" then decimal count
 line_of (Bundle name text) = codes "bundle" then name then text
+line_of Same = codes "same"
 line_of (Speaks version) = codes "version" then version_word version
 line_of (Refused number detail) = codes "refused" then refusal_words number detail
 line_of (Moved shard first second) = codes "moved" then decimal shard then decimal first then decimal second
@@ -128,6 +132,7 @@ HasLine (Appended sequence) = SequenceFits sequence
 HasLine (Found text) = Unit {0}
 HasLine (All count) = count < 2 ^ 64
 HasLine (Bundle name text) = IsNameWord name
+HasLine Same = Unit {0}
 HasLine (Speaks version) = Unit {0}
 HasLine (Refused number detail) = IsRefusal number detail
 HasLine (Moved shard first second) = (shard < 2 ^ 32) × (first < 2 ^ 64) × (second < 2 ^ 64)
@@ -151,8 +156,9 @@ payload_of Unchanged = 117 ∷ []
 payload_of Removed = 100 ∷ []
 payload_of (Appended sequence) = 112 ∷ sequence_bytes sequence
 payload_of (Found text) = 102 ∷ text
-payload_of (All count) = 97 ∷ to_be_bytes w64 count
-payload_of (Bundle name text) = 105 ∷ named name ++ text
+payload_of (All count) = count_payload count
+payload_of (Bundle name text) = bundle_payload name text
+payload_of Same = 101 ∷ []
 payload_of (Speaks version) = 118 ∷ version_number version ∷ []
 payload_of (Refused number detail) = number ∷ detail_bytes detail
 payload_of (Moved shard first second) = 41 ∷ to_be_bytes w32 shard ++ (to_be_bytes w64 first ++ to_be_bytes w64 second)

@@ -4,11 +4,14 @@ use Rattle.std.specs.List.{list_any}
 use Rattle.map_core.specs.declared.op.Expect.{Expect}
 use Rattle.map_core.specs.declared.op.Expect.TheVariants.{Absent, Sequence, Unnumbered}
 use Rattle.wire.specs.declared.version.Version.{Version}
-use Rattle.wire.specs.declared.version.Version.TheVariants.{One, Two}
+use Rattle.wire.specs.declared.version.Version.TheVariants.{One, Two, Three}
 use Rattle.wire.specs.Frame.{most_payload}
+use Rattle.hex.specs.Hex.{encode_lower, IsBytes}
 use Rattle.wire.specs.Fields.{expect_bytes, version_number}
 use Rattle.wire.specs.declared.request.RequestForm.{RequestForm}
 use Rattle.wire.specs.declared.request.RequestForm.TheVariants as borrowed
+-- the length of a name in one byte, and the name
+pub use Rattle.map_core.specs.Dump.{named}
 
 -- what a request says, wherever its name and its text lie
 pub data Request : Type 0 where
@@ -18,6 +21,7 @@ pub data Request : Type 0 where
   Remove : (name : List ℕ) → Request
   Get : (name : List ℕ) → Request
   Fetch : Request
+  FetchUnless : (known : List ℕ) → Request
   Speak : (version : Version) → Request
 
 -- what a form says
@@ -28,6 +32,7 @@ request (borrowed.Append name text) = Append name.now text.now
 request (borrowed.Remove name) = Remove name.now
 request (borrowed.Get name) = Get name.now
 request borrowed.Fetch = Fetch
+request (borrowed.FetchUnless known) = FetchUnless known
 request (borrowed.Speak version) = Speak version
 
 -- ---- as a line
@@ -41,6 +46,7 @@ expect_word (Sequence sequence) = decimal sequence
 abbrev pub version_word : Version → List ℕ
 version_word One = codes "1"
 version_word Two = codes "2"
+version_word Three = codes "3"
 
 -- two words with a space between them
 infixr 30 ◌then◌
@@ -55,6 +61,7 @@ line_of (Append name text) = codes "append" then name then text
 line_of (Remove name) = codes "remove" then name
 line_of (Get name) = codes "get" then name
 line_of Fetch = codes "fetch"
+line_of (FetchUnless known) = codes "fetch" then codes "unless" then encode_lower known
 line_of (Speak version) = codes "version" then version_word version
 
 -- no space is in it
@@ -70,6 +77,10 @@ IsExpect expect = Unit {0}
 abbrev pub IsNameWord : List ℕ → Type 0
 IsNameWord name = IsWord name × (length name < 256)
 
+-- a digest is 32 bytes
+abbrev pub IsDigest : List ℕ → Type 0
+IsDigest digest = (length digest ≡ 32) × IsBytes digest
+
 -- its name is a word, and its numbers fit
 abbrev pub HasLine : Request → Type 0
 HasLine (Set name text) = IsNameWord name
@@ -78,13 +89,10 @@ HasLine (Append name text) = IsNameWord name
 HasLine (Remove name) = IsNameWord name
 HasLine (Get name) = IsNameWord name
 HasLine Fetch = Unit {0}
+HasLine (FetchUnless known) = IsDigest known
 HasLine (Speak version) = Unit {0}
 
 -- ---- as the payload of a frame
-
--- the length of a name in one byte, and the name
-abbrev pub named : List ℕ → List ℕ
-named name = length name ∷ name
 
 -- the letter, the name, the expectation, and the document
 abbrev pub payload_of : Request → List ℕ
@@ -94,6 +102,7 @@ payload_of (Append name text) = 65 ∷ named name ++ text
 payload_of (Remove name) = 82 ∷ named name
 payload_of (Get name) = 71 ∷ named name
 payload_of Fetch = 70 ∷ []
+payload_of (FetchUnless known) = 85 ∷ known
 payload_of (Speak version) = 86 ∷ version_number version ∷ []
 
 -- the name's length is one byte, and numbers fit
@@ -104,6 +113,7 @@ HasPayload (Append name text) = length name < 256
 HasPayload (Remove name) = length name < 256
 HasPayload (Get name) = length name < 256
 HasPayload Fetch = Unit {0}
+HasPayload (FetchUnless known) = IsDigest known
 HasPayload (Speak version) = Unit {0}
 
 -- ---- written

@@ -34,6 +34,7 @@ impl<'a> ReplyForm<'a> {
             Reply::Appended(Some(sequence)) => appended(*sequence),
             Reply::Found(bundle) => found(bundle),
             Reply::All(snapshot) => ReplyForm::All(snapshot.len() as u64),
+            Reply::Same => ReplyForm::Same,
             Reply::Refused(refusal) => ReplyForm::of_refusal(refusal),
         }
     }

@@ -3,7 +3,6 @@ ghost use Rattle.std.specs.Prelude.{◌≡◌, ◌≤◌, ◌+◌, ◌∷◌, �
 ghost use Rattle.spiffe_doc.specs.Text.{text_of};
 ghost use Rattle.wire.specs.Frame.{frame};
 ghost use Rattle.wire.specs.Items.{item_of};
-ghost use Rattle.wire.specs.Answers.{item_frame};
 ghost use Rattle.map_core.specs.Laws.{IsAfter};
 
 use crate::frame::put_frame;
@@ -11,39 +10,15 @@ use crate::judge::read_named_bundle;
 use crate::refusal::Refusal;
 use crate::request::payload::split_named;
 use arrayvec::ArrayVec;
+use map_core::canonical_text;
 use spiffe_doc::{Bundle, DocumentReader, Memory, TrustDomain};
 use std::alloc::{AllocError, Global};
 
 /// A code, a length and the longest name.
 pub const ITEM_HEAD_BYTES: usize = 257;
 
-/// A length, and then a code and the longest name.
-const ITEM_FRONT_BYTES: usize = 261;
-
 /// A letter, a length, the longest name and an expectation.
 const REQUEST_HEAD_BYTES: usize = 258;
-
-/// The canonical text, of at most 1,048,576 bytes.
-pub fn canonical_text(bundle: &Bundle) -> &[u8]
-    ensures value { result.now ≡ text_of bundle.now }
-    ensures short { length result.now ≤ 1048576 }
-{
-    let _authorities = bundle.authorities();
-    bundle.text()
-}
-
-/// What stands before the canonical text in a domain's frame: the length, the code, and the name.
-pub fn item_front(domain: &TrustDomain, bundle: &Bundle) -> ArrayVec<u8, ITEM_FRONT_BYTES>
-    ensures { result.items ++ text_of bundle.now ≡ item_frame (domain.now, bundle.now) }
-{
-    let name = domain.as_str().as_bytes();
-    let size = (2 + name.len() + canonical_text(bundle).len()) as u32;
-    let mut front = ArrayVec::<u8, ITEM_FRONT_BYTES>::new();
-    let _fits = front.try_extend_from_slice(&size.to_be_bytes());
-    let _fits = front.try_extend_from_slice(&[b'i', name.len() as u8]);
-    let _fits = front.try_extend_from_slice(name);
-    front
-}
 
 /// A domain and its bundle, if the payload is one.
 #[tactic(auto, unfolding(crate::specs::Items::item_of))]

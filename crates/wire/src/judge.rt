@@ -65,6 +65,12 @@ impl<'a> RequestForm<'a> {
             RequestForm::Remove(name) => Op::Remove(read_name(alloc, name)?),
             RequestForm::Get(name) => Op::Get(read_name(alloc, name)?),
             RequestForm::Fetch => Op::FetchAll,
+            RequestForm::FetchUnless(known) => {
+                if version != Version::Three {
+                    return Err(Refusal::BadRequest);
+                }
+                Op::FetchUnless(known)
+            }
             RequestForm::Speak(wanted) => return Ok(Judged::SetVersion(wanted)),
         };
         Ok(Judged::Ask(op))

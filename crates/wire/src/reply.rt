@@ -22,6 +22,8 @@ pub enum ReplyForm<'a> {
     Found(&'a [u8]),
     /// So many bundles follow, each in a reply of its own.
     All(u64),
+    /// All bundles have the digest that was known.
+    Same,
     /// One of all bundles: its name and its text.
     Bundle(&'a [u8], &'a [u8]),
     /// The session speaks this version from now on.

@@ -6,7 +6,7 @@ pub(crate) mod line;
 pub(crate) mod payload;
 
 use crate::Version;
-use map_core::Expect;
+use map_core::{DumpDigest, Expect};
 
 /// The most bytes of a name, whose length is one byte.
 const MAX_NAME: usize = 255;
@@ -24,6 +24,8 @@ pub enum RequestForm<'a> {
     Get(&'a [u8]),
     /// All bundles are fetched.
     Fetch,
+    /// They are, unless their digest is this one.
+    FetchUnless(DumpDigest),
     /// The session speaks this version from now on.
     Speak(Version),
 }

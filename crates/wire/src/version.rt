@@ -8,6 +8,8 @@ pub enum Version {
     One,
     /// Adds the letter C: a document is set if what stands there is what is expected.
     Two,
+    /// Adds the letter U: all bundles are fetched unless their digest is the one that is known.
+    Three,
 }
 
 impl Version {
@@ -18,6 +20,7 @@ impl Version {
         match self {
             Version::One => 1,
             Version::Two => 2,
+            Version::Three => 3,
         }
     }
 }

@@ -62,6 +62,7 @@ first_of (form.Refused number detail) = option_map first.Reply (option_map map.R
 first_of (form.All count) = Some (first.Count count)
 first_of (form.Bundle name text) = None
 first_of (form.Speaks version) = None
+first_of form.Same = Some (first.Reply map.Same)
 first_of reply = option_map first.Error (error_of reply)
 
 -- it says the whole answer, or of all bundles how many there are

@@ -5,7 +5,7 @@ use test_kit::{holds_at, is_equal_at};
 use wire::{Detail, PayloadError, ReplyForm, put_line_of, reply_of_payload};
 
 /// Lines and their payloads, as docs/FORMATS.md has them.
-static PAYLOADS: [(&[u8], &[u8]); 27] = [
+static PAYLOADS: [(&[u8], &[u8]); 29] = [
     (b"stored", b"s"),
     (b"unchanged", b"u"),
     (b"removed", b"d"),
@@ -16,7 +16,9 @@ static PAYLOADS: [(&[u8], &[u8]); 27] = [
     (b"all 258", b"a\x00\x00\x00\x00\x00\x00\x01\x02"),
     (b"bundle a.b {\"keys\":[]}", b"i\x03a.b{\"keys\":[]}"),
     (b"version 1", b"v\x01"),
+    (b"same", b"e"),
     (b"version 2", b"v\x02"),
+    (b"version 3", b"v\x03"),
     (b"refused 1", b"\x01"),
     (b"refused 3 2", b"\x03\x00\x00\x00\x02"),
     (b"refused 10", b"\x0a"),
@@ -64,7 +66,7 @@ fn payloads_become_lines(rt: HostRuntime) -> Result<(), Fail> {
     Ok(())
 }
 
-static NOT_PAYLOADS: [&[u8]; 16] = [
+static NOT_PAYLOADS: [&[u8]; 17] = [
     b"",
     b"s\x00",
     b"p",
@@ -73,7 +75,8 @@ static NOT_PAYLOADS: [&[u8]; 16] = [
     b"a\x00",
     b"i",
     b"i\x02a",
-    b"v\x03",
+    b"v\x04",
+    b"e\x00",
     b"\x02",
     b"\x03",
     b"\x1e\x00",
@@ -106,12 +109,13 @@ fn what_is_no_reply(_rt: HostRuntime) -> Result<(), Fail> {
 }
 
 /// Requests and replies, and the line of each, if it has one.
-static BOTH: [(&[u8], Result<&[u8], PayloadError>); 10] = [
+static BOTH: [(&[u8], Result<&[u8], PayloadError>); 11] = [
     (b"G\x01a", Ok(b"get a\n")),
     (b"f{}", Ok(b"found {}\n")),
     (b"\x16", Ok(b"memory\n")),
     (b"F", Ok(b"fetch\n")),
     (b"V\x02", Ok(b"version 2\n")),
+    (b"e", Ok(b"same\n")),
     (b"v\x02", Ok(b"version 2\n")),
     (b"", Err(PayloadError::NoLine)),
     (b"X", Err(PayloadError::NoLine)),

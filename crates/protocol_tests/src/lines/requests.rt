@@ -25,7 +25,7 @@ fn line_of(alloc: Global, form: &RequestForm<'_>) -> Result<Option<Vec<u8>>, All
 }
 
 /// Lines and their frames, as docs/FORMATS.md has them.
-static FRAMES: [(&[u8], &[u8]); 13] = [
+static FRAMES: [(&[u8], &[u8]); 15] = [
     (
         b"set a {\"keys\":[]}",
         b"\x00\x00\x00\x0eS\x01a{\"keys\":[]}",
@@ -51,6 +51,11 @@ static FRAMES: [(&[u8], &[u8]); 13] = [
     (b"get ", b"\x00\x00\x00\x02G\x00"),
     (b"fetch", b"\x00\x00\x00\x01F"),
     (b"version 2", b"\x00\x00\x00\x02V\x02"),
+    (b"version 3", b"\x00\x00\x00\x02V\x03"),
+    (
+        b"fetch unless 9cf4b161f3571e751912f9a78ae2015c4fb288afe59c798f5452a18d6254c893",
+        b"\x00\x00\x00\x21U\x9c\xf4\xb1\x61\xf3\x57\x1e\x75\x19\x12\xf9\xa7\x8a\xe2\x01\x5c\x4f\xb2\x88\xaf\xe5\x9c\x79\x8f\x54\x52\xa1\x8d\x62\x54\xc8\x93",
+    ),
 ];
 
 #[test]
@@ -67,7 +72,7 @@ fn lines_become_frames_and_frames_lines(rt: HostRuntime) -> Result<(), Fail> {
     Ok(())
 }
 
-static NOT_LINES: [&[u8]; 23] = [
+static NOT_LINES: [&[u8]; 28] = [
     b"",
     b" ",
     b"set",
@@ -87,13 +92,18 @@ static NOT_LINES: [&[u8]; 23] = [
     b"fetch ",
     b"fetch a",
     b"version",
-    b"version 3",
+    b"version 4",
+    b"fetch unless",
+    b"fetch unless ",
+    b"fetch unless 9cf4",
+    b"fetch unless 9cf4b161f3571e751912f9a78ae2015c4fb288afe59c798f5452a18d6254c89g",
+    b"fetch unless 9CF4B161F3571E751912F9A78AE2015C4FB288AFE59C798F5452A18D6254C893",
     b"version 01",
     b"Get a",
     b" get a",
 ];
 
-static NOT_PAYLOADS: [&[u8]; 14] = [
+static NOT_PAYLOADS: [&[u8]; 17] = [
     b"",
     b"G",
     b"G\x02a",
@@ -103,7 +113,10 @@ static NOT_PAYLOADS: [&[u8]; 14] = [
     b"F\x00",
     b"V",
     b"V\x00",
-    b"V\x03",
+    b"V\x04",
+    b"U",
+    b"U\x00\x00\x00\x00\x00\x00\x00\x00\x00\x00\x00\x00\x00\x00\x00\x00\x00\x00\x00\x00\x00\x00\x00\x00\x00\x00\x00\x00\x00\x00\x00",
+    b"U\x00\x00\x00\x00\x00\x00\x00\x00\x00\x00\x00\x00\x00\x00\x00\x00\x00\x00\x00\x00\x00\x00\x00\x00\x00\x00\x00\x00\x00\x00\x00\x00\x00",
     b"V\x01\x01",
     b"C\x01a",
     b"C\x01a\x01\x00\x00\x00\x00\x00\x00\x07",

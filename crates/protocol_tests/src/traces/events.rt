@@ -37,6 +37,7 @@ fn operation_words(alloc: Global, operation: &Op) -> Result<String, AllocError> 
         Op::Remove(domain) => format!(in alloc; "removes {}", domain.as_str()),
         Op::Get(domain) => format!(in alloc; "gets {}", domain.as_str()),
         Op::FetchAll => format!(in alloc; "fetches all"),
+        Op::FetchUnless([first, ..]) => format!(in alloc; "fetches unless {first}.."),
     }
 }
 
@@ -56,7 +57,7 @@ fn event_words(alloc: Global, event: &Event) -> Result<String, AllocError> {
 }
 
 /// Lines, each the only one of its input, and what happens.
-static LINES: [(&str, &str); 17] = [
+static LINES: [(&str, &str); 18] = [
     ("begin 1 set a {\"keys\":[]}", "1 sets a to 0 authorities"),
     (
         "begin 4294967295 set a.example {\"keys\":[],\"spiffe_sequence\":7}\n",
@@ -89,6 +90,10 @@ static LINES: [(&str, &str); 17] = [
     ("begin 3 remove a", "3 removes a"),
     ("begin 3 get a\n", "3 gets a"),
     ("begin 3 fetch", "3 fetches all"),
+    (
+        "begin 3 fetch unless 9cf4b161f3571e751912f9a78ae2015c4fb288afe59c798f5452a18d6254c893",
+        "3 fetches unless 156..",
+    ),
     ("step 10", "10 steps"),
     ("end 10\n", "10 ends"),
     ("quit 1 memory", "1 is out of memory"),

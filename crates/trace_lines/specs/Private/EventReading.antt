@@ -8,7 +8,7 @@ use Rattle.step_core.specs.declared.event.Why.TheVariants.{Held, Memory}
 use Rattle.wire.specs.declared.judge.Judged.{Judged}
 use Rattle.wire.specs.declared.judge.Judged.TheVariants.{Ask}
 use Rattle.wire.specs.declared.refusal.Refusal.{Refusal}
-use Rattle.wire.specs.declared.version.Version.TheVariants.{Two}
+use Rattle.wire.specs.declared.version.Version.TheVariants.{Three}
 use Rattle.wire.specs.RequestForm.{Request}
 use Rattle.wire.specs.Judge.{judged}
 use Rattle.wire.specs.PayloadReading.{◌>>=◌}
@@ -28,7 +28,7 @@ asked_in (Ok (Ask asked)) = Some asked
 asked_in judged = None
 
 unfoldable pub operation_of : Request → Option Op
-operation_of request = asked_in (judged Two request)
+operation_of request = asked_in (judged Three request)
 
 -- ---- events
 

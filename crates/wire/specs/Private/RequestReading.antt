@@ -1,11 +1,13 @@
 -- How a request is read from a line.
-use Rattle.std.specs.Prelude.{ℕ, ◌^◌, List, [], ◌∷◌, length, codes, decimal, nat_lt, bytes_eq, ◌==◌, ◌&&◌, if◌then◌else◌, Option, Some, None, option_map}
+use Rattle.std.specs.Prelude.{ℕ, ◌^◌, List, [], ◌∷◌, length, codes, decimal, nat_lt, bytes_eq, ◌==◌, ◌&&◌, if◌then◌else◌, Option, Some, None, option_map, Result, Ok, Err}
 use Rattle.std.specs.Str.Parse.{digits_value}
+use Rattle.hex.specs.declared.error.FromHexError.{FromHexError}
+use Rattle.hex.specs.Hex.{encode_lower, decode_sized}
 use Rattle.map_core.specs.declared.op.Expect.{Expect}
 use Rattle.map_core.specs.declared.op.Expect.TheVariants.{Absent, Sequence, Unnumbered}
 use Rattle.wire.specs.declared.version.Version.{Version}
-use Rattle.wire.specs.declared.version.Version.TheVariants.{One, Two}
-use Rattle.wire.specs.RequestForm.{Request, Set, SetIf, Append, Remove, Get, Fetch, Speak}
+use Rattle.wire.specs.declared.version.Version.TheVariants.{One, Two, Three}
+use Rattle.wire.specs.RequestForm.{Request, Set, SetIf, Append, Remove, Get, Fetch, FetchUnless, Speak}
 use Rattle.wire.specs.PayloadReading.{◌>>=◌, of_both}
 
 abbrev pub after_byte : ℕ → Option (List ℕ × List ℕ) → Option (List ℕ × List ℕ)
@@ -58,7 +60,22 @@ unfoldable pub version_of : List ℕ → Option Version
 version_of word =
     if bytes_eq word (codes "1") then Some One
     else if bytes_eq word (codes "2") then Some Two
+    else if bytes_eq word (codes "3") then Some Three
     else None
+
+-- what these bytes were decoded from, if it is how they are written
+abbrev pub written_as : List ℕ → Result (List ℕ) FromHexError → Option (List ℕ)
+written_as word (Ok digest) = if bytes_eq (encode_lower digest) word then Some digest else None
+written_as word (Err why) = None
+
+-- the digest that a word writes in lower-case hexadecimal digits
+unfoldable pub digest_of : List ℕ → Option (List ℕ)
+digest_of word = written_as word (decode_sized word 32)
+
+unfoldable pub fetch_unless_of : List ℕ → Option Request
+fetch_unless_of bytes = do
+  parts ← split_word bytes
+  if bytes_eq parts.0 (codes "unless") then option_map FetchUnless (digest_of parts.1) else None
 
 unfoldable pub set_if_of : List ℕ → Option Request
 set_if_of bytes = do
@@ -74,6 +91,7 @@ request_by_verb verb rest =
     else if bytes_eq verb (codes "append") then option_map (of_both Append) (split_name rest)
     else if bytes_eq verb (codes "remove") then option_map Remove (lone_name rest)
     else if bytes_eq verb (codes "setif") then set_if_of rest
+    else if bytes_eq verb (codes "fetch") then fetch_unless_of rest
     else if bytes_eq verb (codes "version") then option_map Speak (version_of rest)
     else None
 

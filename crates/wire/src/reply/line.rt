@@ -36,8 +36,10 @@ impl<'a> ReplyForm<'a> {
             ReplyForm::Found(_) => Some(head_of(b"found ")),
             ReplyForm::All(count) => Some(number_words(b"all ", *count)),
             ReplyForm::Bundle(name, _) => bundle_words(name),
+            ReplyForm::Same => Some(head_of(b"same")),
             ReplyForm::Speaks(Version::One) => Some(head_of(b"version 1")),
             ReplyForm::Speaks(Version::Two) => Some(head_of(b"version 2")),
+            ReplyForm::Speaks(Version::Three) => Some(head_of(b"version 3")),
             ReplyForm::Refused(number, detail) => refused_words(*number, *detail),
             ReplyForm::Moved {
                 shard,

@@ -144,6 +144,7 @@ fn read_by_letter(letter: u8, bytes: &[u8]) -> Option<ReplyForm<'_>>
             let (name, text) = split_named(bytes)?;
             Some(ReplyForm::Bundle(name, text))
         }
+        (b'e', []) => Some(ReplyForm::Same),
         (b'v', _) => Some(ReplyForm::Speaks(read_version(bytes)?)),
         _ => None,
     }
@@ -197,6 +198,7 @@ impl<'a> ReplyForm<'a> {
             } => moved_front(*shard, *first, *second),
             ReplyForm::Held { shard, revision } => held_front(*shard, *revision),
             ReplyForm::Worn { shard } => front_of(40, &shard.to_be_bytes()),
+            ReplyForm::Same => front_of(b'e', &[]),
             ReplyForm::Memory => front_of(22, &[]),
             ReplyForm::Shut => front_of(56, &[]),
         }

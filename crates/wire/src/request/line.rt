@@ -1,16 +1,17 @@
 //! Requests, read from lines and written as lines.
-ghost use Rattle.std.specs.Prelude.{◌≡◌, false, ◌+◌, ◌≤◌, [], ◌∷◌, ◌++◌, ◌==◌, length, None, Some, Option, MatchOption, IfSome};
+ghost use Rattle.std.specs.Prelude.{◌≡◌, false, ◌+◌, ◌≤◌, [], ◌∷◌, ◌++◌, ◌==◌, codes, length, None, Some, Option, MatchOption, IfSome};
 ghost use Rattle.std.specs.List.{list_any};
 ghost use Rattle.arrayvec.specs.ArrayVec.{array_vec_len};
-ghost use Rattle.wire.specs.RequestForm.{Request, request, text_of, line_of, expect_word, HasLine, IsLined, IsNameWord, IsOneLine, is_text_name};
-ghost use Rattle.wire.specs.Private.RequestReading.{expect_of, version_of, set_if_of, request_by_verb, read_line as line_read};
+ghost use Rattle.wire.specs.RequestForm.{Request, request, text_of, line_of, expect_word, HasLine, IsLined, IsNameWord, IsOneLine, is_text_name, ◌then◌};
+ghost use Rattle.hex.specs.Hex.{encode_lower};
+ghost use Rattle.wire.specs.Private.RequestReading.{expect_of, version_of, digest_of, fetch_unless_of, set_if_of, request_by_verb, read_line as line_read};
 
 use crate::Version;
 use crate::head::{Head, has, head_of, put, put_expect};
 use crate::line_frame::text_name;
 use crate::request::{MAX_NAME, RequestForm};
 use crate::word::{lone_name, read_number, split_name, split_word};
-use map_core::Expect;
+use map_core::{DIGEST_BYTES, DumpDigest, Expect};
 
 /// `absent`, `none` for a bundle without a sequence, or a sequence.
 #[tactic(auto, unfolding(crate::specs::Private::RequestReading::expect_of))]
@@ -35,6 +36,8 @@ pub(crate) fn read_version(word: &[u8]) -> Option<Version>
         Some(Version::One)
     } else if word == b"2".as_slice() {
         Some(Version::Two)
+    } else if word == b"3".as_slice() {
+        Some(Version::Three)
     } else {
         None
     }
@@ -47,6 +50,41 @@ fn read_set_if(bytes: &[u8]) -> Option<RequestForm<'_>>
     let (name, bytes) = split_name(bytes)?;
     let (expect, document) = split_word(bytes)?;
     Some(RequestForm::SetIf(name, read_expect(expect)?, document))
+}
+
+/// The digest that a word writes.
+#[tactic(auto, unfolding(crate::specs::Private::RequestReading::digest_of))]
+fn read_digest(word: &[u8]) -> Option<DumpDigest>
+    ensures { result ≡ digest_of word.now }
+{
+    let mut digest = [0; DIGEST_BYTES];
+    hex::decode_to_slice(word, &mut digest).ok()?;
+    if digest_word(&digest).as_slice() == word {
+        Some(digest)
+    } else {
+        None
+    }
+}
+
+/// The digest in lower-case hexadecimal digits.
+fn digest_word(digest: &DumpDigest) -> [u8; 2 * DIGEST_BYTES]
+    ensures { result ≡ encode_lower digest.now }
+{
+    let mut word = [0; 2 * DIGEST_BYTES];
+    let _fits = hex::encode_to_slice(digest, &mut word);
+    word
+}
+
+#[tactic(auto, unfolding(crate::specs::Private::RequestReading::fetch_unless_of))]
+fn read_fetch_unless(bytes: &[u8]) -> Option<RequestForm<'_>>
+    ensures { MatchOption result (fetch_unless_of bytes.now ≡ None) (λ form. fetch_unless_of bytes.now ≡ Some (request form)) }
+{
+    let (word, known) = split_word(bytes)?;
+    if word == b"unless".as_slice() {
+        Some(RequestForm::FetchUnless(read_digest(known)?))
+    } else {
+        None
+    }
 }
 
 #[tactic(auto, unfolding(crate::specs::Private::RequestReading::request_by_verb))]
@@ -65,6 +103,8 @@ fn read_by_verb<'a>(verb: &[u8], rest: &'a [u8]) -> Option<RequestForm<'a>>
         Some(RequestForm::Remove(lone_name(rest)?))
     } else if verb == b"setif".as_slice() {
         read_set_if(rest)
+    } else if verb == b"fetch".as_slice() {
+        read_fetch_unless(rest)
     } else if verb == b"version".as_slice() {
         Some(RequestForm::Speak(read_version(rest)?))
     } else {
@@ -108,9 +148,21 @@ impl<'a> RequestForm<'a> {
             RequestForm::Get(name) => words_head(b"get ", name, &[], &[]),
             RequestForm::Fetch => Some(head_of(b"fetch")),
             RequestForm::Speak(Version::One) => Some(head_of(b"version 1")),
+            RequestForm::FetchUnless(known) => Some(digest_words(known)),
             RequestForm::Speak(Version::Two) => Some(head_of(b"version 2")),
+            RequestForm::Speak(Version::Three) => Some(head_of(b"version 3")),
         }
     }
+}
+
+/// The line of a fetch with a digest that is known.
+fn digest_words(known: &DumpDigest) -> Head
+    ensures line { result.items ≡ codes "fetch" then codes "unless" then encode_lower known.now }
+    ensures plain { IsOneLine result.items }
+{
+    let mut words = head_of(b"fetch unless ");
+    put(&mut words, &digest_word(known));
+    words
 }
 
 /// What stands before the text in a line of these parts.

@@ -1,15 +1,16 @@
 //! Requests, read from the payloads of frames and written as frames.
 ghost use Rattle.std.specs.Prelude.{◌≡◌, ◌+◌, ◌<◌, ◌≤◌, ◌∷◌, ◌++◌, length, None, Some, Option, MatchOption, IfSome};
+ghost use Rattle.arrayvec.specs.ArrayVec.{array_vec_len};
 ghost use Rattle.wire.specs.Frame.{frame, most_payload};
 ghost use Rattle.wire.specs.RequestForm.{Request, request, text_of, named, payload_of, HasPayload, IsFramed};
-ghost use Rattle.wire.specs.PayloadReading.{split_named as named_split, lone_named as named_alone, split_expect as expect_split, set_if_in, version_in, read_payload as payload_read};
+ghost use Rattle.wire.specs.PayloadReading.{split_named as named_split, lone_named as named_alone, split_expect as expect_split, set_if_in, version_in, digest_in, read_payload as payload_read};
 
 use crate::Version;
 use crate::field::expect_bytes;
 use crate::frame::MAX_PAYLOAD;
 use crate::head::{Head, head_of, put};
 use crate::request::{MAX_NAME, RequestForm};
-use map_core::Expect;
+use map_core::{DIGEST_BYTES, DumpDigest, Expect};
 
 /// The bytes of a name, after a byte that says how many, and what follows them.
 #[tactic(auto, unfolding(crate::specs::PayloadReading::split_named))]
@@ -57,8 +58,22 @@ pub(crate) fn read_version(bytes: &[u8]) -> Option<Version>
     match bytes {
         [1] => Some(Version::One),
         [2] => Some(Version::Two),
+        [3] => Some(Version::Three),
         _ => None,
     }
+}
+
+/// A digest, and nothing after it.
+#[tactic(auto, unfolding(crate::specs::PayloadReading::digest_in))]
+fn read_digest(bytes: &[u8]) -> Option<DumpDigest>
+    ensures { result ≡ digest_in bytes.now }
+{
+    if bytes.len() != DIGEST_BYTES {
+        return None;
+    }
+    let mut digest = [0; DIGEST_BYTES];
+    digest.copy_from_slice(bytes);
+    Some(digest)
 }
 
 #[tactic(auto, unfolding(crate::specs::PayloadReading::set_if_in))]
@@ -86,6 +101,7 @@ fn read_payload(payload: &[u8]) -> Option<RequestForm<'_>>
         [b'R', bytes @ ..] => Some(RequestForm::Remove(lone_named(bytes)?)),
         [b'G', bytes @ ..] => Some(RequestForm::Get(lone_named(bytes)?)),
         b"F" => Some(RequestForm::Fetch),
+        [b'U', bytes @ ..] => Some(RequestForm::FetchUnless(read_digest(bytes)?)),
         [b'V', bytes @ ..] => Some(RequestForm::Speak(read_version(bytes)?)),
         [b'C', bytes @ ..] => read_set_if(bytes),
         _ => None,
@@ -105,7 +121,8 @@ impl<'a> RequestForm<'a> {
     /// What stands before the text in the frame of the request. None if no frame carries it: its name has over 255 bytes, or its
     /// payload over 1,049,000.
     pub fn frame_head(&self) -> Option<Head>
-        ensures { MatchOption result (IsFramed (request self.now) → ⊥)
+        ensures few { IfSome result (λ head. array_vec_len head ≤ 270) }
+        ensures head { MatchOption result (IsFramed (request self.now) → ⊥)
             (λ head. IsFramed (request self.now) × (head.items ++ text_of (request self.now) ≡ frame (payload_of (request self.now)))) }
     {
         match self {
@@ -117,15 +134,28 @@ impl<'a> RequestForm<'a> {
             RequestForm::Remove(name) => named_head(b'R', name, &[], &[]),
             RequestForm::Get(name) => named_head(b'G', name, &[], &[]),
             RequestForm::Fetch => Some(head_of(&[0, 0, 0, 1, b'F'])),
+            RequestForm::FetchUnless(known) => Some(digest_head(known)),
             RequestForm::Speak(version) => Some(head_of(&[0, 0, 0, 2, b'V', version.number()])),
         }
     }
 }
 
+/// The frame of a fetch with a digest that is known.
+fn digest_head(known: &DumpDigest) -> Head
+    ensures few { array_vec_len result ≤ 270 }
+    ensures whole { result.items ≡ frame (85 ∷ known.now) }
+    ensures long { length known.now ≡ 32 }
+{
+    let mut head = head_of(&[0, 0, 0, 33, b'U']);
+    put(&mut head, known);
+    head
+}
+
 /// What stands before the text in the frame of a payload: a letter, a name, what is in the middle, and the text.
 fn named_head(letter: u8, name: &[u8], middle: &[u8], text: &[u8]) -> Option<Head>
     requires few { length middle.now ≤ 9 }
-    ensures { MatchOption result
+    ensures few { IfSome result (λ head. array_vec_len head ≤ 270) }
+    ensures head { MatchOption result
         ((length name.now < 256) × (length (letter ∷ named name.now ++ (middle.now ++ text.now)) ≤ most_payload) → ⊥)
         (λ head. ((length name.now < 256) × (length (letter ∷ named name.now ++ (middle.now ++ text.now)) ≤ most_payload))
         × (head.items ++ text.now ≡ frame (letter ∷ named name.now ++ (middle.now ++ text.now)))) }

@@ -1,29 +1,20 @@
-use Rattle.std.proofs.Common.{◌≡◌, ◌∷◌, ◌++◌, ◌∙◌, ap, length, arith}
-use Rattle.spiffe_doc.specs.Text.{text_of}
-use Rattle.map_core.specs.declared.op.Op.TheVariants.{SetIf}
+use Rattle.std.proofs.Common.{◌≡◌, [], ◌∷◌, ◌++◌, Some, sym, ◌∙◌, ap}
 use Rattle.wire.specs.Frame.{frame}
-use Rattle.wire.specs.Fields.{expect_bytes}
-use Rattle.wire.specs.RequestForm.{IsFramed}
-use Rattle.client.specs.Request.{request_form}
-use Rattle.client.proofs.RequestLemmas.{head_few, behind_version}
+use Rattle.wire.specs.RequestForm.{payload_of, text_of}
+use Rattle.client.specs.Request.{version_for, request_payload, speak_bytes}
+use Rattle.client.specs.Private.Requests.{document_part}
+use Rattle.client.proofs.RequestLemmas.{behind_version}
 use Rattle.client.proofs.request.request_head.Goals as goal
-
-pub put-requires : goal.put-requires
-put-requires c =
-    let name = c.in-SetIf.field-0 in
-    let expect = c.in-SetIf.field-1 in
-    let text = text_of c.in-SetIf.field-2 in
-    let head = c.in-Some.head.items in
-    let framed : IsFramed (request_form (SetIf name expect c.in-SetIf.field-2)) × (head ++ text ≡ frame (67 ∷ length name ∷ name ++ (expect_bytes expect ++ text))) =
-    rw (c.request_form.ensures.form ∙ ap request_form c.in-SetIf.is) at c.in-Some.ensures in
-    omega (arith, head_few head name text expect (omega (arith, framed.0.0)) framed.1, ap length c.head_of-both.ensures, ap length c.as_slice.ensures.value)
 
 pub returns : goal.returns
 returns c =
-    let name = c.in-SetIf.field-0 in
-    let expect = c.in-SetIf.field-1 in
-    let text = text_of c.in-SetIf.field-2 in
+    let text = document_part c.args.op.now in
     let head = c.in-Some.head.items in
-    let framed : IsFramed (request_form (SetIf name expect c.in-SetIf.field-2)) × (head ++ text ≡ frame (67 ∷ length name ∷ name ++ (expect_bytes expect ++ text))) =
-    rw (c.request_form.ensures.form ∙ ap request_form c.in-SetIf.is) at c.in-Some.ensures in
-    rw c.in-SetIf.is (ap (λ b. b ++ text) (c.put.ensures ∙ (λ i. c.head_of-both.ensures i ++ c.as_slice.ensures.value i)) ∙ behind_version head text _ framed.1)
+    let needed : version_for c.args.op.now ≡ Some c.in-Some-version_for.version = sym c.version_for.ensures ∙ c.in-Some-version_for.is in
+    let form = c.request_form.ensures.form in
+    let framed : head ++ text ≡ frame (request_payload c.args.op.now) =
+    ap (λ t. head ++ t) (ap text_of (sym form)) ∙ c.in-Some.ensures.head.1 ∙ ap (λ r. frame (payload_of r)) form in
+    ap (λ b. b ++ text) (c.put.ensures ∙ (λ i. c.head_of-both.ensures i ++ c.as_slice.ensures.value i))
+    ∙ ap (λ n. ((0 ∷ 0 ∷ 0 ∷ 2 ∷ 86 ∷ n ∷ []) ++ head) ++ text) c.number.ensures
+    ∙ behind_version c.in-Some-version_for.version head text _ framed
+    ∙ ap (λ o. speak_bytes o ++ frame (request_payload c.args.op.now)) (sym needed)

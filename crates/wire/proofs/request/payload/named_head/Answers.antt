@@ -3,8 +3,8 @@ use Rattle.std.specs.Int.{w32, to_be_bytes}
 use Rattle.wire.proofs.Heads.{frame_in_parts}
 use Rattle.wire.proofs.request.payload.named_head.Goals as goal
 
-pub returns : goal.returns
-returns c =
+pub returns-clause-head : goal.returns-clause-head
+returns-clause-head c =
     let name = c.args.name.now in
     let middle = c.args.middle.now in
     let text = c.args.text.now in
