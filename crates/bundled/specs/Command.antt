@@ -28,6 +28,7 @@ use Rattle.bundled.specs.Refresh.{RefreshRun}
 use Rattle.bundled.specs.Snapshot.{SnapshotRun}
 use Rattle.bundled.specs.Race.{RaceRun}
 use Rattle.bundled.specs.Serve.{ServedAs}
+use Rattle.server.specs.Saving.{IsUnknown}
 use Rattle.server.specs.Serve.{ServeCommand}
 
 -- what a map shows of a bundle: its X.509 authorities, or all
@@ -60,8 +61,8 @@ Does Migrate status old new = Filters MigrationOf Unread status old new
 Does (Race seconds) status old new = RaceRun status old new
 Does (Refresh wanted) status old new = RefreshRun status old new
 Does (Snapshot wanted) status old new = SnapshotRun status old new
-Does (Serve port load log settings) status old new =
-    (stops_at_end settings.connections ≡ false → new.input ≡ old.input) × ServeCommand (ServedAs settings.connections settings.turns) load settings status old.output new.output old.error new.error
+Does (Serve port load save log settings) status old new =
+    (stops_at_end settings.connections ≡ false → new.input ≡ old.input) × ServeCommand IsUnknown (ServedAs settings.connections settings.turns) load settings status old.output new.output old.error new.error
 
 -- Help or the version is written to standard output, and nothing is read. Or memory ran out before that or a command.
 pub record Shows (status : ℕ) (old new : Streams) : Type 0 where

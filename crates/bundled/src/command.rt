@@ -19,7 +19,7 @@ use commands::{
     trace_over, write_flushed,
 };
 use dump_views::Profile;
-use server::LineLog;
+use server::{LineLog, Stamped, tell_start};
 use std::alloc::{AllocError, Global};
 use std::env::{Args, Env};
 use std::fs::{File, Files};
@@ -142,10 +142,12 @@ fn run_wanted<
         Wanted::Serve {
             port,
             load,
+            save,
             log: is_on,
             settings,
         } => {
-            let log = LineLog::new(notes, *is_on);
+            tell_start(host, settings, *is_on, notes);
+            let log = LineLog::new(Stamped::new(host, notes), *is_on);
             let host = Host {
                 rt: host,
                 alloc,
@@ -155,6 +157,7 @@ fn run_wanted<
             let serving = Serving {
                 port: *port,
                 load: *load,
+                save: *save,
                 settings: *settings,
             };
             serve_over(&host, serving, reader, out, err)

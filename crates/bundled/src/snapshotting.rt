@@ -51,8 +51,9 @@ fn repeat<H: Files + Clock + Net, W: Write, E: Write>(
     ensures { (lines : List ℕ) × Tells (end_of E.contents err.old) (end_of E.contents err.new) lines }
 {
     let before = err.faults();
+    let mut last = None;
     for _ in 0..u64::MAX {
-        let taken = take_and_tell(alloc, host, out, wanted);
+        let taken = take_and_tell(alloc, host, out, wanted, &mut last);
         let Some(pause) = wanted.every else {
             return taken;
         };
@@ -79,14 +80,16 @@ fn pass_over<E: Write>(
     }
 }
 
-/// Makes one snapshot, and tells if it is new.
+/// Makes one snapshot, and tells if it is new. What was fetched last is not fetched again while the server has the same.
 fn take_and_tell<H: Files + Net, W: Write>(
     alloc: Global,
     host: &H,
     out: &mut Counted<W>,
     wanted: &Snapshotting<'_>,
+    last: &mut Option<Snapshot>,
 ) -> Result<(), Fault> {
-    let domains = fetch_from(alloc, host, wanted.port)?;
+    let fetched = fetch_from(alloc, host, wanted.port, last.take())?;
+    let domains = last.insert(fetched);
     let mut folder = match HostFolder::open(alloc, host, wanted.folder) {
         Ok(folder) => folder,
         Err(error) => return Err(fault_of(SnapshotError::from(error))),
@@ -105,16 +108,25 @@ fn take_and_tell<H: Files + Net, W: Write>(
     }
 }
 
-/// All domains of the server that listens at a port of this machine.
-fn fetch_from<H: Net>(alloc: Global, host: &H, port: u16) -> Result<Snapshot, Fault> {
+/// All domains of the server that listens at a port of this machine. Those that were fetched last do not come again if they are
+/// the same.
+fn fetch_from<H: Net>(
+    alloc: Global,
+    host: &H,
+    port: u16,
+    last: Option<Snapshot>,
+) -> Result<Snapshot, Fault> {
     let Ok((stream, other)) = streams(host, port) else {
         return Err(Fault::Server(ServerFault::NoConnection));
     };
     let mut client = Client::new(alloc, Counted::new(stream), Counted::new(other));
-    match fetch(&mut client) {
-        Ok(domains) => Ok(domains),
-        Err(FetchError::Refused(why)) => Err(Fault::Snapshot(SnapshotFault::Refused(why))),
-        Err(FetchError::Ended(why)) => Err(Fault::Server(ServerFault::Client(why))),
+    let known = last.as_ref().map(Snapshot::digest);
+    match (fetch(&mut client, known), last) {
+        (Ok(Some(domains)), _) => Ok(domains),
+        (Ok(None), Some(domains)) => Ok(domains),
+        (Ok(None), None) => Err(Fault::Server(ServerFault::Client(ClientError::BadReply))),
+        (Err(FetchError::Refused(why)), _) => { Err(Fault::Snapshot(SnapshotFault::Refused(why))) }
+        (Err(FetchError::Ended(why)), _) => Err(Fault::Server(ServerFault::Client(why))),
     }
 }
 

@@ -22,7 +22,7 @@ AreSettings Migrate = Unit {0}
 AreSettings (Race seconds) = (0 < seconds) × (seconds ≤ 60)
 AreSettings (Refresh wanted) = Unit {0}
 AreSettings (Snapshot wanted) = Unit {0}
-AreSettings (Serve port load log settings) = (0 < settings.workers) × (settings.workers ≤ 64)
+AreSettings (Serve port load save log settings) = (0 < settings.workers) × (settings.workers ≤ 64)
     × AreConnections settings.connections × IsLimit settings.connections settings.turns
     × (0 < settings.shards) × (settings.shards ≤ 256) × (0 < settings.rounds) × (settings.rounds ≤ 16)
     × (0 < settings.tries) × (settings.tries ≤ 1000000) × (settings.retries ≤ 1000000)

@@ -68,6 +68,18 @@ pub const RAW: Argument = Argument {
     help: "Write the replies as frames, so that those to a fetch are a dump",
 };
 
+pub const TEXT: Argument = Argument {
+    name: "text",
+    kind: Kind::Switch,
+    help: "Write only the bundle of a reply to a get, and other replies as lines",
+};
+
+pub const UNLESS: Argument = Argument {
+    name: "unless",
+    kind: Kind::Optional("FILE", ValueParser::String),
+    help: "With the request `fetch`: fetch all unless they are those of this dump; the reply is `same` if they are",
+};
+
 pub const REQUEST: Argument = Argument {
     name: "request",
     kind: Kind::Words("REQUEST"),
@@ -125,7 +137,7 @@ pub const UNTIL_EOF: Argument = Argument {
 pub const LOG: Argument = Argument {
     name: "log",
     kind: Kind::Switch,
-    help: "Tell of each change and of each end of a connection on standard error",
+    help: "Tell of each change, also if another was faster, and of each end of a connection on standard error",
 };
 
 pub const LISTENED_PORT: Argument = Argument {
@@ -168,6 +180,12 @@ pub const LOAD: Argument = Argument {
     name: "load",
     kind: Kind::Optional("FILE", ValueParser::String),
     help: "A dump with which the store is filled: the reply to a fetch-all, as migrate takes it",
+};
+
+pub const SAVE: Argument = Argument {
+    name: "save",
+    kind: Kind::Optional("FILE", ValueParser::String),
+    help: "Keep the last map at the end: its dump is written to FILE.new, which is renamed to FILE",
 };
 
 pub const TRIES: Argument = Argument {

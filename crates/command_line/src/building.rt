@@ -1,7 +1,7 @@
 //! The commands and their arguments, as `clap` knows them.
 use crate::argument::{Argument, Kind};
 use crate::commands::{Row, VERBS};
-use crate::texts::FRAMES;
+use crate::texts::STATUSES;
 use clap::builder::ValueParser;
 use clap::{Arg, ArgAction, Command};
 use std::alloc::{AllocError, Global};
@@ -11,7 +11,7 @@ pub fn program<'a>(alloc: Global) -> Result<Command<'a>, AllocError> {
     let mut program = Command::new(alloc, "bundled")
         .version("1.2.0-dev")
         .about("A store of the trust bundles of SPIFFE trust domains")
-        .after_help(FRAMES)
+        .after_help(STATUSES)
         .subcommand_required(true);
     for &verb in &VERBS {
         program = program.subcommand(command_of(alloc, verb.row())?)?;

@@ -3,8 +3,8 @@ use crate::argument::Argument;
 use crate::arguments::{
     ASKED_PORT, AT_LEAST, CONNECTIONS, DOCUMENTS, EVERY, FILES, IDLE, LISTENED_PORT, LOAD, LOG,
     MAX_OPEN, NAME, NAMES, NEW, NOW, NUMBER, OLD, OUT, PICTURE, RAW, READ_PORT, REFRESHED_PORT,
-    RELATIONSHIPS, REQUEST, RETRIES, RETRY, ROUNDS, SECONDS, SERVED_TURNS, SHARDS, TRIES, TURNS,
-    UNTIL_EOF, WORKERS, X509,
+    RELATIONSHIPS, REQUEST, RETRIES, RETRY, ROUNDS, SAVE, SECONDS, SERVED_TURNS, SHARDS, TEXT,
+    TRIES, TURNS, UNLESS, UNTIL_EOF, WORKERS, X509,
 };
 use crate::texts;
 
@@ -96,7 +96,7 @@ static ASK: Row = Row {
     name: "ask",
     about: "Asks a server, and writes its replies",
     notes: texts::ASKING,
-    arguments: &[ASKED_PORT, RETRY, RAW, REQUEST],
+    arguments: &[ASKED_PORT, RETRY, RAW, TEXT, UNLESS, REQUEST],
 };
 
 static ENCODE: Row = Row {
@@ -137,6 +137,7 @@ static SERVE: Row = Row {
         SERVED_TURNS,
         WORKERS,
         LOAD,
+        SAVE,
         LOG,
         SHARDS,
         ROUNDS,

@@ -1,7 +1,7 @@
 //! What the numbers of refusals and faults mean, and what to do about them.
 
 /// What is known of the numbers, in their order.
-static EXPLANATIONS: [(u64, &str); 55] = [
+static EXPLANATIONS: [(u64, &str); 56] = [
     (
         1,
         "\
@@ -267,7 +267,8 @@ connect again.
         "\
 51 BadRequest
 The payload of the frame is malformed.
-What to do: Compare it with docs/FORMATS.md. A conditional set wants version 2 of the session.
+What to do: Compare it with docs/FORMATS.md. A conditional set wants version 2 of the session, and
+a conditional fetch version 3.
 ",
     ),
     (
@@ -329,6 +330,15 @@ What to do: See whether another program has the port.
 58 BadReply
 What came is not a reply to the request.
 What to do: See whether the port is that of a server of bundles.
+",
+    ),
+    (
+        59,
+        "\
+59 Unsaved
+The file of --save cannot be written, or not renamed: the last map of the server is not in it. What
+was in the file before is there still.
+What to do: See its folder's permissions and the room on the disk. Take a dump before the next stop.
 ",
     ),
     (

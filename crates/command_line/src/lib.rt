@@ -20,4 +20,4 @@ mod wanted;
 
 pub use reading::wanted_by;
 pub use settings::{Connections, Lasting, Settings};
-pub use wanted::{Inquiry, Refreshing, Snapshotting, Wanted};
+pub use wanted::{Inquiry, Refreshing, ReplyStyle, Snapshotting, Wanted};

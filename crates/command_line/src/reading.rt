@@ -1,5 +1,6 @@
 //! How the command line is read.
-ghost use Rattle.std.specs.Prelude.{IfOk};
+ghost use Rattle.std.specs.Prelude.{◌≡◌, IfOk};
+ghost use Rattle.command_line.specs.Asking.{style};
 ghost use Rattle.command_line.specs.Settings.{AreSettings};
 
 use crate::answers::{port_of, text_of, words_of};
@@ -9,10 +10,10 @@ use crate::explanations::explanation;
 use crate::ranges::{AT_LEAST, RETRY, ROUNDS, SECONDS, SHARDS, TURNS};
 use crate::refusal::{name_refusal, refusal};
 use crate::serving::serving_of;
-use crate::wanted::{Inquiry, Refreshing, Snapshotting, Wanted};
+use crate::wanted::{Inquiry, Refreshing, ReplyStyle, Snapshotting, Wanted};
 use clap::{ArgMatches, Error};
 use spiffe_doc::{NameError, TrustDomain};
-use std::alloc::{AllocError, Global};
+use std::alloc::Global;
 
 /// Reads the command line.
 pub fn wanted_by<'a>(alloc: Global, words: &'a [String]) -> Result<Wanted<'a>, Error>
@@ -42,7 +43,7 @@ fn wanted_of<'a>(alloc: Global, verb: Verb, answers: &ArgMatches<'a>) -> Result<
         Verb::Import => Ok(Wanted::Import),
         Verb::Digest => Ok(Wanted::Digest),
         Verb::Migrate => Ok(Wanted::Migrate),
-        Verb::Ask => Ok(Wanted::Ask(inquiry_of(alloc, answers)?)),
+        Verb::Ask => inquiry_of(alloc, verb, answers),
         Verb::Check => Ok(Wanted::Check(words_of(alloc, answers, "files")?)),
         Verb::Explain => explaining_of(alloc, verb, answers),
         Verb::Map => mapping_of(alloc, verb, answers),
@@ -76,13 +77,44 @@ fn trace_of<'a>(answers: &ArgMatches<'a>) -> Wanted<'a>
     }
 }
 
-fn inquiry_of<'a>(alloc: Global, answers: &ArgMatches<'a>) -> Result<Inquiry<'a>, AllocError> {
-    Ok(Inquiry {
+fn inquiry_of<'a>(alloc: Global, verb: Verb, answers: &ArgMatches<'a>) -> Result<Wanted<'a>, Error>
+    ensures { IfOk result AreSettings }
+{
+    let Some(style) = style_of(answers.get_flag("raw"), answers.get_flag("text")) else {
+        return Err(refusal(alloc, verb, "--raw and --text exclude each other"));
+    };
+    let unless = answers.get_str("unless");
+    let words = words_of(alloc, answers, "request")?;
+    if unless.is_some() && !is_fetch(words.as_slice()) {
+        return Err(refusal(alloc, verb, "--unless goes with the request `fetch` alone"));
+    }
+    Ok(Wanted::Ask(Inquiry {
         port: port_of(answers),
         retries: RETRY.of(answers, "retry") as u32,
-        raw: answers.get_flag("raw"),
-        words: words_of(alloc, answers, "request")?,
-    })
+        style,
+        unless,
+        words,
+    }))
+}
+
+/// Whether the words are those of a fetch-all.
+fn is_fetch(words: &[&str]) -> bool {
+    match words {
+        [word] => *word == "fetch",
+        _ => false,
+    }
+}
+
+/// How replies are written, by the two switches. None if both are given.
+fn style_of(raw: bool, text: bool) -> Option<ReplyStyle>
+    ensures { result ≡ style raw text }
+{
+    match (raw, text) {
+        (false, false) => Some(ReplyStyle::Lines),
+        (true, false) => Some(ReplyStyle::Raw),
+        (false, true) => Some(ReplyStyle::Text),
+        (true, true) => None,
+    }
 }
 
 fn explaining_of<'a>(

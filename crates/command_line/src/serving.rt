@@ -32,6 +32,7 @@ pub fn serving_of<'a>(
         Ok(connections) => Ok(Wanted::Serve {
             port: port_of(answers),
             load: answers.get_str("load"),
+            save: answers.get_str("save"),
             log: answers.get_flag("log"),
             settings: settings_of(answers, connections),
         }),

@@ -1,4 +1,17 @@
-//! What the help of each command says at its end.
+//! What the help of the program and of each command says at its end.
+
+pub const STATUSES: &str = "\
+The exit status:
+
+  0  it is done
+  1  after a fault, also if help or the version cannot be written (`fault 54`); `check` found a document that is not a
+     bundle; `race` saw a fetch-all of a state that the store was never in
+  2  the command line is refused
+  3  there is something to look at: a reply to `ask` is a refusal, `refresh` could not set every bundle, `check` found
+     something that is ignored, or `diff` a change
+
+A fault is a line `fault NUMBER` on standard error, with what it tells behind the number: `bundled explain NUMBER` says
+what it means. The frames that `run` and `serve` answer are in bundled run --help.";
 
 pub const FRAMES: &str = "\
 A frame is a length of 4 bytes, big-endian, and a payload of that many bytes. Each request is
@@ -10,9 +23,10 @@ The first byte of a payload is a letter:
   R  length of the name, name              removes it
   G  length of the name, name              gets it
   F                                        fetches all
-  V  version                               sets the version of the session: 1 or 2
+  V  version                               sets the version of the session: 1, 2 or 3
   C  length of the name, name,             version 2: sets it only if the stored bundle is the expected
      expectation, document                 one: 0 none, 1 and a sequence of 8 bytes, 2 without a sequence
+  U  digest, of 32 bytes                   version 3: fetches all unless it is the SHA-256 of their dump
 
 The first example sets the bundle of the trust domain `a` to an empty document and gets it back:
 
@@ -34,7 +48,8 @@ Each line of the input is a request, and becomes one frame, as soon as the line 
   remove D          removes it
   get D             gets it
   fetch             fetches all
-  version 1|2       sets the version of the session
+  fetch unless HEX  fetches all unless this is the SHA-256 of their dump, in 64 lower-case digits
+  version 1|2|3     sets the version of the session
 
 DOC and JWK are the rest of the line, or @FILE for what the file holds. A line that is empty or begins with `#` asks
 nothing. Names and documents are not judged here: whoever is asked does that. A line that is something else, or that no
@@ -55,6 +70,7 @@ the line that `encode` takes, and a reply one of these:
   found TEXT                         the bundle that was got
   all N                              N domains follow, each as
   bundle D TEXT                      the bundle of D, as it stood at the moment of the fetch-all
+  same                               all bundles have the digest that was known
   version N                          the session speaks this version now
   refused N ..                       the request was refused, with the number of the refusal and what it tells
   memory   worn S   shut             not done: no memory, the shard S can count no more changes, not asked at all
@@ -69,10 +85,18 @@ The requests are those of `encode`, and the replies those of `decode`: see bundl
 
   bundled ask --port 8443 get a.example
   bundled ask --port 8443 set a.example @a.json
+  bundled ask --port 8443 --text get a.example > a.json
   bundled ask --port 8443 --raw fetch > dump
+  bundled ask --port 8443 --raw --unless dump fetch > new
   bundled ask --port 8443 < requests
 
-Version 2 of the session is set first. Each reply is written before the next request is sent. A request that is answered
+With --text the reply to a get is the text of its bundle and a line feed. A refusal and any other reply is its line, as
+without --text, so look at the status before you use the output.
+
+With --unless only the digest of the dump is sent, so that nothing comes but `same` if the domains are those of the
+dump.
+
+Version 3 of the session is set first. Each reply is written before the next request is sent. A request that is answered
 `memory`, `moved` or `held` has changed nothing, and is asked again, up to COUNT times.
 
 The status is 0 if each request was done, 3 if some reply is a refusal, and 1 after a fault: `fault 78` if no server
@@ -188,12 +212,17 @@ there is such a port, and at the end `served N`, how many connections were serve
 have a bundle. Faults of connections go to standard error then, in order of the workers. The status is 1 after a fault
 of the server itself, such as a port that is taken, and 0 otherwise.
 
-With --log each change of a bundle is a line on standard error, with the sequence before and after it, and so is each
-end of a connection:
+With --save the map that is left at the end is written as a dump, which --load reads: to FILE.new, and that is renamed to
+FILE. If it cannot be written, that is `fault 59`, and FILE is as it was. With --until-eof a server that lasts has an end.
 
-  worker 0 set a.example none to 7
-  worker 1 appended a.example 7 to 8
-  worker 1 session ended after 3 replies
+With --log each change of a bundle is a line on standard error, with the sequence before and after it, and so is each one
+that was refused because another was faster, and each end of a connection. The settings are told first:
+
+  2026-11-30T05:23:30Z settings workers 2 shards 4 connections 1
+  2026-11-30T05:23:33Z worker 0 set a.example absent to 7
+  2026-11-30T05:23:33Z worker 1 appended a.example 7 to 8
+  2026-11-30T05:23:34Z worker 0 refused a.example 31 8
+  2026-11-30T05:23:35Z worker 1 session ended after 3 replies
 
   bundled serve --port 8443 --read-port 8444 --connections unlimited
   bundled refresh --relationships list --documents documents --port 8443";

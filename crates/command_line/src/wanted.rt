@@ -50,10 +50,11 @@ pub enum Wanted<'a> {
     /// A snapshot of a server's bundles in a folder.
     Snapshot(Snapshotting<'a>),
     /// A server at this port of 127.0.0.1; one that is free, if it is 0. Its store is filled with the dump in a file, if one
-    /// is named.
+    /// is named, and at the end its map is kept as a dump in a file, if one is named.
     Serve {
         port: u16,
         load: Option<&'a str>,
+        save: Option<&'a str>,
         log: bool,
         settings: Settings,
     },
@@ -77,10 +78,23 @@ pub struct Inquiry<'a> {
     pub port: u16,
     /// How often a request is asked again that others were in the way of.
     pub retries: u32,
-    /// Whether frames are written, and not lines.
-    pub raw: bool,
+    /// How the replies are written.
+    pub style: ReplyStyle,
+    /// A dump that is known: all domains are fetched unless they are those of this file. Then the request is `fetch`.
+    pub unless: Option<&'a str>,
     /// The words of one request. Without any, requests are lines of the input.
     pub words: Vec<&'a str>,
+}
+
+/// How replies are written.
+#[derive(Clone, Copy, Debug, PartialEq, Eq)]
+pub enum ReplyStyle {
+    /// A line for each.
+    Lines,
+    /// Frames, as they came.
+    Raw,
+    /// A line for each, but of the reply to a get only its bundle.
+    Text,
 }
 
 /// What a refresh is to do.

@@ -16,7 +16,7 @@ use Rattle.map_core.specs.declared.reply.AskError.{AskError}
 use Rattle.map_core.specs.declared.reply.AskError.TheVariants as asking
 use Rattle.commands.specs.declared.fault.SnapshotFault.TheVariants.{Refused, LongName, BadFolder}
 use Rattle.commands.specs.declared.fault.Fault.{Fault}
-use Rattle.commands.specs.declared.fault.Fault.TheVariants.{Front, Dump, BadLine, BadFrame, UnreadText, NotInDump, BadMap, BadMember, InputTooLong, Server, Refresh, Snapshot, Listen, Close}
+use Rattle.commands.specs.declared.fault.Fault.TheVariants.{Front, Dump, BadLine, BadFrame, UnreadText, NotInDump, BadMap, BadMember, InputTooLong, Server, Refresh, Snapshot, Listen, Close, Unsaved}
 
 -- the shard, and its revisions
 abbrev pub asking_numbers : AskError → List ℕ
@@ -49,6 +49,7 @@ fault_numbers (Snapshot BadFolder) = 74 ∷ []
 fault_numbers Listen = 57 ∷ []
 fault_numbers (Close (closing.HeldAtEnd shard)) = close_number (closing.HeldAtEnd shard) ∷ shard ∷ []
 fault_numbers (Close error) = close_number error ∷ []
+fault_numbers Unsaved = 59 ∷ []
 
 abbrev pub fault_number : Fault → ℕ
 fault_number fault = slice_index (fault_numbers fault) 0

@@ -69,6 +69,9 @@ pub enum Fault {
     /// The store gave no map at its end.
     #[error(transparent)]
     Close(CloseError),
+    /// The file in which a server keeps its last map cannot be written.
+    #[error("the file of the last map cannot be written")]
+    Unsaved,
 }
 
 impl From<FrontError> for Fault {
@@ -197,6 +200,7 @@ impl Fault {
                 )
             }
             Fault::Close(error) => (error.number(), carried(&[])),
+            Fault::Unsaved => (59, carried(&[])),
         }
     }
 

@@ -279,7 +279,7 @@ static REPLIES: [(&[u8], usize, Result<usize, FetchError>); 8] = [
 /// What a fetch gives of these bytes that a server sends.
 fn fetched(alloc: Global, reply: &[u8]) -> Result<usize, FetchError> {
     let mut client = Client::new(alloc, Counted::new(reply), Counted::new(io::sink()));
-    Ok(fetch(&mut client)?.len())
+    Ok(fetch(&mut client, None)?.map_or(0, |domains| domains.len()))
 }
 
 /// Replies, whole and torn off, and refusals.

@@ -1,5 +1,5 @@
 //! Command lines: which command they want, with which settings.
-use command_line::{Connections, Settings, Wanted, wanted_by};
+use command_line::{Connections, ReplyStyle, Settings, Wanted, wanted_by};
 use spiffe_doc::TrustDomain;
 use std::alloc::{AllocError, Global};
 use std::process::Abort;
@@ -41,7 +41,7 @@ fn told_map(alloc: Global, names: &[TrustDomain], x509: bool) -> Result<String, 
 fn told_server(
     alloc: Global,
     port: u16,
-    load: Option<&str>,
+    files: [Option<&str>; 2],
     log: bool,
     settings: &Settings,
 ) -> Result<String, AllocError> {
@@ -61,7 +61,8 @@ fn told_server(
     }
     push_form(&mut all, settings.connections)?;
     let form = form_of(settings.connections);
-    told(alloc, form, &[load.unwrap_or("-")], all.as_slice())
+    let names = files.map(|file| file.unwrap_or("-"));
+    told(alloc, form, names.as_slice(), all.as_slice())
 }
 
 fn form_of(connections: Connections) -> &'static str {
@@ -82,6 +83,14 @@ fn push_form(numbers: &mut Vec<Option<u64>>, connections: Connections) -> Result
         }
     }
     Ok(())
+}
+
+fn number_of_style(style: ReplyStyle) -> u64 {
+    match style {
+        ReplyStyle::Lines => 0,
+        ReplyStyle::Raw => 1,
+        ReplyStyle::Text => 2,
+    }
 }
 
 fn told_wanted(alloc: Global, wanted: &Wanted<'_>) -> Result<String, AllocError> {
@@ -114,17 +123,16 @@ fn told_wanted(alloc: Global, wanted: &Wanted<'_>) -> Result<String, AllocError>
             )
         }
         Wanted::Ask(it) => {
-            let (port, retries, raw) = (
+            let (port, retries, style) = (
                 u64::from(it.port),
                 u64::from(it.retries),
-                u64::from(it.raw),
+                number_of_style(it.style),
             );
-            told(
-                alloc,
-                "ask",
-                it.words.as_slice(),
-                &[Some(port), Some(retries), Some(raw)],
-            )
+            let numbers = [Some(port), Some(retries), Some(style)];
+            match it.unless {
+                Some(dump) => told(alloc, "ask unless", &[dump], &numbers),
+                None => told(alloc, "ask", it.words.as_slice(), &numbers),
+            }
         }
         Wanted::Refresh(it) => {
             let numbers = [it.now, Some(it.at_least), it.port.map(u64::from)];
@@ -141,9 +149,10 @@ fn told_wanted(alloc: Global, wanted: &Wanted<'_>) -> Result<String, AllocError>
         Wanted::Serve {
             port,
             load,
+            save,
             log,
             settings,
-        } => told_server(alloc, *port, *load, *log, settings),
+        } => told_server(alloc, *port, [*load, *save], *log, settings),
     }
 }
 
@@ -251,27 +260,27 @@ const OTHER_FORM: &str =
 static SERVERS: [Line; 17] = [
     (
         "serve --port 0",
-        "serve each|-|0|0|2|1000000|4|3|1000|1000|1",
+        "serve each|-|-|0|0|2|1000000|4|3|1000|1000|1",
     ),
     (
         "serve --port=65535 --workers=64 --connections=1000 --turns=1000000000 --shards=256 --rounds=16 --tries=1000000 --retries=1000000 --load=dumps/a --log",
-        "serve each|dumps/a|65535|1|64|1000000000|256|16|1000000|1000000|1000",
+        "serve each|dumps/a|-|65535|1|64|1000000000|256|16|1000000|1000000|1000",
     ),
     (
         "serve --port 1 --turns 1",
-        "serve each|-|1|0|2|1|4|3|1000|1000|1",
+        "serve each|-|-|1|0|2|1|4|3|1000|1000|1",
     ),
     (
         "serve --port=1 --connections=unlimited",
-        "serve unlimited|-|1|0|2|18446744073709551615|4|3|1000|1000|1000|-|0|60",
+        "serve unlimited|-|-|1|0|2|18446744073709551615|4|3|1000|1000|1000|-|0|60",
     ),
     (
         "serve --port=1 --connections unlimited --max-open=1000000 --read-port=8444 --until-eof --idle=86400 --turns=1000000 --log --load=a",
-        "serve unlimited|a|1|1|2|1000000|4|3|1000|1000|1000000|8444|1|86400",
+        "serve unlimited|a|-|1|1|2|1000000|4|3|1000|1000|1000000|8444|1|86400",
     ),
     (
-        "serve --port=1 --connections unlimited --max-open=1 --read-port=0 --idle=1",
-        "serve unlimited|-|1|0|2|18446744073709551615|4|3|1000|1000|1|0|0|1",
+        "serve --port=1 --connections unlimited --max-open=1 --read-port=0 --idle=1 --save=dumps/b",
+        "serve unlimited|-|dumps/b|1|0|2|18446744073709551615|4|3|1000|1000|1|0|0|1",
     ),
     ("serve --port 1 --connections 0", NO_COUNT),
     ("serve --port 1 --connections 1001", NO_COUNT),
@@ -327,10 +336,27 @@ fn reads_which_snapshots_are_wanted(rt: HostRuntime) -> Result<(), AllocError> {
 }
 
 /// What is asked of a server. The words have `|` between, since a document may have spaces.
-static INQUIRIES: [Line; 6] = [
+static INQUIRIES: [Line; 11] = [
     ("ask|--port|1", "ask|1|100|0"),
     ("ask|--port=65535|--retry=0|get|a", "ask|get|a|65535|0|0"),
     ("ask|--port=1|--raw|fetch", "ask|fetch|1|100|1"),
+    ("ask|--text|--port=1|get|a", "ask|get|a|1|100|2"),
+    (
+        "ask|--port=1|--text|--raw|get|a",
+        "error: --raw and --text exclude each other\n\nUsage: ask [OPTIONS] --port <PORT> [REQUEST]...\n\nFor more information, try '--help'.\n",
+    ),
+    (
+        "ask|--port=1|--unless=all.dump|fetch",
+        "ask unless|all.dump|1|100|0",
+    ),
+    (
+        "ask|--port=1|--unless=all.dump|get|a",
+        "error: --unless goes with the request `fetch` alone\n\nUsage: ask [OPTIONS] --port <PORT> [REQUEST]...\n\nFor more information, try '--help'.\n",
+    ),
+    (
+        "ask|--port=1|--unless=all.dump",
+        "error: --unless goes with the request `fetch` alone\n\nUsage: ask [OPTIONS] --port <PORT> [REQUEST]...\n\nFor more information, try '--help'.\n",
+    ),
     (
         "ask|--port=1|set|a|{\"keys\": []}",
         "ask|set|a|{\"keys\": []}|1|100|0",

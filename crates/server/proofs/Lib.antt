@@ -1,2 +1,3 @@
 mod ReportLemmas
 pub mod LogLines
+pub mod Keeping

@@ -10,9 +10,13 @@ use Rattle.workers.specs.declared.ended.SessionFault.{SessionFault}
 use Rattle.workers.specs.declared.ended.SessionFault.TheVariants.{Front, Listen}
 use Rattle.workers.specs.declared.ended.Worked.{Worked}
 
-pub all_three : (a b c : Bool) → ((a && b) && c) ≡ (a && (b && c))
+all_three : (a b c : Bool) → ((a && b) && c) ≡ (a && (b && c))
 all_three true b c = refl
 all_three false b c = refl
+
+pub all_four : (a b c d : Bool) → (((a && b) && c) && d) ≡ (a && (b && (c && d)))
+all_four true b c d = all_three b c d
+all_four false b c d = refl
 
 lines_append : (some more : List SessionFault) → session_lines (some ++ more) ≡ session_lines some ++ session_lines more
 lines_append [] more = refl

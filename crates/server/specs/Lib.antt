@@ -1,4 +1,5 @@
 pub mod LogLine
+pub mod Saving
 pub mod Serve
 pub mod Serving
 pub mod Log

@@ -1,7 +1,11 @@
--- The lines of the log of a server, one for each change of a bundle and one for each end of a session.
+-- The lines of the log of a server: one for each change of a bundle, for each that was refused because another was faster, and for
+-- each end of a session.
 use Rattle.std.specs.Prelude.{ℕ, List, [], ◌∷◌, ◌++◌, codes, decimal, Option, None, Some, Result, Ok, Err}
 use Rattle.map_core.specs.declared.op.Expect.{Expect}
 use Rattle.map_core.specs.declared.op.Expect.TheVariants.{Absent, Unnumbered, Sequence}
+use Rattle.map_core.specs.Reply.{refusal_number}
+use Rattle.map_core.specs.declared.reply.MapRefusal.{MapRefusal}
+use Rattle.map_core.specs.declared.reply.MapRefusal.TheVariants.{Stale, NotExpected}
 use Rattle.workers.specs.Ended.{session_number}
 use Rattle.workers.specs.Log.{ChangeView}
 use Rattle.workers.specs.declared.log.How.{How}
@@ -15,7 +19,7 @@ how_word Removed = codes "removed"
 
 -- what stands under a name: no bundle, one without a sequence, or one of this sequence
 abbrev pub state_word : Expect → List ℕ
-state_word Absent = codes "none"
+state_word Absent = codes "absent"
 state_word Unnumbered = codes "unnumbered"
 state_word (Sequence sequence) = decimal sequence
 
@@ -24,11 +28,22 @@ abbrev pub before_word : Option Expect → List ℕ
 before_word None = codes "unknown"
 before_word (Some state) = state_word state
 
--- such as `worker 3 set a.example none to 7`; a line feed ends it
+-- such as `worker 3 set a.example absent to 7`; a line feed ends it
 abbrev pub change_line : ℕ → ChangeView → List ℕ
 change_line worker change =
     codes "worker " ++ decimal worker ++ codes " " ++ how_word change.how ++ codes " " ++ change.domain ++ codes " "
     ++ before_word change.before ++ codes " to " ++ state_word change.after ++ 10 ∷ []
+
+-- the number of a refusal; with 31 the sequence that stands there, and with 36 what stands there
+abbrev pub refusal_words : MapRefusal → List ℕ
+refusal_words (Stale sequence) = codes "31 " ++ decimal sequence
+refusal_words (NotExpected found) = codes "36 " ++ state_word found
+refusal_words refusal = decimal (refusal_number refusal)
+
+-- such as `worker 3 refused a.example 31 7`; a line feed ends it
+abbrev pub refusal_line : ℕ → List ℕ → MapRefusal → List ℕ
+refusal_line worker domain refusal =
+    codes "worker " ++ decimal worker ++ codes " refused " ++ domain ++ codes " " ++ refusal_words refusal ++ 10 ∷ []
 
 -- such as `worker 3 session ended after 12 replies`, or `worker 3 session fault 53`; a line feed ends it
 abbrev pub end_line : ℕ → Result ℕ SessionFault → List ℕ

@@ -4,7 +4,7 @@ use Rattle.std.specs.List.{All, flat_map}
 use Rattle.std.specs.Io.KnownBytes.{Appends}
 use Rattle.wire.specs.Counted.{next_count}
 use Rattle.wire.specs.Output.{WritesFront, End, Tells, TellsUnlessFailed}
-use Rattle.frame_front.specs.Dump.{Domains as AllDomains, IsDump, HaveValidBundles, FaultOfDump, requests_for}
+use Rattle.frame_front.specs.Dump.{Domains as AllDomains, IsDump, HaveValidBundles, FaultOfDump, requests_for, dump_of}
 use Rattle.wire.specs.Frame.{stream_of}
 use Rattle.frame_front.specs.declared.dump.DumpError.{DumpError}
 use Rattle.wire.specs.declared.error.FrontError.{FrontError}
@@ -25,6 +25,7 @@ use Rattle.commands.specs.Input.{InputFault}
 use Rattle.command_line.specs.declared.settings.Settings.{Settings}
 use Rattle.workers.specs.Filling.{Fills, NotFills}
 use Rattle.workers.specs.declared.filling.FillError.TheVariants as fill
+use Rattle.server.specs.Saving.{KeepsDump}
 use Rattle.workers.specs.Closing.{ranges_of, AreAll, ClosesAs}
 
 -- a line of words, each with a number
@@ -77,19 +78,28 @@ abbrev pub closing_line : Result PlainMap CloseError → Bool → List ℕ
 closing_line (Ok contents) taken = write_fault taken
 closing_line (Err error) taken = fault_line (Close error)
 
--- After the sessions: `served N`, their faults in order of the workers, and `domains M` or why the store gave no map. The status
--- is 0 if both lines were taken and no listener failed.
-pub record Reports (worked : List Worked) (before status : ℕ) (out_old out_new err_old err_new : End) : Type 0 where
+-- the dump of the map is kept, or it is told why not; without a map there is nothing to keep
+abbrev pub Saves : (List ℕ → Type 0) → Result PlainMap CloseError → Bool → List ℕ → Type 0
+Saves Kept (Ok contents) saved line = KeepsDump Kept (dump_of contents) saved line
+Saves Kept (Err error) saved line = (saved ≡ false) × (line ≡ [])
+
+-- After the sessions: `served N`, their faults in order of the workers; then the dump of the map is kept, if that is wanted, and
+-- `domains M` comes, or why the store gave no map. The status is 0 if both lines were taken, the dump is kept as is wanted, and no
+-- listener failed.
+pub record Reports (Kept : List ℕ → Type 0) (worked : List Worked) (before status : ℕ) (out_old out_new err_old err_new : End) : Type 0 where
   pub served_taken : Bool
   pub between : End
   pub served : IsOffered served_taken (said_line (Served (min (begun_by worked) 18446744073709551615))) out_old between
   pub closed : Result PlainMap CloseError
   pub closes : ClosesAs worked closed
+  pub saved : Bool
+  pub save_line : List ℕ
+  pub saves : Saves Kept closed saved save_line
   pub domains_taken : Bool
   pub domains : OffersDomains closed domains_taken between out_new
   pub tells : TellsUnlessFailed before err_old err_new
-      (write_fault served_taken ++ (session_lines (faults_by worked) ++ closing_line closed domains_taken))
-  pub has_status : status ≡ (if served_taken && (have_all_come worked && domains_taken) then 0 else 1)
+      (write_fault served_taken ++ (session_lines (faults_by worked) ++ (save_line ++ closing_line closed domains_taken)))
+  pub has_status : status ≡ (if served_taken && (have_all_come worked && (saved && domains_taken)) then 0 else 1)
 
 -- ---- the whole command
 
@@ -150,13 +160,14 @@ abbrev pub LoadFails : {A : Type 0} → Option A → ℕ → End → End → End
 LoadFails None status out_old out_new err_old err_new = ⊥
 LoadFails (Some file) status out_old out_new err_old err_new = (fault : Fault) × IsLoadFault fault × EndsEarly fault status out_old out_new err_old err_new
 
--- The form of a server says what it is that workers have served their clients, each over a pass of its own.
-module _ (Served : StoreView → List PassView → List Worked → Type 0) where
+-- What it is that the dump of the last map is kept. And the form of a server says what it is that workers have served their
+-- clients, each over a pass of its own.
+module _ (Kept : List ℕ → Type 0) (Served : StoreView → List PassView → List Worked → Type 0) where
   -- The workers serve, and the end is reported; or memory runs out, and that is told.
   abbrev pub Serves : StoreView → List PassView → ℕ → ℕ → End → End → End → End → Type 0
   Serves store passes before status out_old out_new err_old err_new =
       ((status ≡ 1) × (out_new ≡ out_old) × TellsUnlessFailed before err_old err_new (fault_line (Front Memory)))
-      ⊎ ((worked : List Worked) × Served store passes worked × Reports worked before status out_old out_new err_old err_new)
+      ⊎ ((worked : List Worked) × Served store passes worked × Reports Kept worked before status out_old out_new err_old err_new)
 
   -- No connection is taken if that line is not taken.
   abbrev pub ServesIf : Bool → StoreView → List PassView → ℕ → ℕ → End → End → End → End → Type 0

@@ -1,16 +1,17 @@
-//! The log of a server: a line for each change of a bundle, and for each end of a session.
+//! The log of a server: a line for each change of a bundle, for each that was refused because another was faster, and for each
+//! end of a session.
 ghost use Rattle.std.specs.Prelude.{◌≡◌, IfSome, OnOk};
 ghost use Rattle.std.specs.Bool.{OnTrue};
 ghost use Rattle.std.specs.Io.KnownBytes.{Appends};
 ghost use Rattle.wire.specs.Output.{WritesFront};
-ghost use Rattle.server.specs.LogLine.{before_word, change_line, end_line, how_word, state_word};
+ghost use Rattle.server.specs.LogLine.{before_word, change_line, end_line, how_word, refusal_line, refusal_words, state_word};
 ghost use Rattle.workers.specs.Log.{change_view};
 
 use arrayvec::ArrayVec;
-use map_core::Expect;
+use map_core::{Expect, MapRefusal};
 use std::io;
 use std::io::Write;
-use workers::{Changed, How, Log, SessionFault};
+use workers::{Changed, How, Log, Overtaken, SessionFault};
 
 /// The most bytes of a line. The longest has a name of 255 bytes and three numbers of 20 digits.
 const LINE_BYTES: usize = 384;
@@ -47,7 +48,7 @@ fn write_state<W: Write>(line: &mut W, state: Expect) -> io::Result<()>
     ensures { OnOk result (Appends (W.contents line.old) (W.contents line.new) (state_word state)) }
 {
     match state {
-        Expect::Absent => write!(line, "none"),
+        Expect::Absent => write!(line, "absent"),
         Expect::Unnumbered => write!(line, "unnumbered"),
         Expect::Sequence(sequence) => write!(line, "{sequence}"),
     }
@@ -83,6 +84,28 @@ fn write_change<W: Write>(line: &mut W, worker: u64, change: &Changed<'_>) -> io
     writeln!(line)
 }
 
+/// Writes the number of a refusal, and what it tells.
+fn write_refusal<W: Write>(line: &mut W, refusal: MapRefusal) -> io::Result<()>
+    ensures { OnOk result (Appends (W.contents line.old) (W.contents line.new) (refusal_words refusal)) }
+{
+    match refusal {
+        MapRefusal::Stale(sequence) => write!(line, "31 {sequence}"),
+        MapRefusal::NotExpected(found) => {
+            write!(line, "36 ")?;
+            write_state(line, found)
+        }
+        other => write!(line, "{}", other.number()),
+    }
+}
+
+fn write_overtaken<W: Write>(line: &mut W, worker: u64, overtaken: &Overtaken<'_>) -> io::Result<()>
+    ensures { OnOk result (Appends (W.contents line.old) (W.contents line.new) (refusal_line worker overtaken.now.domain.now overtaken.now.refusal)) }
+{
+    write!(line, "worker {worker} refused {} ", overtaken.domain)?;
+    write_refusal(line, overtaken.refusal)?;
+    writeln!(line)
+}
+
 fn write_end<W: Write>(line: &mut W, worker: u64, end: &Result<u64, SessionFault>) -> io::Result<()>
     ensures { OnOk result (Appends (W.contents line.old) (W.contents line.new) (end_line worker end.now)) }
 {
@@ -98,6 +121,17 @@ fn text_of_change(worker: u64, change: &Changed<'_>) -> Option<Line>
 {
     let mut line = Line::new();
     match write_change(&mut line, worker, change) {
+        Ok(()) => Some(line),
+        Err(_) => None,
+    }
+}
+
+/// The line of a refusal, if it has room.
+fn text_of_overtaken(worker: u64, overtaken: &Overtaken<'_>) -> Option<Line>
+    ensures { IfSome result (λ line. line.items ≡ refusal_line worker overtaken.now.domain.now overtaken.now.refusal) }
+{
+    let mut line = Line::new();
+    match write_overtaken(&mut line, worker, overtaken) {
         Ok(()) => Some(line),
         Err(_) => None,
     }
@@ -158,6 +192,16 @@ impl<N: Write + Copy + Drop> Log for LineLog<N> {
             return;
         }
         if let Some(line) = text_of_end(worker, end) {
+            let mut all = self.end;
+            let _ = offer(&mut all, &line);
+        }
+    }
+
+    fn refused(&self, worker: u64, overtaken: &Overtaken<'_>) {
+        if !self.is_on {
+            return;
+        }
+        if let Some(line) = text_of_overtaken(worker, overtaken) {
             let mut all = self.end;
             let _ = offer(&mut all, &line);
         }

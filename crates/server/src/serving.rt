@@ -9,7 +9,7 @@ mod ready;
 mod shared;
 mod stream;
 
-pub use blocking::serve_on;
+pub use blocking::{InTurn, serve_on};
 pub use host::Host;
 pub use lasting::{Task, WorkerPolls, serve_at, tell_early};
 pub use ports::Ports;

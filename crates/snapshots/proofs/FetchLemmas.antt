@@ -1,8 +1,9 @@
 -- Lemmas on what a client answers to a fetch-all.
 use Rattle.std.proofs.Common.{◌≡◌, ◌≢◌, ◌⊎◌, ℕ, List, [], ◌∷◌, refl, sym, ap, ◌∙◌, inl, inr, Option, Ok, Err, Some, None, true, false}
-use Rattle.map_core.specs.declared.op.Op.TheVariants.{FetchAll}
+use Rattle.std.specs.Prelude.{◌==◌, ◌||◌}
+use Rattle.map_core.specs.declared.op.Op.{Op}
 use Rattle.map_core.specs.declared.reply.Reply.{Reply}
-use Rattle.map_core.specs.declared.reply.Reply.TheVariants.{Stored, Unchanged, Appended, Removed, Found, All, Refused}
+use Rattle.map_core.specs.declared.reply.Reply.TheVariants.{Stored, Unchanged, Appended, Removed, Found, All, Same, Refused}
 use Rattle.map_core.specs.declared.reply.MapRefusal.{MapRefusal}
 use Rattle.map_core.specs.declared.reply.MapRefusal.TheVariants.{NoDomain, Stale, KidTaken, TooMany, TooLong, SequenceFull, NotExpected}
 use Rattle.map_core.specs.declared.reply.AskError.{AskError}
@@ -16,44 +17,53 @@ use Rattle.client.specs.Answer.{Answer, MayAnswer, is_code_for}
 use Rattle.client.specs.Client.{ClientState, Ends, Exchange, IsAsked, IsIdle, Asks}
 use Rattle.client.proofs.MapAnswers.{one_code}
 use Rattle.snapshots.specs.declared.fetching.FetchError.TheVariants as fetches
-use Rattle.snapshots.specs.Fetch.{Fetches}
+use Rattle.wire.specs.ReplyForm.{is_error_code}
+use Rattle.snapshots.specs.Fetch.{Fetches, fetch_op}
 
-other_code : (code : ℕ) (rest : List ℕ) → is_code_for FetchAll code ≡ false → is_code_for FetchAll (code_of (frame (code ∷ rest))) ≡ true → ⊥
-other_code code rest other may = not_both _ may (ap (is_code_for FetchAll) (one_code code rest) ∙ other)
+-- a reply to a fetch-all has the code a, or e if a digest is known
+fetch_codes : (known : Option (List ℕ)) (code : ℕ) → (code == 97) ≡ false → (code == 101) ≡ false → is_error_code code ≡ false → is_code_for (fetch_op known) code ≡ false
+fetch_codes None code all same no_error = λ i. no_error i || all i
+fetch_codes (Some digest) code all same no_error = λ i. no_error i || (all i || same i)
 
-not_refused : (why : MapRefusal) → MayAnswer FetchAll (Ok (Refused why)) → ⊥
-not_refused NoDomain may = other_code 30 [] refl may
-not_refused (Stale sequence) may = other_code 31 _ refl may
-not_refused KidTaken may = other_code 32 [] refl may
-not_refused TooMany may = other_code 33 [] refl may
-not_refused TooLong may = other_code 34 [] refl may
-not_refused SequenceFull may = other_code 35 [] refl may
-not_refused (NotExpected expect) may = other_code 36 _ refl may
+module _ (known : Option (List ℕ)) where
+  other_code : (code : ℕ) (rest : List ℕ) → (code == 97) ≡ false → (code == 101) ≡ false → is_error_code code ≡ false → is_code_for (fetch_op known) (code_of (frame (code ∷ rest))) ≡ true → ⊥
+  other_code code rest all same no_error may =
+      not_both _ may (ap (is_code_for (fetch_op known)) (one_code code rest) ∙ fetch_codes known code all same no_error)
 
--- a reply to a fetch-all has domains
-pub only_all : (reply : Reply) → MayAnswer FetchAll (Ok reply) → ((items : Domains) → reply ≢ All items) → ⊥
-only_all Stored may other = other_code 115 _ refl may
-only_all Unchanged may other = other_code 117 _ refl may
-only_all (Appended sequence) may other = other_code 112 _ refl may
-only_all Removed may other = other_code 100 _ refl may
-only_all (Found bundle) may other = other_code 102 _ refl may
-only_all (Refused why) may other = not_refused why may
-only_all (All items) may other = other items refl
+  not_refused : (why : MapRefusal) → MayAnswer (fetch_op known) (Ok (Refused why)) → ⊥
+  not_refused NoDomain may = other_code 30 [] refl refl refl may
+  not_refused (Stale sequence) may = other_code 31 _ refl refl refl may
+  not_refused KidTaken may = other_code 32 [] refl refl refl may
+  not_refused TooMany may = other_code 33 [] refl refl refl may
+  not_refused TooLong may = other_code 34 [] refl refl refl may
+  not_refused SequenceFull may = other_code 35 [] refl refl refl may
+  not_refused (NotExpected expect) may = other_code 36 _ refl refl refl may
+
+  -- a reply to a fetch-all has domains, or says that they are the same
+  pub only_fetched : (reply : Reply) → MayAnswer (fetch_op known) (Ok reply) → ((items : Domains) → reply ≢ All items) × (reply ≢ Same) → ⊥
+  only_fetched Stored may other = other_code 115 _ refl refl refl may
+  only_fetched Unchanged may other = other_code 117 _ refl refl refl may
+  only_fetched (Appended sequence) may other = other_code 112 _ refl refl refl may
+  only_fetched Removed may other = other_code 100 _ refl refl refl may
+  only_fetched (Found bundle) may other = other_code 102 _ refl refl refl may
+  only_fetched (Refused why) may other = not_refused why may
+  only_fetched (All items) may other = other.0 items refl
+  only_fetched Same may other = other.1 refl
 
 ok_err : {A B : Type 0} (x : A) (e : B) → Ok x ≡ Err e → ⊥
 ok_err x e same = cc
 
 -- an answer of a client that hasn't ended is a reply that it has read
-asked_ok : (ended : Option ClientError) (reply : Reply) (old new : Ends) → IsAsked ended FetchAll (Ok reply) old new
-    → (ended ≡ None) × Exchange FetchAll (Ok (Ok reply)) old new
-asked_ok None reply old new asked = (refl, asked)
-asked_ok (Some why) reply old new asked = absurd (ok_err reply error.GateShut asked.0)
+asked_ok : (op : Op) (ended : Option ClientError) (reply : Reply) (old new : Ends) → IsAsked ended op (Ok reply) old new
+    → (ended ≡ None) × Exchange op (Ok (Ok reply)) old new
+asked_ok op None reply old new asked = (refl, asked)
+asked_ok op (Some why) reply old new asked = absurd (ok_err reply error.GateShut asked.0)
 
-pub ok_is_read : (old new : ClientState) (reply : Reply) → Asks old FetchAll (Ok reply) new
-    → (new.ended ≡ None) × Exchange FetchAll (Ok (Ok reply)) old.ends new.ends
-ok_is_read old new reply (inr asked) = asked_ok new.ended reply old.ends new.ends asked.2
-ok_is_read old new reply (inl (same, inl bad)) = absurd (ok_err reply error.GateShut bad.0)
-ok_is_read old new reply (inl (same, inr bad)) = absurd (ok_err reply error.Memory bad.0)
+pub ok_is_read : (op : Op) (old new : ClientState) (reply : Reply) → Asks old op (Ok reply) new
+    → (new.ended ≡ None) × Exchange op (Ok (Ok reply)) old.ends new.ends
+ok_is_read op old new reply (inr asked) = asked_ok op new.ended reply old.ends new.ends asked.2
+ok_is_read op old new reply (inl (same, inl bad)) = absurd (ok_err reply error.GateShut bad.0)
+ok_is_read op old new reply (inl (same, inr bad)) = absurd (ok_err reply error.Memory bad.0)
 
-pub ok_may : (old new : ClientState) (reply : Reply) → Asks old FetchAll (Ok reply) new → MayAnswer FetchAll (Ok reply)
-ok_may old new reply asked = (ok_is_read old new reply asked).1.may
+pub ok_may : (op : Op) (old new : ClientState) (reply : Reply) → Asks old op (Ok reply) new → MayAnswer op (Ok reply)
+ok_may op old new reply asked = (ok_is_read op old new reply asked).1.may

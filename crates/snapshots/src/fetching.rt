@@ -1,11 +1,11 @@
 //! All domains of a server, as they stood at one moment.
 ghost use Rattle.std.specs.Prelude.{◌≡◌, ◌≢◌, None, MatchOption};
 ghost use Rattle.frame_front.specs.Dump.{Domains};
-ghost use Rattle.map_core.specs.declared.reply.Reply.TheVariants.{All};
-ghost use Rattle.snapshots.specs.Fetch.{Fetches};
+ghost use Rattle.map_core.specs.declared.reply.Reply.TheVariants.{All, Same};
+ghost use Rattle.snapshots.specs.Fetch.{Fetches, fetch_op as op};
 
 use client::{Client, ClientError};
-use map_core::{Ask, AskError, Op, Reply, Snapshot};
+use map_core::{Ask, AskError, DumpDigest, Op, Reply, Snapshot};
 use std::io::{Read, Write};
 use thiserror::Error;
 
@@ -20,14 +20,18 @@ pub enum FetchError {
     Ended(ClientError),
 }
 
-/// Asks a client that hasn't ended for all domains, once. A reply that is torn off or malformed is an error.
-pub fn fetch<R: Read, W: Write>(client: &mut Client<R, W>) -> Result<Snapshot, FetchError>
+/// Asks a client that hasn't ended for all domains, once. If a digest is known, they come only if they have another one, and none
+/// means that they have it. A reply that is torn off or malformed is an error.
+pub fn fetch<R: Read, W: Write>(
+    client: &mut Client<R, W>,
+    known: Option<DumpDigest>,
+) -> Result<Option<Snapshot>, FetchError>
     requires { client.old.ended ≡ None }
-    ensures { Fetches result client.old client.new }
+    ensures { Fetches known result client.old client.new }
 {
-    match client.ask(Op::FetchAll) {
-        Ok(reply) => match domains_of(reply) {
-            Some(domains) => Ok(domains),
+    match client.ask(fetch_op(known)) {
+        Ok(reply) => match fetched_by(reply) {
+            Some(fetched) => Ok(fetched),
             None => unreachable!(),
         },
         Err(why) => match client.ended() {
@@ -37,12 +41,24 @@ pub fn fetch<R: Read, W: Write>(client: &mut Client<R, W>) -> Result<Snapshot, F
     }
 }
 
-/// The domains that a reply has, if it is that to a fetch-all.
-fn domains_of(reply: Reply) -> Option<Snapshot>
-    ensures { MatchOption result ((items : Domains) → reply ≢ All items) (λ items. reply ≡ All items) }
+/// A fetch-all, or one that knows a digest.
+fn fetch_op(known: Option<DumpDigest>) -> Op
+    ensures { result ≡ op known }
+{
+    match known {
+        Some(known) => Op::FetchUnless(known),
+        None => Op::FetchAll,
+    }
+}
+
+/// The domains that a reply has, or none if they are the same, if it is the reply to a fetch-all.
+fn fetched_by(reply: Reply) -> Option<Option<Snapshot>>
+    ensures { MatchOption result (((items : Domains) → reply ≢ All items) × (reply ≢ Same))
+        (λ told. MatchOption told (reply ≡ Same) (λ items. reply ≡ All items)) }
 {
     match reply {
-        Reply::All(domains) => Some(domains),
+        Reply::All(domains) => Some(Some(domains)),
+        Reply::Same => Some(None),
         _ => None,
     }
 }

@@ -1,7 +1,7 @@
 -- What is read leaves the map as it was.
-use Rattle.std.proofs.Common.{◌≡◌, Bool, true, false, Option, Some, Result, Ok, Err, refl, sym, ap, ◌∙◌}
+use Rattle.std.proofs.Common.{◌≡◌, ℕ, List, Bool, true, false, Option, Some, Result, Ok, Err, refl, sym, ap, ◌∙◌}
 use Rattle.map_core.specs.declared.op.Op.{Op}
-use Rattle.map_core.specs.declared.op.Op.TheVariants.{Set, SetIf, Append, Remove, Get, FetchAll}
+use Rattle.map_core.specs.declared.op.Op.TheVariants.{Set, SetIf, Append, Remove, Get, FetchAll, FetchUnless}
 use Rattle.map_core.specs.declared.reply.Reply.{Reply}
 use Rattle.map_core.specs.declared.reply.AskError.{AskError}
 use Rattle.map_core.specs.PlainMap.{PlainMap, ask}
@@ -16,9 +16,14 @@ fetch_all_leaves : (m : PlainMap) → (ask m FetchAll).map ≡ m
 unfolding ask meaning
 fetch_all_leaves m = refl
 
+fetch_unless_leaves : (m : PlainMap) (known : List ℕ) → (ask m (FetchUnless known)).map ≡ m
+unfolding ask meaning
+fetch_unless_leaves m known = refl
+
 pub reads_change_nothing : (m : PlainMap) (op : Op) → is_read op ≡ true → (ask m op).map ≡ m
 reads_change_nothing m (Get d) read = sym (kept_left m (Get d) d (ask m (Get d)).reply refl)
 reads_change_nothing m FetchAll read = fetch_all_leaves m
+reads_change_nothing m (FetchUnless known) read = fetch_unless_leaves m known
 reads_change_nothing m (Set d b) read = cc
 reads_change_nothing m (SetIf d e b) read = cc
 reads_change_nothing m (Append d a) read = cc

@@ -47,7 +47,7 @@ pub use gated::Gated;
 pub use lasting::run_arrivals;
 pub use limited::ROOM_BYTES;
 pub use limits::Limits;
-pub use log::{Changed, How, Log, Quiet};
+pub use log::{Changed, How, Log, Overtaken, Quiet};
 pub use logged::Logged;
 pub use passes::passes_of;
 pub use retrying::Retrying;

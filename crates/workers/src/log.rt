@@ -2,7 +2,7 @@
 ghost use Rattle.std.specs.Prelude.{⊤, false};
 
 use crate::ended::SessionFault;
-use map_core::Expect;
+use map_core::{Expect, MapRefusal};
 
 /// How a bundle was changed.
 #[derive(Clone, Copy, PartialEq, Eq)]
@@ -21,6 +21,14 @@ pub struct Changed<'a> {
     pub before: Option<Expect>,
     /// What stands there by the change.
     pub after: Expect,
+}
+
+/// A request that was refused because another was faster: its sequence was lower than the one that stands there (31), or what
+/// stands there was not what it expected (36).
+#[derive(Clone, Copy)]
+pub struct Overtaken<'a> {
+    pub domain: &'a str,
+    pub refusal: MapRefusal,
 }
 
 /// What takes note of changes and of the ends of sessions. A log that can be copied may be told by many workers: each tells
@@ -45,6 +53,9 @@ pub trait Log: Drop {
 
     /// A session of the worker ended so.
     fn ended(&self, worker: u64, end: &Result<u64, SessionFault>);
+
+    /// The worker was asked for a change that was refused so.
+    fn refused(&self, _worker: u64, _overtaken: &Overtaken<'_>) {}
 }
 
 /// A log that takes note of nothing.

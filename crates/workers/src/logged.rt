@@ -6,10 +6,11 @@ ghost use Rattle.shard_store.specs.Promise.{IsLater};
 ghost use Rattle.map_core.specs.Name.{Name};
 ghost use Rattle.workers.specs.Log.{change_told, change_view, found_in, HasLooked};
 ghost use Rattle.workers.specs.Private.Names.{changed_name};
+ghost use Rattle.workers.specs.Private.Overtaken.{overtaken_told, overtaken_view};
 
-use crate::log::{Changed, How, Log};
+use crate::log::{Changed, How, Log, Overtaken};
 use crate::retrying::Retrying;
-use map_core::{Ask, AskError, Expect, Op, Reply, Viewer};
+use map_core::{Ask, AskError, Expect, MapRefusal, Op, Reply, Viewer};
 use shard_store::{Pass, Seated, Store};
 use spiffe_doc::TrustDomain;
 use std::alloc::AllocError;
@@ -80,6 +81,29 @@ fn change_by<'a>(
     })
 }
 
+/// That another request was faster than one that was to change the bundle of this name, if the answer to it says so.
+fn overtaken_by<'a>(
+    domain: Option<&'a TrustDomain>,
+    answer: &Result<Reply, AskError>,
+) -> Option<Overtaken<'a>>
+    ensures { option_map overtaken_view result ≡ overtaken_told (option_copied domain.entry) answer.now }
+{
+    let (domain, refusal) = match (domain, answer) {
+        (Some(domain), Ok(Reply::Refused(MapRefusal::Stale(sequence)))) => {
+            (domain, MapRefusal::Stale(*sequence))
+        }
+        (Some(domain), Ok(Reply::Refused(MapRefusal::NotExpected(found)))) => {
+            (domain, MapRefusal::NotExpected(*found))
+        }
+        _ => return None,
+    };
+    let name = domain.as_str();
+    Some(Overtaken {
+        domain: name,
+        refusal,
+    })
+}
+
 impl<'a, C: Clock, L: Log> Logged<'a, C, L> {
     /// Seats the pass at its store. An operation is asked again at most `retries` times.
     pub fn new(
@@ -119,6 +143,13 @@ impl<'a, C: Clock, L: Log> Logged<'a, C, L> {
             retries: _,
         } = patient;
         seated.into_pass()
+    }
+
+    /// Tells the log if another request was faster than this one.
+    fn tell_overtaken(&self, op: &Op, answer: &Result<Reply, AskError>) {
+        if let Some(overtaken) = overtaken_by(name_to_change(op), answer) {
+            self.log.refused(self.worker, &overtaken);
+        }
     }
 
     /// What stands now under the name of the bundle that the operation asks to change, if the store says so. Errors only if
@@ -164,6 +195,7 @@ impl<'a, C: Clock, L: Log> Ask for Logged<'a, C, L> {
             return Err(AskError::Memory);
         };
         let answer = self.patient.ask(op);
+        self.tell_overtaken(&copy, &answer);
         if let Some(change) = change_by(&copy, before, &answer) {
             self.log.changed(self.worker, &change);
         }

@@ -3,14 +3,17 @@ ghost use Rattle.std.specs.Prelude.{◌≡◌, false, ◌<◌, ◌-◌, ◌^◌,
 ghost use Rattle.wire.specs.Counted.{faults_in};
 ghost use Rattle.wire.specs.Output.{end_of};
 ghost use Rattle.commands.specs.declared.fault.Fault.TheVariants.{Listen};
+ghost use Rattle.server.specs.Saving.{IsUnknown};
 ghost use Rattle.server.specs.Serve.{EndsEarly, SetUpRun};
 ghost use Rattle.server.specs.Serving.{ServedBeside};
 
 use crate::serving::ports::ports_or_told;
+use crate::serving::serve::saved_file;
 use crate::serving::waits::waits_of;
 use command_line::{Lasting, Settings};
 use commands::Fault;
 use server::{Host, SetUp, Task, serve_at, tell_early};
+use std::fs::Files;
 use std::io::{Read, Write};
 use std::net::{Net, TcpListener, TcpStream};
 use std::thread::Threads;
@@ -18,40 +21,42 @@ use std::time::Clock;
 use wire::Counted;
 use workers::Log;
 
-/// Where a server listens, and how it serves.
+/// Where a server listens, how it serves, and in which file its last map is kept, if one is named.
 #[derive(Clone, Copy)]
-pub struct At {
+pub struct At<'a> {
     /// The port of 127.0.0.1, or 0 for one that is free.
     pub port: u16,
     pub settings: Settings,
     pub lasting: Lasting,
+    pub save: Option<&'a str>,
 }
 
 /// Serves many clients beside each other, over a store that the requests have filled; answers the exit status. A port that
 /// can't be had is a fault, and so it is if memory runs out.
 pub fn serve_many<
-    H: Threads + Clock + Net<Listener = TcpListener, Stream = TcpStream> + Sync,
+    H: Files + Threads + Clock + Net<Listener = TcpListener, Stream = TcpStream> + Sync,
     I: Read,
     W: Write,
     E: Write,
     L: Log + Copy + Sync,
 >(
     host: &Host<'_, H, L>,
-    at: At,
+    at: At<'_>,
     input: &mut Counted<I>,
     out: &mut Counted<W>,
     err: &mut Counted<E>,
 ) -> u8
     requires { faults_in err.old < 2 ^ 64 - 1 }
     ensures run { EndsEarly Listen result (end_of W.contents out.old) (end_of W.contents out.new) (end_of E.contents err.old) (end_of E.contents err.new)
-        ⊎ SetUpRun (ServedBeside at.lasting at.settings.turns) at.settings host.now.requests.now result
+        ⊎ SetUpRun IsUnknown (ServedBeside at.entry.lasting at.entry.settings.turns) at.entry.settings host.now.requests.now result
         (end_of W.contents out.old) (end_of W.contents out.new) (end_of E.contents err.old) (end_of E.contents err.new) }
-    ensures read { at.lasting.until_eof ≡ false → input.new ≡ input.old }
+    ensures read { at.entry.lasting.until_eof ≡ false → input.new ≡ input.old }
 {
     let At {
         port,
         settings,
         lasting,
+        save,
     } = at;
     let ports = match ports_or_told(host.rt, port, lasting.read_port, err) {
         Ok(ports) => ports,
@@ -71,6 +76,7 @@ pub fn serve_many<
         settings,
         lasting,
         set_up,
+        keeper: saved_file(host.alloc, host.rt, save),
     };
     serve_at(host, task, input, out, err)
 }

@@ -5,6 +5,7 @@ ghost use Rattle.command_line.specs.Serving.{stops_at_end};
 ghost use Rattle.commands.specs.Fault.{fault_line};
 ghost use Rattle.wire.specs.Output.{Tells, end_of};
 ghost use Rattle.commands.specs.declared.fault.Fault.TheVariants.{Listen};
+ghost use Rattle.server.specs.Saving.{IsUnknown};
 ghost use Rattle.server.specs.Serve.{EndsEarly, ServeCommand, SetUpRun};
 ghost use Rattle.server.specs.Serving.{ServedInTurn, most_taken, most_turns};
 ghost use Rattle.bundled.specs.Serve.{ServedAs};
@@ -12,7 +13,8 @@ ghost use Rattle.bundled.specs.Serve.{ServedAs};
 use crate::serving::lasting::{At, serve_many};
 use command_line::{Connections, Settings};
 use commands::Fault;
-use server::{Host, requests_of, serve_on};
+use server::{Host, InTurn, SavedFile, requests_of, serve_on};
+use std::alloc::Global;
 use std::fs::Files;
 use std::io::{Read, Write};
 use std::net::{Ipv4Addr, Net, TcpListener, TcpStream};
@@ -22,11 +24,12 @@ use wire::Counted;
 use workers::Log;
 
 /// What a server is asked for: the port of 127.0.0.1, or 0 for one that is free; the file whose dump fills the store before,
-/// if one is named; and its settings.
+/// and the file in which the last map is kept, if they are named; and its settings.
 #[derive(Clone, Copy, Debug)]
 pub struct Serving<'a> {
     pub port: u16,
     pub load: Option<&'a str>,
+    pub save: Option<&'a str>,
     pub settings: Settings,
 }
 
@@ -47,33 +50,45 @@ fn listener_or_told<H: Net<Listener = TcpListener, Stream = TcpStream>, E: Write
     }
 }
 
+/// The file in which the last map is kept, if one is named.
+pub fn saved_file<'a, H: Files>(
+    alloc: Global,
+    files: &'a H,
+    path: Option<&'a str>,
+) -> Option<SavedFile<'a, H>> {
+    match path {
+        Some(path) => Some(SavedFile { alloc, files, path }),
+        None => None,
+    }
+}
+
 /// Serves at the port, each worker its clients one after the other.
 fn serve_in_turn<
-    H: Threads + Clock + Net<Listener = TcpListener, Stream = TcpStream> + Sync,
+    H: Files + Threads + Clock + Net<Listener = TcpListener, Stream = TcpStream> + Sync,
     W: Write,
     E: Write,
     L: Log + Copy + Send + Sync,
->(
-    host: &Host<'_, H, L>,
-    port: u16,
-    settings: Settings,
-    out: &mut Counted<W>,
-    err: &mut Counted<E>,
-) -> u8
+>(host: &Host<'_, H, L>, serving: Serving<'_>, out: &mut Counted<W>, err: &mut Counted<E>) -> u8
     requires { faults_in err.old < 2 ^ 64 - 1 }
     ensures { EndsEarly Listen result (end_of W.contents out.old) (end_of W.contents out.new) (end_of E.contents err.old) (end_of E.contents err.new)
-        ⊎ SetUpRun (ServedInTurn (most_taken settings.connections) (most_turns settings.turns)) settings host.now.requests.now result
+        ⊎ SetUpRun IsUnknown (ServedInTurn (most_taken serving.entry.settings.connections) (most_turns serving.entry.settings.turns)) serving.entry.settings host.now.requests.now result
         (end_of W.contents out.old) (end_of W.contents out.new) (end_of E.contents err.old) (end_of E.contents err.new) }
 {
-    match listener_or_told(host.rt, port, err) {
-        Ok(listener) => serve_on(host, &listener, settings, out, err),
-        Err(status) => status,
-    }
+    let listener = match listener_or_told(host.rt, serving.port, err) {
+        Ok(listener) => listener,
+        Err(status) => return status,
+    };
+    let task = InTurn {
+        listener: &listener,
+        settings: serving.settings,
+        keeper: saved_file(host.alloc, host.rt, serving.save),
+    };
+    serve_on(host, task, out, err)
 }
 
 /// Serves over what the host has once the store is filled; answers the exit status.
 fn serve_as<
-    H: Threads + Clock + Net<Listener = TcpListener, Stream = TcpStream> + Sync,
+    H: Files + Threads + Clock + Net<Listener = TcpListener, Stream = TcpStream> + Sync,
     I: Read,
     W: Write,
     E: Write,
@@ -87,18 +102,18 @@ fn serve_as<
 ) -> u8
     requires { faults_in err.old < 2 ^ 64 - 1 }
     ensures run { EndsEarly Listen result (end_of W.contents out.old) (end_of W.contents out.new) (end_of E.contents err.old) (end_of E.contents err.new)
-        ⊎ SetUpRun (ServedAs serving.entry.settings.connections serving.entry.settings.turns) serving.entry.settings host.now.requests.now result
+        ⊎ SetUpRun IsUnknown (ServedAs serving.entry.settings.connections serving.entry.settings.turns) serving.entry.settings host.now.requests.now result
         (end_of W.contents out.old) (end_of W.contents out.new) (end_of E.contents err.old) (end_of E.contents err.new) }
     ensures read { stops_at_end serving.entry.settings.connections ≡ false → input.new ≡ input.old }
 {
-    let (port, settings) = (serving.port, serving.settings);
-    match settings.connections {
-        Connections::Each(_) => serve_in_turn(host, port, settings, out, err),
+    match serving.settings.connections {
+        Connections::Each(_) => serve_in_turn(host, serving, out, err),
         Connections::Unlimited(lasting) => {
             let at = At {
-                port,
-                settings,
+                port: serving.port,
+                settings: serving.settings,
                 lasting,
+                save: serving.save,
             };
             serve_many(host, at, input, out, err)
         }
@@ -121,7 +136,7 @@ pub fn serve_over<
     err: &mut Counted<E>,
 ) -> u8
     requires { faults_in err.old < 2 ^ 64 - 1 }
-    ensures run { ServeCommand (ServedAs serving.entry.settings.connections serving.entry.settings.turns) serving.entry.load serving.entry.settings result
+    ensures run { ServeCommand IsUnknown (ServedAs serving.entry.settings.connections serving.entry.settings.turns) serving.entry.load serving.entry.settings result
         (end_of W.contents out.old) (end_of W.contents out.new) (end_of E.contents err.old) (end_of E.contents err.new) }
     ensures read { stops_at_end serving.entry.settings.connections ≡ false → input.new ≡ input.old }
 {

@@ -6,11 +6,13 @@ ghost use Rattle.wire.specs.Counted.{faults_in};
 ghost use Rattle.workers.specs.Run.{AllWorked, kept};
 ghost use Rattle.workers.specs.declared.run.Finished.{Finished};
 ghost use Rattle.wire.specs.Output.{end_of};
+ghost use Rattle.server.specs.Saving.{Keeps};
 ghost use Rattle.server.specs.Serve.{SetUpRun, always_open};
 ghost use Rattle.server.specs.Serving.{ClientComes, EndsClient, MayTake, ServedInTurn, most_taken as taken_by, most_turns as turns_of, unknown};
 
-use crate::ending::report;
+use crate::ending::{Done, report};
 use crate::lines::{ServerLine, say};
+use crate::saving::Keeper;
 use crate::serving::clients::Clients;
 use crate::serving::host::Host;
 use crate::serving::stream::close;
@@ -147,24 +149,37 @@ fn run_in_turn<R: Threads + Clock + Sync, L: Log + Copy + Send + Sync>(
     kept_all(host.alloc, finished)
 }
 
+/// Where clients come who are served one after the other, how they are served, and who keeps the last map, if somebody does.
+#[derive(Drop)]
+pub struct InTurn<'a, K> {
+    pub listener: &'a TcpListener,
+    pub settings: Settings,
+    pub keeper: Option<K>,
+}
+
 /// Serves the clients of the listener over a store of these settings, each worker so many, one after the other; answers the
 /// exit status.
 ///
 /// `listening PORT` goes to the output first; no client is taken if it is not taken. At the end come `served N`, how many
 /// sessions there were, and `domains M`, how many domains have a bundle then. The faults of sessions are told in between, in
 /// order of the workers; they don't change the status, except that a listener that failed does.
-pub fn serve_on<R: Threads + Clock + Sync, L: Log + Copy + Send + Sync, W: Write, E: Write>(
-    host: &Host<'_, R, L>,
-    listener: &TcpListener,
-    settings: Settings,
-    out: &mut Counted<W>,
-    err: &mut Counted<E>,
-) -> u8
+pub fn serve_on<
+    R: Threads + Clock + Sync,
+    L: Log + Copy + Send + Sync,
+    K: Keeper,
+    W: Write,
+    E: Write,
+>(host: &Host<'_, R, L>, task: InTurn<'_, K>, out: &mut Counted<W>, err: &mut Counted<E>) -> u8
     requires { faults_in err.old < 2 ^ 64 - 1 }
-    ensures { SetUpRun (ServedInTurn (taken_by settings.connections) (turns_of settings.turns)) settings host.now.requests.now result
+    ensures { SetUpRun (Keeps K.keeps task.entry.keeper) (ServedInTurn (taken_by task.entry.settings.connections) (turns_of task.entry.settings.turns)) task.entry.settings host.now.requests.now result
         (end_of W.contents out.old) (end_of W.contents out.new) (end_of E.contents err.old) (end_of E.contents err.new) }
 {
     let before = err.faults();
+    let InTurn {
+        listener,
+        settings,
+        keeper,
+    } = task;
     let SetUp { store, passes } = match SetUp::new(host.alloc, settings, host.requests) {
         Ok(set_up) => set_up,
         Err(error) => return Fault::Front(error).tell(err),
@@ -184,7 +199,15 @@ pub fn serve_on<R: Threads + Clock + Sync, L: Log + Copy + Send + Sync, W: Write
         return 1;
     }
     match run_in_turn(host, &store, settings.retries, passes, clients) {
-        Ok(worked) => report(store, worked, out, err, before),
+        Ok(worked) => {
+            let done = Done {
+                alloc: host.alloc,
+                store,
+                worked,
+                keeper,
+            };
+            report(done, out, err, before)
+        }
         Err(_) => {
             Fault::Front(FrontError::Memory).tell_unless_failed(err, before);
             1

@@ -3,6 +3,7 @@ ghost use Rattle.std.specs.Prelude.{◌≡◌, false, ◌<◌, ◌-◌, ◌^◌,
 ghost use Rattle.std.specs.List.{All};
 ghost use Rattle.shard_store.specs.Pass.{IsOf};
 ghost use Rattle.workers.specs.Closing.{AreAll, ranges_of};
+ghost use Rattle.server.specs.Saving.{Keeps};
 ghost use Rattle.server.specs.Serve.{EndsEarly, ServeRun};
 ghost use Rattle.commands.specs.Fault.{fault_line};
 ghost use Rattle.wire.specs.Output.{Tells, end_of};
@@ -11,8 +12,9 @@ ghost use Rattle.wire.specs.Counted.{faults_in};
 ghost use Rattle.wire.specs.declared.error.FrontError.TheVariants.{Memory};
 ghost use Rattle.server.specs.Serving.{ServedBeside};
 
-use crate::ending::report;
+use crate::ending::{Done, report};
 use crate::lines::{ServerLine, say};
+use crate::saving::Keeper;
 use crate::serving::host::Host;
 use crate::serving::incoming::{Incoming, TICKS_A_SECOND};
 use crate::serving::ports::Ports;
@@ -31,14 +33,15 @@ use std::time::Clock;
 use wire::{Counted, FrontError};
 use workers::{Limits, Log, Open, SharedByWorkers, Worked, run_arrivals};
 
-/// A server that listens, and whose store is set up.
+/// A server that listens, and whose store is set up; and who keeps the last map, if somebody does.
 #[derive(Drop)]
-pub struct Task {
+pub struct Task<K> {
     pub ports: Ports,
     pub waits: WorkerPolls,
     pub settings: Settings,
     pub lasting: Lasting,
     pub set_up: SetUp,
+    pub keeper: Option<K>,
 }
 
 /// What the workers run over.
@@ -167,9 +170,16 @@ fn run_all<H: Threads + Clock + Sync, I: Read, L: Log + Copy + Sync>(
 /// `domains M`, how many domains have a bundle then. The faults of sessions are told in between, in order of the workers;
 /// they don't change the status, except that a listener that failed does. The log is told of changes and of the ends of
 /// sessions while it serves.
-pub fn serve_at<H: Threads + Clock + Sync, I: Read, W: Write, E: Write, L: Log + Copy + Sync>(
+pub fn serve_at<
+    H: Threads + Clock + Sync,
+    L: Log + Copy + Sync,
+    K: Keeper,
+    I: Read,
+    W: Write,
+    E: Write,
+>(
     host: &Host<'_, H, L>,
-    task: Task,
+    task: Task<K>,
     input: &mut Counted<I>,
     out: &mut Counted<W>,
     err: &mut Counted<E>,
@@ -180,7 +190,7 @@ pub fn serve_at<H: Threads + Clock + Sync, I: Read, W: Write, E: Write, L: Log +
     requires own { All (λ pass. IsOf pass task.set_up.store) task.set_up.passes.items }
     requires all { AreAll (ranges_of task.set_up.passes.items) }
     ensures run { EndsEarly (Front Memory) result (end_of W.contents out.old) (end_of W.contents out.new) (end_of E.contents err.old) (end_of E.contents err.new)
-        ⊎ ServeRun (ServedBeside task.lasting task.settings.turns) task.set_up.store task.set_up.passes.items result
+        ⊎ ServeRun (Keeps K.keeps task.keeper) (ServedBeside task.lasting task.settings.turns) task.set_up.store task.set_up.passes.items result
         (end_of W.contents out.old) (end_of W.contents out.new) (end_of E.contents err.old) (end_of E.contents err.new) }
     ensures read { task.lasting.until_eof ≡ false → input.new ≡ input.old }
 {
@@ -191,6 +201,7 @@ pub fn serve_at<H: Threads + Clock + Sync, I: Read, W: Write, E: Write, L: Log +
         settings,
         lasting,
         set_up: SetUp { store, passes },
+        keeper,
     } = task;
     let (port, read_port) = ports.numbers();
     let shared = Shared::new(ports, seats, lasting.most_open);
@@ -208,7 +219,15 @@ pub fn serve_at<H: Threads + Clock + Sync, I: Read, W: Write, E: Write, L: Log +
         lasting,
     };
     match run_all(&work, passes, incoming, input) {
-        Ok(worked) => report(store, worked, out, err, before),
+        Ok(worked) => {
+            let done = Done {
+                alloc: host.alloc,
+                store,
+                worked,
+                keeper,
+            };
+            report(done, out, err, before)
+        }
         Err(_) => {
             Fault::Front(FrontError::Memory).tell_unless_failed(err, before);
             1

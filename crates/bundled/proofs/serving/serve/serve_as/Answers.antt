@@ -4,6 +4,7 @@ use Rattle.command_line.specs.declared.settings.Connections.TheVariants.{Each, U
 use Rattle.command_line.specs.declared.settings.Lasting.{Lasting}
 use Rattle.wire.specs.Output.{end_of}
 use Rattle.commands.specs.declared.fault.Fault.TheVariants.{Listen}
+use Rattle.server.specs.Saving.{IsUnknown}
 use Rattle.server.specs.Serve.{EndsEarly, SetUpRun}
 use Rattle.shard_store.specs.Pass.{StoreView, PassView}
 use Rattle.workers.specs.declared.ended.Worked.{Worked}
@@ -28,7 +29,7 @@ returns-in-Each-clause-run g c =
     let settings = c.args.serving.settings in
     let run : (StoreView → List PassView → List Worked → Type 0) → Type 0 = λ served.
     EndsEarly Listen c.serve_in_turn.result (end_of g.W.Write.contents c.args.out.now) (end_of g.W.Write.contents c.serve_in_turn.new.out) (end_of g.E.Write.contents c.args.err.now) (end_of g.E.Write.contents c.serve_in_turn.new.err)
-    ⊎ SetUpRun served settings c.args.host.now.requests.now c.serve_in_turn.result (end_of g.W.Write.contents c.args.out.now) (end_of g.W.Write.contents c.serve_in_turn.new.out)
+    ⊎ SetUpRun IsUnknown served settings c.args.host.now.requests.now c.serve_in_turn.result (end_of g.W.Write.contents c.args.out.now) (end_of g.W.Write.contents c.serve_in_turn.new.out)
     (end_of g.E.Write.contents c.args.err.now) (end_of g.E.Write.contents c.serve_in_turn.new.err) in
     in_turn run settings.connections settings.turns c.in-Each.field-0 c.in-Each.is c.serve_in_turn.ensures
 
@@ -37,6 +38,6 @@ returns-in-Unlimited-clause-run g c =
     let settings = c.args.serving.settings in
     let run : (StoreView → List PassView → List Worked → Type 0) → Type 0 = λ served.
     EndsEarly Listen c.serve_many.result (end_of g.W.Write.contents c.args.out.now) (end_of g.W.Write.contents c.serve_many.new.out) (end_of g.E.Write.contents c.args.err.now) (end_of g.E.Write.contents c.serve_many.new.err)
-    ⊎ SetUpRun served settings c.args.host.now.requests.now c.serve_many.result (end_of g.W.Write.contents c.args.out.now) (end_of g.W.Write.contents c.serve_many.new.out)
+    ⊎ SetUpRun IsUnknown served settings c.args.host.now.requests.now c.serve_many.result (end_of g.W.Write.contents c.args.out.now) (end_of g.W.Write.contents c.serve_many.new.out)
     (end_of g.E.Write.contents c.args.err.now) (end_of g.E.Write.contents c.serve_many.new.err) in
     beside run settings.connections settings.turns c.in-Unlimited.lasting c.in-Unlimited.is c.serve_many.ensures.run

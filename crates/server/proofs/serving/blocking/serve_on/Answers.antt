@@ -7,6 +7,7 @@ use Rattle.workers.specs.Closing.{AreAll}
 use Rattle.workers.specs.Run.{kept}
 use Rattle.workers.specs.declared.ended.Worked.{Worked}
 use Rattle.workers.proofs.FinishedLists.{all_long, all_own, kept_own, kept_ranges, ranges_same}
+use Rattle.server.specs.Saving.{Keeps}
 use Rattle.server.specs.Serve.{always_open, write_fault, Reports}
 use Rattle.commands.specs.Fault.{fault_line}
 use Rattle.commands.specs.declared.fault.Fault.TheVariants.{Front}
@@ -19,7 +20,7 @@ pub report-requires-clause-some : goal.report-requires-clause-some
 report-requires-clause-some g c =
     let ran = c.in-Ok-run_in_turn.ensures in
     let long = all_long always_open unknown unknown EndsClient ClientComes c.in-Ok.set_up.store 0 c.in-Ok.set_up.passes.items c.in-Ok-clients_of.clients.items ran.0 ran.1 in
-    omega (arith, ap length ran.2, length-map ran.0 kept, long, c.in-Ok.ensures.set_up.workers, c.args.settings.some.0, c.in-Ok-run_in_turn.worked.ok)
+    omega (arith, ap length ran.2, length-map ran.0 kept, long, c.in-Ok.ensures.set_up.workers, c.args.task.settings.some.0, c.in-Ok-run_in_turn.worked.ok)
 
 pub report-requires-clause-own : goal.report-requires-clause-own
 report-requires-clause-own g c =
@@ -56,7 +57,7 @@ returns-in-Ok-run_in_turn g c =
           serves = inr (
             worked,
             (c.in-Ok-clients_of.clients.items, ran.0, c.in-Ok-clients_of.ensures.may, ran.1, ran.2),
-            subst (λ (b : ℕ). Reports worked b c.report.result (end_of g.W.Write.contents c.say.new.out) (end_of g.W.Write.contents c.report.new.out)
+            subst (λ (b : ℕ). Reports (Keeps g.K.Keeper.keeps c.args.task.keeper) worked b c.report.result (end_of g.W.Write.contents c.say.new.out) (end_of g.W.Write.contents c.report.new.out)
                 (end_of g.E.Write.contents c.say.new.err) (end_of g.E.Write.contents c.report.new.err)) before c.report.ensures,
           );
         },

@@ -1,5 +1,6 @@
 use Rattle.std.proofs.Common.{ℕ, [], true, refl, subst, sym, arith, inl, inr}
 use Rattle.workers.specs.Closing.{AreAll}
+use Rattle.server.specs.Saving.{Keeps}
 use Rattle.server.specs.Serve.{always_open, Reports}
 use Rattle.commands.specs.Fault.{fault_line}
 use Rattle.commands.specs.declared.fault.Fault.TheVariants.{Front}
@@ -35,7 +36,7 @@ returns-in-Ok-run_all-clause-run g c =
         serves = inr (
           c.in-Ok-run_all.worked.items,
           c.in-Ok-run_all.ensures.served,
-          subst (λ (b : ℕ). Reports c.in-Ok-run_all.worked.items b c.report.result (end_of g.W.Write.contents c.say.new.out) (end_of g.W.Write.contents c.report.new.out)
+          subst (λ (b : ℕ). Reports (Keeps g.K.Keeper.keeps c.args.task.keeper) c.in-Ok-run_all.worked.items b c.report.result (end_of g.W.Write.contents c.say.new.out) (end_of g.W.Write.contents c.report.new.out)
               (end_of g.E.Write.contents c.say.new.err) (end_of g.E.Write.contents c.report.new.err)) before c.report.ensures,
         );
       },
