@@ -2,10 +2,22 @@
 
 package hopslintel
 
-import "sort"
+import (
+	"crypto/sha256"
+	"encoding/hex"
+	"sort"
+)
 
 // Bundles are the canonical texts of bundles, by the names of their trust domains.
 type Bundles map[string][]byte
+
+// Digest is the SHA-256 of a dump, which tells sets of bundles from each other.
+type Digest [sha256.Size]byte
+
+// String gives the hexadecimal digits, as "bundled digest" writes them.
+func (d Digest) String() string {
+	return hex.EncodeToString(d[:])
+}
 
 // Names gives the names of the trust domains in order.
 func (b Bundles) Names() []string {

@@ -41,21 +41,18 @@ func ChangesBetween(before, after Bundles) Changes {
 	return changes
 }
 
-func (c Changes) areNone() bool {
-	return len(c.Added)+len(c.Changed)+len(c.Removed) == 0
-}
-
 // Follow makes a fetch-all again and again, this interval apart, and gives the function what changed from one to the next.
 // What comes first is what is there, all of it as added, even if it is nothing; after that the function is called only if
-// something changed.
+// something changed. While nothing changes no bundle is transferred, as by FetchAllUnless.
 //
 // It ends with the first error of the function, with the context, with Close, or with a fetch-all that fails. If onError
 // is given, a fault of the moment goes to that, and the next fetch-all comes after the interval: no connection, no answer
 // within the client's time, or an answer that gave up. The bundles of before stay in use for so long.
 func (c *Client) Follow(ctx context.Context, interval time.Duration, changed func(Changes) error, onError func(error)) error {
 	var before Bundles
+	var known *Digest
 	for {
-		bundles, err := c.FetchAll(ctx)
+		fetched, err := c.fetchAfter(ctx, known)
 		if err != nil {
 			if ended := c.ended(ctx); ended != nil {
 				return ended
@@ -64,19 +61,25 @@ func (c *Client) Follow(ctx context.Context, interval time.Duration, changed fun
 				return err
 			}
 			onError(err)
-		} else {
-			changes := ChangesBetween(before, bundles)
-			if before == nil || !changes.areNone() {
-				if err := changed(changes); err != nil {
-					return err
-				}
+		} else if !fetched.IsSame {
+			if err := changed(ChangesBetween(before, fetched.Bundles)); err != nil {
+				return err
 			}
-			before = bundles
+			before, known = fetched.Bundles, &fetched.Digest
 		}
 		if err := c.wait(ctx, interval); err != nil {
 			return err
 		}
 	}
+}
+
+// fetchAfter makes a fetch-all, unless the bundles have a digest that is known, if one is.
+func (c *Client) fetchAfter(ctx context.Context, known *Digest) (Fetched, error) {
+	if known != nil {
+		return c.FetchAllUnless(ctx, *known)
+	}
+	reply, err := c.Do(ctx, FetchAllRequest())
+	return Fetched{Bundles: reply.Bundles, Digest: reply.Digest}, err
 }
 
 // isOfTheMoment tells whether the same request may have an answer next time.

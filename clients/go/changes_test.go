@@ -23,36 +23,46 @@ func TestChangesBetween(t *testing.T) {
 		{Bundles{"a": one}, Bundles{"a": two}, Bundles{}, Bundles{"a": two}, nil},
 		{Bundles{"b": one, "a": one, "c": two}, Bundles{"c": one, "d": two}, Bundles{"d": two}, Bundles{"c": one}, []string{"a", "b"}},
 	} {
-		wanted := Changes{row.after, row.added, row.changed, row.removed}
-		equal(t, ChangesBetween(row.before, row.after), wanted)
-		equal(t, wanted.areNone(), len(row.added)+len(row.changed)+len(row.removed) == 0)
+		equal(t, ChangesBetween(row.before, row.after), Changes{row.after, row.added, row.changed, row.removed})
 	}
 }
 
-// What is there, what changes, and nothing of what stays; also after the server was restarted.
+// What is there, what changes, and nothing of what stays; also after the server was restarted, and with servers of before,
+// which know no digests.
 func TestFollow(t *testing.T) {
-	all := func(names ...string) string {
-		payloads := []string{count(byte(len(names)))}
-		for _, name := range names {
-			payloads = append(payloads, item(name))
-		}
-		return framed(payloads...)
-	}
-	server := answer(t, []string{all(), all(), all("a", "b"), all("a", "b"), leaves}, []string{all("a", "b"), framed(held), all("b", "c")})
-	var seen [][]string
-	var errs []error
 	enough := errors.New("enough")
-	err := server.dial(t, WithRetries(0)).Follow(soon(t), time.Millisecond, func(changes Changes) error {
-		seen = append(seen, changes.Added.Names(), changes.Removed)
-		if len(changes.Removed) > 0 {
-			return enough
-		}
-		return nil
-	}, func(err error) { errs = append(errs, err) })
-	equal(t, err, enough)
-	equal(t, seen, [][]string{{}, nil, {"a", "b"}, nil, {"c"}, {"a"}})
-	equal(t, len(errs), 1)
-	is(t, errs[0], ErrHeld)
+	none, two := unless(), unless("a", "b")
+	for _, row := range []struct{ sessions, wanted [][]string }{
+		{
+			[][]string{{all(), three, same, all("a", "b"), same, leaves}, {three, same, framed(held), all("b", "c")}},
+			[][]string{{"F", asksThree, none, none, two, two}, {asksThree, two, two, two}},
+		},
+		{
+			[][]string{{all(), strange, all(), all("a", "b"), all("a", "b"), leaves}, {all("a", "b"), strange, framed(held), all("b", "c")}},
+			[][]string{{"F", asksThree, "F", "F", "F", "F"}, {"F", asksThree, "F", "F"}},
+		},
+		{
+			[][]string{{all("a", "b"), three, same, leaves}, {strange, framed(held), all("b", "c")}},
+			[][]string{{"F", asksThree, two, two}, {asksThree, "F", "F"}},
+		},
+	} {
+		server := answer(t, row.sessions...)
+		var seen [][]string
+		var errs []error
+		err := server.dial(t, WithRetries(0)).Follow(soon(t), time.Millisecond, func(changes Changes) error {
+			seen = append(seen, changes.Added.Names(), changes.Removed)
+			if len(changes.Removed) > 0 {
+				return enough
+			}
+			return nil
+		}, func(err error) { errs = append(errs, err) })
+		equal(t, err, enough)
+		wanted := [][]string{{}, nil, {"a", "b"}, nil, {"c"}, {"a"}}
+		equal(t, seen, wanted[len(wanted)-len(seen):])
+		equal(t, len(errs), 1)
+		is(t, errs[0], ErrHeld)
+		equal(t, server.requests(), row.wanted)
+	}
 }
 
 func TestFollowEnds(t *testing.T) {
@@ -66,7 +76,7 @@ func TestFollowEnds(t *testing.T) {
 		{[]string{framed(count(0)), leaves}, nil, io.ErrUnexpectedEOF},
 		{[]string{framed(count(0)), framed(held)}, nil, ErrHeld},
 		{[]string{framed(count(0)), framed("s")}, never, ErrProtocol},
-		{[]string{framed(count(0)), framed("\x33")}, never, nil},
+		{[]string{framed(count(0)), strange, framed("\x33")}, never, nil},
 	} {
 		client := answer(t, row.replies, []string{leaves}).dial(t, WithRetries(0))
 		err := client.Follow(soon(t), time.Millisecond, nothing, row.onError)

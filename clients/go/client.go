@@ -4,6 +4,7 @@ package hopslintel
 
 import (
 	"context"
+	"errors"
 	"hash/maphash"
 	"io"
 	"net"
@@ -17,8 +18,8 @@ import (
 // A call ends as soon as its context does, also while it waits for others, and after the time of WithTimeout. Its
 // connection is then dropped if a reply is still owed, and the next call makes a new one.
 //
-// If the connection is found closed, a Get or a FetchAll is asked once more, over a new one. A change never is, since it
-// may have taken effect: it is ErrInDoubt.
+// If the connection is found closed, a Get, a FetchAll or a FetchAllUnless is asked once more, over a new one. A change
+// never is, since it may have taken effect: it is ErrInDoubt.
 type Client struct {
 	dial    func(context.Context) (io.ReadWriteCloser, error)
 	timeout time.Duration
@@ -115,6 +116,36 @@ func (c *Client) FetchAll(ctx context.Context) (Bundles, error) {
 	return reply.Bundles, err
 }
 
+// Fetched tells what a FetchAllUnless has come to.
+type Fetched struct {
+	// IsSame tells that the bundles have the digest that was known. They were not transferred then, and are nil here.
+	IsSame bool
+	// Bundles are those of all trust domains, as they stood at one moment, if they have another digest.
+	Bundles Bundles
+	// Digest is that of the bundles, also if it was known.
+	Digest Digest
+}
+
+// FetchAllUnless is as FetchAll, unless the bundles have the digest that is known: that of Fetched, or the SHA-256 of a dump.
+// If none is known, the zero value is as good as any that they do not have.
+//
+// It puts the session into version 3. A server of before that version sends all, and the digests are compared here.
+func (c *Client) FetchAllUnless(ctx context.Context, known Digest) (Fetched, error) {
+	ctx, cancel := c.timed(ctx)
+	defer cancel()
+	reply, err := c.ask(ctx, FetchAllUnlessRequest(known))
+	if errors.Is(err, errBadRequest) {
+		reply, err = c.ask(ctx, FetchAllRequest())
+	}
+	if err != nil {
+		return Fetched{}, err
+	}
+	if reply.Same || reply.Digest == known {
+		return Fetched{IsSame: true, Digest: known}, nil
+	}
+	return Fetched{Bundles: reply.Bundles, Digest: reply.Digest}, nil
+}
+
 // Set sets the bundle of a trust domain to a document. The answer is false if an equal bundle was there already. The
 // error is ErrStale if the document's sequence is lower than the stored one.
 func (c *Client) Set(ctx context.Context, domain string, document []byte) (stored bool, err error) {
@@ -156,6 +187,11 @@ func (c *Client) Do(ctx context.Context, request Request) (Reply, error) {
 	}
 	ctx, cancel := c.timed(ctx)
 	defer cancel()
+	return c.ask(ctx, request)
+}
+
+// ask is a call, or a part of one, whose context is that of the call.
+func (c *Client) ask(ctx context.Context, request Request) (Reply, error) {
 	for tries := 0; ; tries++ {
 		replies, err := c.exchange(ctx, []Request{request})
 		if err != nil {

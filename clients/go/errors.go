@@ -107,6 +107,9 @@ var (
 	ErrHeld error = number(42)
 	// ErrShut: the port is for reads only, or a gate of the server is shut.
 	ErrShut error = number(56)
+
+	// errBadRequest: the server does not know such a request, or such a version.
+	errBadRequest error = number(51)
 )
 
 // What errors.Is finds in the errors of calls that have no answer.

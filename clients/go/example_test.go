@@ -98,6 +98,38 @@ func ExampleClient_FetchAll() {
 	// y.example {"keys":[]}
 }
 
+// Who has fetched all fetches them again only if something changed.
+func ExampleClient_FetchAllUnless() {
+	ctx := context.Background()
+	store, err := hopslintel.Dial(ctx, address)
+	if err != nil {
+		log.Fatal(err)
+	}
+	defer store.Close()
+	var known hopslintel.Digest
+	for _, change := range []string{`{"keys":[]}`, "", `{"keys":[],"spiffe_sequence":1}`} {
+		if change != "" {
+			if _, err := store.Set(ctx, "z.example", []byte(change)); err != nil {
+				log.Fatal(err)
+			}
+		}
+		fetched, err := store.FetchAllUnless(ctx, known)
+		if err != nil {
+			log.Fatal(err)
+		}
+		if fetched.IsSame {
+			fmt.Println("as before")
+			continue
+		}
+		fmt.Println(string(fetched.Bundles["z.example"]))
+		known = fetched.Digest
+	}
+	// Output:
+	// {"keys":[]}
+	// as before
+	// {"keys":[],"spiffe_sequence":1}
+}
+
 // Of two who have read the same bundle the first sets it, and the other is refused.
 func ExampleClient_SetIf() {
 	ctx := context.Background()

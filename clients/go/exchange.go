@@ -12,15 +12,16 @@ import (
 	"time"
 )
 
-// line is a connection, with the version of its session.
+// line is a connection, with the version of its session, and what the server said to the versions that it refused.
 type line struct {
-	stream  io.ReadWriteCloser
-	reader  *bufio.Reader
-	version byte
+	stream   io.ReadWriteCloser
+	reader   *bufio.Reader
+	version  byte
+	refusals map[byte]error
 }
 
 func newLine(stream io.ReadWriteCloser) *line {
-	return &line{stream: stream, reader: bufio.NewReader(stream), version: 1}
+	return &line{stream: stream, reader: bufio.NewReader(stream), version: 1, refusals: map[byte]error{}}
 }
 
 // exchange sends requests, and gives the replies to them, as many as come. If nothing of them was sent, it says so.
@@ -167,20 +168,36 @@ func (c *Client) speak(ctx context.Context, requests []Request) ([]Reply, error)
 	return replies, failure
 }
 
-// speak puts the session into version 2 before an exchange that needs it. If that is refused, nothing is asked.
+// speak puts the session into the version that an exchange needs. If that is refused, nothing is asked.
 func (l *line) speak(requests []Request) (replies []Reply, isSent bool, refusal, err error) {
-	if l.version != 2 && needVersion2(requests) {
-		replies, _, err := l.exchange([]Request{version2})
-		if err != nil {
-			return nil, false, nil, err
-		}
-		if replies[0].Err != nil {
-			return nil, false, replies[0].Err, nil
-		}
-		l.version = 2
+	refusal, err = l.raise(neededVersion(requests))
+	if refusal != nil || err != nil {
+		return nil, false, refusal, err
 	}
 	replies, isSent, err = l.exchange(requests)
 	return replies, isSent, nil, err
+}
+
+// raise puts the session into a version, if it is in an earlier one. A server is asked once for one that it does not have.
+func (l *line) raise(version byte) (refusal, err error) {
+	if l.version >= version {
+		return nil, nil
+	}
+	if refusal, ok := l.refusals[version]; ok {
+		return refusal, nil
+	}
+	replies, _, err := l.exchange([]Request{versionRequest(version)})
+	if err != nil {
+		return nil, err
+	}
+	refusal = replies[0].Err
+	switch {
+	case refusal == nil:
+		l.version = version
+	case errors.Is(refusal, errBadRequest):
+		l.refusals[version] = refusal
+	}
+	return refusal, nil
 }
 
 // watch calls the function once the context has ended or the client is closed, unless what it gives is called before. That

@@ -3,6 +3,7 @@
 package hopslintel
 
 import (
+	"crypto/sha256"
 	"encoding/binary"
 	"fmt"
 	"io"
@@ -19,8 +20,12 @@ type Reply struct {
 	Sequence *uint64
 	// Bundle is the canonical text that a Get found.
 	Bundle []byte
-	// Bundles are those of a FetchAll.
+	// Bundles are those of a FetchAll, or of a FetchAllUnless if they have another digest.
 	Bundles Bundles
+	// Digest is that of the bytes that these bundles came in.
+	Digest Digest
+	// Same tells of a FetchAllUnless that the bundles have the digest that was known.
+	Same bool
 }
 
 // isInTheWay tells whether others were in the way, and may not be next time.
@@ -33,7 +38,7 @@ func (r Reply) isInTheWay() bool {
 const leastLetter = 64
 
 // done has the codes of the replies that tell that it was done, by the letter of the request.
-var done = map[byte]string{'S': "su", 'C': "su", 'A': "pu", 'R': "d", 'G': "f", 'F': "a", 'V': "v"}
+var done = map[byte]string{'S': "su", 'C': "su", 'A': "pu", 'R': "d", 'G': "f", 'F': "a", 'U': "ae", 'V': "v"}
 
 // givenUp has how many bytes follow the numbers of what a store gives up with.
 var givenUp = map[byte]int{22: 0, 40: 4, 41: 20, 42: 12, 56: 0}
@@ -55,6 +60,10 @@ var refusals = map[byte]struct {
 
 // readReply reads the reply to a request. After an error the next frame can't be found.
 func readReply(stream io.Reader, request Request) (Reply, error) {
+	hash := sha256.New()
+	if letter := request.payload[0]; letter == 'F' || letter == 'U' {
+		stream = io.TeeReader(stream, hash)
+	}
 	payload, err := readFrame(stream)
 	if err != nil {
 		return Reply{}, err
@@ -73,6 +82,7 @@ func readReply(stream io.Reader, request Request) (Reply, error) {
 	}
 	if code == 'a' {
 		reply.Bundles, err = readBundles(stream, binary.BigEndian.Uint64(rest))
+		copy(reply.Digest[:], hash.Sum(nil))
 	}
 	return reply, err
 }
@@ -91,6 +101,8 @@ func parseDone(request Request, code byte, rest []byte) (reply Reply, ok bool) {
 		return Reply{Bundle: rest}, true
 	case 'a':
 		return Reply{}, len(rest) == 8
+	case 'e':
+		return Reply{Same: true}, len(rest) == 0
 	case 'v':
 		return Reply{}, string(rest) == string(request.payload[1:])
 	case 'p':

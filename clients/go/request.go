@@ -21,6 +21,12 @@ func FetchAllRequest() Request {
 	return Request{payload: []byte{'F'}}
 }
 
+// FetchAllUnlessRequest asks for the bundles of all trust domains, unless they have this digest. A server of before version 3
+// of the protocol refuses it.
+func FetchAllUnlessRequest(known Digest) Request {
+	return Request{payload: append([]byte{'U'}, known[:]...)}
+}
+
 // SetRequest sets the bundle of a trust domain to a document.
 func SetRequest(domain string, document []byte) Request {
 	return named('S', domain, document)
@@ -41,8 +47,10 @@ func RemoveRequest(domain string) Request {
 	return named('R', domain)
 }
 
-// version2 sets the version of the session, as SetIf needs it.
-var version2 = Request{payload: []byte{'V', 2}}
+// versionRequest sets the version of the session.
+func versionRequest(version byte) Request {
+	return Request{payload: []byte{'V', version}}
+}
 
 func named(letter byte, domain string, rest ...[]byte) Request {
 	size := 2 + len(domain)
@@ -73,7 +81,7 @@ func (r Request) check() error {
 
 // isRead tells whether it changes nothing, so that it may be asked again if nobody knows what became of it.
 func (r Request) isRead() bool {
-	return r.payload[0] == 'G' || r.payload[0] == 'F'
+	return r.payload[0] == 'G' || r.payload[0] == 'F' || r.payload[0] == 'U'
 }
 
 func areReads(requests []Request) bool {
@@ -85,13 +93,18 @@ func areReads(requests []Request) bool {
 	return true
 }
 
-func needVersion2(requests []Request) bool {
+// neededVersion gives the first version of a session in which all of them can be asked.
+func neededVersion(requests []Request) (version byte) {
+	version = 1
 	for _, request := range requests {
-		if request.payload[0] == 'C' {
-			return true
+		switch {
+		case request.payload[0] == 'U':
+			return 3
+		case request.payload[0] == 'C':
+			version = 2
 		}
 	}
-	return false
+	return version
 }
 
 // What is sent before any of it is answered: so many bytes, which a pipe or a socket takes even if nobody reads, or one

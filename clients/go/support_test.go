@@ -9,6 +9,7 @@ package hopslintel
 import (
 	"bufio"
 	"context"
+	"crypto/sha256"
 	"errors"
 	"fmt"
 	"io"
@@ -124,7 +125,31 @@ const (
 	leaves  = ""      // nothing comes, and the server ends the connection
 )
 
+// What is sent and comes back of a session that is put into version 3, of bundles that are the same, and of a request that
+// a server does not know.
+const (
+	asksThree = "V\x03"
+	three     = "\x00\x00\x00\x02v\x03"
+	same      = "\x00\x00\x00\x01e"
+	strange   = "\x00\x00\x00\x01\x33"
+)
+
 func found(text string) string { return framed("f" + text) }
+
+// all is the reply to a fetch-all of trust domains with these names.
+func all(names ...string) string {
+	payloads := []string{count(byte(len(names)))}
+	for _, name := range names {
+		payloads = append(payloads, item(name))
+	}
+	return framed(payloads...)
+}
+
+// unless is the payload that asks for all unless they are these.
+func unless(names ...string) string {
+	digest := sha256.Sum256([]byte(all(names...)))
+	return "U" + string(digest[:])
+}
 
 // keepAddress is an address that the system gives to nobody until the test ends, and at which nobody listens but who is
 // told of it.

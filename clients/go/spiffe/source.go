@@ -74,7 +74,8 @@ type settings struct {
 // Option is a setting of a source.
 type Option func(*settings)
 
-// WithInterval sets how long after a fetch-all the next one begins. It is 5 seconds if nothing is said.
+// WithInterval sets how long after a fetch-all the next one begins. It is 5 seconds if nothing is said. While nothing changes,
+// a fetch-all transfers no bundle.
 func WithInterval(interval time.Duration) Option {
 	return func(s *settings) { s.interval = interval }
 }

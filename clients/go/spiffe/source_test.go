@@ -6,6 +6,8 @@ import (
 	"context"
 	"crypto/ed25519"
 	"errors"
+	"io"
+	"net"
 	"os"
 	"path/filepath"
 	"strings"
@@ -164,6 +166,25 @@ func TestRealBundles(t *testing.T) {
 		if !found.Equal(wanted) || !found.Equal(canonical) {
 			t.Fatalf("%s: another bundle", name)
 		}
+	}
+}
+
+// While nothing changes, nothing is transferred: after the first fetch-all the store is asked by its digest.
+func TestNothingIsTransferred(t *testing.T) {
+	letters := make(chan byte, 1000)
+	client := answered(t, func(stream net.Conn, _ int) {
+		for letter := letterOf(stream); letter != 0; letter = letterOf(stream) {
+			letters <- letter
+			io.WriteString(stream, answers[letter])
+		}
+	})
+	following(t, client)
+	asked := ""
+	for len(asked) < 6 {
+		asked += string(rune(<-letters))
+	}
+	if asked != "FVUUUU" {
+		t.Fatal(asked)
 	}
 }
 

@@ -13,6 +13,7 @@ import (
 	"crypto/tls"
 	"crypto/x509"
 	"encoding/base64"
+	"encoding/binary"
 	"encoding/json"
 	"errors"
 	"io"
@@ -181,20 +182,39 @@ func newSilent(t *testing.T) *hopslintel.Client {
 	return answered(t, func(stream net.Conn, _ int) { io.Copy(io.Discard, stream) })
 }
 
-// newNonsense is a client of a server that answers the first two fetch-alls by no reply, and the others by no bundles.
+// newNonsense is a client of a server that answers the requests of the first two connections by no reply, and then as one
+// does that holds nothing.
 func newNonsense(t *testing.T) *hopslintel.Client {
 	return answered(t, func(stream net.Conn, number int) {
-		for {
-			if _, err := io.ReadFull(stream, make([]byte, 5)); err != nil {
-				return
-			}
-			reply := "\x00\x00\x00\x09a\x00\x00\x00\x00\x00\x00\x00\x00"
+		for letter := letterOf(stream); letter != 0; letter = letterOf(stream) {
 			if number < 2 {
-				reply = "\x00\x00\x00\x01s"
+				letter = 'Z'
 			}
-			io.WriteString(stream, reply)
+			io.WriteString(stream, answers[letter])
 		}
 	})
+}
+
+// answers are those of a server that holds nothing, to fetch-alls and to what comes before one that knows a digest; and what
+// is no reply.
+var answers = map[byte]string{
+	'F': "\x00\x00\x00\x09a\x00\x00\x00\x00\x00\x00\x00\x00",
+	'V': "\x00\x00\x00\x02v\x03",
+	'U': "\x00\x00\x00\x01e",
+	'Z': "\x00\x00\x00\x01s",
+}
+
+// letterOf reads a request, and gives its letter; 0 if none comes.
+func letterOf(stream net.Conn) byte {
+	length := make([]byte, 4)
+	if _, err := io.ReadFull(stream, length); err != nil {
+		return 0
+	}
+	payload := make([]byte, binary.BigEndian.Uint32(length))
+	if _, err := io.ReadFull(stream, payload); err != nil {
+		return 0
+	}
+	return payload[0]
 }
 
 // answered is a client of a server that serves connections, which are numbered from 0, one after the other.

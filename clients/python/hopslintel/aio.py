@@ -18,14 +18,14 @@ import json
 from types import TracebackType
 from typing import (Any, AsyncIterator, Awaitable, Callable, Coroutine, Dict,
                     Iterable, List, NamedTuple, Optional, Sequence, Tuple,
-                    Type, Union)
+                    Type, Union, overload)
 
 from .changes import Changes, changes_between
 from .connection import Deadline
 from .errors import (DisconnectedError, GivenUpError, HopslintelError,
-                     TimedOutError, done)
-from .reply import (IN_THE_WAY, All, Appended, Found, Removed, Reply, Stored,
-                    Unchanged, Version)
+                     TimedOutError, digest_of, done, fetched, is_unknown)
+from .reply import (IN_THE_WAY, Appended, Bundles, Found, Known, Removed,
+                    Reply, Stored, Unchanged, Version)
 from .request import Document, Expected, Request
 from .session import Session, batches, pauses
 
@@ -86,7 +86,7 @@ class Client:
         self._line = line
         self._timeout = timeout
         self._retries = retries
-        self._version = 1  # that of the session, also of the next one
+        self._version = 1  # the one in which the next session begins
         self._lock = asyncio.Lock()  # one exchange at a time
         self._closing = asyncio.Event()
 
@@ -119,11 +119,8 @@ class Client:
         """Sets the bundle only if the stored one is the expected one; else
         it is refused as 36. Puts the session into version 2."""
         request = Request.set_if(name, expected, document)
-        deadline = self._deadline(timeout)
-        if self._version != 2:
-            reply = await self._ask(Request.version(2), deadline)
-            done(reply, Version, Version)
-        return done(await self._ask(request, deadline), Stored, Unchanged)
+        reply = await self._ask(request, self._deadline(timeout), version=2)
+        return done(reply, Stored, Unchanged)
 
     async def append(self, name: str, jwk: Document, *,
                      timeout: Optional[float] = None
@@ -151,15 +148,35 @@ class Client:
         bundle: Dict[str, Any] = json.loads(text)
         return bundle
 
-    async def fetch_all(self, *,
-                        timeout: Optional[float] = None) -> Dict[str, bytes]:
-        """All bundles as they stood at one moment, in order of names."""
-        reply = await self.ask(Request.fetch_all(), timeout=timeout)
-        return done(reply, All, All).bundles
+    @overload
+    async def fetch_all(self, *, unless: None = None,
+                        timeout: Optional[float] = None) -> Bundles: ...
+
+    @overload
+    async def fetch_all(self, *, unless: Known,
+                        timeout: Optional[float] = None
+                        ) -> Optional[Bundles]: ...
+
+    async def fetch_all(self, *, unless: Optional[Known] = None,
+                        timeout: Optional[float] = None
+                        ) -> Optional[Bundles]:
+        """All bundles as they stood at one moment, in order of names. With
+        `unless`, which is a digest or what was fetched before: None if they
+        still have that digest, as `hopslintel.Client` says."""
+        deadline = self._deadline(timeout)
+        if unless is None:
+            reply = await self._ask(Request.fetch_all(), deadline)
+            return fetched(reply, None)
+        known = digest_of(unless)
+        request = Request.fetch_unless(known)
+        reply = await self._ask(request, deadline, version=3)
+        if is_unknown(reply):
+            reply = await self._ask(Request.fetch_all(), deadline)
+        return fetched(reply, known)
 
     async def version(self, number: int, *,
                       timeout: Optional[float] = None) -> Version:
-        """Sets the version of the session, 1 or 2."""
+        """Sets the version of the session, 1 to 3."""
         reply = await self.ask(Request.version(number), timeout=timeout)
         return done(reply, Version, Version)
 
@@ -191,10 +208,10 @@ class Client:
                      ) -> AsyncIterator[Changes]:
         """What changed from one fetch-all to the next, until the client is
         closed, as `hopslintel.Client` gives it."""
-        before: Optional[Dict[str, bytes]] = None
+        before: Optional[Bundles] = None
         while not self._closing.is_set():
             try:
-                bundles = await self.fetch_all(timeout=timeout)
+                bundles = await self.fetch_all(unless=before, timeout=timeout)
             except (DisconnectedError, GivenUpError) as error:
                 if self._closing.is_set():
                     return
@@ -202,10 +219,9 @@ class Client:
                     raise
                 on_error(error)
             else:
-                changes = changes_between(before or {}, bundles)
-                if changes or before is None:
-                    yield changes
-                before = bundles
+                if bundles is not None:
+                    yield changes_between(before or Bundles({}, b""), bundles)
+                    before = bundles
             await self._pause(interval)
 
     # How it is asked
@@ -218,24 +234,27 @@ class Client:
         with contextlib.suppress(asyncio.TimeoutError):
             await asyncio.wait_for(self._closing.wait(), seconds)
 
-    async def _ask(self, request: Request, deadline: Deadline) -> Reply:
+    async def _ask(self, request: Request, deadline: Deadline,
+                   version: int = 1) -> Reply:
+        """The answer to a request in a session of this version or a later
+        one; or to the request for that version, if it was refused."""
         replies: List[Reply] = []
-        await self._exchange([request], deadline, replies)
+        await self._exchange([request], deadline, replies, version)
         for pause in pauses(self._retries):
             is_final = not isinstance(replies[-1], IN_THE_WAY)
             if is_final or not deadline.allows(pause):
                 break
             await asyncio.sleep(pause)
-            await self._exchange([request], deadline, replies)
+            await self._exchange([request], deadline, replies, version)
         return replies[-1]
 
     async def _exchange(self, requests: Sequence[Request], deadline: Deadline,
-                        replies: List[Reply]) -> None:
+                        replies: List[Reply], version: int = 1) -> None:
         """Adds the replies to the requests, as many as come."""
-        await _within(self._take_turn(requests, replies), deadline)
+        await _within(self._take_turn(requests, replies, version), deadline)
 
     async def _take_turn(self, requests: Sequence[Request],
-                         replies: List[Reply]) -> None:
+                         replies: List[Reply], version: int) -> None:
         async with self._lock:
             line = self._line
             is_new = line is None
@@ -243,7 +262,7 @@ class Client:
                 line = await self._dial_anew()
             had = len(replies)
             try:
-                await self._speak(line, requests, replies)
+                await self._speak(line, requests, replies, version)
                 return
             except DisconnectedError:
                 is_safe = all(request.is_read for request in requests)
@@ -251,10 +270,10 @@ class Client:
                     raise
             del replies[had:]
             line = await self._dial_anew()
-            await self._speak(line, requests, replies)
+            await self._speak(line, requests, replies, version)
 
     async def _dial_anew(self) -> _Line:
-        """A new connection, with a session of the version of the last."""
+        """A new connection, with a session in its first version."""
         self._check_open()
         if self._dial is None:
             raise DisconnectedError("the session has ended")
@@ -264,20 +283,49 @@ class Client:
             raise DisconnectedError(f"no connection: {error}") from error
         line = _Line(reader, writer, Session())
         self._line = line
-        if self._version != 1:
-            replies: List[Reply] = []
-            await self._speak(line, [Request.version(self._version)], replies)
-            try:
-                done(replies[0], Version, Version)
-            except HopslintelError:
-                self._drop()
-                raise
+        refusal = await self._put_into(line, self._version)
+        if refusal is not None:
+            self._drop()
+            done(refusal, Version, Version)
         return line
 
     async def _speak(self, line: _Line, requests: Sequence[Request],
-                     replies: List[Reply]) -> None:
-        """One exchange. Whatever fails in it, the next frame can't be found,
-        so the connection is dropped."""
+                     replies: List[Reply], version: int) -> None:
+        """One exchange in this version or a later one. If the server refuses
+        the version, nothing is asked."""
+        refusal = await self._put_into(line, version)
+        if refusal is not None:
+            replies.append(refusal)
+            return
+        had = len(replies)
+        try:
+            await self._say(line, requests, replies)
+        finally:
+            for reply in replies[had:]:
+                if isinstance(reply, Version):
+                    self._version = reply.number
+
+    async def _put_into(self, line: _Line,
+                        version: int) -> Optional[Reply]:
+        """Puts the session into this version, if it is in an earlier one.
+        The answer is how the server refused it, if it did: a server is asked
+        once a session for a version that it does not have."""
+        session = line.session
+        if session.version >= version:
+            return None
+        refusal: Optional[Reply] = session.refusal_of(version)
+        if refusal is None:
+            replies: List[Reply] = []
+            await self._say(line, [Request.version(version)], replies)
+            refusal = None if session.version == version else replies[0]
+        if refusal is None and version == 2:
+            self._version = 2  # not 3: the next server may be of before it
+        return refusal
+
+    async def _say(self, line: _Line, requests: Sequence[Request],
+                   replies: List[Reply]) -> None:
+        """Whatever fails in it, the next frame can't be found, so the
+        connection is dropped."""
         reader, writer, session = line
         try:
             self._check_open()
@@ -289,8 +337,6 @@ class Client:
                     session.feed(await _some(reader))
                     continue
                 replies.append(reply)
-                if isinstance(reply, Version):
-                    self._version = reply.number
         except HopslintelError:
             self._drop()
             raise

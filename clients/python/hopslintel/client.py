@@ -10,15 +10,15 @@ import time
 import weakref
 from types import TracebackType
 from typing import (IO, Any, Callable, Dict, Iterable, Iterator, List,
-                    NamedTuple, Optional, Sequence, Type, Union)
+                    NamedTuple, Optional, Sequence, Type, Union, overload)
 
 from .changes import Changes, changes_between
 from .connection import (Connection, Deadline, SocketConnection,
                          StreamConnection)
 from .errors import (DisconnectedError, GivenUpError, HopslintelError,
-                     done)
-from .reply import (IN_THE_WAY, All, Appended, Found, Removed, Reply, Stored,
-                    Unchanged, Version)
+                     digest_of, done, fetched, is_unknown)
+from .reply import (IN_THE_WAY, Appended, Bundles, Found, Known, Removed,
+                    Reply, Stored, Unchanged, Version)
 from .request import Document, Expected, Request
 from .session import Session, batches, pauses
 
@@ -85,7 +85,7 @@ class Client:
         self._line = line
         self._timeout = timeout
         self._retries = retries
-        self._version = 1  # that of the session, also of the next one
+        self._version = 1  # the one in which the next session begins
         # One exchange at a time: a reply to a get has no name, so a thread
         # could not tell that it took another's.
         self._lock = threading.Lock()
@@ -122,10 +122,8 @@ class Client:
         """Sets the bundle only if the stored one is the expected one; else
         it is refused as 36. Puts the session into version 2."""
         request = Request.set_if(name, expected, document)
-        deadline = self._deadline(timeout)
-        if self._version != 2:
-            done(self._ask(Request.version(2), deadline), Version, Version)
-        return done(self._ask(request, deadline), Stored, Unchanged)
+        reply = self._ask(request, self._deadline(timeout), version=2)
+        return done(reply, Stored, Unchanged)
 
     def append(self, name: str, jwk: Document, *,
                timeout: Optional[float] = None) -> Union[Appended, Unchanged]:
@@ -149,15 +147,37 @@ class Client:
         bundle: Dict[str, Any] = json.loads(self.get(name, timeout=timeout))
         return bundle
 
-    def fetch_all(self, *,
-                  timeout: Optional[float] = None) -> Dict[str, bytes]:
-        """All bundles as they stood at one moment, in order of names."""
-        reply = self.ask(Request.fetch_all(), timeout=timeout)
-        return done(reply, All, All).bundles
+    @overload
+    def fetch_all(self, *, unless: None = None,
+                  timeout: Optional[float] = None) -> Bundles: ...
+
+    @overload
+    def fetch_all(self, *, unless: Known,
+                  timeout: Optional[float] = None) -> Optional[Bundles]: ...
+
+    def fetch_all(self, *, unless: Optional[Known] = None,
+                  timeout: Optional[float] = None) -> Optional[Bundles]:
+        """All bundles as they stood at one moment, in order of names.
+
+        With `unless`, which is a digest or what was fetched before: None if
+        the bundles still have that digest, and then nothing of them is
+        transferred. Compare with `is None`, as an empty store gives an empty
+        dict, which is false too. It puts the session into version 3. A
+        server of before that version sends all, and the digests are compared
+        here.
+        """
+        deadline = self._deadline(timeout)
+        if unless is None:
+            return fetched(self._ask(Request.fetch_all(), deadline), None)
+        known = digest_of(unless)
+        reply = self._ask(Request.fetch_unless(known), deadline, version=3)
+        if is_unknown(reply):
+            reply = self._ask(Request.fetch_all(), deadline)
+        return fetched(reply, known)
 
     def version(self, number: int, *,
                 timeout: Optional[float] = None) -> Version:
-        """Sets the version of the session, 1 or 2."""
+        """Sets the version of the session, 1 to 3."""
         reply = self.ask(Request.version(number), timeout=timeout)
         return done(reply, Version, Version)
 
@@ -190,7 +210,8 @@ class Client:
                on_error: Optional[Callable[[HopslintelError], None]] = None,
                timeout: Optional[float] = None) -> Iterator[Changes]:
         """What changed from one fetch-all to the next, until the client is
-        closed. They are so many seconds apart.
+        closed. They are so many seconds apart, and transfer no bundles while
+        nothing changes.
 
         What comes first is what is there, all of it as added, even if it is
         nothing. After that something is yielded only if it changed.
@@ -200,10 +221,10 @@ class Client:
         fetch-all comes after the interval: no connection, no answer in time,
         or an answer that gave up.
         """
-        before: Optional[Dict[str, bytes]] = None
+        before: Optional[Bundles] = None
         while not self._closing.is_set():
             try:
-                bundles = self.fetch_all(timeout=timeout)
+                bundles = self.fetch_all(unless=before, timeout=timeout)
             except (DisconnectedError, GivenUpError) as error:
                 if self._closing.is_set():
                     return
@@ -211,10 +232,9 @@ class Client:
                     raise
                 on_error(error)
             else:
-                changes = changes_between(before or {}, bundles)
-                if changes or before is None:
-                    yield changes
-                before = bundles
+                if bundles is not None:
+                    yield changes_between(before or Bundles({}, b""), bundles)
+                    before = bundles
             self._closing.wait(interval)
 
     # How it is asked
@@ -222,19 +242,22 @@ class Client:
     def _deadline(self, timeout: Optional[float]) -> Deadline:
         return Deadline(self._timeout if timeout is None else timeout)
 
-    def _ask(self, request: Request, deadline: Deadline) -> Reply:
+    def _ask(self, request: Request, deadline: Deadline,
+             version: int = 1) -> Reply:
+        """The answer to a request in a session of this version or a later
+        one; or to the request for that version, if it was refused."""
         replies: List[Reply] = []
-        self._exchange([request], deadline, replies)
+        self._exchange([request], deadline, replies, version)
         for pause in pauses(self._retries):
             is_final = not isinstance(replies[-1], IN_THE_WAY)
             if is_final or not deadline.allows(pause):
                 break
             time.sleep(pause)
-            self._exchange([request], deadline, replies)
+            self._exchange([request], deadline, replies, version)
         return replies[-1]
 
     def _exchange(self, requests: Sequence[Request], deadline: Deadline,
-                  replies: List[Reply]) -> None:
+                  replies: List[Reply], version: int = 1) -> None:
         """Adds the replies to the requests, as many as come."""
         with self._turn(deadline):
             line = self._line
@@ -243,7 +266,7 @@ class Client:
                 line = self._dial_anew(deadline)
             had = len(replies)
             try:
-                self._speak(line, requests, deadline, replies)
+                self._speak(line, requests, deadline, replies, version)
                 return
             except DisconnectedError:
                 is_safe = all(request.is_read for request in requests)
@@ -251,7 +274,7 @@ class Client:
                     raise
             del replies[had:]
             line = self._dial_anew(deadline)
-            self._speak(line, requests, deadline, replies)
+            self._speak(line, requests, deadline, replies, version)
 
     @contextlib.contextmanager
     def _turn(self, deadline: Deadline) -> Iterator[Deadline]:
@@ -267,28 +290,57 @@ class Client:
                 self._drop_if_free()
 
     def _dial_anew(self, deadline: Deadline) -> _Line:
-        """A new connection, with a session of the version of the last."""
+        """A new connection, with a session in its first version."""
         self._check_open()
         if self._dial is None:
             raise DisconnectedError("the session has ended")
         line = _Line(self._dial(deadline), Session())
         self._line = line
         self._check_open()  # it may have been closed in the meantime
-        if self._version != 1:
-            replies: List[Reply] = []
-            request = Request.version(self._version)
-            self._speak(line, [request], deadline, replies)
-            try:
-                done(replies[0], Version, Version)
-            except HopslintelError:
-                self._drop()
-                raise
+        refusal = self._put_into(line, self._version, deadline)
+        if refusal is not None:
+            self._drop()
+            done(refusal, Version, Version)
         return line
 
     def _speak(self, line: _Line, requests: Sequence[Request],
-               deadline: Deadline, replies: List[Reply]) -> None:
-        """One exchange. Whatever fails in it, the next frame can't be found,
-        so the connection is dropped."""
+               deadline: Deadline, replies: List[Reply],
+               version: int) -> None:
+        """One exchange in this version or a later one. If the server refuses
+        the version, nothing is asked."""
+        refusal = self._put_into(line, version, deadline)
+        if refusal is not None:
+            replies.append(refusal)
+            return
+        had = len(replies)
+        try:
+            self._say(line, requests, deadline, replies)
+        finally:
+            for reply in replies[had:]:
+                if isinstance(reply, Version):
+                    self._version = reply.number
+
+    def _put_into(self, line: _Line, version: int,
+                  deadline: Deadline) -> Optional[Reply]:
+        """Puts the session into this version, if it is in an earlier one.
+        The answer is how the server refused it, if it did: a server is asked
+        once a session for a version that it does not have."""
+        session = line.session
+        if session.version >= version:
+            return None
+        refusal: Optional[Reply] = session.refusal_of(version)
+        if refusal is None:
+            replies: List[Reply] = []
+            self._say(line, [Request.version(version)], deadline, replies)
+            refusal = None if session.version == version else replies[0]
+        if refusal is None and version == 2:
+            self._version = 2  # not 3: the next server may be of before it
+        return refusal
+
+    def _say(self, line: _Line, requests: Sequence[Request],
+             deadline: Deadline, replies: List[Reply]) -> None:
+        """Whatever fails in it, the next frame can't be found, so the
+        connection is dropped."""
         connection, session = line
         try:
             self._check_open()
@@ -300,8 +352,6 @@ class Client:
                     session.feed(data)
                     continue
                 replies.append(reply)
-                if isinstance(reply, Version):
-                    self._version = reply.number
         except BaseException:
             self._drop()
             raise

@@ -8,8 +8,8 @@ from typing import Callable, Dict, Tuple
 
 from .errors import ProtocolError
 from .reply import (GIVEN_UP, All, Appended, Found, Held, Moved, OutOfMemory,
-                    Refused, Removed, Reply, Shut, Stored, Unchanged, Version,
-                    Worn)
+                    Refused, Removed, Reply, Same, Shut, Stored, Unchanged,
+                    Version, Worn)
 from .request import Expect, Expected, Request
 
 _NAME = re.compile(rb"[a-z0-9._-]{1,255}")
@@ -22,6 +22,7 @@ _DONE: Dict[int, Tuple[type, ...]] = {
     ord("R"): (Removed,),
     ord("G"): (Found,),
     ord("F"): (All,),
+    ord("U"): (All, Same),
     ord("V"): (Version,),
 }
 
@@ -30,6 +31,7 @@ _FIXED: Dict[int, Tuple[str, Callable[..., Reply]]] = {
     ord("s"): (">", Stored),
     ord("u"): (">", Unchanged),
     ord("d"): (">", Removed),
+    ord("e"): (">", Same),
     ord("v"): (">B", Version),
     22: (">", OutOfMemory),
     40: (">I", Worn),

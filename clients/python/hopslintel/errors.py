@@ -2,9 +2,10 @@
 """What this package raises. All of it can be pickled."""
 from __future__ import annotations
 
-from typing import Type, TypeVar, Union
+from typing import Optional, Type, TypeVar, Union
 
-from .reply import GIVEN_UP, GivenUp, Refused, Reply
+from .reply import (GIVEN_UP, All, Bundles, GivenUp, Known, Refused, Reply,
+                    Same)
 
 _Kind = TypeVar("_Kind")
 _Other = TypeVar("_Other")
@@ -60,3 +61,22 @@ def done(reply: Reply, kind: Type[_Kind],
     if isinstance(reply, GIVEN_UP):
         raise GivenUpError(reply)
     raise ProtocolError(f"not a reply to it: {reply}")
+
+
+def digest_of(known: Known) -> bytes:
+    """The digest that is known."""
+    return known.digest if isinstance(known, Bundles) else known
+
+
+def fetched(reply: Reply, known: Optional[bytes]) -> Optional[Bundles]:
+    """The bundles of a fetch-all, or None if they have the digest that is
+    known. Another reply is raised."""
+    answer = done(reply, All, Same)
+    if isinstance(answer, Same) or answer.digest == known:
+        return None
+    return Bundles(answer.bundles, answer.digest)
+
+
+def is_unknown(reply: Reply) -> bool:
+    """Whether the server does not know such a request, or such a version."""
+    return isinstance(reply, Refused) and reply.number == 51

@@ -2,8 +2,8 @@
 """What a store answers."""
 from __future__ import annotations
 
-from dataclasses import dataclass
-from typing import Dict, Optional, Union
+from dataclasses import dataclass, field
+from typing import Dict, Mapping, Optional, Union
 
 from .request import Expected
 
@@ -42,6 +42,32 @@ class All:
     """All bundles as they stood at one moment, in order of their names."""
 
     bundles: Dict[str, bytes]
+    digest: bytes = field(default=b"", compare=False)
+    """The SHA-256 of the bytes that the reply came in, which are a dump."""
+
+
+@dataclass(frozen=True)
+class Same:
+    """All bundles have the digest that is known."""
+
+
+class Bundles(Dict[str, bytes]):
+    """All bundles as they stood at one moment, in order of their names: a
+    dict of canonical texts, with the digest of what came.
+
+    A caller who changes the dict does not change the digest.
+    """
+
+    digest: bytes
+    """What `bundled digest` writes of the dump, as 32 bytes."""
+
+    def __init__(self, bundles: Mapping[str, bytes], digest: bytes) -> None:
+        super().__init__(bundles)
+        self.digest = digest
+
+
+Known = Union[bytes, Bundles]
+"""A digest that is known: of 32 bytes, or that of what was fetched before."""
 
 
 @dataclass(frozen=True)
@@ -126,7 +152,7 @@ class Shut:
 
 
 GivenUp = Union[OutOfMemory, Worn, Moved, Held, Shut]
-Reply = Union[Stored, Unchanged, Appended, Removed, Found, All, Version,
+Reply = Union[Stored, Unchanged, Appended, Removed, Found, All, Same, Version,
               Refused, GivenUp]
 
 GIVEN_UP = (OutOfMemory, Worn, Moved, Held, Shut)

@@ -7,7 +7,7 @@ import json
 from dataclasses import dataclass
 from typing import Any, Mapping, Union
 
-from .wire import MAX_PAYLOAD, sized
+from .wire import DIGEST_BYTES, MAX_PAYLOAD, sized
 
 
 class Expect(enum.Enum):
@@ -34,7 +34,8 @@ class Request:
     """What is asked, made by one of its class methods.
 
     Names and documents are not judged here: the store does that. A request
-    that has no frame, since it is too long, is a `ValueError`.
+    that has no frame, since it is too long, is a `ValueError`, and so is a
+    digest of another length.
     """
 
     payload: bytes
@@ -77,15 +78,23 @@ class Request:
         return cls(b"F")
 
     @classmethod
+    def fetch_unless(cls, digest: bytes) -> Request:
+        """Fetches all bundles, unless they have this digest. The session has
+        to be in version 3."""
+        if len(digest) != DIGEST_BYTES:
+            raise ValueError(f"a digest of {len(digest)} bytes")
+        return cls(b"U" + digest)
+
+    @classmethod
     def version(cls, number: int) -> Request:
-        """Sets the version of the session, 1 or 2."""
+        """Sets the version of the session, 1 to 3."""
         return cls(b"V" + bytes([number]))
 
     @property
     def is_read(self) -> bool:
         """Whether it is a get or a fetch-all, which may be asked again even
         if nobody knows what became of it."""
-        return self.payload[:1] in (b"G", b"F")
+        return self.payload[:1] in (b"G", b"F", b"U")
 
 
 def _json(document: Document) -> bytes:

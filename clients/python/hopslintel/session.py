@@ -11,13 +11,14 @@ input and output.
 """
 from __future__ import annotations
 
+import hashlib
 import random
 from collections import deque
 from typing import Deque, Dict, Iterable, Iterator, List, Optional
 
 from .decode import check_kind, decode, decode_bundle, decode_count
 from .errors import ProtocolError
-from .reply import All, Reply
+from .reply import All, Refused, Reply, Version
 from .request import Request
 from .wire import MAX_PAYLOAD, frame
 
@@ -75,6 +76,8 @@ class Session:
         self._frames = Frames()
         self._owed: Deque[Request] = deque()
         self._fetched: Optional[_Fetched] = None
+        self._version = 1
+        self._refusals: Dict[int, Refused] = {}
 
     def ask(self, *requests: Request) -> bytes:
         """The bytes that ask these requests."""
@@ -87,6 +90,15 @@ class Session:
     def owed(self) -> int:
         """How many requests have no reply yet."""
         return len(self._owed)
+
+    @property
+    def version(self) -> int:
+        """The version of the session, by the replies that were taken."""
+        return self._version
+
+    def refusal_of(self, version: int) -> Optional[Refused]:
+        """How the server refused to set this version, if it did."""
+        return self._refusals.get(version)
 
     @property
     def wanted(self) -> int:
@@ -107,9 +119,16 @@ class Session:
             reply = self._add(payload)
             if reply is not None:
                 self._fetched = None
-                self._owed.popleft()
+                self._keep_version(self._owed.popleft(), reply)
                 return reply
         return None
+
+    def _keep_version(self, request: Request, reply: Reply) -> None:
+        """Keeps what the reply to a request for a version tells."""
+        if isinstance(reply, Version):
+            self._version = reply.number
+        elif request.payload.startswith(b"V") and isinstance(reply, Refused):
+            self._refusals[request.payload[-1]] = reply
 
     def _add(self, payload: bytes) -> Optional[Reply]:
         """The reply that ends with this payload, if one does."""
@@ -117,7 +136,7 @@ class Session:
             self._fetched.add(payload)
         elif payload.startswith(b"a"):
             check_kind(self._owed[0], All({}))
-            self._fetched = _Fetched(decode_count(payload))
+            self._fetched = _Fetched(payload)
         else:
             reply = decode(payload)
             check_kind(self._owed[0], reply)
@@ -126,14 +145,16 @@ class Session:
 
 
 class _Fetched:
-    """As much of a fetch-all as has come."""
+    """As much of a fetch-all as has come, from its first payload on."""
 
-    def __init__(self, count: int) -> None:
-        self._left = count
+    def __init__(self, payload: bytes) -> None:
+        self._left = decode_count(payload)
         self._last = ""
         self._bundles: Dict[str, bytes] = {}
+        self._digest = hashlib.sha256(frame(payload))
 
     def add(self, payload: bytes) -> None:
+        self._digest.update(frame(payload))
         name, text = decode_bundle(payload)
         if name <= self._last:
             raise ProtocolError(f"{name!r} comes after {self._last!r}")
@@ -142,7 +163,9 @@ class _Fetched:
         self._left -= 1
 
     def reply(self) -> Optional[All]:
-        return None if self._left else All(self._bundles)
+        if self._left:
+            return None
+        return All(self._bundles, self._digest.digest())
 
 
 def batches(requests: Iterable[Request]) -> Iterator[List[Request]]:

@@ -5,6 +5,9 @@ from __future__ import annotations
 MAX_PAYLOAD = 1_049_000
 """The most bytes of a frame, without the four of its length."""
 
+DIGEST_BYTES = 32
+"""The bytes of a digest, which is a SHA-256."""
+
 
 def frame(payload: bytes) -> bytes:
     """The frame of a payload."""

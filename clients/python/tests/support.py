@@ -1,6 +1,7 @@
 # SPDX-License-Identifier: Apache-2.0
 """What the tests share: documents, the program, and servers that fail."""
 import contextlib
+import hashlib
 import os
 import socket
 import subprocess
@@ -33,6 +34,18 @@ def all_of(bundles):
     items = [frame(b"i" + bytes([len(name)]) + name.encode() + text)
              for name, text in sorted(bundles.items())]
     return frame(b"a" + len(items).to_bytes(8, "big")) + b"".join(items)
+
+
+def unless(bundles):
+    """The payload that asks for all unless they are these."""
+    return b"U" + hashlib.sha256(all_of(bundles)).digest()
+
+
+SAME = frame(b"e")
+THREE, ASKS_THREE = frame(b"v\x03"), b"V\x03"
+"""Of a session that is put into version 3."""
+UNKNOWN = frame(b"\x33")
+"""What a server answers to a request that it does not know."""
 
 
 def document(*entries, **members):

@@ -14,9 +14,9 @@ from hopslintel import (Appended, Changes, DisconnectedError, Expect, Found,
                         TimedOutError, Unchanged, Version)
 from hopslintel.aio import Client
 
-from .support import (EMPTY, ENTRY, KEPT, PROGRAM, STAYS, Server, all_of,
-                      document, found, frame, naming, nobody_listens,
-                      numbered, real, served)
+from .support import (ASKS_THREE, EMPTY, ENTRY, KEPT, PROGRAM, SAME, STAYS,
+                      THREE, UNKNOWN, Server, all_of, document, found, frame,
+                      naming, nobody_listens, numbered, real, served, unless)
 
 GET, SET = b"G\x01a", b"S\x01a" + EMPTY
 TWO = frame(b"v\x02")
@@ -64,7 +64,12 @@ class OperationsTest(unittest.IsolatedAsyncioTestCase):
         self.assertEqual(caught.exception.reply, Refused(36, "NotExpected", 8))
         self.assertEqual(await store.set_if("a", 8, numbered(9)), Stored())
         self.assertEqual(await store.remove("b"), Removed())
-        self.assertEqual(await store.fetch_all(), {"a": numbered(9)})
+        bundles = await store.fetch_all()
+        self.assertEqual(bundles, {"a": numbered(9)})
+        for known in [bundles, bundles.digest]:
+            self.assertIsNone(await store.fetch_all(unless=known))
+        again = await store.fetch_all(unless=bytes(32))
+        self.assertEqual((again, again.digest), (bundles, bundles.digest))
         self.assertEqual(await store.version(1), Version(1))
         self.assertEqual(await store.ask(Request.get("b")),
                          Refused(30, "NoDomain"))
@@ -211,6 +216,33 @@ class RedialTest(unittest.IsolatedAsyncioTestCase):
                 self.assertEqual(await store.get("a"), EMPTY)
         self.assertEqual(server.asked[1], [b"V\x02", GET])
 
+    async def test_a_fetch_all_unless(self):
+        """A session is put into version 3 once, also a new one; a server of
+        before is asked for all."""
+        one, known = {"a": EMPTY}, unless({"a": EMPTY})
+        with Server([all_of(one), THREE, SAME, SAME],
+                    [UNKNOWN, all_of(one), all_of(one), all_of({})],
+                    [found(EMPTY), THREE, all_of({})]) as server:
+            async with await Client.connect(server.port) as store:
+                bundles = await store.fetch_all()
+                for _ in range(4):
+                    self.assertIsNone(await store.fetch_all(unless=bundles))
+                self.assertEqual(await store.fetch_all(unless=bundles), {})
+                self.assertEqual(await store.get("a"), EMPTY)
+                self.assertEqual(await store.fetch_all(unless=bundles), {})
+        self.assertEqual(server.asked, [
+            [b"F", ASKS_THREE, known, known],
+            [ASKS_THREE, b"F", b"F", b"F"], [GET, ASKS_THREE, known]])
+
+    async def test_a_version_that_is_not_set(self):
+        """The server is out of memory: nothing is asked, and later it is."""
+        with Server([frame(b"\x16"), THREE, SAME]) as server:
+            async with await Client.connect(server.port) as store:
+                with self.assertRaises(GivenUpError):
+                    await store.fetch_all(unless=bytes(32))
+                self.assertIsNone(await store.fetch_all(unless=bytes(32)))
+        self.assertEqual(server.asked[0][:2], [ASKS_THREE] * 2)
+
     async def test_retries(self):
         """Only of what others were in the way of."""
         with Server([HELD, HELD, found(EMPTY), frame(b"\x16")]) as server:
@@ -252,8 +284,8 @@ class FollowTest(unittest.IsolatedAsyncioTestCase):
     async def test_what_it_yields(self):
         one, told = {"a": EMPTY}, []
         moved = frame(b"\x29\0\0\0\1" + bytes(16))
-        with Server([all_of({}), all_of(one), all_of(one), moved],
-                    [all_of({}), frame(b"s")]) as server:
+        with Server([all_of({}), THREE, SAME, all_of(one), SAME, moved],
+                    [UNKNOWN, all_of({}), frame(b"s")]) as server:
             async with await Client.connect(server.port, retries=0) as store:
                 changes = store.follow(0.001, on_error=told.append)
                 self.assertEqual(await changes.__anext__(),

@@ -1,8 +1,11 @@
 # SPDX-License-Identifier: Apache-2.0
 """What is made for other programs, and what changed."""
 import base64
+import copy
+import hashlib
 import io
 import json
+import pickle
 import ssl
 import subprocess
 import tempfile
@@ -10,13 +13,14 @@ import threading
 import time
 import unittest
 
-from hopslintel import (Changes, Client, DisconnectedError, GivenUpError,
-                        Moved, ProtocolError, bundle_map, changes_between,
-                        dump, jwks, pem, x509_authorities)
+from hopslintel import (Bundles, Changes, Client, DisconnectedError,
+                        GivenUpError, Moved, ProtocolError, bundle_map,
+                        changes_between, dump, jwks, pem, x509_authorities)
 
-from .support import (EMPTY, ENTRY, KEPT, PROGRAM, STAYS, Server, all_of,
-                      answered_by, beside, document, frame, numbered, real,
-                      served)
+from .support import (ASKS_THREE, EMPTY, ENTRY, KEPT, PROGRAM, SAME, STAYS,
+                      THREE, UNKNOWN, Server, all_of, answered_by, beside,
+                      document, frame, numbered, real, served, unless,
+                      wait_until)
 
 REAL = ["many", "p521", "rotation", "rsa-4096", "spire-default",
         "with-unknown", "withdrawn"]
@@ -50,6 +54,33 @@ class FilesTest(unittest.TestCase):
             b'{"trust_domains":{"a":{"keys":[]},'
             b'"b":{"keys":[],"spiffe_sequence":3}}}\n')
         self.assertEqual(bundle_map({}), b'{"trust_domains":{}}\n')
+
+
+class BundlesTest(unittest.TestCase):
+    def test_a_dict_with_a_digest(self):
+        """It is equal to a plain dict, and can be copied and pickled."""
+        with answered_by(all_of({"a": EMPTY, "b": numbered(1)})) as store:
+            bundles = store.fetch_all()
+        self.assertIsInstance(bundles, Bundles)
+        self.assertEqual(bundles, {"a": EMPTY, "b": numbered(1)})
+        self.assertEqual(repr(bundles), repr(dict(bundles)))
+        for again in [pickle.loads(pickle.dumps(bundles)),
+                      copy.copy(bundles), copy.deepcopy(bundles),
+                      Bundles(bundles, bundles.digest)]:
+            self.assertEqual(again, bundles)
+            self.assertEqual(again.digest,
+                             hashlib.sha256(dump(bundles)).digest())
+
+    def test_what_is_no_digest(self):
+        """Nothing is sent."""
+        with Server([b"s"]) as server:
+            with Client.connect(server.port) as store:
+                for known in [b"", bytes(31), bytes(33), {}, {"a": EMPTY}]:
+                    with self.assertRaises((TypeError, ValueError)):
+                        store.fetch_all(unless=known)
+                with self.assertRaises(TypeError):
+                    store.fetch_all(unless="0" * 32)
+        self.assertEqual(sum(server.asked, []), [])
 
 
 class AuthoritiesTest(unittest.TestCase):
@@ -121,21 +152,45 @@ class FollowTest(unittest.TestCase):
     ONE, TWO = {"a": EMPTY}, {"a": numbered(2), "b": EMPTY}
 
     def test_what_it_yields(self):
-        """First what is there, even if it is nothing; then changes only."""
-        both = all_of(self.TWO)
-        with answered_by(all_of({}), all_of({}), all_of(self.ONE),
-                         all_of(self.ONE), both, both, all_of({}), STAYS,
-                         ) as store:
-            changes = store.follow(0.001, timeout=5)
-            self.assertEqual(next(changes), Changes({}, {}, {}, ()))
-            self.assertEqual(next(changes), Changes(
-                self.ONE, self.ONE, {}, ()))
-            self.assertEqual(next(changes), Changes(
-                self.TWO, {"b": EMPTY}, {"a": numbered(2)}, ()))
-            self.assertEqual(next(changes), Changes({}, {}, {}, ("a", "b")))
+        """First what is there, even if it is nothing; then changes only. So
+        it is with a server of before, which knows no digests."""
+        one, both = all_of(self.ONE), all_of(self.TWO)
+        for replies in [
+                [THREE, SAME, one, SAME, both, SAME, SAME, all_of({})],
+                [UNKNOWN, all_of({}), one, one, both, both, both,
+                 all_of({})]]:
+            with answered_by(all_of({}), *replies, STAYS) as store:
+                changes = store.follow(0.001, timeout=5)
+                self.assertEqual(next(changes), Changes({}, {}, {}, ()))
+                self.assertEqual(next(changes), Changes(
+                    self.ONE, self.ONE, {}, ()))
+                self.assertEqual(next(changes), Changes(
+                    self.TWO, {"b": EMPTY}, {"a": numbered(2)}, ()))
+                self.assertEqual(next(changes), Changes(
+                    {}, {}, {}, ("a", "b")))
+
+    def test_what_it_asks(self):
+        """By the digest of what came last, whatever became of it."""
+        with Server([all_of({}), THREE, SAME, all_of(self.TWO), MOVED, SAME,
+                     STAYS]) as server:
+            with Client.connect(server.port, retries=1) as store:
+                changes = store.follow(0.001)
+                next(changes).bundles["x"] = EMPTY
+                next(changes).bundles.clear()
+
+                def close():
+                    wait_until(lambda: len(server.asked[0]) == 7)
+                    store.close()
+
+                with beside(close):
+                    self.assertRaises(StopIteration, next, changes)
+        none, two = unless({}), unless(self.TWO)
+        self.assertEqual(server.asked, [[b"F", ASKS_THREE, none, none, two,
+                                         two, two]])
 
     def test_the_interval(self):
-        with answered_by(*[all_of(self.ONE)] * 3, all_of({}), STAYS) as store:
+        with answered_by(all_of(self.ONE), THREE, SAME, SAME, all_of({}),
+                         STAYS) as store:
             begun = time.monotonic()
             changes = store.follow(0.1)
             next(changes)
@@ -144,7 +199,7 @@ class FollowTest(unittest.TestCase):
             self.assertGreaterEqual(time.monotonic() - begun, 0.3)
 
     def test_faults_are_raised(self):
-        with answered_by(all_of({}), MOVED, retries=0) as store:
+        with answered_by(all_of({}), THREE, MOVED, retries=0) as store:
             changes = store.follow(0.001)
             next(changes)
             self.assertRaises(GivenUpError, next, changes)
@@ -153,8 +208,9 @@ class FollowTest(unittest.TestCase):
     def test_faults_of_the_moment(self):
         """A restart of the server, among others, and then what changed."""
         told = []
-        with Server([all_of(self.ONE), MOVED], [b""], [b""], [frame(b"\x16")],
-                    [all_of(self.TWO), frame(b"s")]) as server:
+        with Server([all_of(self.ONE), THREE, MOVED], [b""], [b""],
+                    [THREE, frame(b"\x16")],
+                    [UNKNOWN, all_of(self.TWO), frame(b"s")]) as server:
             with Client.connect(server.port, retries=0) as store:
                 changes = store.follow(0.001, on_error=told.append)
                 self.assertEqual(next(changes).added, self.ONE)

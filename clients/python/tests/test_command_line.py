@@ -13,8 +13,8 @@ import hopslintel
 from hopslintel import dump
 from hopslintel.command_line import main
 
-from .support import (EMPTY, ENTRY, STAYS, Server, all_of, document, frame,
-                      nobody_listens, numbered, real, served)
+from .support import (EMPTY, ENTRY, SAME, STAYS, THREE, Server, all_of,
+                      document, frame, nobody_listens, numbered, real, served)
 
 FOLDER = os.path.dirname(hopslintel.__file__)
 
@@ -65,7 +65,7 @@ class CommandLineTest(unittest.TestCase):
 
     def test_following(self):
         """A line for each change; it ends as the store breaks off."""
-        with Server([all_of({"b": EMPTY, "a": EMPTY}),
+        with Server([all_of({"b": EMPTY, "a": EMPTY}), THREE, SAME,
                      all_of({"b": numbered(1), "c": EMPTY}),
                      frame(b"s")]) as server:
             status, output = run("--port", str(server.port), "follow",

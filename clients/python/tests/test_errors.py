@@ -131,6 +131,8 @@ class BrokenRepliesTest(unittest.TestCase):
                  frame(b"p\x01" + bytes(7) + b"\x09")),
                 (Request.get("a"), found(EMPTY)),
                 (Request.set("a", EMPTY), frame(b"\x1f" + bytes(8))),
+                (Request.fetch_unless(bytes(32)), frame(b"e")),
+                (Request.fetch_unless(bytes(32)), all_of({"a": EMPTY})),
                 (Request.fetch_all(), all_of({"a": EMPTY, "b": EMPTY}))]:
             for size in range(len(reply)):
                 with answered_by(reply[:size]) as store:

@@ -1,14 +1,16 @@
 # SPDX-License-Identifier: Apache-2.0
 """What each operation answers, over the built program."""
+import hashlib
 import json
+import subprocess
 import unittest
 
 from hopslintel import (MAX_PAYLOAD, All, Appended, Client, Expect, Found,
                         NoDomainError, Refused, RefusedError, Removed,
-                        Request, Stored, Unchanged, Version)
+                        Request, Same, Stored, Unchanged, Version)
 
-from .support import (EMPTY, ENTRY, GREATEST, KEPT, OTHER, document, numbered,
-                      over_a_pipe, real, served)
+from .support import (EMPTY, ENTRY, GREATEST, KEPT, OTHER, PROGRAM, all_of,
+                      document, numbered, over_a_pipe, real, served)
 
 
 class OperationsTest(unittest.TestCase):
@@ -71,6 +73,37 @@ class OperationsTest(unittest.TestCase):
             self.assertEqual(store.fetch_all(), texts)
             self.assertEqual([*store.fetch_all()], names)
 
+    def test_a_fetch_all_unless(self):
+        """By a result of before, or by a digest; `bundled digest` writes the
+        same one."""
+        names = ["many", "rotation", "withdrawn"]
+        texts = {name: real(name) for name in names}
+        with served() as port, Client.connect(port) as store:
+            none = store.fetch_all()
+            self.assertEqual(none.digest, hashlib.sha256(all_of({})).digest())
+            self.assertIsNone(store.fetch_all(unless=none))
+            for name in names:
+                store.set(name, real(name, "json"))
+            some = store.fetch_all(unless=none)
+            self.assertEqual(some, texts)
+            self.assertEqual([*some], names)
+            for known in [some, some.digest, bytearray(some.digest)]:
+                self.assertIsNone(store.fetch_all(unless=known))
+            digest = subprocess.run([PROGRAM, "digest"], input=all_of(texts),
+                                    stdout=subprocess.PIPE, check=True).stdout
+            self.assertEqual(digest, some.digest.hex().encode() + b"\n")
+            for known in [none, bytes(32)]:
+                again = store.fetch_all(unless=known)
+                self.assertEqual((again, again.digest), (some, some.digest))
+            # What a caller does to the dict is nobody else's matter.
+            some.clear()
+            self.assertIsNone(store.fetch_all(unless=some))
+            store.remove("rotation")
+            self.assertEqual([*store.fetch_all(unless=some)],
+                             ["many", "withdrawn"])
+            self.assertEqual(store.set_if("a", Expect.ABSENT, EMPTY),
+                             Stored())
+
     def test_what_a_set_answers(self):
         """The sequence decides, also against that of a removed bundle."""
         with over_a_pipe() as store:
@@ -108,9 +141,18 @@ class RefusalsTest(unittest.TestCase):
             (Request.append("a/b", b"[]"), Refused(3, "BadChar", 1)),
             (Request(b"Z"), bad), (Request(b"G\x02a"), bad),
             (Request(b"R\x01ab"), bad), (Request(b"F\x00"), bad),
-            (Request.version(3), bad), (Request(b"V"), bad),
+            (Request.version(0), bad), (Request.version(4), bad),
+            (Request(b"V"), bad), (Request(b"V\x03\x03"), bad),
             (Request.set_if("a", Expect.ABSENT, EMPTY), bad),
+            (Request.fetch_unless(bytes(32)), bad),
             (Request.version(2), Version(2)),
+            (Request.fetch_unless(bytes(32)), bad),
+            (Request.version(3), Version(3)),
+            (Request(b"U"), bad), (Request(b"U" + bytes(31)), bad),
+            (Request(b"U" + bytes(33)), bad), (Request(b"Ua" * 32), bad),
+            (Request.fetch_unless(bytes(32)), All({})),
+            (Request.fetch_unless(hashlib.sha256(all_of({})).digest()),
+             Same()),
             (Request(b"C\x01a\x03" + EMPTY), bad),
             (Request(b"C\x01a\x01" + EMPTY[:7]), bad),
             (Request(b"Z" * MAX_PAYLOAD), bad),

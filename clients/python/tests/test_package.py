@@ -174,6 +174,9 @@ class ReadmeTest(unittest.TestCase):
         self.assertEqual(said, [
             [f"b'{bundle}'", "{'keys': [], 'spiffe_sequence': 7}",
              f"a.example b'{bundle}'", "b.example has no bundle"],
+            # (from `sha256sum`)
+            ["1 7887d11a94938926a716f3136a94c955"
+             "543381731227b80f337db7686139d55c"],
             ["trust a.example 31"], [], ["['a.example']"],
             ["59", f"b'{{\"trust_domains\":{{\"a.example\":{bundle}}}}}\\n'",
              "0", "b''", "{'keys': []}"],

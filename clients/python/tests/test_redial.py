@@ -5,11 +5,11 @@ import tempfile
 import threading
 import unittest
 
-from hopslintel import (Client, DisconnectedError, Found, Refused, Request,
-                        Stored, TimedOutError, Version)
+from hopslintel import (Client, DisconnectedError, Found, GivenUpError,
+                        Refused, Request, Stored, TimedOutError, Version)
 
-from .support import (EMPTY, STAYS, Server, all_of, found, frame, take,
-                      take_payload)
+from .support import (ASKS_THREE, EMPTY, SAME, STAYS, THREE, UNKNOWN, Server,
+                      all_of, found, frame, take_payload, unless)
 
 GET, FETCH, SET = b"G\x01a", b"F", b"S\x01a" + EMPTY
 
@@ -73,6 +73,69 @@ class RedialTest(unittest.TestCase):
                     store.get("a")
                 self.assertEqual(caught.exception.reply,
                                  Refused(51, "BadRequest"))
+
+    def test_a_fetch_all_unless(self):
+        """It puts each session into version 3 once, also a new one, and
+        comes back to version 2 for nothing."""
+        one, known = {"a": EMPTY}, unless({"a": EMPTY})
+        with Server([all_of(one), THREE, SAME, frame(b"s"), SAME],
+                    [THREE, SAME[:3]],
+                    [THREE, all_of({}), found(EMPTY)]) as server:
+            with Client.connect(server.port) as store:
+                bundles = store.fetch_all()
+                self.assertIsNone(store.fetch_all(unless=bundles))
+                self.assertEqual(store.set_if("a", 7, EMPTY), Stored())
+                self.assertIsNone(store.fetch_all(unless=bundles))
+                with self.assertRaises(DisconnectedError):
+                    store.fetch_all(unless=bundles)
+                self.assertEqual(store.fetch_all(unless=bundles.digest), {})
+                self.assertEqual(store.get("a"), EMPTY)
+        set_if = b"C\x01a\x01" + bytes(7) + b"\x07" + EMPTY
+        self.assertEqual(server.asked, [
+            [FETCH, ASKS_THREE, known, set_if, known],
+            [ASKS_THREE, known], [ASKS_THREE, known, GET]])
+
+    def test_a_server_of_before(self):
+        """It is asked for version 3 once a session, and then for all; the
+        digests are compared here. Any call may find one of the two."""
+        one, known = {"a": EMPTY}, unless({"a": EMPTY})
+        old = [UNKNOWN, all_of(one), all_of(one), all_of({})]
+        with Server([all_of(one), THREE, SAME], old,
+                    [all_of(one), THREE, SAME]) as server:
+            with Client.connect(server.port) as store:
+                bundles = store.fetch_all()
+                for _ in range(3):
+                    self.assertIsNone(store.fetch_all(unless=bundles))
+                self.assertEqual(store.fetch_all(unless=bundles), {})
+                for _ in range(2):
+                    self.assertIsNone(store.fetch_all(unless=bundles))
+        self.assertEqual(server.asked, [
+            [FETCH, ASKS_THREE, known], [ASKS_THREE, FETCH, FETCH, FETCH],
+            [FETCH, ASKS_THREE, known]])
+
+    def test_other_calls_find_a_server_of_before(self):
+        """It need not have version 3, into which a fetch-all had put the
+        session of before; but version 2, if there was a `set_if`."""
+        two = frame(b"v\x02")
+        with Server([THREE, SAME], [found(EMPTY), two, frame(b"s")],
+                    [two, found(EMPTY)]) as server:
+            with Client.connect(server.port) as store:
+                store.fetch_all(unless=bytes(32))
+                self.assertEqual(store.get("a"), EMPTY)
+                store.set_if("a", 7, EMPTY)
+                self.assertEqual(store.get("a"), EMPTY)
+        self.assertEqual([asked[0] for asked in server.asked],
+                         [ASKS_THREE, GET, b"V\x02"])
+
+    def test_a_version_that_is_not_set(self):
+        """The server is out of memory: nothing is asked, and later it is."""
+        with Server([frame(b"\x16"), THREE, SAME]) as server:
+            with Client.connect(server.port) as store:
+                with self.assertRaises(GivenUpError):
+                    store.fetch_all(unless=bytes(32))
+                self.assertIsNone(store.fetch_all(unless=bytes(32)))
+        self.assertEqual(server.asked, [[ASKS_THREE, ASKS_THREE,
+                                         b"U" + bytes(32)]])
 
     def test_after_a_timeout(self):
         """The reply that comes too late is not taken for another one."""

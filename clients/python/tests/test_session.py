@@ -1,13 +1,16 @@
 # SPDX-License-Identifier: Apache-2.0
 """The protocol without input and output."""
+import hashlib
 import unittest
 
 from hopslintel import (MAX_PAYLOAD, All, Appended, Expect, Found, Held,
                         Moved, OutOfMemory, ProtocolError, Refused, Removed,
-                        Request, Shut, Stored, Unchanged, Version, Worn)
+                        Request, Same, Shut, Stored, Unchanged, Version, Worn)
 from hopslintel.session import Frames, Session, batches, pauses
 
-from .support import EMPTY, ENTRY, all_of, found, frame
+from .support import EMPTY, ENTRY, THREE, UNKNOWN, all_of, found, frame
+
+UNLESS = Request.fetch_unless(bytes(range(32)))
 
 # Each reply, its bytes, and a request that it answers.
 REPLIES = [
@@ -21,7 +24,11 @@ REPLIES = [
     ("00000009 61 0000000000000000", All({}), Request.fetch_all()),
     ("00000009 61 0000000000000001 0000000e 69 01 61 7b226b657973223a5b5d7d",
      All({"a": EMPTY}), Request.fetch_all()),
+    ("00000001 65", Same(), UNLESS),
+    ("00000009 61 0000000000000001 0000000e 69 01 61 7b226b657973223a5b5d7d",
+     All({"a": EMPTY}), UNLESS),
     ("00000002 76 02", Version(2), Request.version(2)),
+    ("00000002 76 03", Version(3), Request.version(3)),
     ("00000005 03 00000004", Refused(3, "BadChar", 4), Request.get("abcdE")),
     ("00000009 1f 0000000000000007", Refused(31, "Stale", 7),
      Request.set("a", EMPTY)),
@@ -36,6 +43,8 @@ REPLIES = [
     ("00000015 29 00000001 0000000000000002 0000000000000103",
      Moved(1, 2, 259), Request.fetch_all()),
     ("0000000d 2a 00000001 0000000000000003", Held(1, 3), Request.get("a")),
+    ("0000000d 2a 00000001 0000000000000003", Held(1, 3), UNLESS),
+    ("00000001 33", Refused(51, "BadRequest"), UNLESS),
     ("00000001 38", Shut(), Request.set("a", EMPTY)),
     # Numbers that are not known are refusals, with the bytes that came.
     ("00000001 00", Refused(0, "Unknown"), Request.get("a")),
@@ -60,6 +69,8 @@ class RequestsTest(unittest.TestCase):
                 (Request.get("a"), b"G\x01a"),
                 (Request.get(""), b"G\x00"),
                 (Request.fetch_all(), b"F"),
+                (UNLESS, b"U" + bytes(range(32))),
+                (Request.fetch_unless(bytearray(32)), b"U" + bytes(32)),
                 (Request.version(2), b"V\x02"),
                 (Request.set_if("a", Expect.ABSENT, EMPTY),
                  b"C\x01a\x00" + EMPTY),
@@ -69,7 +80,8 @@ class RequestsTest(unittest.TestCase):
                  b"C\x01a\x02" + EMPTY)]:
             self.assertEqual(request.payload, payload)
             self.assertEqual(Session().ask(request), frame(payload))
-            self.assertEqual(request.is_read, payload[:1] in (b"G", b"F"))
+            self.assertEqual(request.is_read, payload[:1] in [b"G", b"F",
+                                                              b"U"])
 
     def test_what_has_no_frame(self):
         longest = b" " * (MAX_PAYLOAD - 3)
@@ -79,6 +91,9 @@ class RequestsTest(unittest.TestCase):
                 lambda: Request.get("a" * 256),
                 lambda: Request.set_if("a", -1, EMPTY),
                 lambda: Request.set_if("a", 2 ** 64, EMPTY),
+                lambda: Request.fetch_unless(bytes(31)),
+                lambda: Request.fetch_unless(bytes(33)),
+                lambda: Request.fetch_unless(b""),
                 lambda: Request(b"")]:
             self.assertRaises(ValueError, make)
 
@@ -119,7 +134,7 @@ class SessionTest(unittest.TestCase):
                 b"s\x00", b"u\x00", b"d\x00", b"v", b"v\x01\x02", b"p",
                 b"p\x02", b"p\x00\x00", b"p\x01" + bytes(7),
                 b"p\x03" + bytes(8), b"a", b"a" + bytes(7), b"i\x01a" + EMPTY,
-                b"S\x01a" + EMPTY, b"\x40", b"\x03", b"\x1f",
+                b"S\x01a" + EMPTY, b"\x40", b"\x03", b"\x1f", b"e\x00",
                 b"\x1f" + bytes(7), b"\x1f" + bytes(9), b"$", b"$\x01",
                 b"$\x03", b"\x28", b"\x29" + bytes(19), b"\x2a" + bytes(13),
                 b"\xff"]:
@@ -137,6 +152,8 @@ class SessionTest(unittest.TestCase):
                 (Request.get("a"), frame(b"a" + b"\xff" * 8)),
                 (Request.set("a", EMPTY), one), (Request.remove("a"), two),
                 (Request.fetch_all(), one), (Request.version(1), two),
+                (Request.fetch_all(), frame(b"e")), (UNLESS, one),
+                (Request.get("a"), frame(b"e")),
                 (Request.append("a", ENTRY), stored)]:
             session = Session()
             session.ask(request)
@@ -158,6 +175,48 @@ class SessionTest(unittest.TestCase):
         session.ask(Request.fetch_all())
         session.feed(all_of({"b": EMPTY, "b.": EMPTY}))
         self.assertEqual(session.take(), All({"b": EMPTY, "b.": EMPTY}))
+
+    def test_digests(self):
+        """Of the bytes that came; those that are written here are from
+        `sha256sum`."""
+        for bundles, digest in [
+                ({}, "9cf4b161f3571e751912f9a78ae2015c"
+                     "4fb288afe59c798f5452a18d6254c893"),
+                ({"a": EMPTY}, "ce63fbe9ae39fbb5db7e5c7f35c4630b"
+                               "6e662da041ff81ee66ff807889cc20a2")]:
+            for request in [Request.fetch_all(), UNLESS]:
+                session = Session()
+                session.ask(request)
+                for byte in all_of(bundles):
+                    session.feed(bytes([byte]))
+                self.assertEqual(session.take().digest,
+                                 bytes.fromhex(digest))
+        many = {f"n{number:04}": EMPTY * number for number in range(300)}
+        session = Session()
+        for _ in range(2):
+            session.ask(UNLESS)
+            session.feed(all_of(many))
+            reply = session.take()
+            self.assertEqual(reply.bundles, many)
+            self.assertEqual(reply.digest,
+                             hashlib.sha256(all_of(many)).digest())
+
+    def test_versions(self):
+        """As the replies tell them."""
+        session = Session()
+        self.assertEqual(session.version, 1)
+        self.assertIsNone(session.refusal_of(3))
+        for number, data, version in [
+                (3, UNKNOWN, 1), (2, frame(b"v\x02"), 2),
+                (2, frame(b"\x16"), 2), (3, THREE, 3),
+                (1, frame(b"v\x01"), 1)]:
+            session.ask(Request.version(number))
+            session.feed(data)
+            session.take()
+            self.assertEqual(session.version, version)
+            self.assertEqual(session.refusal_of(3),
+                             Refused(51, "BadRequest"))
+            self.assertIsNone(session.refusal_of(2))
 
     def test_lengths(self):
         for size in [0, MAX_PAYLOAD + 1, 2 ** 31, 2 ** 32 - 1]:

@@ -143,6 +143,7 @@ class DeadlinesTest(unittest.TestCase):
                      lambda it, **how: it.remove("a", **how),
                      lambda it, **how: it.get_json("a", **how),
                      lambda it, **how: it.fetch_all(**how),
+                     lambda it, **how: it.fetch_all(unless=bytes(32), **how),
                      lambda it, **how: it.version(2, **how),
                      lambda it, **how: it.ask(Request.get("a"), **how),
                      lambda it, **how: [*it.pipeline([Request.get("a")],
