@@ -4,6 +4,7 @@
 usage: gate/asks.py   (over the program that rt ci or rt run has built in crates/bundled/out/)
 """
 import contextlib
+import hashlib
 import socket
 import subprocess
 import sys
@@ -14,7 +15,7 @@ from checks import EMPTY, SECONDS, FakeServer, Room, Server, dump_of, frame, fra
 from checks import line_of, named, part, run_checks, run_words, start, unused_port  # noqa: E402
 
 SET_A, GET_A = named(b"S", "a", EMPTY), named(b"G", "a")
-GREETING, GREETED = frame(b"V\x02"), frame(b"v\x02")
+GREETING, GREETED = frame(b"V\x03"), frame(b"v\x03")
 MOVED = frame(b"\x29" + bytes(4) + (3).to_bytes(8, "big") + (4).to_bytes(8, "big"))
 BUNDLE_A = named(b"i", "a", EMPTY)
 
@@ -56,7 +57,7 @@ def words_and_lines():
     assert asked(server.port, "set", "a", EMPTY.decode()) == (0, b"stored\n", b"")
     assert asked(server.port, "get", "a") == (0, b"found " + EMPTY + b"\n", b"")
     assert asked(server.port, "get", "b") == (3, b"refused 30\n", b"")
-    # Conditional sets need version 2, which is set first.
+    # Conditional sets need version 2, and version 3 is set first.
     assert asked(server.port, "setif", "b", "absent", EMPTY.decode()) == (0, b"stored\n", b"")
     lines = b"# two requests, and the last has no line feed\n\nget a\nfetch"
     both = b"".join(b"bundle " + name + b" " + EMPTY + b"\n" for name in (b"a", b"b"))
@@ -65,6 +66,18 @@ def words_and_lines():
     assert asked(server.port, lines=b"get a\ngot a\nremove a\n") == (1, b"found " + EMPTY + b"\n", b"fault 70 2\n")
     assert asked(server.port, "--raw", "fetch") == (0, dump_of({"a": EMPTY, "b": EMPTY}), b"")
     assert server.ended() == (0, "served 8\ndomains 2\n", ""), "ended otherwise"
+
+
+def bundles_alone():
+    """With --text a bundle that was got has no verb before it; all other replies are lines."""
+    server = Server("--workers", "1", "--connections", "4")
+    assert asked(server.port, "set", "a", EMPTY.decode()) == (0, b"stored\n", b"")
+    assert asked(server.port, "--text", "get", "a") == (0, EMPTY + b"\n", b"")
+    assert asked(server.port, "--text", "get", "b") == (3, b"refused 30\n", b"")
+    lines = b"set b " + EMPTY + b"\nget b\nfetch\n"
+    both = b"".join(b"bundle " + name + b" " + EMPTY + b"\n" for name in (b"a", b"b"))
+    assert asked(server.port, "--text", lines=lines) == (0, b"stored\n" + EMPTY + b"\nall 2\n" + both, b"")
+    assert server.ended() == (0, "served 4\ndomains 2\n", ""), "ended otherwise"
 
 
 def documents_of_files():
@@ -77,6 +90,39 @@ def documents_of_files():
     assert asked(server.port, "set", "a", '{"keys":[]}\nremove a') == (1, b"", b"fault 70 1\n")
     assert asked(server.port, "get", "a") == (0, b"found " + EMPTY + b"\n", b"")
     assert server.ended() == (0, "served 4\ndomains 1\n", ""), "ended otherwise"
+
+
+def unless_a_dump_is_known():
+    """With --unless the bundles are told only if they are not those of the dump in the file. A file that is no dump is a fault."""
+    server = Server("--workers", "1", "--connections", "3")
+    room = Room()
+    dump, torn = room.write("dump", dump_of({})), room.write("torn", dump_of({"a": EMPTY})[:-1])
+    assert asked(server.port, "--unless", dump, "fetch") == (0, b"same\n", b"")
+    assert asked(server.port, "set", "a", EMPTY.decode()) == (0, b"stored\n", b"")
+    changed = asked(server.port, "--unless", dump, "--raw", "fetch")
+    assert changed == (0, dump_of({"a": EMPTY}), b""), changed
+    for path, told in ((f"{room.path}/none", b"fault 53\n"), (torn, b"fault 63 1\n")):
+        with part(path=path):
+            assert asked(server.port, "--unless", path, "fetch") == (1, b"", told)
+    assert server.ended() == (0, "served 3\ndomains 1\n", ""), "ended otherwise"
+
+
+def unless_a_digest_is_known():
+    """All bundles are told only if they have another digest; it is that of the dump."""
+    server = Server("--workers", "1", "--connections", "9")
+    assert asked(server.port, "set", "a", EMPTY.decode()) == (0, b"stored\n", b"")
+    dump, told = dump_of({"a": EMPTY}), b"all 1\nbundle a " + EMPTY + b"\n"
+    known, other = hashlib.sha256(dump).hexdigest(), hashlib.sha256(dump_of({})).hexdigest()
+    assert asked(server.port, "fetch", "unless", known) == (0, b"same\n", b"")
+    assert asked(server.port, "fetch", "unless", other) == (0, told, b"")
+    lines = f"fetch unless {known}\nremove a\nfetch unless {known}\nfetch unless {other}\nversion 2\nfetch unless {other}\nversion 3\n"
+    replies = b"same\nremoved\nall 0\nsame\nversion 2\nrefused 51\nversion 3\n"
+    assert asked(server.port, lines=lines.encode()) == (3, replies, b"")
+    # What is no digest has no line, and is not sent.
+    for digest in (known[:-1], known + "0", known.upper(), known[:-1] + "g", ""):
+        with part(digest=digest):
+            assert asked(server.port, lines=f"fetch unless {digest}\n".encode()) == (1, b"", b"fault 70 1\n")
+    assert server.ended() == (0, "served 9\ndomains 0\n", ""), "ended otherwise"
 
 
 def each_reply_before_the_next_line():
@@ -135,7 +181,17 @@ def ends_that_fail():
     assert server.ended() == (0, "served 2\ndomains 1\n", ""), "ended otherwise"
 
 
-CHECKS = [words_and_lines, documents_of_files, each_reply_before_the_next_line, asked_again, replies_that_are_none, ends_that_fail]
+CHECKS = [
+    words_and_lines,
+    bundles_alone,
+    documents_of_files,
+    unless_a_dump_is_known,
+    unless_a_digest_is_known,
+    each_reply_before_the_next_line,
+    asked_again,
+    replies_that_are_none,
+    ends_that_fail,
+]
 
 
 if __name__ == "__main__":

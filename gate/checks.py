@@ -276,10 +276,10 @@ def line_of(process, stream=None):
 class Server:
     """The program behind a port that it has chosen, if none is given. If a check fails, what it said on standard error is told."""
 
-    def __init__(self, *options, port=0, stdin=subprocess.DEVNULL, env=None):
+    def __init__(self, *options, port=0, stdin=subprocess.DEVNULL, **how):
         words = [program(), "serve", "--port", str(port), *options]
         self.errors = AFTERWARDS.enter_context(tempfile.TemporaryFile())
-        self.started = subprocess.Popen(words, stdin=stdin, stdout=subprocess.PIPE, stderr=self.errors, env=env)
+        self.started = subprocess.Popen(words, stdin=stdin, stdout=subprocess.PIPE, stderr=self.errors, **how)
         AFTERWARDS.push(self.end)
         self.line = line_of(self.started).decode()
         words = self.line.split()
@@ -330,10 +330,10 @@ class Server:
 class Lasting(Server):
     """A server that takes connections without end, until it is told to stop."""
 
-    def __init__(self, *options):
+    def __init__(self, *options, **how):
         end, self.hold = os.pipe()
         try:
-            super().__init__("--connections", "unlimited", "--until-eof", *options, stdin=end)
+            super().__init__("--connections", "unlimited", "--until-eof", *options, stdin=end, **how)
         finally:
             os.close(end)
 

@@ -54,6 +54,14 @@ order             ..1....
 
 """
 
+# A fetch-all that knows the digest of no bundles, or another, as lines, as requests and as what is answered; over no bundles.
+NONE = hashlib.sha256(dump_of({})).digest()
+UNLESS_LINES = b"version 3\nfetch unless %s\nfetch unless %s\n" % (NONE.hex().encode(), b"0" * 64)
+UNLESS = frame(b"V\x03") + frame(b"U" + NONE) + frame(b"U" + bytes(32))
+UNLESS_REPLIES = frame(b"v\x03") + frame(b"e") + dump_of({})
+FETCH_UNLESS = b"begin 1 fetch unless %s\nstep 1\nstep 1\nend 1\n"
+FETCHED_SAME = b"record 0 caller 1 first 0 last 3 reply same\norder 0\n"
+
 NOTHING = b"-: no authorities: nothing would be kept of 0 entries\n"
 
 # Lines that become the first run, and what its replies are as lines.
@@ -78,12 +86,17 @@ RUNS = [
     ("run --turns 2", FIRST_RUN, FIRST_REPLIES),
     ("run --turns 1000000000", FIRST_RUN, FIRST_REPLIES),
     ("run --turns 2 --shards 1", FIRST_RUN, FIRST_REPLIES),
+    ("run", UNLESS, UNLESS_REPLIES),
+    ("run --shards 256", UNLESS, UNLESS_REPLIES),
     ("encode", FIRST_LINES, FIRST_RUN),
     ("encode", FIRST_LINES[:-1], FIRST_RUN),
     ("encode", f"set a @{BUNDLE}\n".encode(), SET_BUNDLE),
     ("decode", FIRST_REPLIES, TOLD),
     ("decode", FIRST_RUN, b'set a {"keys":[]}\nget a\n'),
     ("decode", DUMP_OF_ONE, b'all 1\nbundle a {"keys":[]}\n'),
+    ("encode", UNLESS_LINES, UNLESS),
+    ("decode", UNLESS, UNLESS_LINES),
+    ("decode", UNLESS_REPLIES, b"version 3\nsame\nall 0\n"),
     ("check", EMPTY, b"-: bundle of 0 authorities (0 X.509, 0 JWT), no sequence, no refresh hint\n" + NOTHING),
     ("map", DUMP_OF_TWO, MAP_OF_TWO + b"\n"),
     ("map a", DUMP_OF_TWO, MAP_OF_ONE + b"\n"),
@@ -95,6 +108,8 @@ RUNS = [
     ("digest", DUMP_OF_TWO, hashlib.sha256(DUMP_OF_TWO).hexdigest().encode() + b"\n"),
     ("migrate", DUMP_OF_ONE, MIGRATED),
     ("trace --shards 1", FETCH_ALL, FETCHED),
+    ("trace --shards 1", FETCH_UNLESS % NONE.hex().encode(), FETCHED_SAME),
+    ("trace --shards 1", FETCH_UNLESS % (b"0" * 64), FETCHED),
     ("trace --shards 2", FETCH_ALL, UNFINISHED),
     ("trace --shards 256", FETCH_ALL, UNFINISHED),
     ("trace", FETCH_ALL, UNFINISHED),
@@ -122,10 +137,17 @@ FAULTS = [
     ("pem a", DUMP_OF_ONE[:-1], b"", b"fault 63 1\n"),
     ("digest", DUMP_OF_ONE + frame(b"s"), b"", b"fault 63 2\n"),
     ("encode", FIRST_LINES + b"get\n", FIRST_RUN, b"fault 70 5\n"),
+    ("encode", UNLESS_LINES + b"fetch unless " + NONE.hex().upper().encode(), UNLESS, b"fault 70 4\n"),
+    ("encode", UNLESS_LINES + b"fetch unless " + b"0" * 63, UNLESS, b"fault 70 4\n"),
+    ("encode", UNLESS_LINES + b"fetch  unless " + b"0" * 64, UNLESS, b"fault 70 4\n"),
+    ("encode", b"version 4\n", b"", b"fault 70 1\n"),
     ("encode", b"get a\nset a @/nowhere\n", frame(b"G\x01a"), b"fault 77 2\n"),
     ("encode", b"get a\nset a @/dev/zero\n", frame(b"G\x01a"), b"fault 70 2\n"),
     ("decode", FIRST_REPLIES + frame(b"X"), TOLD, b"fault 76 2\n"),
     ("decode", frame(b"G\x01a") + frame(b"S\x01a@b"), b"get a\n", b"fault 76 1\n"),
+    ("decode", UNLESS + frame(b"U" + bytes(31)), UNLESS_LINES, b"fault 76 3\n"),
+    ("decode", UNLESS_REPLIES + frame(b"e\0"), b"version 3\nsame\nall 0\n", b"fault 76 3\n"),
+    ("trace", FETCH_UNLESS % (b"0" * 65), b"", b"fault 70 1\n"),
     ("decode", FIRST_REPLIES[:-1], b"stored\n", b"fault 52\n"),
     ("decode", FIRST_REPLIES + b"\0\0\0\0", TOLD, b"fault 50\n"),
 ]
@@ -133,10 +155,11 @@ FAULTS = [
 # What is asked for, and a part of what is shown.
 SHOWN = [
     ("--version", f"bundled {version()}\n"),
-    ("--help", "A frame is a length of 4 bytes"),
+    ("--help", "  2  the command line is refused\n"),
     ("-h", "Usage: bundled <COMMAND>"),
     ("help", "migrate"),
     ("run --help", "Usage: bundled run [OPTIONS]"),
+    ("run --help", "A frame is a length of 4 bytes"),
     ("ask --help", "bundled ask --port 8443 get a.example"),
     ("encode --help", "set D DOC"),
     ("decode --help", "moved S A B"),
@@ -156,9 +179,10 @@ SHOWN = [
     ("refresh --help", "1000 a.example sent due 1300"),
     ("snapshot --help", "shown snapshot-7 domains 2"),
     ("explain 73", "over 250 bytes"),
-    ("serve --help", "worker 0 set a.example none to 7"),
+    ("serve --help", "worker 0 set a.example absent to 7"),
     ("serve --help", "each worker serves many clients beside each other"),
     ("serve --help", "--turns <READS>"),
+    ("serve --help", "--save <FILE>"),
 ]
 
 REFRESH = "refresh --relationships list --documents folder"
@@ -208,6 +232,7 @@ REFUSED = [
     ("ask get a", "--port <PORT>"),
     ("ask --port 0 get a", "0 is not in 1..=65535"),
     ("ask --port 1 --retry 1000001 get a", "1000001 is not in 0..=1000000"),
+    ("ask --port 1 --raw --text get a", "--raw and --text exclude each other"),
     ("snapshot --port 1", "--out <FOLDER>"),
     ("snapshot --out a", "--port <PORT>"),
     ("snapshot --port 1 --out a --every 86401", "86401 is not in 1..=86400"),

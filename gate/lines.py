@@ -15,7 +15,7 @@ from model import SECONDS, SEEDS, Refused, Store, random_payloads  # noqa: E402
 
 MOST_RUNS = 50
 VERBS = {ord("S"): b"set", ord("C"): b"setif", ord("A"): b"append", ord("R"): b"remove", ord("G"): b"get"}
-WORDS = {ord("s"): b"stored", ord("u"): b"unchanged", ord("d"): b"removed", 22: b"memory", 56: b"shut"}
+WORDS = {ord("s"): b"stored", ord("u"): b"unchanged", ord("d"): b"removed", ord("e"): b"same", 22: b"memory", 56: b"shut"}
 # The numbers that stand beside those of refusals: how many bytes each has.
 BESIDE = {3: [4], **dict.fromkeys(range(16, 21), [4]), 31: [8]}
 
@@ -31,14 +31,16 @@ def request_line(payload):
     """The line of a request, or None if it has none."""
     if payload == b"F":
         return b"fetch"
-    if payload in (b"V\1", b"V\2"):
+    if payload in (b"V\1", b"V\2", b"V\3"):
         return b"version %d" % payload[1]
     try:
-        # (a session in version 2 tells which payloads are requests)
-        Store(version=2).read(payload)
+        # (a session in version 3 tells which payloads are requests)
+        Store(version=3).read(payload)
     except Refused as refused:
         if refused.payload == bytes([51]):
             return None
+    if payload[0] == ord("U"):
+        return b"fetch unless " + payload[1:].hex().encode()
     name, rest = payload[2:2 + payload[1]], payload[2 + payload[1]:]
     words = [VERBS[payload[0]], name]
     if payload[0] == ord("C"):
@@ -98,7 +100,7 @@ def requests_as_lines(seed):
 
 def requests_without_lines(seed):
     """What stands before one that has no line is written, and then it is a fault."""
-    lacking = [it for it in random_payloads(seed) if it[:1] in (b"S", b"C", b"A", b"R", b"G", b"F", b"V") and request_line(it) is None]
+    lacking = [it for it in random_payloads(seed) if it[:1] in (b"S", b"C", b"A", b"R", b"G", b"F", b"U", b"V") and request_line(it) is None]
     for payload in lacking[:MOST_RUNS]:
         ended = run_words("decode", given=frame(b"F") + frame(payload))
         assert ended == (1, b"fetch\n", b"fault 76 1\n"), (payload[:300], ended)

@@ -4,7 +4,9 @@
 usage: gate/manual.py          fails unless share/bundled.1 and share/bundled.bash-completion are what the program's help gives
        gate/manual.py write    writes them
 
-(over the program that rt ci or rt run has built in crates/bundled/out/; the statuses are those of docs/FORMATS.md)
+(over the program that rt ci or rt run has built in crates/bundled/out/)
+
+The statuses of the help have to be those of docs/FORMATS.md too.
 """
 import itertools
 import os
@@ -127,7 +129,13 @@ def of_command(command, frames):
     return "\n".join([f'.SS "{escaped(command.usage)}"', f"{prose(command.about)}.", *rows, *([paragraphs(notes)] if notes else [])])
 
 
-def statuses():
+def statuses_of(notes):
+    """The exit statuses by the help of the program, each with when it comes."""
+    rows = re.findall(r"^  (\d)  (.*\n(?:     .*\n)*)", notes, re.M)
+    return [(number, " ".join(said.split())) for number, said in rows]
+
+
+def statuses_of_formats():
     """The exit statuses by docs/FORMATS.md, each with when it comes."""
     table = re.search(r"^\| Status \| When \|\n.*\n((?:\|.*\n)+)", bytes_of(f"{ROOT}/docs/FORMATS.md").decode(), re.M)
     return re.findall(r"^\| (\d) \| (.*) \|$", table[1], re.M)
@@ -135,12 +143,13 @@ def statuses():
 
 def page():
     whole, commands = helps()
+    frames = commands["run"].notes
     return TEMPLATE.format(
         about=escaped(whole.about[0].lower() + whole.about[1:]),
         usages="\n".join(re.sub(r"^bundled \w+", r"\\fB\g<0>\\fR", escaped(it.usage)) for it in commands.values()),
-        description=paragraphs(DESCRIPTION + whole.notes),
-        commands="\n".join(of_command(it, whole.notes) for it in commands.values()),
-        statuses="\n".join(item(*it) for it in statuses()),
+        description=paragraphs(DESCRIPTION + frames),
+        commands="\n".join(of_command(it, frames) for it in commands.values()),
+        statuses="\n".join(item(*it) for it in statuses_of(whole.notes)),
         see_also=paragraphs(SEE_ALSO),
     )
 
@@ -208,6 +217,11 @@ def is_what_help_gives(path):
     assert found == MADE[path](), f"{os.path.relpath(path, ROOT)} differs: run gate/manual.py write"
 
 
+def the_statuses_are_those_of_the_formats():
+    told = statuses_of(helps()[0].notes)
+    assert told and told == statuses_of_formats(), told
+
+
 def the_page_is_what_help_gives():
     is_what_help_gives(PAGE)
 
@@ -234,7 +248,7 @@ def bash_takes_the_completion():
     assert (ran.returncode, ran.stderr) == (0, ""), ran
 
 
-CHECKS = {the_page_is_what_help_gives: [], the_completion_is_what_help_gives: [], man_has_no_warning: ["man"],
+CHECKS = {the_statuses_are_those_of_the_formats: [], the_page_is_what_help_gives: [], the_completion_is_what_help_gives: [], man_has_no_warning: ["man"],
           bash_takes_the_completion: ["bash"]}
 
 

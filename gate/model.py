@@ -8,6 +8,7 @@ The proof says that a session answers as the definition says. Here a second read
 """
 import base64
 import functools
+import hashlib
 import json
 import math
 import random
@@ -23,10 +24,11 @@ SEEDS = [1, 2, 3, 4]
 REQUESTS = 6000
 MOST = 2**64 - 1
 MOST_TEXT, MOST_AUTHORITIES, MOST_NESTING = 1_048_576, 1024, 127
+DIGEST_BYTES = 32
 NAME = set(b"abcdefghijklmnopqrstuvwxyz0123456789.-_")
 COORDINATE = {"P-256": 32, "P-384": 48, "P-521": 66}
 # The answers that the sessions of the gate have to show, so that nothing is left out: all that a session can give but 22.
-WANTED = {*b"supdfav", 1, 3, *range(10, 22), 23, 30, 31, 32, 33, 34, 35, 36, 51}
+WANTED = {*b"supdfaev", 1, 3, *range(10, 22), 23, 30, 31, 32, 33, 34, 35, 36, 51}
 
 
 class Refused(Exception):
@@ -194,9 +196,10 @@ class Store:
     def read(self, payload):
         letter, rest = payload[:1], payload[1:]
         if letter == b"F" and not rest:
-            items = sorted((name, canonical(it)) for name, it in self.bundles.items())
-            return [b"a" + len(items).to_bytes(8, "big"), *(b"i" + bytes([len(name)]) + name + text for name, text in items)]
-        if letter == b"V" and rest in (b"\1", b"\2"):
+            return self.all()
+        if letter == b"U" and self.version == 3 and len(rest) == DIGEST_BYTES:
+            return [b"e"] if rest == self.digest() else self.all()
+        if letter == b"V" and rest in (b"\1", b"\2", b"\3"):
             self.version = rest[0]
             return [b"v" + rest]
         size = 1 + rest[0] if rest else 0
@@ -210,6 +213,15 @@ class Store:
         if not set(name) <= NAME:
             raise Refused(3, next(at for at, byte in enumerate(name) if byte not in NAME))
         return [self.asked(letter, name, expected, rest)]
+
+    def all(self):
+        """The payloads of a reply to a fetch-all."""
+        items = sorted((name, canonical(it)) for name, it in self.bundles.items())
+        return [b"a" + len(items).to_bytes(8, "big"), *(b"i" + bytes([len(name)]) + name + text for name, text in items)]
+
+    def digest(self):
+        """The SHA-256 of all bytes of that reply."""
+        return hashlib.sha256(b"".join(map(frame, self.all()))).digest()
 
     def expectation(self, rest):
         size = {0: 1, 1: 9, 2: 1}.get(rest[0] if rest else -1, 0)
@@ -284,6 +296,9 @@ class Requests:
 
     def __init__(self, seed):
         self.random = random.Random(seed)
+        # What has been asked all of them so far, and the digest that it had when a digest was last made.
+        self.store = Store()
+        self.last_digest = self.store.digest()
 
     def is_rare(self, share=0.02):
         return self.random.random() < share
@@ -351,17 +366,33 @@ class Requests:
             text = self.random.choice([text[:cut], text + b"}", text[:cut] + b"\xff" + text[cut:], b""])
         return text
 
+    def digest(self):
+        """Mostly that of what the store holds; else that of what it held before, one of nothing, or what is no digest."""
+        now, before = self.store.digest(), self.last_digest
+        self.last_digest = now
+        other = [before, before, now[:-1] + bytes([now[-1] ^ 1]), bytes(DIGEST_BYTES), self.random.randbytes(DIGEST_BYTES)]
+        bad = [now[:-1], now + b"\0", now.hex().encode(), b""]
+        return self.random.choice(bad) if self.is_rare(0.1) else self.random.choice(other) if self.is_rare(0.3) else now
+
+    def next(self):
+        """The next request, which the store is asked."""
+        payload = self.payload()
+        self.store.answer(payload)
+        return payload
+
     def payload(self):
         pick = self.random.choice
         name = pick([b"a", b"b", b"a.example", b"x" * 255])
         if self.is_rare():
             name = pick([b"", b"a/b", b"A", b"\xff", b"a" * 254 + b"@"])
         named = bytes([len(name)]) + name
-        letter = pick(b"SSSSAAAARRGGGCCCFV")
+        letter = pick(b"SSSSAAAARRGGGCCCFUUV")
         if letter == ord("V"):
-            payload = b"V" + pick([b"\1", b"\2", b"\2", b"\2", b"\3"])
+            payload = b"V" + pick([b"\1", b"\2", b"\2", b"\3", b"\3", b"\3", b"\4"])
         elif letter == ord("F"):
             payload = b"F"
+        elif letter == ord("U"):
+            payload = b"U" + self.digest()
         elif letter in b"RG":
             payload = bytes([letter]) + named
         elif letter == ord("A"):
@@ -370,7 +401,7 @@ class Requests:
             expected = pick([b"\0", b"\2", told(pick([0, 1, 2, 3, 4, 5, 6, 7]))]) if letter == ord("C") else b""
             payload = bytes([letter]) + named + expected + self.text(self.document())
         if self.is_rare():
-            payload = pick([payload + b"x", payload[: self.random.randrange(1, len(payload) + 1)], pick(b"ZTc\0").to_bytes(1, "big") + payload[1:]])
+            payload = pick([payload + b"x", payload[: self.random.randrange(1, len(payload) + 1)], pick(b"ZTcu\0").to_bytes(1, "big") + payload[1:]])
         return payload
 
 
@@ -392,6 +423,14 @@ def limits():
         yield b"A\1c" + text(wide[-1])
         yield b"G\1c"
     yield b"F"
+
+
+def with_digests(payloads):
+    """The same, and then a fetch-all unless the bundles have the digest that they have, and one unless they have another."""
+    store = Store()
+    for payload in payloads:
+        store.answer(payload)
+    return [*payloads, b"V\3", b"U" + store.digest(), b"U" + bytes(DIGEST_BYTES)]
 
 
 def compared(shards, payloads, codes):
@@ -416,14 +455,14 @@ def all_answers(codes):
 
 def random_payloads(seed):
     requests = Requests(seed)
-    return [requests.payload() for _ in range(REQUESTS)]
+    return [requests.next() for _ in range(REQUESTS)]
 
 
 def checks(words):
     codes, found = set(), {}
     for number, seed in enumerate(list(map(int, words)) or SEEDS):
         found[f"random session {seed}"] = lambda shards=[1, 4, 16][number % 3], seed=seed: compared(shards, random_payloads(seed), codes)
-    found["limits"] = lambda: compared(4, list(limits()), codes)
+    found["limits"] = lambda: compared(4, with_digests(list(limits())), codes)
     return found if words else found | {"all_answers": functools.partial(all_answers, codes)}
 
 

@@ -1,4 +1,6 @@
 """The runs of the program to which memory is refused: what goes in, and what comes out."""
+import hashlib
+
 from checks import BUNDLES, EMPTY, ENTRY, ROOT, bytes_of, canonical, frame, named, program, replies_of
 from refusals import Ended, Run, run_once
 
@@ -86,9 +88,13 @@ def program_runs():
     empty, entry, real, text = EMPTY, ENTRY, bytes_of(f"{BUNDLES}/rotation.json"), canonical("rotation")
     one_key = b'{"keys":[{"e":"AQAB","kid":"k","kty":"RSA","n":"AQAB","use":"jwt-svid"}]}'
     of_one = b"a" + (1).to_bytes(8, "big")
-    set_and_fetch = [(b"S\x01a" + empty, [b"s"]), (b"F", [of_one, b"i\x01a" + empty])]
+    all_of_one = [of_one, b"i\x01a" + empty]
+    set_and_fetch = [(b"S\x01a" + empty, [b"s"]), (b"F", all_of_one)]
     yield session("a set and a fetch-all", [], set_and_fetch, tells_each=True)
     yield session("a set and a fetch-all, 256 shards", ["--shards", "256"], set_and_fetch, tells_each=True)
+    digest = hashlib.sha256(b"".join(map(frame, all_of_one))).digest()
+    rows = [set_and_fetch[0], (b"V\x03", [b"v\x03"]), (b"U" + digest, [b"e"]), (b"U" + bytes(32), all_of_one)]
+    yield session("a set and two fetch-alls unless a digest is known", [], rows)
     yield session("a real bundle", [], [(b"S\x01a" + real, [b"s"]), (b"G\x01a", [b"f" + text])])
     rows = [(b"S\x01b" + empty, [b"s"]), (b"A\x01b" + entry, [b"p\x00"]), (b"V\x02", [b"v\x02"])]
     rows += [(b"C\x01a\x00" + real, [b"s"]), (b"G\x01b", [b"f" + one_key]), (b"R\x01a", [b"d"])]

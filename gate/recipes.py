@@ -82,14 +82,16 @@ def is_read():
     """In a shell, by the client, and in Python, over a port and over a pipe."""
     room = a_store()
     lines = [f"bundle {name} {text.decode()}" for name, text in BOTH.items()]
-    assert room.run(BLOCKS["Read it in a shell"][0]).splitlines() == [f"found {A.decode()}", "all 2", *lines]
+    assert room.run(BLOCKS["Read it in a shell"][0]).splitlines() == [f"found {A.decode()}", A.decode(), "all 2", *lines]
     assert room.read("dump") == dump_of(BOTH)
     text, whole = room.run(BLOCKS["Read it in a shell"][1]).splitlines()
     assert (text.encode(), json.loads(whole)) == (A, {"trust_domains": {it: json.loads(BOTH[it]) for it in BOTH}})
     keys, *rest = room.python(BLOCKS["Read it in Python"][0]).splitlines()
     assert keys == repr(json.loads(A)["keys"])
     assert rest[:2] == [f"{it} {len(BOTH[it])}" for it in BOTH] and len(rest) == 4, rest
-    assert room.python(BLOCKS["Read it in Python"][1]).startswith("Stored")
+    said = f"as before\n{hashlib.sha256(dump_of(BOTH)).hexdigest()}\n"
+    assert room.python(BLOCKS["Read it in Python"][1]) == said
+    assert room.python(BLOCKS["Read it in Python"][2]).startswith("Stored")
 
 
 def is_read_in_go():
@@ -133,8 +135,9 @@ def hands_on_files():
 
 
 def is_looked_at():
-    """A dump and requests as lines, what changed, and the digest."""
+    """Whether it answers, a dump and requests as lines, what changed, and the digest."""
     room = a_store()
+    assert room.run(BLOCKS["Whether it answers"][0]) == "version 2\n"
     room.run("store dump > dump.yesterday && store dump > dump")
     dumps, typed, piped = BLOCKS["Look at it in lines"][0].splitlines()
     assert room.run(dumps).splitlines()[0] == "all 2"

@@ -5,8 +5,12 @@ usage: gate/serves.py   (over the program that rt ci or rt run has built in crat
 
 What is expected of the bundles in gate/bundles is not made by the program: each NAME.canonical was made by another one.
 """
+import calendar
 import contextlib
+import hashlib
 import os
+import re
+import resource
 import select
 import signal
 import socket
@@ -18,8 +22,8 @@ import time
 
 sys.dont_write_bytecode = True
 
-from checks import BUNDLES, DUE, EMPTY, ENTRY, SECONDS, Beside, Lasting, Room, Server, bytes_of, canonical, dump_of_real  # noqa: E402
-from checks import frame, frame_of, named, numbered, received, rest_of, run_checks, run_words, wait_until  # noqa: E402
+from checks import BUNDLES, DUE, EMPTY, ENTRY, SECONDS, Beside, Lasting, Room, Server, bytes_of, canonical, dump_of, dump_of_real  # noqa: E402
+from checks import frame, frame_of, named, numbered, part, received, rest_of, run_checks, run_words, wait_until  # noqa: E402
 from refusals import build_shim  # noqa: E402
 
 SET_A, GET_A = named(b"S", "a", EMPTY), named(b"G", "a")
@@ -187,9 +191,9 @@ def silent_clients():
                 assert rest_of(silent) == b""
         patient.sendall(GET_A)
         assert received(patient, len(FOUND)) == FOUND
-    told = ["set a none to unnumbered", *2 * ["session fault 53"], "session ended after 4 replies"]
-    wanted = "".join(f"worker 0 {line}\n" for line in told)
-    wait_until(lambda: server.said() == wanted, "each end is told")
+    told = ["set a absent to unnumbered", *2 * ["session fault 53"], "session ended after 4 replies"]
+    wanted = "settings workers 1 shards 4 max-open 1000\n" + "".join(f"worker 0 {line}\n" for line in told)
+    wait_until(lambda: untimed(server.said()) == wanted, "each end is told")
 
 
 def client_that_never_reads():
@@ -244,12 +248,54 @@ def stops_at_the_end_of_input():
     assert server.ended() == (0, "served 12\ndomains 1\n", ""), "ended otherwise"
 
 
+def keeps_the_last_map():
+    """With --save the dump of the last map is in the file at the end, in both forms, and --load reads it. What stood in the
+    file is replaced."""
+    room = Room()
+    saved = room.write("saved", b"what stood there before")
+    server = Lasting("--workers", "2", "--save", saved)
+    server.ask(named(b"S", "b", numbered(7)) + SET_A + named(b"S", "c", EMPTY) + named(b"R", "c"))
+    assert bytes_of(saved) == b"what stood there before"
+    assert server.ended() == (0, "served 1\ndomains 2\n", ""), "ended otherwise"
+    assert bytes_of(saved) == dump_of({"a": EMPTY, "b": numbered(7)})
+    assert os.listdir(room.path) == ["saved"], "something is left beside it"
+    again = Server("--workers", "1", "--load", saved, "--save", saved)
+    assert again.ask(named(b"R", "b") + frame(b"F")) == frame(b"d") + dump_of({"a": EMPTY})
+    assert again.ended() == (0, "served 1\ndomains 1\n", ""), "ended otherwise"
+    digest = run_words("digest", given=bytes_of(saved))
+    assert digest == run_words("digest", given=dump_of({"a": EMPTY})) and digest[0] == 0, digest
+
+
+def cannot_keep_the_last_map():
+    """A file that cannot be written is told, the last line comes all the same, and what was in the file stays."""
+    room = Room()
+    saved = room.write("saved", b"what stood there before")
+    os.mkdir(f"{saved}.new")
+    for path in (saved, f"{room.path}/none/saved"):
+        with part(path=path):
+            server = Lasting("--workers", "1", "--save", path)
+            assert server.ask(SET_A) == STORED
+            assert server.ended() == (1, "served 1\ndomains 1\n", "fault 59\n"), "ended otherwise"
+    assert bytes_of(saved) == b"what stood there before"
+
+
+def untimed(told):
+    """What is told, without the time before each line of a log."""
+    return re.sub(r"^\d{4}-\d\d-\d\dT\d\d:\d\d:\d\dZ (?=worker |settings |max-open )", "", told, flags=re.M)
+
+
 def told_changes():
-    """With --log each change and each end of a connection is a line on standard error, and nothing else is."""
+    """With --log each change is a line on standard error, and so is each one that was refused because another was faster, and
+    each end of a connection; nothing else is. The time stands before each."""
+    begun = int(time.time())
     server = Server("--workers", "1", "--connections", "2", "--log")
     turns = [
         (b"S\x01a" + numbered(7), b"s"),
         (b"S\x01a" + numbered(7), b"u"),
+        (b"S\x01a" + numbered(6), b"\x1f" + (7).to_bytes(8, "big")),
+        (b"V\x02", b"v\x02"),
+        (b"C\x01a\1" + (6).to_bytes(8, "big") + numbered(8), b"\x24\1" + (7).to_bytes(8, "big")),
+        (b"C\x01b\1" + (6).to_bytes(8, "big") + numbered(8), b"\x24\0"),
         (b"G\x01a", b"f" + numbered(7)),
         (b"A\x01a" + ENTRY, b"p\1" + (8).to_bytes(8, "big")),
         (b"S\x01b" + EMPTY, b"s"),
@@ -258,10 +304,24 @@ def told_changes():
     ]
     assert server.ask(b"".join(frame(request) for request, _ in turns)) == b"".join(frame(reply) for _, reply in turns)
     assert server.ask(GET_A[:-1]) == b""
-    told = ["set a none to 7", "appended a 7 to 8", "set b none to unnumbered", "removed b unnumbered to none",
-            "session ended after 7 replies", "session fault 52"]
-    log = "".join(f"worker 0 {line}\n" for line in told)
-    assert server.ended() == (0, "served 2\ndomains 1\n", f"{log}fault 52\n"), "ended otherwise"
+    told = ["set a absent to 7", "refused a 31 7", "refused a 36 7", "refused b 36 absent", "appended a 7 to 8", "set b absent to unnumbered", "removed b unnumbered to absent",
+            "session ended after 11 replies", "session fault 52"]
+    log = "settings workers 1 shards 4 connections 2\n" + "".join(f"worker 0 {line}\n" for line in told)
+    status, out, err = server.ended()
+    assert (status, out, untimed(err)) == (0, "served 2\ndomains 1\n", f"{log}fault 52\n"), "ended otherwise"
+    times = [calendar.timegm(time.strptime(line.split()[0], "%Y-%m-%dT%H:%M:%SZ")) for line in err.splitlines()[:-1]]
+    assert [begun, *times, int(time.time())] == sorted([begun, *times, int(time.time())]), times
+
+
+def more_clients_than_descriptors():
+    """That more clients may be connected than the server may have descriptors is told at once, with or without a log."""
+    few = lambda: resource.setrlimit(resource.RLIMIT_NOFILE, (64, 64))
+    for options, most in (((), 1000), (("--max-open", "65"), 65), (("--max-open", "64", "--log"), None)):
+        with part(options=options):
+            server = Lasting("--workers", "1", *options, preexec_fn=few)
+            assert server.ask(GET_A) == NO_DOMAIN
+            told = f"max-open {most} is over the limit of 64 descriptors\n" if most else ""
+            assert [it for it in untimed(server.ended()[2]).splitlines(True) if it.startswith("max-open")] == [told] * bool(most)
 
 
 def set_of(number):
@@ -318,9 +378,12 @@ def read_only_port():
     none = frame(b"a" + bytes(8))
     assert server.ask(tried, server.read_port) == 3 * shut + NO_DOMAIN + none
     assert server.ask(frame(b"V\2") + frame(b"C\x01a\0" + EMPTY), server.read_port) == frame(b"v\2") + shut
+    unless = frame(b"V\3") + frame(b"U" + hashlib.sha256(none).digest())
+    assert server.ask(unless, server.read_port) == frame(b"v\3") + frame(b"e")
     assert server.ask(SET_A) == STORED
     assert server.ask(named(b"R", "a") + GET_A, server.read_port) == shut + FOUND
-    assert server.ended() == (0, "served 4\ndomains 1\n", ""), "ended otherwise"
+    assert server.ask(unless, server.read_port) == frame(b"v\3") + dump_of({"a": EMPTY})
+    assert server.ended() == (0, "served 6\ndomains 1\n", ""), "ended otherwise"
 
 
 def one_client_that_asks_steadily():
@@ -450,7 +513,7 @@ def set_until_it_ends(server, number, stored, is_over):
 
 CHECKS = [two_workers, one_after_the_other, workers_without_threads, reads_that_are_counted, side_by_side, real_bundles,
           filled_stores, clients_that_fail, many_workers, ports_and_outputs, silent_clients, client_that_never_reads,
-          replies_before_a_bad_length, stops_at_the_end_of_input, told_changes, a_thousand_connections, connections_in_wait,
+          replies_before_a_bad_length, stops_at_the_end_of_input, keeps_the_last_map, cannot_keep_the_last_map, told_changes, more_clients_than_descriptors, a_thousand_connections, connections_in_wait,
           read_only_port, one_client_that_asks_steadily, flood_beside_others, stops_while_clients_write]
 
 

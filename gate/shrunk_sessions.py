@@ -25,6 +25,8 @@ import model  # noqa: E402
 # The same sessions at each run, and nothing of them is kept.
 SETTINGS = settings(max_examples=300, derandomize=True, database=None, deadline=None)
 MOST_REQUESTS, SHARDS = 20, 4
+# That of no bundles, and one of none.
+DIGESTS = [model.Store().digest(), bytes(model.DIGEST_BYTES)]
 
 # JSON as it is written: names twice in an object, halves of surrogates, and numbers at the limits and in all forms.
 LETTERS = ["a", "é", '"', "\\", "\n", "\x01", "\x7f", "\u2028", "\U0001f511", "\ud83d", "\udd11"]
@@ -93,7 +95,8 @@ def payloads():
     request = lambda letter, *rest: st.tuples(st.just(letter), named, *rest).map(b"".join)
     sets = request(b"S", documents().map(text))
     others = st.one_of(request(b"R"), request(b"G"), request(b"A", entries().map(text)), request(b"C", expected, documents().map(text)))
-    return mostly(st.sampled_from([sets, sets, others]).flatmap(lambda it: it), st.sampled_from([b"F", b"V\2", b"V\1", b"V\3", b"Fx", b"Z", b"S"]))
+    whole = st.sampled_from([b"F", b"V\2", b"V\3", b"V\1", *(b"U" + it for it in DIGESTS), b"V\4", b"Fx", b"U", b"Z", b"S"])
+    return mostly(st.sampled_from([sets, sets, others]).flatmap(lambda it: it), whole)
 
 
 # Faults of a model, by what is put in the place of what.

@@ -10,21 +10,24 @@ other; and the model of gate/model.py, asked one operation after another in that
 """
 import collections
 import functools
+import hashlib
 import random
 import sys
 
 sys.dont_write_bytecode = True
 
-from checks import run_checks, run_words  # noqa: E402
+from checks import EMPTY, dump_of, run_checks, run_words  # noqa: E402
 from lines import reply_line  # noqa: E402
 from model import Store  # noqa: E402
 
 SEEDS = range(1, 301)
 NAMES = [b"a", b"b", b"c", b"d"]
 KEY = b'{"use":"jwt-svid","kty":"RSA","kid":"%s","n":"AQAB","e":"AQAB"}'
+# Those of maps that many a run has had: of no bundle, or of one or two empty ones.
+DIGESTS = [hashlib.sha256(dump_of(dict.fromkeys(it, EMPTY))).digest() for it in ("", "", "a", "b", "c", "d", "ab", "cd")]
 FAILED = (b"moved", b"held", b"worn", b"memory")
 # What the runs of the gate have to show: operations that were answered so, that failed so, or that are not finished.
-WANTED = {b"stored", b"unchanged", b"removed", b"appended", b"found", b"all", b"refused", b"moved", b"held", b"memory", b"-"}
+WANTED = {b"stored", b"unchanged", b"removed", b"appended", b"found", b"all", b"same", b"refused", b"moved", b"held", b"memory", b"-"}
 
 Record = collections.namedtuple("Record", "payload caller first last reply")
 
@@ -37,9 +40,13 @@ def document(pick):
 def operation(pick):
     """The words of an operation, and its payload."""
     name = pick(NAMES)
-    named, kind = bytes([len(name)]) + name, pick(["set", "set", "set", "setif", "append", "remove", "get", "fetch", "fetch"])
+    named = bytes([len(name)]) + name
+    kind = pick(["set", "set", "set", "setif", "append", "remove", "get", "fetch", "fetch", "unless"])
     if kind == "fetch":
         return b"fetch", b"F"
+    if kind == "unless":
+        digest = pick(DIGESTS)
+        return b"fetch unless " + digest.hex().encode(), b"U" + digest
     if kind in ("remove", "get"):
         return b"%s %s" % (kind.encode(), name), kind[:1].upper().encode() + named
     if kind == "append":
@@ -118,7 +125,7 @@ def linearized(given, records, order):
     took_effect = {number for number, it in enumerate(records) if it.reply != b"-" and not it.reply.startswith(FAILED)}
     unfinished = {number for number, it in enumerate(records) if it.reply == b"-"}
     assert len(set(order)) == len(order) and took_effect <= set(order) <= took_effect | unfinished, "operations in the order"
-    store, moment = Store(version=2), -1
+    store, moment = Store(version=3), -1
     for number in order:
         record = records[number]
         moment = max(moment + 1, record.first)
