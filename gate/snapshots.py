@@ -225,19 +225,29 @@ def answers_that_are_none():
 
 
 def in_turn(replies):
-    """Each connection is answered by the next of the replies, and by the last one again."""
+    """Each connection is answered by the next of these, a reply for each request, and by the last one again."""
     left = list(replies)
 
     def serve(stream):
-        answers_with(left.pop(0) if len(left) > 1 else left[0])(stream)
+        answers_with(*(left.pop(0) if len(left) > 1 else left[0]))(stream)
 
     return serve
 
 
 def turns_that_fail():
-    """With --every a refusal of the moment and a reply that is torn off are told and tried again; a malformed one ends it."""
-    one, two = dump_of({"a": EMPTY}), dump_of({"a": EMPTY, "b": EMPTY})
-    replies = [frame(b"\x16"), one, one[:-1], b"", one, two, frame(b"s")]
+    """With --every a refusal of the moment and a reply that is torn off are told and tried again; a malformed one ends it. What was
+    fetched is asked for by its digest, in version 3, and does not come again while it is the same."""
+    one, two, version = dump_of({"a": EMPTY}), dump_of({"a": EMPTY, "b": EMPTY}), frame(b"v\x03")
+    replies = [
+        (frame(b"\x16"),),
+        (one,),
+        (version, frame(b"e")),
+        (version, one[:-1]),
+        (b"",),
+        (one,),
+        (version, two),
+        (version, frame(b"s")),
+    ]
     room = Place()
     ended = take(FakeServer(in_turn(replies)).port, room.folder, "--every", "1")
     out = "shown snapshot-1 domains 1\nshown snapshot-2 domains 2\n"
