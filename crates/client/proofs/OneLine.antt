@@ -8,7 +8,7 @@ use Rattle.wire.specs.Frame.{IsPayload, frame}
 use Rattle.wire.specs.declared.error.FrontError.TheVariants as front
 use Rattle.client.specs.declared.client_error.ClientError.{ClientError}
 use Rattle.client.specs.declared.client_error.ClientError.TheVariants as client
-use Rattle.wire.specs.ReplyForm.{Reply, Stored, Unchanged, Removed, Appended, Found, All, Bundle, Speaks, Refused, Moved, Held, Worn, Memory, Same, Shut, payload_of}
+use Rattle.wire.specs.ReplyForm.{Reply, Stored, Unchanged, Removed, Appended, Found, All, Bundle, Speaks, Refused, Moved, Held, Worn, Memory, Same, Counts, Shut, payload_of}
 use Rattle.client.specs.Asking.{AreBegun, IsUnanswered, BreaksOff, HidesLast, IsNoReply}
 use Rattle.client.specs.Replies.{IsTold, is_bundle, is_refusal, reply_frames, shown}
 use Rattle.client.specs.Private.Steps.{TriesSoFar, FailsAsking, AsksUntilTold, Shows, NotShown, ShowsOthers, BreaksOthers, AsksOne, BreaksOne}
@@ -88,6 +88,7 @@ no_refusal (Appended sequence) is = absurd (cc is)
 no_refusal (Found text) is = absurd (cc is)
 no_refusal (All count) is = absurd (cc is)
 no_refusal Same is = absurd (cc is)
+no_refusal (Counts text) is = absurd (cc is)
 no_refusal (Speaks version) is = absurd (cc is)
 no_refusal (Refused number detail) is = absurd (cc is)
 no_refusal (Moved shard first second) is = absurd (cc is)

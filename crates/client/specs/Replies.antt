@@ -2,7 +2,7 @@
 use Rattle.std.specs.Prelude.{◌≡◌, ℕ, Bool, true, false, List, [], ◌∷◌, ◌++◌, if◌then◌else◌}
 use Rattle.std.specs.List.{flat_map}
 use Rattle.wire.specs.Frame.{frame}
-use Rattle.wire.specs.ReplyForm.{Reply, All, Bundle, Found, Refused, Moved, Held, Worn, Memory, Shut, HasPayload, IsLined, line_of, payload_of, text_of}
+use Rattle.wire.specs.ReplyForm.{Reply, All, Bundle, Found, Counts, Refused, Moved, Held, Worn, Memory, Shut, HasPayload, IsLined, line_of, payload_of, text_of}
 use Rattle.client.specs.declared.asking.Form.{Form}
 use Rattle.client.specs.declared.asking.Form.TheVariants.{Lines, Texts, Frames}
 
@@ -32,19 +32,20 @@ abbrev pub is_bundle : Reply → Bool
 is_bundle (Bundle name text) = true
 is_bundle reply = false
 
--- it holds the bundle that was asked for, and no other
-abbrev pub has_bundle : Reply → Bool
-has_bundle (Found text) = true
-has_bundle reply = false
+-- it is all text: the bundle that was asked for, or counts
+abbrev pub is_text : Reply → Bool
+is_text (Found text) = true
+is_text (Counts text) = true
+is_text reply = false
 
 -- replies as a session writes them
 abbrev pub reply_frames : List Reply → List ℕ
 reply_frames replies = flat_map (λ reply. frame (payload_of reply)) replies
 
--- a reply is shown as its line, as its frame, or as the text of the bundle that was asked for
+-- a reply is shown as its line, as its frame, or, if it is all text, as that
 abbrev pub shown : Form → Reply → List ℕ
 shown Lines reply = line_of reply ++ 10 ∷ []
-shown Texts reply = (if has_bundle reply then text_of reply else line_of reply) ++ 10 ∷ []
+shown Texts reply = (if is_text reply then text_of reply else line_of reply) ++ 10 ∷ []
 shown Frames reply = frame (payload_of reply)
 
 abbrev pub CanBeShown : Form → Reply → Type 0

@@ -5,7 +5,7 @@
 pub enum Form {
     /// A line for each reply.
     Lines,
-    /// A line for each reply, but of the reply to a get only its bundle.
+    /// A line for each reply, but of a reply that is all text only that: of the bundle that a get found, and of counts.
     Texts,
     /// The frames as they came, so that those of a fetch are a dump.
     Frames,

@@ -2,7 +2,7 @@
 ghost use Rattle.std.specs.Prelude.{◌≡◌, ◌≢◌, ◌∷◌, [], ◌⊎◌, ◌≤◌, true, false};
 ghost use Rattle.wire.specs.ReplyForm.{reply as said};
 ghost use Rattle.wire.specs.Fields.{version_number};
-ghost use Rattle.client.specs.Replies.{bundles_after as bundles_of, has_bundle as one_bundle, is_bundle as bundle, is_transient as again, is_refusal as refusal};
+ghost use Rattle.client.specs.Replies.{bundles_after as bundles_of, is_bundle as bundle, is_text as text_alone, is_transient as again, is_refusal as refusal};
 
 use wire::{ReplyForm, Version};
 
@@ -55,11 +55,11 @@ pub(crate) fn is_bundle(reply: &ReplyForm<'_>) -> bool
     matches!(reply, ReplyForm::Bundle(_, _))
 }
 
-/// Whether the reply holds the bundle that was asked for.
-pub(crate) fn has_bundle(reply: &ReplyForm<'_>) -> bool
-    ensures { result ≡ one_bundle (said reply.now) }
+/// Whether the reply is all text: the bundle that was asked for, or counts.
+pub(crate) fn is_text(reply: &ReplyForm<'_>) -> bool
+    ensures { result ≡ text_alone (said reply.now) }
 {
-    matches!(reply, ReplyForm::Found(_))
+    matches!(reply, ReplyForm::Found(_) | ReplyForm::Counts(_))
 }
 
 /// Whether the payload is that of the reply that the version is set.

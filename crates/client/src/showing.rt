@@ -13,7 +13,7 @@ ghost use Rattle.client.specs.declared.fault.AskFault.TheVariants.{Front};
 
 use crate::asking::Form;
 use crate::fault::AskFault;
-use crate::reply::{bundles_after, has_bundle, is_bundle, is_refusal};
+use crate::reply::{bundles_after, is_bundle, is_refusal, is_text};
 use crate::reply_room::ReplyRoom;
 use crate::{ClientError, ServerStreams};
 use std::io::{Read, Write};
@@ -77,7 +77,7 @@ fn write_reply<O: Write>(
     }
 }
 
-/// Writes the bundle that was asked for, or the line of another reply.
+/// Writes the bundle that was asked for or the counts, or the line of another reply.
 fn write_text<O: Write>(reply: &ReplyForm<'_>, out: &mut Counted<O>) -> Result<(), AskFault>
     ensures ok { OnOk result (IsLined (said reply.now) × Appends (O.contents (end_in out.old)) (O.contents (end_in out.new)) (shown Texts (said reply.now))) }
     ensures quiet { OnOk result (faults_in out.new ≡ faults_in out.old) }
@@ -87,7 +87,7 @@ fn write_text<O: Write>(reply: &ReplyForm<'_>, out: &mut Counted<O>) -> Result<(
     let Some(head) = reply.line_head() else {
         return Err(AskFault::Server(ClientError::BadReply));
     };
-    if has_bundle(reply) {
+    if is_text(reply) {
         write_parts(b"", reply.text(), b"\n", out)
     } else {
         write_parts(head.as_slice(), reply.text(), b"\n", out)

@@ -159,6 +159,6 @@ module _ {S : Type 0} (answers : S → Op → Result Reply AskError → S → Ty
             each = table.serves.each;
             told = table.told;
             counted = table.counted;
-            plain = λ none. all.2 (all_answer table.payloads table.texts (One, start) (now.0.version, now.1) table.serves.answered none);
+            plain = λ no none. all.2 (all_answer table.payloads table.texts (One, start) (now.0.version, now.1) table.serves.answered none) no;
           },
         )

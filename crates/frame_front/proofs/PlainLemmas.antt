@@ -16,13 +16,13 @@ use Rattle.wire.specs.declared.error.FrontError.{FrontError}
 use Rattle.wire.specs.declared.error.FrontError.TheVariants.{BadLength, Truncated, ReadFault, WriteFault, TurnsUsed, Memory}
 use Rattle.wire.specs.declared.version.Version.TheVariants.{One}
 use Rattle.wire.specs.declared.judge.Judged.{Judged}
-use Rattle.wire.specs.declared.judge.Judged.TheVariants.{Ask, SetVersion}
+use Rattle.wire.specs.declared.judge.Judged.TheVariants.{Ask, SetVersion, TellCounts}
 use Rattle.wire.specs.declared.refusal.Refusal.{Refusal}
 use Rattle.wire.specs.Judge.{request_of}
 use Rattle.wire.specs.Answers.{is_error_reply}
 use Rattle.frame_front.specs.Session.{SessionState, AnswersRequest, Answers, AnswersAll}
 use Rattle.frame_front.specs.Transcript.{Transcript}
-use Rattle.frame_front.specs.PlainSession.{text_for, state_for, answers_to, state_after, TellsError, PlainTranscript, texts_within, WritesTexts}
+use Rattle.frame_front.specs.PlainSession.{AskNoCounts, text_for, state_for, answers_to, state_after, TellsError, PlainTranscript, texts_within, WritesTexts}
 use Rattle.frame_front.proofs.SessionLemmas.{stream_of-append, concat-one}
 use Rattle.frame_front.proofs.BegunTexts.{NoErrors, no_errors-append, each_before, begun_before, begun_reaches}
 use Rattle.frame_front.proofs.ReplyLemmas.{not_both, want_is_error, version_answers, plain_goes_out, errors_keep, one_answers}
@@ -37,16 +37,18 @@ module _ {S : Type 0} (answers : S → Op → Result Reply AskError → S → Ty
   -- one payload that is read
   plain_request : (read : Result Judged Refusal) (old new : SessionState S) (text : List ℕ) (m : PlainMap) → shows old.1 ≡ Some m
       → AnswersRequest answers read old text new
-      → (n : PlainMap) × (shows new.1 ≡ Some n) × (is_error_reply text ≡ false → PlainStep (old.0, m) read text (new.0, n))
+      → (n : PlainMap) × (shows new.1 ≡ Some n) × (is_error_reply text ≡ false → ¬ (read ≡ Ok TellCounts) → PlainStep (old.0, m) read text (new.0, n))
   plain_request (Err refusal) old new text m shown answer =
-      (m, ap (λ (s : SessionState S). shows s.1) answer.1 ∙ shown, λ other. record { text_is = answer.0; new_is = ap (λ (s : SessionState S). (s.0, m)) answer.1 })
+      (m, ap (λ (s : SessionState S). shows s.1) answer.1 ∙ shown, λ other no. record { text_is = answer.0; new_is = ap (λ (s : SessionState S). (s.0, m)) answer.1 })
   plain_request (Ok (SetVersion version)) old new text m shown answer =
-      (m, ap (λ (s : SessionState S). shows s.1) answer.1 ∙ shown, λ other. record { text_is = answer.0; new_is = ap (λ (s : SessionState S). (s.0, m)) answer.1 })
+      (m, ap (λ (s : SessionState S). shows s.1) answer.1 ∙ shown, λ other no. record { text_is = answer.0; new_is = ap (λ (s : SessionState S). (s.0, m)) answer.1 })
+  plain_request (Ok TellCounts) old new text m shown answer =
+      (m, ap (λ (s : SessionState S). shows s.1) answer.3 ∙ shown, λ other no. absurd (no refl))
   plain_request (Ok (Ask op)) old new text m shown answer =
       let left = plain_goes_out answer.0 m (shows new.1) op text (plainly old.1 op answer.0 new.1 m shown answer.1) answer.2 in (
         left.0,
         left.1,
-        λ other. record {
+        λ other no. record {
           text_is = (left.2 other).0;
           new_is = ap (λ v. (v, left.0)) answer.3 ∙ ap (λ n. (old.0, n)) (left.2 other).1;
         },
@@ -56,15 +58,16 @@ module _ {S : Type 0} (answers : S → Op → Result Reply AskError → S → Ty
       → AnswersRequest answers read old text new → is_error_reply text ≡ true → (shows new.1 ≡ Some m) × (new.0 ≡ old.0)
   error_request (Err refusal) old new text m shown answer tells = (ap (λ (s : SessionState S). shows s.1) answer.1 ∙ shown, ap (λ (s : SessionState S). s.0) answer.1)
   error_request (Ok (SetVersion version)) old new text m shown answer tells = absurd (not_both (is_error_reply text) tells (ap is_error_reply answer.0 ∙ version_answers version))
+  error_request (Ok TellCounts) old new text m shown answer tells = (ap (λ (s : SessionState S). shows s.1) answer.3 ∙ shown, ap (λ (s : SessionState S). s.0) answer.3)
   error_request (Ok (Ask op)) old new text m shown answer tells =
       (errors_keep answer.0 m (shows new.1) op text (plainly old.1 op answer.0 new.1 m shown answer.1) answer.2 tells, answer.3)
 
   -- one payload
   plain_one : (payload : List ℕ) (old new : SessionState S) (text : List ℕ) (m : PlainMap) → shows old.1 ≡ Some m → Answers answers old payload text new
-      → (n : PlainMap) × (shows new.1 ≡ Some n) × (is_error_reply text ≡ false → PlainStep (old.0, m) (request_of old.0 payload) text (new.0, n))
+      → (n : PlainMap) × (shows new.1 ≡ Some n) × (is_error_reply text ≡ false → ¬ (request_of old.0 payload ≡ Ok TellCounts) → PlainStep (old.0, m) (request_of old.0 payload) text (new.0, n))
   plain_one payload old new text m shown (inl request) = plain_request (request_of old.0 payload) old new text m shown request
   plain_one payload old new text m shown (inr want) =
-      (m, ap (λ (s : SessionState S). shows s.1) want.1 ∙ shown, λ none. absurd (not_both (is_error_reply text) (want_is_error text want.0) none))
+      (m, ap (λ (s : SessionState S). shows s.1) want.1 ∙ shown, λ none no. absurd (not_both (is_error_reply text) (want_is_error text want.0) none))
 
   -- a payload answered by a text that tells an error changes nothing
   pub errors_change_nothing : (payload : List ℕ) (old new : SessionState S) (text : List ℕ) (m : PlainMap) → shows old.1 ≡ Some m
@@ -83,9 +86,9 @@ module _ {S : Type 0} (answers : S → Op → Result Reply AskError → S → Ty
 
   -- all payloads
   pub plain_all : (payloads texts : List (List ℕ)) (old new : SessionState S) (m : PlainMap) → shows old.1 ≡ Some m → AnswersAll answers old payloads texts new
-      → (n : PlainMap) × (shows new.1 ≡ Some n) × (NoErrors texts
+      → (n : PlainMap) × (shows new.1 ≡ Some n) × (NoErrors texts → AskNoCounts payloads
       → (texts ≡ answers_to (old.0, m) payloads) × (n ≡ (state_after (old.0, m) payloads).1))
-  plain_all [] [] old new m shown answered = (m, ap (λ (s : SessionState S). shows s.1) answered ∙ shown, λ others. (refl, refl))
+  plain_all [] [] old new m shown answered = (m, ap (λ (s : SessionState S). shows s.1) answered ∙ shown, λ others no. (refl, refl))
   plain_all [] (text ∷ texts) old new m shown answered = absurd answered
   plain_all (payload ∷ payloads) [] old new m shown answered = absurd answered
   plain_all (payload ∷ payloads) (text ∷ texts) old new m shown answered =
@@ -94,10 +97,9 @@ module _ {S : Type 0} (answers : S → Op → Result Reply AskError → S → Ty
       let read = request_of old.0 payload in (
         rest.0,
         rest.1,
-        λ others. (
-          ap (λ t. t ∷ texts) (first.2 others.0).text_is
-              ∙ ap (λ ts. text_for (old.0, m) read ∷ ts) ((rest.2 others.1).0 ∙ ap (λ s. answers_to s payloads) (first.2 others.0).new_is),
-          (rest.2 others.1).1 ∙ ap (λ (s : SessionState PlainMap). (state_after s payloads).1) (first.2 others.0).new_is,
+        λ others no. let one = first.2 others.0 (no.0 old.0) in let more = rest.2 others.1 no.1 in (
+          ap (λ t. t ∷ texts) one.text_is ∙ ap (λ ts. text_for (old.0, m) read ∷ ts) (more.0 ∙ ap (λ s. answers_to s payloads) one.new_is),
+          more.1 ∙ ap (λ (s : SessionState PlainMap). (state_after s payloads).1) one.new_is,
         ),
       )
 
@@ -120,7 +122,7 @@ module _ {S : Type 0} (answers : S → Op → Result Reply AskError → S → Ty
     pub whole : read ≡ stream_of payloads rest
     pub each : AllByRecursion IsPayload payloads
     pub stands : (missing : List ℕ) × (concat texts ≡ written ++ missing)
-    pub told : AllByRecursion (λ text. ¬ (TellsError answers text)) (texts_within (length written) texts) → (texts ≡ answers_to (One, old) payloads) × (new ≡ (state_after (One, old) payloads).1)
+    pub told : AskNoCounts payloads → AllByRecursion (λ text. ¬ (TellsError answers text)) (texts_within (length written) texts) → (texts ≡ answers_to (One, old) payloads) × (new ≡ (state_after (One, old) payloads).1)
 
   module _ (payloads before gathered : List (List ℕ)) (rest front : List ℕ) (old : S) (new : SessionState S) (m : PlainMap) (shown : shows old ≡ Some m)
       (each : AllByRecursion IsPayload payloads) (no_errors : NoErrors gathered) where
@@ -143,12 +145,12 @@ module _ {S : Type 0} (answers : S → Op → Result Reply AskError → S → Ty
               ap concat (append_assoc before gathered alone) ∙ concat-append before (gathered ++ alone) ∙ ap (λ c. concat before ++ c) cut
                   ∙ sym (append_assoc (concat before) front missing),
             );
-            told = λ none_tells. let none_begun = begun_answer payloads ((before ++ gathered) ++ alone) (One, old) new (length (concat before ++ front)) answered none_tells in
+            told = λ no none_tells. let none_begun = begun_answer payloads ((before ++ gathered) ++ alone) (One, old) new (length (concat before ++ front)) answered none_tells in
                 all.2 (no_errors-append (before ++ gathered) alone
                 (no_errors-append before gathered
                 (begun_before before (gathered ++ alone) (length (concat before ++ front)) (omega (arith, length-append (concat before) front))
                 (subst (λ ts. NoErrors (texts_within (length (concat before ++ front)) ts)) (append_assoc before gathered alone) none_begun)) no_errors)
-                (alone_answers none_begun));
+                (alone_answers none_begun)) no;
           },
         )
 
@@ -176,9 +178,9 @@ module _ {S : Type 0} (answers : S → Op → Result Reply AskError → S → Ty
               concat-append before gathered ∙ ap (λ c. concat before ++ c) stands
                   ∙ sym (append_assoc (concat before) front (drop (length front) (concat gathered))),
             );
-            told = λ none_tells. let none_begun = begun_answer last.0 (before ++ gathered) (One, old) last.2 (length (concat before ++ front)) last.4 none_tells in
+            told = λ no none_tells. let none_begun = begun_answer last.0 (before ++ gathered) (One, old) last.2 (length (concat before ++ front)) last.4 none_tells in
                 all.2 (no_errors-append before gathered
-                (begun_before before gathered (length (concat before ++ front)) (omega (arith, length-append (concat before) front)) none_begun) no_errors);
+                (begun_before before gathered (length (concat before ++ front)) (omega (arith, length-append (concat before) front)) none_begun) no_errors) no;
           },
         )
 
@@ -228,9 +230,9 @@ module _ {S : Type 0} (answers : S → Op → Result Reply AskError → S → Ty
             used = t.used;
             ended = t.ended;
             stands = stands;
-            told = λ none_tells. let none_begun = begun_answer s.payloads s.texts (One, old) (t.version, new) (length t.written) s.serves.answered none_tells in
+            told = λ no none_tells. let none_begun = begun_answer s.payloads s.texts (One, old) (t.version, new) (length t.written) s.serves.answered none_tells in
                 all.2 (begun_before s.texts [] (length t.written) (omega (arith, ap length written))
-                (subst (λ ts. NoErrors (texts_within (length t.written) ts)) (sym (append-nil s.texts)) none_begun));
+                (subst (λ ts. NoErrors (texts_within (length t.written) ts)) (sym (append-nil s.texts)) none_begun)) no;
           },
         )
 

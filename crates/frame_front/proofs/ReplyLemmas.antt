@@ -17,12 +17,12 @@ use Rattle.map_core.proofs.MapLaws.{ask_keeps}
 use Rattle.wire.specs.declared.version.Version.{Version}
 use Rattle.wire.specs.declared.version.Version.TheVariants.{One, Two, Three}
 use Rattle.wire.specs.declared.judge.Judged.{Judged}
-use Rattle.wire.specs.declared.judge.Judged.TheVariants.{Ask, SetVersion}
+use Rattle.wire.specs.declared.judge.Judged.TheVariants.{Ask, SetVersion, TellCounts}
 use Rattle.wire.specs.declared.refusal.Refusal.{Refusal}
 use Rattle.wire.specs.declared.refusal.Refusal.TheVariants.{BadRequest, BadName, BadDocument, PassedOver, Memory}
 use Rattle.wire.specs.Frame.{frame}
 use Rattle.wire.specs.Judge.{request_of}
-use Rattle.wire.specs.Answers.{answer_frames, reply_frames, GoesOut, memory_frame, refusal_frame, version_frame, is_error_reply}
+use Rattle.wire.specs.Answers.{answer_frames, reply_frames, GoesOut, memory_frame, refusal_frame, version_frame, counts_frame, is_error_reply}
 use Rattle.wire.specs.ReplyForm.{is_error_code}
 use Rattle.frame_front.specs.Session.{SessionState, AnswersRequest, Answers}
 use Rattle.frame_front.specs.PlainSession.{TellsError}
@@ -46,6 +46,9 @@ pub version_answers : (version : Version) → is_error_reply (version_frame vers
 version_answers One = one_frame_tells 118 _
 version_answers Two = one_frame_tells 118 _
 version_answers Three = one_frame_tells 118 _
+
+pub counts_answer : (counts : List ℕ) → is_error_reply (counts_frame counts) ≡ false
+counts_answer counts = one_frame_tells 109 counts
 
 refused_answers : (why : MapRefusal) → is_error_reply (reply_frames (Refused why)) ≡ false
 refused_answers NoDomain = one_frame_tells 30 _
@@ -133,6 +136,7 @@ module _ {S : Type 0} (answers : S → Op → Result Reply AskError → S → Ty
       → ¬ (TellsError answers text) → is_error_reply text ≡ false
   request_answers (Err refusal) old new text answer none = refusal_answers refusal text answer.0 (λ same. none (inl same))
   request_answers (Ok (SetVersion version)) old new text answer none = ap is_error_reply answer.0 ∙ version_answers version
+  request_answers (Ok TellCounts) old new text answer none = ap is_error_reply answer.2 ∙ counts_answer answer.0
   request_answers (Ok (Ask op)) old new text answer none = answer_answers op answer.0 old.1 new.1 text answer.1 answer.2 none
 
   -- a text that tells no error has no code that says so

@@ -5,13 +5,13 @@ use Rattle.map_core.specs.declared.reply.Reply.{Reply as Said}
 use Rattle.map_core.specs.declared.reply.AskError.{AskError}
 use Rattle.wire.specs.declared.version.Version.{Version}
 use Rattle.wire.specs.declared.judge.Judged.{Judged}
-use Rattle.wire.specs.declared.judge.Judged.TheVariants.{Ask, SetVersion}
+use Rattle.wire.specs.declared.judge.Judged.TheVariants.{Ask, SetVersion, TellCounts}
 use Rattle.wire.specs.declared.refusal.Refusal.{Refusal}
 use Rattle.wire.specs.Frame.{frame}
 use Rattle.wire.specs.Answers.{memory_frame, GoesOut, answer_forms, request_refusal_form}
 use Rattle.wire.specs.Judge.{request_of}
 use Rattle.frame_front.specs.Session.{AnswersRequest, Answers}
-use Rattle.wire.specs.ReplyForm.{Reply, Speaks, Memory, payload_of, line_of}
+use Rattle.wire.specs.ReplyForm.{Reply, Speaks, Counts, Memory, payload_of, line_of}
 use Rattle.wire.specs.Decoding.{IsReplyLine}
 use Rattle.wire.specs.Laws.{IsAnswer, HaveLines}
 use Rattle.wire.proofs.AnswerLines.{lined_is_told, answers_have_lines, answers_are_frames}
@@ -35,4 +35,5 @@ session_has_lines answers version next old new payload text bytes valid (inl tol
     by : (r : Result Judged Refusal) → request_of version payload ≡ r → AnswersRequest answers r (version, old) text (next, new) → HaveLines text
     by (Err refusal) e a = let reply = refusals_have_lines version payload refusal bytes e in one_reply (request_refusal_form refusal) text a.0 reply
     by (Ok (SetVersion v)) e a = let reply = versions_have_lines v in one_reply (Speaks v) text a.0 reply
+    by (Ok TellCounts) e a = one_reply (Counts a.0) text a.2 (lined_is_told (Counts a.0) (tt, a.1))
     by (Ok (Ask op)) e a = goes_out a.0 text (valid op a.0 a.1) a.2

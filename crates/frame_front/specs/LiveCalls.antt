@@ -9,7 +9,7 @@ use Rattle.wire.specs.declared.version.Version.TheVariants.{One}
 use Rattle.frame_front.specs.declared.answered.Answered.{Answered}
 use Rattle.wire.specs.Frame.{IsPayload, stream_of}
 use Rattle.frame_front.specs.Session.{Serves}
-use Rattle.frame_front.specs.PlainSession.{TellsError, answers_to, state_after}
+use Rattle.frame_front.specs.PlainSession.{AskNoCounts, TellsError, answers_to, state_after}
 use Rattle.frame_front.specs.Live.{LiveView, LiveAnswers, Feeds, Sends, waiting}
 
 -- what was fed, what was answered, or what was sent
@@ -67,7 +67,7 @@ module _ {S : Type 0} (answers : S → Op → Result Reply AskError → S → Ty
     pub told : sent_bytes ++ waiting now.0 ≡ concat texts
     pub counted : count ≡ length payloads
 
-  -- The same over a map that shows a plain map: if no text tells an error, the texts are the plain map's answers, and
+  -- The same over a map that shows a plain map: if none asks for counts and no text tells an error, the texts are the plain map's answers, and
   -- the map left is the one that these leave.
   pub record LivePlainTable (read sent_bytes : List ℕ) (count : ℕ) (live : LiveView) (old new : PlainMap) : Type 0 where
     pub payloads : List (List ℕ)
@@ -76,5 +76,5 @@ module _ {S : Type 0} (answers : S → Op → Result Reply AskError → S → Ty
     pub each : AllByRecursion IsPayload payloads
     pub told : sent_bytes ++ waiting live ≡ concat texts
     pub counted : count ≡ length payloads
-    pub plain : AllByRecursion (λ text. ¬ (TellsError answers text)) texts
+    pub plain : AskNoCounts payloads → AllByRecursion (λ text. ¬ (TellsError answers text)) texts
         → (texts ≡ answers_to (One, old) payloads) × (new ≡ (state_after (One, old) payloads).1)

@@ -8,26 +8,29 @@ use Rattle.map_core.specs.declared.reply.AskError.{AskError}
 use Rattle.map_core.specs.PlainMap.{PlainMap, ask}
 use Rattle.wire.specs.declared.error.FrontError.{FrontError}
 use Rattle.wire.specs.declared.error.FrontError.TheVariants.{WriteFault}
+use Rattle.wire.specs.declared.version.Version.{Version}
 use Rattle.wire.specs.declared.version.Version.TheVariants.{One}
 use Rattle.wire.specs.declared.judge.Judged.{Judged}
-use Rattle.wire.specs.declared.judge.Judged.TheVariants.{Ask, SetVersion}
+use Rattle.wire.specs.declared.judge.Judged.TheVariants.{Ask, SetVersion, TellCounts}
 use Rattle.wire.specs.declared.refusal.Refusal.{Refusal}
 use Rattle.wire.specs.Frame.{stream_of, IsPayload}
 use Rattle.wire.specs.Judge.{request_of}
-use Rattle.wire.specs.Answers.{answer_frames, reply_frames, memory_frame, refusal_frame, version_frame}
+use Rattle.wire.specs.Answers.{answer_frames, reply_frames, memory_frame, refusal_frame, version_frame, counts_frame}
 use Rattle.frame_front.specs.Session.{SessionState, EndsAt}
 use Rattle.frame_front.specs.Transcript.{EndsInput, UsesTurns, IsReadIn}
 
--- the answer to a payload that reads so
+-- the answer to a payload that reads so; a plain map has no counts
 abbrev pub text_for : SessionState PlainMap → Result Judged Refusal → List ℕ
 text_for state (Err refusal) = refusal_frame refusal
 text_for state (Ok (SetVersion version)) = version_frame version
+text_for state (Ok TellCounts) = counts_frame []
 text_for state (Ok (Ask op)) = reply_frames (ask state.1 op).reply
 
 -- and the state after it
 abbrev pub state_for : SessionState PlainMap → Result Judged Refusal → SessionState PlainMap
 state_for state (Err refusal) = state
 state_for state (Ok (SetVersion version)) = (version, state.1)
+state_for state (Ok TellCounts) = state
 state_for state (Ok (Ask op)) = (state.0, (ask state.1 op).map)
 
 -- the answers to these payloads, one after the other
@@ -40,6 +43,10 @@ answers_to state (payload ∷ payloads) =
 abbrev pub state_after : SessionState PlainMap → List (List ℕ) → SessionState PlainMap
 state_after state [] = state
 state_after state (payload ∷ payloads) = state_after (state_for state (request_of state.0 payload)) payloads
+
+-- none of these payloads asks for counts, in whatever version
+abbrev pub AskNoCounts : List (List ℕ) → Type 0
+AskNoCounts payloads = AllByRecursion (λ payload. (version : Version) → ¬ (request_of version payload ≡ Ok TellCounts)) payloads
 
 -- of texts that follow one another, those of which a byte is among the first n
 abbrev pub texts_within : ℕ → List (List ℕ) → List (List ℕ)
@@ -62,8 +69,8 @@ module _ {S : Type 0} (answers : S → Op → Result Reply AskError → S → Ty
   TellsError text = (text ≡ memory_frame) ⊎ ((error : AskError) × MayFail error × (text ≡ answer_frames (Err error)))
 
   -- A session over a map that shows a plain map. The payloads are a prefix of the frames read, and the texts are the
-  -- replies to them. Where no text that is begun tells an error, the texts are the plain map's answers, and the map
-  -- left is the one that these leave.
+  -- replies to them. Where none asks for counts and no text that is begun tells an error, the texts are the plain map's
+  -- answers, and the map left is the one that these leave.
   pub record PlainTranscript (result : Result ℕ FrontError) (turns : ℕ)
       (left_old left_new held_old held_new : Option (List ℕ)) (old new : PlainMap) : Type 0 where
     pub read : List ℕ
@@ -80,5 +87,5 @@ module _ {S : Type 0} (answers : S → Op → Result Reply AskError → S → Ty
     pub used : UsesTurns result turns (length read)
     pub ended : EndsInput result left_new
     pub stands : WritesTexts result texts written
-    pub told : AllByRecursion (λ text. ¬ (TellsError text)) (texts_within (length written) texts)
+    pub told : AskNoCounts payloads → AllByRecursion (λ text. ¬ (TellsError text)) (texts_within (length written) texts)
         → (texts ≡ answers_to (One, old) payloads) × (new ≡ (state_after (One, old) payloads).1)

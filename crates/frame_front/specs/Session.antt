@@ -8,11 +8,12 @@ use Rattle.wire.specs.declared.error.FrontError.{FrontError}
 use Rattle.wire.specs.declared.error.FrontError.TheVariants.{BadLength, Truncated, ReadFault, WriteFault, TurnsUsed, Memory}
 use Rattle.wire.specs.declared.version.Version.{Version}
 use Rattle.wire.specs.declared.judge.Judged.{Judged}
-use Rattle.wire.specs.declared.judge.Judged.TheVariants.{Ask, SetVersion}
+use Rattle.wire.specs.declared.judge.Judged.TheVariants.{Ask, SetVersion, TellCounts}
 use Rattle.wire.specs.declared.refusal.Refusal.{Refusal}
 use Rattle.wire.specs.Frame.{stream_of, IsPayload, IsUnfinished, IsBadLength}
 use Rattle.wire.specs.Judge.{request_of}
-use Rattle.wire.specs.Answers.{refusal_frame, version_frame, memory_frame, is_error_reply, GoesOut}
+use Rattle.wire.specs.RequestForm.{IsOneLine}
+use Rattle.wire.specs.Answers.{refusal_frame, version_frame, counts_frame, memory_frame, is_error_reply, GoesOut}
 
 -- the state of a session: its version, and the state of the map that it asks
 abbrev pub SessionState : Type 0 → Type 0
@@ -25,6 +26,8 @@ module _ {S : Type 0} (answers : S → Op → Result Reply AskError → S → Ty
   AnswersRequest (Err refusal) old text new = (text ≡ refusal_frame refusal) × (new ≡ old)
   -- a version is set, and nothing is asked
   AnswersRequest (Ok (SetVersion version)) old text new = (text ≡ version_frame version) × (new ≡ (version, old.1))
+  -- counts are told, in one line, and nothing is asked
+  AnswersRequest (Ok TellCounts) old text new = (counts : List ℕ) × IsOneLine counts × (text ≡ counts_frame counts) × (new ≡ old)
   -- an operation is asked once, and one answer goes out
   AnswersRequest (Ok (Ask op)) old text new =
       (answer : Result Reply AskError) × answers old.1 op answer new.1 × GoesOut answer text × (new.0 ≡ old.0)

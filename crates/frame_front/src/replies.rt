@@ -1,10 +1,12 @@
 //! Payloads answered, and the replies to them until they are sent.
-ghost use Rattle.std.specs.Prelude.{◌≡◌, ◌+◌, ◌≤◌, [], length};
+ghost use Rattle.std.specs.Prelude.{◌≡◌, ◌+◌, ◌≤◌, ◌++◌, ℕ, List, [], Ok, Result, OnOk, OnErr, get_or, length};
 ghost use Rattle.frame_front.specs.Live.{most_part};
 ghost use Rattle.wire.specs.Judge.{judged, request_of};
-ghost use Rattle.wire.specs.RequestForm.{Get, request};
+ghost use Rattle.wire.specs.Answers.{counts_frame};
+ghost use Rattle.wire.specs.RequestForm.{Get, IsOneLine, request};
+ghost use Rattle.wire.specs.declared.judge.Judged.TheVariants.{TellCounts};
 ghost use Rattle.wire.specs.declared.version.Version.TheVariants.{One};
-ghost use Rattle.frame_front.specs.Private.Pending.{AnswersLater, AnswersNow, AnswersRead, reply_left};
+ghost use Rattle.frame_front.specs.Private.Pending.{AnswersLater, AnswersNow, reply_left};
 
 use crate::pending::{PendingReply, store_both};
 use crate::reply::{ReplyBytes, answer_reply, refusal_reply, version_reply};
@@ -13,9 +15,12 @@ use map_core::{Ask, Viewer};
 use spiffe_doc::{Bundle, DocumentReader, Memory};
 use std::alloc::Global;
 use wire::{
-    Judged, Refusal, RequestForm, Version, canonical_text, found_front, read_name,
+    Judged, Refusal, RequestForm, Version, canonical_text, counts_front, found_front, read_name,
     request_of_payload,
 };
+
+/// The most bytes of counts.
+const MOST_COUNTS: usize = 65_536;
 
 /// The replies that are ready to be sent. The bundle that a get finds is stored among them where it is shown.
 #[derive(Drop)]
@@ -78,13 +83,14 @@ impl Replies {
         ensures few { length self.new.ready.bytes.items ≤ length self.old.ready.bytes.items + most_part }
     {
         let reply = match request_of_payload(payload) {
-            Some(RequestForm::Get(name)) => match self.show_get(ask, name) {
-                Some(reply) => reply,
-                None => return false,
-            },
-            Some(form) => answer_form(self.alloc, documents, &mut self.version, ask, &form),
-            None => refusal_reply(Refusal::BadRequest),
+            Some(RequestForm::Get(name)) => self.show_get(ask, name),
+            Some(form) => self.answer_form(documents, ask, &form),
+            None => Some(refusal_reply(Refusal::BadRequest)),
         };
+        let Some(reply) = reply else {
+            return false;
+        };
+        ask.answered(letter_of(payload), reply.code());
         let is_error = reply.is_error();
         self.pending = PendingReply::of(reply);
         is_error
@@ -102,30 +108,81 @@ impl Replies {
             Err(refusal) => return Some(refusal_reply(refusal)),
         };
         match ask.show_get(domain, &mut self.ready) {
-            Ok(None) => None,
+            Ok(None) => {
+                ask.answered(b'G', b'f');
+                None
+            }
             Ok(Some(reply)) => Some(answer_reply(Ok(reply))),
             Err(error) => Some(answer_reply(Err(error))),
         }
     }
+
+    /// Answers a request of any kind. Out of line, so that a get pays for no other request. The answer is the reply, but for counts: they
+    /// are stored already.
+    #[inline(never)]
+    fn answer_form<A: Ask>(
+        &mut self,
+        documents: &mut DocumentReader,
+        ask: &mut A,
+        form: &RequestForm<'_>,
+    ) -> Option<ReplyBytes>
+        ensures answers { AnswersNow A.answers result (self.old.version, ask.old) (judged self.old.version (request form.now)) (self.new.version, ask.new) self.old.ready.bytes.items self.new.ready.bytes.items }
+        ensures pending { self.new.pending ≡ self.old.pending }
+    {
+        match form.judge(self.alloc, documents, self.version) {
+            Ok(Judged::Ask(op)) => Some(answer_reply(ask.ask(op))),
+            Ok(Judged::SetVersion(wanted)) => {
+                self.version = wanted;
+                Some(version_reply(wanted))
+            }
+            Ok(Judged::TellCounts) => self.tell_counts(ask),
+            Err(refusal) => Some(refusal_reply(refusal)),
+        }
+    }
+
+    /// Tells what whoever is asked has counted: that is stored after what is ready. The answer is that memory ran out, if it did.
+    fn tell_counts<A: Ask>(&mut self, ask: &A) -> Option<ReplyBytes>
+        ensures answers { (read : Result Judged Refusal) → read ≡ Ok TellCounts
+            → AnswersNow A.answers result (self.old.version, ask.now) read (self.new.version, ask.now) self.old.ready.bytes.items self.new.ready.bytes.items }
+        ensures pending { self.new.pending ≡ self.old.pending }
+        ensures version { self.new.version ≡ self.old.version }
+    {
+        match store_counts(self.alloc, &mut self.ready.bytes, ask) {
+            Ok(()) => {
+                ask.answered(b'M', b'm');
+                None
+            }
+            Err(_) => Some(refusal_reply(Refusal::Memory)),
+        }
+    }
 }
 
-/// The reply to a request of any kind. Out of line, so that a get pays for no other request.
-#[inline(never)]
-fn answer_form<A: Ask>(
-    alloc: Global,
-    documents: &mut DocumentReader,
-    version: &mut Version,
-    ask: &mut A,
-    form: &RequestForm<'_>,
-) -> ReplyBytes
-    ensures { AnswersRead A.answers (version.old, ask.old) (judged version.old (request form.now)) result (version.new, ask.new) }
+/// Stores what whoever is asked has counted after what is ready. If memory is refused, nothing has changed.
+fn store_counts<A: Ask>(alloc: Global, ready: &mut BytesMut, ask: &A) -> Result<(), Memory>
+    ensures ok { OnOk result ((counts : List ℕ) × IsOneLine counts × (length counts ≤ 1048576) × (ready.new.items ≡ ready.old.items ++ counts_frame counts)) }
+    ensures err { OnErr result (ready.new.items ≡ ready.old.items) }
 {
-    match form.judge(alloc, documents, *version) {
-        Ok(Judged::Ask(op)) => answer_reply(ask.ask(op)),
-        Ok(Judged::SetVersion(wanted)) => {
-            *version = wanted;
-            version_reply(wanted)
-        }
-        Err(refusal) => refusal_reply(refusal),
+    let counts = ask.counts(alloc)?;
+    let text = one_line(counts.as_slice());
+    let front = counts_front(text);
+    store_both(ready, front.as_slice(), text)
+}
+
+/// The bytes, if they are one line that a reply has room for; else none.
+fn one_line(bytes: &[u8]) -> &[u8]
+    ensures line { IsOneLine result.now }
+    ensures short { length result.now ≤ 1048576 }
+{
+    if bytes.len() > MOST_COUNTS || bytes.contains(&b'\n') {
+        &[]
+    } else {
+        bytes
     }
+}
+
+/// The first byte of a payload.
+fn letter_of(payload: &[u8]) -> u8
+    ensures { result ≡ get_or payload.now 0 0 }
+{
+    payload.first().copied().unwrap_or(0)
 }

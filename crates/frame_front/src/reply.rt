@@ -1,6 +1,6 @@
 //! Replies: an answer as bytes. What they need of memory is held before any of them is written.
 ghost use Rattle.std.specs.Prelude.{◌≡◌, ◌≤◌, ◌++◌, [], length, false};
-ghost use Rattle.wire.specs.Answers.{refusal_frame, version_frame, is_error_reply, GoesOut};
+ghost use Rattle.wire.specs.Answers.{refusal_frame, version_frame, code_of, is_error_reply, GoesOut};
 ghost use Rattle.wire.specs.ReplyForm.{is_bundle, payload_of, reply, text_of};
 ghost use Rattle.wire.specs.Frame.{frame};
 ghost use Rattle.frame_front.specs.Private.Storage.{body_text};
@@ -51,11 +51,18 @@ impl ReplyBytes {
         (front, body)
     }
 
+    /// The code: its first byte after the length.
+    pub(crate) fn code(&self) -> u8
+        ensures { result ≡ code_of self.now }
+    {
+        self.front.as_slice()[CODE_PLACE]
+    }
+
     /// Whether it is the number of an error of whoever was asked.
     pub(crate) fn is_error(&self) -> bool
         ensures { result ≡ is_error_reply self.now }
     {
-        is_error_code(self.front.as_slice()[CODE_PLACE])
+        is_error_code(self.code())
     }
 
     /// A reply without a text.

@@ -5,6 +5,7 @@ use crate::contents::Contents;
 use crate::op::Op;
 use crate::reply::{AskError, Reply};
 use spiffe_doc::{Bundle, Memory, TrustDomain};
+use std::alloc::Global;
 
 /// Whoever is shown the bundle that a get has found, where it is kept, in place of being given it.
 pub trait Viewer {
@@ -52,6 +53,15 @@ pub trait Ask {
         ensures shown { ShowsGet V.notes (λ answer. answers self.old (Get domain) answer self.new) (V.noted viewer.old) result (V.noted viewer.new) }
     {
         Ok(Some(self.ask(Op::Get(domain))?))
+    }
+
+    /// Takes note that a front has answered a request of this letter by a reply of this code: their first bytes, a letter each, or
+    /// the number of a refusal or an error. Nothing is asked.
+    fn answered(&self, _letter: u8, _code: u8) {}
+
+    /// What it has counted, as words `name=value` with single spaces between; nothing if it counts nothing. Nothing is asked.
+    fn counts(&self, alloc: Global) -> Result<Vec<u8>, Memory> {
+        Ok(Vec::new(alloc))
     }
 
     // If a map is shown, the answers are the plain map's.

@@ -5,6 +5,7 @@
 ghost use Rattle.std.specs.Prelude.{◌≤◌};
 
 mod conversations;
+mod counts;
 mod decoders;
 mod dumps;
 mod ends;

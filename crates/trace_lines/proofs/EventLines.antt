@@ -8,7 +8,7 @@ use Rattle.step_core.specs.declared.event.Event.TheVariants.{Begin, Step, Quit, 
 use Rattle.step_core.specs.declared.event.Why.{Why}
 use Rattle.step_core.specs.declared.event.Why.TheVariants.{Held, Memory}
 use Rattle.wire.specs.declared.request.RequestForm.{RequestForm}
-use Rattle.wire.specs.RequestForm.{Request, request, line_of, HasLine, IsWord, ◌then◌}
+use Rattle.wire.specs.RequestForm.{Request, request, HasLine, IsWord, Spells, ◌then◌}
 use Rattle.wire.specs.PayloadReading.{◌>>=◌}
 use Rattle.wire.specs.Private.RequestReading.{split_word, number_of, read_line}
 use Rattle.wire.proofs.Words.{split_found, split_then, split_alone}
@@ -98,7 +98,7 @@ begin_found rest e is =
     let c = caller_found parts.0 caller low in
     let l = line_found parts.1 asking told in
     subst (λ (x : Event). IsEventOf (codes "begin" then rest) x) (same_Some (Begin caller asked) e last)
-    (c.0, (asking, l.1, operation_found asking asked asks, (λ i. codes "begin" then s.0 i) ∙ (λ i. codes "begin" then c.1 i then l.0 i)))))))
+    (c.0, (asking, parts.1, l.1, operation_found asking asked asks, l.0, (λ i. codes "begin" then s.0 i) ∙ (λ i. codes "begin" then c.1 i then parts.1)))))))
 
 step_found : (rest : List ℕ) (e : Event) → step_of rest ≡ Some e → IsEventOf (codes "step" then rest) e
 unfolding step_of
@@ -158,12 +158,12 @@ verb_read : (verb rest : List ℕ) (e : Event) → IsWord verb → event_by_verb
 unfolding event_of
 verb_read verb rest e word is = ap (λ o. o >>= λ parts. event_by_verb parts.0 parts.1) (split_then verb rest word) ∙ is
 
-begin_read : (caller : ℕ) (asking : Request) (asked : Op) → IsCaller caller → HasLine asking → operation_of asking ≡ Some asked → begin_of (decimal caller then line_of asking) ≡ Some (Begin caller asked)
+begin_read : (caller : ℕ) (asking : Request) (words : List ℕ) (asked : Op) → IsCaller caller → HasLine asking → Spells asking words → operation_of asking ≡ Some asked → begin_of (decimal caller then words) ≡ Some (Begin caller asked)
 unfolding begin_of
-begin_read caller asking asked low has asks =
-    ap (λ o. o >>= λ parts. caller_of parts.0 >>= λ c. read_line parts.1 >>= λ r. operation_of r >>= λ a. Some (Begin c a)) (split_then (decimal caller) (line_of asking) (caller_is_word caller low))
-    ∙ ap (λ o. o >>= λ c. read_line (line_of asking) >>= λ r. operation_of r >>= λ a. Some (Begin c a)) (caller_read caller low)
-    ∙ ap (λ o. o >>= λ r. operation_of r >>= λ a. Some (Begin caller a)) (line_read asking has)
+begin_read caller asking words asked low has spells asks =
+    ap (λ o. o >>= λ parts. caller_of parts.0 >>= λ c. read_line parts.1 >>= λ r. operation_of r >>= λ a. Some (Begin c a)) (split_then (decimal caller) words (caller_is_word caller low))
+    ∙ ap (λ o. o >>= λ c. read_line words >>= λ r. operation_of r >>= λ a. Some (Begin c a)) (caller_read caller low)
+    ∙ ap (λ o. o >>= λ r. operation_of r >>= λ a. Some (Begin caller a)) (line_read asking words spells has)
     ∙ ap (λ o. o >>= λ a. Some (Begin caller a)) asks
 
 quit_read : (caller : ℕ) (why : Why) → IsCaller caller → WhyFits why → quit_of (decimal caller then why_words why) ≡ Some (Quit caller why)
@@ -176,8 +176,9 @@ quit_read caller why low fits =
 pub event_read : (line : List ℕ) (e : Event) → IsEventOf line e → event_of line ≡ Some e
 unfolding event_by_verb step_of end_of
 event_read line (Begin caller asked) told =
-    ap event_of told.1.3
-    ∙ verb_read (codes "begin") (decimal caller then line_of told.1.0) (Begin caller asked) refl (begin_read caller told.1.0 asked told.0 told.1.1 (operation_read told.1.0 asked told.1.2))
+    let begun = told.1 in
+    ap event_of begun.5
+    ∙ verb_read (codes "begin") (decimal caller then begun.1) (Begin caller asked) refl (begin_read caller begun.0 begun.1 asked told.0 begun.2 begun.4 (operation_read begun.0 asked begun.3))
 event_read line (Step caller) told =
     ap event_of told.1 ∙ verb_read (codes "step") (decimal caller) (Step caller) refl (ap (λ o. o >>= λ c. Some (Step c)) (caller_read caller told.0))
 event_read line (End caller) told =
@@ -200,9 +201,9 @@ each_one_reading (line ∷ lines) (x ∷ xs) (y ∷ ys) a b = let one = one_read
 
 -- ---- what a reader of requests tells
 
-pub request_told : (line : List ℕ) (o : Option RequestForm) → IfSome o (λ form. (line ≡ line_of (request form)) × HasLine (request form))
-    → ((wanted : Request) → HasLine wanted → line ≡ line_of wanted → MatchOption o ⊥ (λ form. request form ≡ wanted)) → MatchOption o (read_line line ≡ None) (λ form. read_line line ≡ Some (request form))
-request_told line (Some form) found only = ap read_line found.0 ∙ line_read (request form) found.1
+pub request_told : (line : List ℕ) (o : Option RequestForm) → IfSome o (λ form. Spells (request form) line × HasLine (request form))
+    → ((wanted : Request) → HasLine wanted → Spells wanted line → MatchOption o ⊥ (λ form. request form ≡ wanted)) → MatchOption o (read_line line ≡ None) (λ form. read_line line ≡ Some (request form))
+request_told line (Some form) found only = line_read (request form) line found.0 found.1
 request_told line None found only = by (read_line line) refl
   where
     by : (o : Option Request) → read_line line ≡ o → read_line line ≡ None

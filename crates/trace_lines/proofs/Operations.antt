@@ -3,7 +3,7 @@ use Rattle.std.proofs.Common.{◌≡◌, Some, Result, Ok, Err, ap}
 use Rattle.std.proofs.lemmas.Option.{same_Some, none-some}
 use Rattle.map_core.specs.declared.op.Op.{Op}
 use Rattle.wire.specs.declared.judge.Judged.{Judged}
-use Rattle.wire.specs.declared.judge.Judged.TheVariants.{Ask, SetVersion}
+use Rattle.wire.specs.declared.judge.Judged.TheVariants.{Ask, SetVersion, TellCounts}
 use Rattle.wire.specs.declared.refusal.Refusal.{Refusal}
 use Rattle.wire.specs.declared.version.Version.TheVariants.{Three}
 use Rattle.wire.specs.RequestForm.{Request}
@@ -14,6 +14,7 @@ use Rattle.trace_lines.specs.Private.EventReading.{asked_in, operation_of}
 asked_found : (r : Result Judged Refusal) (o : Op) → asked_in r ≡ Some o → r ≡ Ok (Ask o)
 asked_found (Ok (Ask asked)) o is = ap (λ x. Ok (Ask x)) (same_Some asked o is)
 asked_found (Ok (SetVersion version)) o is = absurd (none-some o is)
+asked_found (Ok TellCounts) o is = absurd (none-some o is)
 asked_found (Err refusal) o is = absurd (none-some o is)
 
 pub operation_found : (r : Request) (o : Op) → operation_of r ≡ Some o → AsksFor r o

@@ -8,9 +8,9 @@ use Rattle.step_core.specs.declared.event.Why.TheVariants.{Held, Memory}
 use Rattle.wire.specs.declared.judge.Judged.TheVariants.{Ask}
 use Rattle.wire.specs.declared.version.Version.TheVariants.{Three}
 use Rattle.wire.specs.Judge.{judged}
-use Rattle.wire.specs.RequestForm.{Request, HasLine, line_of, ◌then◌}
+use Rattle.wire.specs.RequestForm.{Request, HasLine, Spells, ◌then◌}
 
--- A request asks for an operation as in a session of version 3. One that only sets the version asks for none.
+-- A request asks for an operation as in a session of version 3. One that sets the version or asks for counts asks for none.
 abbrev pub AsksFor : Request → Op → Type 0
 AsksFor request asked = judged Three request ≡ Ok (Ask asked)
 
@@ -31,7 +31,7 @@ IsCaller caller = caller < 2 ^ 32
 -- The line, without its line feed, is that of the event: words with single spaces between, of which a request is the last.
 abbrev pub IsEventOf : List ℕ → Event → Type 0
 IsEventOf line (Begin caller asked) =
-    IsCaller caller × ((request : Request) × HasLine request × AsksFor request asked × (line ≡ codes "begin" then decimal caller then line_of request))
+    IsCaller caller × ((request : Request) × (words : List ℕ) × HasLine request × AsksFor request asked × Spells request words × (line ≡ codes "begin" then decimal caller then words))
 IsEventOf line (Step caller) = IsCaller caller × (line ≡ codes "step" then decimal caller)
 IsEventOf line (End caller) = IsCaller caller × (line ≡ codes "end" then decimal caller)
 IsEventOf line (Quit caller why) = IsCaller caller × WhyFits why × (line ≡ codes "quit" then decimal caller then why_words why)

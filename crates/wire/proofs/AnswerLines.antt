@@ -18,7 +18,7 @@ use Rattle.wire.specs.Frame.{frame}
 use Rattle.wire.specs.declared.reply.Detail.{Detail}
 use Rattle.wire.specs.declared.reply.Detail.TheVariants.{Nothing, Place, SequenceOf, Expected}
 use Rattle.wire.specs.RequestForm.{IsOneLine, ◌then◌}
-use Rattle.wire.specs.ReplyForm.{Reply, Appended, All, Refused, Moved, Held, Worn, IsLined, HasLine, HasPayload, SequenceFits, DetailFits, IsRefusal, kind_of, refusal_words, line_of, payload_of, Stored, Unchanged, Removed, Found, Same, Bundle, Speaks, Memory, Shut}
+use Rattle.wire.specs.ReplyForm.{Reply, Appended, All, Refused, Moved, Held, Worn, IsLined, HasLine, HasPayload, SequenceFits, DetailFits, IsRefusal, kind_of, refusal_words, line_of, payload_of, Stored, Unchanged, Removed, Found, Same, Counts, Bundle, Speaks, Memory, Shut}
 use Rattle.wire.specs.Decoding.{IsReplyLine}
 use Rattle.wire.specs.Answers.{answer_frames, item_frame, detail_of, refusal_form, shard_number, error_form, reply_form, answer_form, bundles_of, bundle_form, answer_forms}
 use Rattle.wire.specs.Laws.{IsAnswer, IsItem}
@@ -133,6 +133,7 @@ has_payload (Found text) has = has
 has_payload (All count) has = has
 has_payload (Bundle name text) has = has.1
 has_payload Same has = has
+has_payload (Counts text) has = has
 has_payload (Speaks version) has = has
 has_payload (Refused number detail) has = has
 has_payload (Moved shard first second) has = has

@@ -14,22 +14,30 @@ use Rattle.map_core.specs.declared.op.Expect.{Expect}
 use Rattle.map_core.specs.declared.op.Expect.TheVariants.{Absent, Sequence, Unnumbered}
 use Rattle.wire.specs.declared.version.Version.{Version}
 use Rattle.wire.specs.declared.version.Version.TheVariants.{One, Two, Three}
-use Rattle.wire.specs.RequestForm.{IsExpect, IsDigest, IsWord, expect_word, version_word}
+use Rattle.wire.specs.RequestForm.{IsExpect, IsDigest, IsWord, SpellsExpect, expect_word, version_word}
 use Rattle.wire.specs.Private.RequestReading.{number_of, expect_of, version_of, written_as, digest_of}
 use Rattle.wire.proofs.Numbers.{number_found, number_of-decimal}
-use Rattle.wire.proofs.Cases.{if_some, same_bytes, map_some}
+use Rattle.wire.proofs.Cases.{if_some, same_bytes, map_some, word_cases}
 
 -- ---- expectations
 
-pub expect_found : (word : List ℕ) (e : Expect) → expect_of word ≡ Some e → (word ≡ expect_word e) × IsExpect e
+pub expect_found : (word : List ℕ) (e : Expect) → expect_of word ≡ Some e → SpellsExpect e word × IsExpect e
 unfolding expect_of
-expect_found word e is = elim (if_some (bytes_eq word (codes "absent")) (Some Absent) _ e is) [
-  | inl h ↦ subst (λ (x : Expect). (word ≡ expect_word x) × IsExpect x) (same_Some Absent e h.1) (same_bytes word (codes "absent") h.0, tt)
-  | inr h ↦ elim (if_some (bytes_eq word (codes "none")) (Some Unnumbered) _ e h.1) [
-    | inl k ↦ subst (λ (x : Expect). (word ≡ expect_word x) × IsExpect x) (same_Some Unnumbered e k.1) (same_bytes word (codes "none") k.0, tt)
-    | inr k ↦ let n = map_some Sequence (number_of word) e k.1 in let m = number_found word n.0 n.1 in subst (λ (x : Expect). (word ≡ expect_word x) × IsExpect x) n.2 (m.1, m.0)
-  ]
-]
+expect_found word e is =
+    word_cases word (codes "absent") _ _ e is (λ w is. told (same_Some Absent e is) (w, tt)) (λ is.
+    word_cases word (codes "none") _ _ e is (λ w is. told (same_Some Unnumbered e is) (inl w, tt)) (λ is.
+    word_cases word (codes "unnumbered") _ _ e is (λ w is. told (same_Some Unnumbered e is) (inr w, tt)) (λ is.
+    let n = map_some Sequence (number_of word) e is in
+    let m = number_found word n.0 n.1 in
+    told n.2 (m.1, m.0))))
+  where
+    told : {x : Expect} → x ≡ e → SpellsExpect x word × IsExpect x → SpellsExpect e word × IsExpect e
+    told same found = subst (λ (x : Expect). SpellsExpect x word × IsExpect x) same found
+
+pub spells_itself : (e : Expect) → SpellsExpect e (expect_word e)
+spells_itself Absent = refl
+spells_itself Unnumbered = inl refl
+spells_itself (Sequence n) = refl
 
 -- a number begins with a digit
 pub no_number : (n byte : ℕ) → n < 2 ^ 64 → (byte < 48) ⊎ (57 < byte) → (rest : List ℕ) → bytes_eq (decimal n) (byte ∷ rest) ≡ false
@@ -44,14 +52,20 @@ no_number n byte small other rest = by (bytes_eq (decimal n) (byte ∷ rest)) re
           | inr high ↦ absurd (omega (arith, digit_from_value byte digits.0))
         ]
 
-pub expect_read : (e : Expect) → IsExpect e → expect_of (expect_word e) ≡ Some e
+sequence_read : (n : ℕ) → n < 2 ^ 64 → expect_of (decimal n) ≡ Some (Sequence n)
 unfolding expect_of
-expect_read Absent fits = refl
-expect_read Unnumbered fits = refl
-expect_read (Sequence n) fits =
-    ap (λ (b : Bool). if b then Some Absent else (if bytes_eq (decimal n) (codes "none") then Some Unnumbered else option_map Sequence (number_of (decimal n)))) (no_number n 97 fits (inr (omega arith)) (98 ∷ 115 ∷ 101 ∷ 110 ∷ 116 ∷ []))
-    ∙ ap (λ (b : Bool). if b then Some Unnumbered else option_map Sequence (number_of (decimal n))) (no_number n 110 fits (inr (omega arith)) (111 ∷ 110 ∷ 101 ∷ []))
+sequence_read n fits =
+    ap (λ (b : Bool). if b then Some Absent else (if bytes_eq (decimal n) (codes "none") then Some Unnumbered else (if bytes_eq (decimal n) (codes "unnumbered") then Some Unnumbered else option_map Sequence (number_of (decimal n))))) (no_number n 97 fits (inr (omega arith)) (98 ∷ 115 ∷ 101 ∷ 110 ∷ 116 ∷ []))
+    ∙ ap (λ (b : Bool). if b then Some Unnumbered else (if bytes_eq (decimal n) (codes "unnumbered") then Some Unnumbered else option_map Sequence (number_of (decimal n)))) (no_number n 110 fits (inr (omega arith)) (111 ∷ 110 ∷ 101 ∷ []))
+    ∙ ap (λ (b : Bool). if b then Some Unnumbered else option_map Sequence (number_of (decimal n))) (no_number n 117 fits (inr (omega arith)) (110 ∷ 110 ∷ 117 ∷ 109 ∷ 98 ∷ 101 ∷ 114 ∷ 101 ∷ 100 ∷ []))
     ∙ ap (option_map Sequence) (number_of-decimal n fits)
+
+pub expect_read : (e : Expect) (word : List ℕ) → SpellsExpect e word → IsExpect e → expect_of word ≡ Some e
+unfolding expect_of
+expect_read Absent word is fits = ap expect_of is
+expect_read Unnumbered word (inl is) fits = ap expect_of is
+expect_read Unnumbered word (inr is) fits = ap expect_of is
+expect_read (Sequence n) word is fits = ap expect_of is ∙ sequence_read n fits
 
 digits_are_word : (ds : List ℕ) → AllDigits 10 ds → IsWord ds
 digits_are_word [] all = refl
@@ -63,10 +77,11 @@ digits_are_word (d ∷ ds) all =
 pub decimal_is_word : (n : ℕ) → n < 2 ^ 64 → IsWord (decimal n)
 decimal_is_word n fits = digits_are_word (decimal n) (decimal_is_IsNumeral n fits).0.1
 
-pub expect_is_word : (e : Expect) → IsExpect e → IsWord (expect_word e)
-expect_is_word Absent fits = refl
-expect_is_word Unnumbered fits = refl
-expect_is_word (Sequence n) fits = decimal_is_word n fits
+pub expect_is_word : (e : Expect) (word : List ℕ) → SpellsExpect e word → IsExpect e → IsWord word
+expect_is_word Absent word is fits = subst IsWord (sym is) refl
+expect_is_word Unnumbered word (inl is) fits = subst IsWord (sym is) refl
+expect_is_word Unnumbered word (inr is) fits = subst IsWord (sym is) refl
+expect_is_word (Sequence n) word is fits = subst IsWord (sym is) (decimal_is_word n fits)
 
 -- ---- versions
 

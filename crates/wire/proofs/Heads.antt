@@ -28,6 +28,10 @@ pub fetch_frame : 0 ∷ 0 ∷ 0 ∷ 1 ∷ 70 ∷ [] ≡ frame (70 ∷ [])
 unfolding frame
 fetch_frame = refl
 
+pub stats_frame : 0 ∷ 0 ∷ 0 ∷ 1 ∷ 77 ∷ [] ≡ frame (77 ∷ [])
+unfolding frame
+stats_frame = refl
+
 pub fetch_unless_frame : (known : List ℕ) → length known ≡ 32 → (0 ∷ 0 ∷ 0 ∷ 33 ∷ 85 ∷ []) ++ known ≡ frame (85 ∷ known)
 unfolding frame
 fetch_unless_frame known long = ap (λ (n : ℕ). to_be_bytes w32 (suc n) ++ 85 ∷ known) (sym long)

@@ -4,7 +4,7 @@ use Rattle.wire.specs.declared.version.Version.{Version}
 use Rattle.wire.specs.declared.version.Version.TheVariants.{One, Two, Three}
 use Rattle.wire.specs.declared.refusal.Refusal.{Refusal}
 use Rattle.wire.specs.declared.refusal.Refusal.TheVariants.{BadRequest}
-use Rattle.wire.specs.RequestForm.{Request, Set, SetIf, Append, Remove, Get, Fetch, FetchUnless, Speak, HasPayload, payload_of, name_of}
+use Rattle.wire.specs.RequestForm.{Request, Set, SetIf, Append, Remove, Get, Fetch, FetchUnless, Stats, Speak, HasPayload, payload_of, name_of}
 use Rattle.wire.specs.PayloadReading.{read_payload}
 use Rattle.wire.specs.Judge.{◌>>=◌, parse_name, parse_bundle, parse_authority, named_bundle, judged, judged_if, request_of}
 use Rattle.wire.proofs.RequestPayloads.{payload_read}
@@ -43,6 +43,9 @@ module _ (P : Refusal → Type 0) where
     refused_form One (FetchUnless known) first = bad
     refused_form Two (FetchUnless known) first = bad
     refused_form Three (FetchUnless known) first = tt
+    refused_form One Stats first = bad
+    refused_form Two Stats first = bad
+    refused_form Three Stats first = tt
     refused_form version (Speak wanted) first = tt
 
     -- of a payload, if it holds of the name of the request that it is

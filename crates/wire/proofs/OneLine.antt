@@ -3,7 +3,7 @@ use Rattle.std.proofs.Common.{◌≡◌, ℕ, List, [], false, None, refl, sym, 
 use Rattle.std.proofs.lemmas.Option.{same_Some, none-some}
 use Rattle.wire.specs.Frame.{frame}
 use Rattle.wire.specs.RequestForm as requests
-use Rattle.wire.specs.RequestForm.{Request, Set, SetIf, Append, Remove, Get, Fetch, FetchUnless, Speak, HasLine, IsFramed, HasPayload, line_of, payload_of, text_of, with_text}
+use Rattle.wire.specs.RequestForm.{Request, Set, SetIf, Append, Remove, Get, Fetch, FetchUnless, Stats, Speak, HasLine, IsFramed, HasPayload, expect_word, line_of, payload_of, text_of, with_text}
 use Rattle.wire.specs.ReplyForm as replies
 use Rattle.wire.specs.ReplyForm.{kind_of}
 use Rattle.wire.specs.Decoding.{IsLineOf, IsRequestLine, IsReplyLine}
@@ -11,6 +11,7 @@ use Rattle.wire.specs.Encoding.{Gives, Becomes, is_comment}
 use Rattle.wire.specs.Laws.{nothing_given}
 use Rattle.wire.specs.PayloadReading as request_reading
 use Rattle.wire.specs.Private.ReplyReading.{read_payload, reply_by_letter}
+use Rattle.wire.proofs.Fields.{spells_itself}
 use Rattle.wire.proofs.RequestPayloads as request_payloads
 use Rattle.wire.proofs.ReplyPayloads as reply_payloads
 
@@ -24,6 +25,7 @@ unread (Remove name) = refl
 unread (Get name) = refl
 unread Fetch = refl
 unread (FetchUnless known) = refl
+unread Stats = refl
 unread (Speak version) = refl
 
 one_request : (payload one other : List ℕ) → IsRequestLine payload one → IsRequestLine payload other → one ≡ other
@@ -55,6 +57,7 @@ asks (Remove name) = refl
 asks (Get name) = refl
 asks Fetch = refl
 asks (FetchUnless known) = refl
+asks Stats = refl
 asks (Speak version) = refl
 
 -- a frame carries its payload, and its numbers fit
@@ -66,16 +69,18 @@ has_payload (Remove name) has framed = framed.0
 has_payload (Get name) has framed = framed.0
 has_payload Fetch has framed = tt
 has_payload (FetchUnless known) has framed = has
+has_payload Stats has framed = tt
 has_payload (Speak version) has framed = tt
 
 becomes : (gives : Gives) (request : Request) → HasLine request → IsFramed request → requests.IsLined request → Becomes gives (line_of request, frame (payload_of request))
 becomes gives (Set name text) has framed lined = inr (refl, (Set name text, text, has, refl, inr (lined.2, refl), framed, refl))
-becomes gives (SetIf name expect text) has framed lined = inr (refl, (SetIf name expect text, text, has, refl, inr (lined.2, refl), framed, refl))
+becomes gives (SetIf name expect text) has framed lined = inr (refl, (SetIf name expect text, text, has, (expect_word expect, spells_itself expect, refl), inr (lined.2, refl), framed, refl))
 becomes gives (Append name text) has framed lined = inr (refl, (Append name text, text, has, refl, inr (lined.2, refl), framed, refl))
 becomes gives (Remove name) has framed lined = inr (refl, (Remove name, [], has, refl, inr (lined.2, refl), framed, refl))
 becomes gives (Get name) has framed lined = inr (refl, (Get name, [], has, refl, inr (lined.2, refl), framed, refl))
 becomes gives Fetch has framed lined = inr (refl, (Fetch, [], has, refl, inr (lined.2, refl), framed, refl))
 becomes gives (FetchUnless known) has framed lined = inr (refl, (FetchUnless known, [], has, refl, inr (lined.2, refl), framed, refl))
+becomes gives Stats has framed lined = inr (refl, (Stats, [], has, refl, inr (lined.2, refl), framed, refl))
 becomes gives (Speak version) has framed lined = inr (refl, (Speak version, [], has, refl, inr (lined.2, refl), framed, refl))
 
 pub decodes : (request : Request) → HasLine request → IsFramed request → requests.IsLined request

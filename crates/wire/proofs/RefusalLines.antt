@@ -16,7 +16,7 @@ use Rattle.wire.specs.declared.version.Version.{Version}
 use Rattle.wire.specs.declared.version.Version.TheVariants.{One, Two, Three}
 use Rattle.wire.specs.declared.refusal.Refusal.{Refusal}
 use Rattle.wire.specs.declared.refusal.Refusal.TheVariants.{BadRequest, BadName, BadDocument, PassedOver, Memory}
-use Rattle.wire.specs.RequestForm.{Request, Set, SetIf, Append, Remove, Get, Fetch, FetchUnless, Speak, HasPayload, name_of}
+use Rattle.wire.specs.RequestForm.{Request, Set, SetIf, Append, Remove, Get, Fetch, FetchUnless, Stats, Speak, HasPayload, name_of}
 use Rattle.wire.specs.Judge.{name_or_refusal, parse_name, bundle_or_refusal, parse_bundle, authority_or_refusal, parse_authority, request_of}
 use Rattle.wire.proofs.JudgeLemmas.{IfRefused, refused_payload}
 use Rattle.wire.proofs.RequestPayloads.{payload_found}
@@ -120,6 +120,7 @@ short_name (Remove name) has = has
 short_name (Get name) has = has
 short_name Fetch has = omega arith
 short_name (FetchUnless known) has = omega arith
+short_name Stats has = omega arith
 short_name (Speak version) has = omega arith
 
 told_request : (version : Version) (payload : List ℕ) → ((i : ℕ) → get_or payload i 0 < 256) → IsToldIfRefused (request_of version payload)

@@ -8,7 +8,7 @@ use Rattle.std.proofs.lemmas.Option.{same_Some, none-some}
 use Rattle.map_core.specs.declared.op.Expect.{Expect}
 use Rattle.map_core.specs.declared.op.Expect.TheVariants.{Absent, Sequence, Unnumbered}
 use Rattle.wire.specs.Fields.{expect_bytes, sequence_bytes}
-use Rattle.wire.specs.ReplyForm.{is_error_code, Reply, Stored, Unchanged, Removed, Appended, Found, All, Same, Bundle, Speaks, Refused, Moved, Held, Worn, Memory, Shut, reply, kind_of, detail_kind, DetailFits, SequenceFits, detail_bytes, payload_of, HasPayload}
+use Rattle.wire.specs.ReplyForm.{is_error_code, Reply, Stored, Unchanged, Removed, Appended, Found, All, Same, Counts, Bundle, Speaks, Refused, Moved, Held, Worn, Memory, Shut, reply, kind_of, detail_kind, DetailFits, SequenceFits, detail_bytes, payload_of, HasPayload}
 use Rattle.wire.specs.declared.reply.Detail.{Detail}
 use Rattle.wire.specs.declared.reply.Detail.TheVariants.{Nothing, Place, SequenceOf, Expected}
 use Rattle.wire.specs.declared.reply.Kind.{Kind}
@@ -242,8 +242,9 @@ letter_found code bytes r fit is =
     number_cases code 97 _ _ r is (λ c is. at c (all_found bytes r fit is)) (λ is.
     number_cases code 105 _ _ r is (λ c is. at c (bundle_found bytes r fit is)) (λ is.
     number_cases code 101 _ _ r is (λ c is. at c (lone_found 101 Same r bytes (refl, tt) is)) (λ is.
+    number_cases code 109 _ _ r is (λ c is. at c (subst (λ (q : Reply). Told (109 ∷ bytes) q) (same_Some (Counts bytes) r is) (refl, tt))) (λ is.
     number_cases code 118 _ _ r is (λ c is. at c (speaks_found bytes r is)) (λ is.
-    absurd (none-some r is))))))))))
+    absurd (none-some r is)))))))))))
   where
     at : {known : ℕ} → code ≡ known → Told (known ∷ bytes) r → Told (code ∷ bytes) r
     at same told = ((λ i. same i ∷ bytes) ∙ told.0, told.1)
@@ -293,6 +294,7 @@ payload_read (Found text) has = refl
 payload_read (All count) has = ap (option_map All) (long_read count has)
 payload_read (Bundle name text) has = ap (option_map (of_both Bundle)) (named_read name text)
 payload_read Same has = refl
+payload_read (Counts text) has = refl
 payload_read (Speaks version) has = ap (option_map Speaks) (version_read version)
 payload_read (Refused number detail) has = ap (reply_by_kind number (detail_bytes detail)) has.0 ∙ ap (option_map (Refused number)) (detail_read detail has.1)
 payload_read (Moved shard first second) has = moved_read shard first second has.0 has.1 has.2

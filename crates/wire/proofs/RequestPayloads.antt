@@ -12,7 +12,7 @@ use Rattle.wire.specs.declared.version.Version.{Version}
 use Rattle.wire.specs.declared.version.Version.TheVariants.{One, Two, Three}
 use Rattle.wire.specs.Fields.{expect_bytes, version_number}
 use Rattle.wire.specs.declared.request.RequestForm.{RequestForm}
-use Rattle.wire.specs.RequestForm.{Request, Set, SetIf, Append, Remove, Get, Fetch, FetchUnless, Speak, request, named, payload_of, HasPayload, IsDigest, IsExpect}
+use Rattle.wire.specs.RequestForm.{Request, Set, SetIf, Append, Remove, Get, Fetch, FetchUnless, Stats, Speak, request, named, payload_of, HasPayload, IsDigest, IsExpect}
 use Rattle.wire.specs.PayloadReading.{◌>>=◌, at_end, of_both, split_named, lone_named, split_expect, version_in, digest_in, set_if_in, request_by_letter, read_payload}
 use Rattle.wire.proofs.Cases.{bind_some, bind_cases, if_some, map_some, number_cases}
 use Rattle.wire.proofs.Numbers.{both}
@@ -180,6 +180,11 @@ fetch_found bytes r is =
     let a = end_found Fetch r bytes is in
     subst (λ (q : Request). Found 70 bytes q) a.1 (λ i. 70 ∷ a.0 i, tt)
 
+stats_found : (bytes : List ℕ) (r : Request) → at_end Stats bytes ≡ Some r → Found 77 bytes r
+stats_found bytes r is =
+    let a = end_found Stats r bytes is in
+    subst (λ (q : Request). Found 77 bytes q) a.1 (λ i. 77 ∷ a.0 i, tt)
+
 by_letter_found : (letter : ℕ) (bytes : List ℕ) (r : Request) → AreBytes bytes → request_by_letter letter bytes ≡ Some r → Found letter bytes r
 unfolding request_by_letter
 by_letter_found letter bytes r fits is =
@@ -189,9 +194,10 @@ by_letter_found letter bytes r fits is =
     number_cases letter 71 _ _ r is (λ l is. at l (name_found 71 Get bytes r (λ name short. (refl, short)) fits is)) (λ is.
     number_cases letter 70 _ _ r is (λ l is. at l (fetch_found bytes r is)) (λ is.
     number_cases letter 85 _ _ r is (λ l is. at l (fetch_unless_found bytes r fits is)) (λ is.
+    number_cases letter 77 _ _ r is (λ l is. at l (stats_found bytes r is)) (λ is.
     number_cases letter 86 _ _ r is (λ l is. at l (speak_found bytes r is)) (λ is.
     number_cases letter 67 _ _ r is (λ l is. at l (set_if_found bytes r fits is)) (λ is.
-    absurd (none-some r is)))))))))
+    absurd (none-some r is))))))))))
   where
     at : {known : ℕ} → letter ≡ known → Found known bytes r → Found letter bytes r
     at same found = ((λ i. same i ∷ bytes) ∙ found.0, found.1)
@@ -214,6 +220,7 @@ payload_read (Remove name) fits = ap (option_map Remove) (lone_named_read name)
 payload_read (Get name) fits = ap (option_map Get) (lone_named_read name)
 payload_read Fetch fits = refl
 payload_read (FetchUnless known) fits = ap (option_map FetchUnless) (digest_read known fits)
+payload_read Stats fits = refl
 payload_read (Speak version) fits = ap (option_map Speak) (version_read version)
 
 -- ---- what a reader tells

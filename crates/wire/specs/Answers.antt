@@ -20,7 +20,7 @@ pub use Rattle.map_core.specs.Dump.{item_frame}
 use Rattle.wire.specs.Frame.{frame}
 use Rattle.wire.specs.declared.reply.Detail.{Detail}
 use Rattle.wire.specs.declared.reply.Detail.TheVariants.{Nothing, Place, SequenceOf, Expected}
-use Rattle.wire.specs.ReplyForm.{Reply, payload_of, is_error_code, Speaks, Stored, Unchanged, Removed, Appended, Found, All, Same, Bundle, Refused, Moved, Held, Worn, Memory, Shut}
+use Rattle.wire.specs.ReplyForm.{Reply, payload_of, is_error_code, Speaks, Stored, Unchanged, Removed, Appended, Found, All, Same, Counts, Bundle, Refused, Moved, Held, Worn, Memory, Shut}
 
 -- what a refusal of a map says beside its number
 abbrev pub detail_of : MapRefusal → Detail
@@ -100,6 +100,10 @@ memory_frame = reply_frame Memory
 -- the reply to a payload that is refused
 abbrev pub refusal_frame : Refusal → List ℕ
 refusal_frame refusal = reply_frame (request_refusal_form refusal)
+
+-- the reply to a payload that asks for counts
+abbrev pub counts_frame : List ℕ → List ℕ
+counts_frame counts = reply_frame (Counts counts)
 
 -- the reply to a payload that sets the version
 abbrev pub version_frame : Version → List ℕ

@@ -3,7 +3,7 @@ use Rattle.std.specs.Prelude.{◌≡◌, ◌⊎◌, ℕ, ◌<◌, ◌≤◌, Boo
 use Rattle.std.specs.List.{flat_map}
 use Rattle.wire.specs.Counted.{next_count}
 use Rattle.wire.specs.Frame.{frame}
-use Rattle.wire.specs.RequestForm.{Request, HasLine, IsFramed, IsOneLine, line_of, payload_of, text_of, with_text, is_text_name}
+use Rattle.wire.specs.RequestForm.{Request, HasLine, IsFramed, IsOneLine, Spells, payload_of, text_of, with_text, is_text_name}
 use Rattle.wire.specs.declared.encoder.EncodeError.{EncodeError}
 use Rattle.wire.specs.declared.encoder.EncodeError.TheVariants.{BadLine, Unreadable, Memory}
 
@@ -24,7 +24,7 @@ StandsFor gives text whole =
 -- the frame of the line's request, with the text that its own stands for
 abbrev pub IsFrameOf : Gives → List ℕ → List ℕ → Type 0
 IsFrameOf gives line bytes =
-    (request : Request) × (text : List ℕ) × HasLine request × (line ≡ line_of request) × StandsFor gives (text_of request) text
+    (request : Request) × (text : List ℕ) × HasLine request × Spells request line × StandsFor gives (text_of request) text
     × IsFramed (with_text request text) × (bytes ≡ frame (payload_of (with_text request text)))
 
 -- a line, and what it becomes: nothing, or the frame of its request
@@ -37,13 +37,13 @@ EncodesLine gives item = IsOneLine item.0 × Becomes gives item
 
 -- it asks something, and is not the line of a request; or it is, and the text is one with which no frame carries the request
 abbrev pub IsBadLine : Gives → List ℕ → Type 0
-IsBadLine gives line = (is_comment line ≡ false) × ((request : Request) → HasLine request → line ≡ line_of request
+IsBadLine gives line = (is_comment line ≡ false) × ((request : Request) → HasLine request → Spells request line
     → (text : List ℕ) × StandsFor gives (text_of request) text × (IsFramed (with_text request text) → ⊥))
 
 -- it is the line of a request, and the text that it names cannot be read
 abbrev pub NamesUnreadable : Gives → List ℕ → Type 0
 NamesUnreadable gives line =
-    (request : Request) × HasLine request × (line ≡ line_of request) × (is_text_name (text_of request) ≡ true) × gives (drop 1 (text_of request)) None
+    (request : Request) × HasLine request × Spells request line × (is_text_name (text_of request) ≡ true) × gives (drop 1 (text_of request)) None
 
 -- lines one after another, each with a line feed behind it
 abbrev pub lines_of : List (List ℕ × List ℕ) → List ℕ

@@ -11,11 +11,11 @@ use Rattle.map_core.specs.declared.op.Op.TheVariants as op
 use Rattle.wire.specs.declared.version.Version.{Version}
 use Rattle.wire.specs.declared.version.Version.TheVariants.{One, Three}
 use Rattle.wire.specs.declared.judge.Judged.{Judged}
-use Rattle.wire.specs.declared.judge.Judged.TheVariants.{Ask, SetVersion}
+use Rattle.wire.specs.declared.judge.Judged.TheVariants.{Ask, SetVersion, TellCounts}
 use Rattle.wire.specs.declared.refusal.Refusal.{Refusal}
 use Rattle.wire.specs.declared.refusal.Refusal.TheVariants.{BadRequest, PassedOver}
 use Rattle.wire.specs.Refusal.{name_refusal, document_refusal}
-use Rattle.wire.specs.RequestForm.{Request, Set, SetIf, Append, Remove, Get, Fetch, FetchUnless, Speak}
+use Rattle.wire.specs.RequestForm.{Request, Set, SetIf, Append, Remove, Get, Fetch, FetchUnless, Stats, Speak}
 use Rattle.wire.specs.PayloadReading.{read_payload}
 
 infixl 10 ◌>>=◌
@@ -55,7 +55,7 @@ named_bundle name text = do
   bundle ← parse_bundle text
   Ok (domain, bundle)
 
--- What a request asks in a session of this version. A conditional set is of version 2, and a conditional fetch of version 3.
+-- What a request asks in a session of this version. A conditional set is of version 2; a conditional fetch and counts are of version 3.
 unfoldable pub judged : Version → Request → Result Judged Refusal
 judged version (Set name text) = do
   item ← named_bundle name text
@@ -77,6 +77,8 @@ judged version (Get name) = do
 judged version Fetch = Ok (Ask op.FetchAll)
 judged Three (FetchUnless known) = Ok (Ask (op.FetchUnless known))
 judged version (FetchUnless known) = Err BadRequest
+judged Three Stats = Ok TellCounts
+judged version Stats = Err BadRequest
 judged version (Speak wanted) = Ok (SetVersion wanted)
 
 abbrev pub judged_if : Version → Option Request → Result Judged Refusal

@@ -5,7 +5,7 @@ use Rattle.map_core.specs.declared.op.Expect.{Expect}
 use Rattle.map_core.specs.declared.op.Expect.TheVariants.{Absent, Sequence, Unnumbered}
 use Rattle.wire.specs.declared.version.Version.{Version}
 use Rattle.wire.specs.declared.version.Version.TheVariants.{One, Two, Three}
-use Rattle.wire.specs.RequestForm.{Request, Set, SetIf, Append, Remove, Get, Fetch, FetchUnless, Speak}
+use Rattle.wire.specs.RequestForm.{Request, Set, SetIf, Append, Remove, Get, Fetch, FetchUnless, Stats, Speak}
 
 infixl 10 ◌>>=◌
 abbrev pub ◌>>=◌ : {A B : Type 0} → Option A → (A → Option B) → Option B
@@ -67,6 +67,7 @@ request_by_letter letter bytes =
     else if letter == 71 then option_map Get (lone_named bytes)
     else if letter == 70 then at_end Fetch bytes
     else if letter == 85 then option_map FetchUnless (digest_in bytes)
+    else if letter == 77 then at_end Stats bytes
     else if letter == 86 then option_map Speak (version_in bytes)
     else if letter == 67 then set_if_in bytes
     else None

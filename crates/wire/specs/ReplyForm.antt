@@ -22,6 +22,7 @@ pub data Reply : Type 0 where
   All : (count : ℕ) → Reply
   Bundle : (name text : List ℕ) → Reply
   Same : Reply
+  Counts : (text : List ℕ) → Reply
   Speaks : (version : Version) → Reply
   Refused : (number : ℕ) (detail : Detail) → Reply
   Moved : (shard first second : ℕ) → Reply
@@ -40,6 +41,7 @@ reply (borrowed.Found text) = Found text.now
 reply (borrowed.All count) = All count
 reply (borrowed.Bundle name text) = Bundle name.now text.now
 reply borrowed.Same = Same
+reply (borrowed.Counts text) = Counts text.now
 reply (borrowed.Speaks version) = Speaks version
 reply (borrowed.Refused number detail) = Refused number detail
 reply (borrowed.Moved shard first second) = Moved shard first second
@@ -115,6 +117,7 @@ line_of (Found text) = codes "found" then text
 line_of (All count) = codes "all" then decimal count
 line_of (Bundle name text) = codes "bundle" then name then text
 line_of Same = codes "same"
+line_of (Counts text) = codes "stats" then text
 line_of (Speaks version) = codes "version" then version_word version
 line_of (Refused number detail) = codes "refused" then refusal_words number detail
 line_of (Moved shard first second) = codes "moved" then decimal shard then decimal first then decimal second
@@ -133,6 +136,7 @@ HasLine (Found text) = Unit {0}
 HasLine (All count) = count < 2 ^ 64
 HasLine (Bundle name text) = IsNameWord name
 HasLine Same = Unit {0}
+HasLine (Counts text) = Unit {0}
 HasLine (Speaks version) = Unit {0}
 HasLine (Refused number detail) = IsRefusal number detail
 HasLine (Moved shard first second) = (shard < 2 ^ 32) × (first < 2 ^ 64) × (second < 2 ^ 64)
@@ -159,6 +163,7 @@ payload_of (Found text) = 102 ∷ text
 payload_of (All count) = count_payload count
 payload_of (Bundle name text) = bundle_payload name text
 payload_of Same = 101 ∷ []
+payload_of (Counts text) = 109 ∷ text
 payload_of (Speaks version) = 118 ∷ version_number version ∷ []
 payload_of (Refused number detail) = number ∷ detail_bytes detail
 payload_of (Moved shard first second) = 41 ∷ to_be_bytes w32 shard ++ (to_be_bytes w64 first ++ to_be_bytes w64 second)
@@ -186,6 +191,7 @@ is_error_code code = (code == 22) || ((code == 40) || ((code == 41) || ((code ==
 -- the text at the end, if there is one
 abbrev pub text_of : Reply → List ℕ
 text_of (Found text) = text
+text_of (Counts text) = text
 text_of (Bundle name text) = text
 text_of reply = []
 

@@ -1,5 +1,5 @@
 -- Requests as lines of text, and as the payloads of frames.
-use Rattle.std.specs.Prelude.{◌≡◌, ℕ, ◌<◌, ◌≤◌, ◌^◌, List, [], ◌∷◌, ◌++◌, length, codes, decimal, Bool, false, ◌==◌}
+use Rattle.std.specs.Prelude.{◌≡◌, ◌⊎◌, ℕ, ◌<◌, ◌≤◌, ◌^◌, List, [], ◌∷◌, ◌++◌, length, codes, decimal, Bool, false, ◌==◌}
 use Rattle.std.specs.List.{list_any}
 use Rattle.map_core.specs.declared.op.Expect.{Expect}
 use Rattle.map_core.specs.declared.op.Expect.TheVariants.{Absent, Sequence, Unnumbered}
@@ -22,6 +22,7 @@ pub data Request : Type 0 where
   Get : (name : List ℕ) → Request
   Fetch : Request
   FetchUnless : (known : List ℕ) → Request
+  Stats : Request
   Speak : (version : Version) → Request
 
 -- what a form says
@@ -33,6 +34,7 @@ request (borrowed.Remove name) = Remove name.now
 request (borrowed.Get name) = Get name.now
 request borrowed.Fetch = Fetch
 request (borrowed.FetchUnless known) = FetchUnless known
+request borrowed.Stats = Stats
 request (borrowed.Speak version) = Speak version
 
 -- ---- as a line
@@ -62,7 +64,18 @@ line_of (Remove name) = codes "remove" then name
 line_of (Get name) = codes "get" then name
 line_of Fetch = codes "fetch"
 line_of (FetchUnless known) = codes "fetch" then codes "unless" then encode_lower known
+line_of Stats = codes "stats"
 line_of (Speak version) = codes "version" then version_word version
+
+-- its word, or unnumbered in place of none
+abbrev pub SpellsExpect : Expect → List ℕ → Type 0
+SpellsExpect Unnumbered word = (word ≡ expect_word Unnumbered) ⊎ (word ≡ codes "unnumbered")
+SpellsExpect expect word = word ≡ expect_word expect
+
+-- A line that says the request: its line, or one that spells the expectation otherwise.
+abbrev pub Spells : Request → List ℕ → Type 0
+Spells (SetIf name expect text) line = (word : List ℕ) × SpellsExpect expect word × (line ≡ codes "setif" then name then word then text)
+Spells request line = line ≡ line_of request
 
 -- no space is in it
 abbrev pub IsWord : List ℕ → Type 0
@@ -90,6 +103,7 @@ HasLine (Remove name) = IsNameWord name
 HasLine (Get name) = IsNameWord name
 HasLine Fetch = Unit {0}
 HasLine (FetchUnless known) = IsDigest known
+HasLine Stats = Unit {0}
 HasLine (Speak version) = Unit {0}
 
 -- ---- as the payload of a frame
@@ -103,6 +117,7 @@ payload_of (Remove name) = 82 ∷ named name
 payload_of (Get name) = 71 ∷ named name
 payload_of Fetch = 70 ∷ []
 payload_of (FetchUnless known) = 85 ∷ known
+payload_of Stats = 77 ∷ []
 payload_of (Speak version) = 86 ∷ version_number version ∷ []
 
 -- the name's length is one byte, and numbers fit
@@ -114,6 +129,7 @@ HasPayload (Remove name) = length name < 256
 HasPayload (Get name) = length name < 256
 HasPayload Fetch = Unit {0}
 HasPayload (FetchUnless known) = IsDigest known
+HasPayload Stats = Unit {0}
 HasPayload (Speak version) = Unit {0}
 
 -- ---- written

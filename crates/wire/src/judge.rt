@@ -19,6 +19,8 @@ pub enum Judged {
     Ask(Op),
     /// The version that the session has from now on.
     SetVersion(Version),
+    /// What whoever is asked has counted. Nothing is asked of the map.
+    TellCounts,
 }
 
 /// Reads a payload as a request. Refusals come in this order: no request at all, a bad name, a bad
@@ -65,12 +67,11 @@ impl<'a> RequestForm<'a> {
             RequestForm::Remove(name) => Op::Remove(read_name(alloc, name)?),
             RequestForm::Get(name) => Op::Get(read_name(alloc, name)?),
             RequestForm::Fetch => Op::FetchAll,
-            RequestForm::FetchUnless(known) => {
-                if version != Version::Three {
-                    return Err(Refusal::BadRequest);
-                }
-                Op::FetchUnless(known)
+            RequestForm::FetchUnless(_) | RequestForm::Stats if version != Version::Three => {
+                return Err(Refusal::BadRequest);
             }
+            RequestForm::FetchUnless(known) => Op::FetchUnless(known),
+            RequestForm::Stats => return Ok(Judged::TellCounts),
             RequestForm::Speak(wanted) => return Ok(Judged::SetVersion(wanted)),
         };
         Ok(Judged::Ask(op))

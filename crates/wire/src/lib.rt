@@ -47,7 +47,7 @@ pub use map_core::{canonical_text, item_front};
 pub use output::{tell, tell_flushed, write_both, write_flushed, write_whole};
 pub use payload_line::{PayloadError, put_line_of};
 pub use refusal::Refusal;
-pub use reply::payload::{FRONT_BYTES, ReplyFront, found_front, reply_of_payload};
+pub use reply::payload::{FRONT_BYTES, ReplyFront, counts_front, found_front, reply_of_payload};
 pub use reply::{Detail, ReplyForm, is_error_code};
 pub use request::RequestForm;
 pub use request::line::request_of_line;

@@ -24,6 +24,8 @@ pub enum ReplyForm<'a> {
     All(u64),
     /// All bundles have the digest that was known.
     Same,
+    /// What was counted: words `name=value` with single spaces between.
+    Counts(&'a [u8]),
     /// One of all bundles: its name and its text.
     Bundle(&'a [u8], &'a [u8]),
     /// The session speaks this version from now on.
@@ -49,6 +51,7 @@ impl<'a> ReplyForm<'a> {
     {
         match self {
             ReplyForm::Found(text) => text,
+            ReplyForm::Counts(text) => text,
             ReplyForm::Bundle(_, text) => text,
             _ => &[],
         }

@@ -26,6 +26,8 @@ pub enum RequestForm<'a> {
     Fetch,
     /// They are, unless their digest is this one.
     FetchUnless(DumpDigest),
+    /// Whoever answers tells what it has counted.
+    Stats,
     /// The session speaks this version from now on.
     Speak(Version),
 }

@@ -8,7 +8,7 @@ pub enum Version {
     One,
     /// Adds the letter C: a document is set if what stands there is what is expected.
     Two,
-    /// Adds the letter U: all bundles are fetched unless their digest is the one that is known.
+    /// Adds the letters U and M: all bundles are fetched unless their digest is the one that is known, and counts are told.
     Three,
 }
 

@@ -5,7 +5,7 @@ use test_kit::{holds_at, is_equal_at};
 use wire::{Detail, PayloadError, ReplyForm, put_line_of, reply_of_payload};
 
 /// Lines and their payloads, as docs/FORMATS.md has them.
-static PAYLOADS: [(&[u8], &[u8]); 29] = [
+static PAYLOADS: [(&[u8], &[u8]); 31] = [
     (b"stored", b"s"),
     (b"unchanged", b"u"),
     (b"removed", b"d"),
@@ -15,6 +15,8 @@ static PAYLOADS: [(&[u8], &[u8]); 29] = [
     (b"found ", b"f"),
     (b"all 258", b"a\x00\x00\x00\x00\x00\x00\x01\x02"),
     (b"bundle a.b {\"keys\":[]}", b"i\x03a.b{\"keys\":[]}"),
+    (b"stats ", b"m"),
+    (b"stats a=1 b=2", b"ma=1 b=2"),
     (b"version 1", b"v\x01"),
     (b"same", b"e"),
     (b"version 2", b"v\x02"),
@@ -87,8 +89,9 @@ static NOT_PAYLOADS: [&[u8]; 17] = [
 ];
 
 /// Replies without a line.
-static FORMS: [ReplyForm<'static>; 7] = [
+static FORMS: [ReplyForm<'static>; 8] = [
     ReplyForm::Found(b"{\n}"),
+    ReplyForm::Counts(b"a=1\nb=2"),
     ReplyForm::Bundle(b"a b", b"{}"),
     ReplyForm::Bundle(b"a\n", b"{}"),
     ReplyForm::Bundle(b"a", b"{}\n"),

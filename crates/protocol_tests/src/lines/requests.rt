@@ -25,7 +25,7 @@ fn line_of(alloc: Global, form: &RequestForm<'_>) -> Result<Option<Vec<u8>>, All
 }
 
 /// Lines and their frames, as docs/FORMATS.md has them.
-static FRAMES: [(&[u8], &[u8]); 15] = [
+static FRAMES: [(&[u8], &[u8]); 16] = [
     (
         b"set a {\"keys\":[]}",
         b"\x00\x00\x00\x0eS\x01a{\"keys\":[]}",
@@ -50,6 +50,7 @@ static FRAMES: [(&[u8], &[u8]); 15] = [
     (b"get a", b"\x00\x00\x00\x03G\x01a"),
     (b"get ", b"\x00\x00\x00\x02G\x00"),
     (b"fetch", b"\x00\x00\x00\x01F"),
+    (b"stats", b"\x00\x00\x00\x01M"),
     (b"version 2", b"\x00\x00\x00\x02V\x02"),
     (b"version 3", b"\x00\x00\x00\x02V\x03"),
     (
@@ -72,7 +73,11 @@ fn lines_become_frames_and_frames_lines(rt: HostRuntime) -> Result<(), Fail> {
     Ok(())
 }
 
-static NOT_LINES: [&[u8]; 28] = [
+static NOT_LINES: [&[u8]; 32] = [
+    b"stats ",
+    b"stats a",
+    b"Stats",
+    b"setif a Unnumbered {}",
     b"",
     b" ",
     b"set",
@@ -103,7 +108,8 @@ static NOT_LINES: [&[u8]; 28] = [
     b" get a",
 ];
 
-static NOT_PAYLOADS: [&[u8]; 17] = [
+static NOT_PAYLOADS: [&[u8]; 18] = [
+    b"M\x00",
     b"",
     b"G",
     b"G\x02a",
@@ -122,6 +128,22 @@ static NOT_PAYLOADS: [&[u8]; 17] = [
     b"C\x01a\x01\x00\x00\x00\x00\x00\x00\x07",
     b"C\x01a\x03{}",
 ];
+
+/// Lines that are spelled otherwise than they are written, with what is written.
+static SPELLED: [(&[u8], &[u8]); 2] = [
+    (b"setif a unnumbered {}", b"setif a none {}"),
+    (b"setif unnumbered unnumbered ", b"setif unnumbered none "),
+];
+
+#[test]
+fn a_bundle_without_a_sequence_has_two_words(rt: HostRuntime) -> Result<(), Fail> {
+    for &(line, written) in &SPELLED {
+        let form = request_of_line(line).ok_or("the line is a request")?;
+        let found = line_of(rt.alloc(), &form)?.ok_or("the request has a line")?;
+        is_equal_at(&found.as_slice(), &written, &line)?;
+    }
+    Ok(())
+}
 
 /// Requests without a line.
 static NO_LINES: [&[u8]; 8] = [

@@ -3,7 +3,7 @@ use Rattle.std.specs.Prelude.{ℕ, List, [], ◌∷◌, length, take, drop, nat_
 use Rattle.std.specs.Int.{w32, w64, from_be_bytes}
 use Rattle.map_core.specs.declared.op.Expect.{Expect}
 use Rattle.map_core.specs.declared.op.Expect.TheVariants.{Absent, Sequence, Unnumbered}
-use Rattle.wire.specs.ReplyForm.{is_error_code, Reply, Stored, Unchanged, Removed, Appended, Found, All, Same, Bundle, Speaks, Refused, Moved, Held, Worn, Memory, Shut, kind_of}
+use Rattle.wire.specs.ReplyForm.{is_error_code, Reply, Stored, Unchanged, Removed, Appended, Found, All, Same, Counts, Bundle, Speaks, Refused, Moved, Held, Worn, Memory, Shut, kind_of}
 use Rattle.wire.specs.declared.reply.Detail.{Detail}
 use Rattle.wire.specs.declared.reply.Detail.TheVariants.{Nothing, Place, SequenceOf, Expected}
 use Rattle.wire.specs.declared.reply.Kind.{Kind}
@@ -78,6 +78,7 @@ reply_by_letter letter bytes =
     else if letter == 97 then option_map All (long_number bytes)
     else if letter == 105 then option_map (of_both Bundle) (split_named bytes)
     else if letter == 101 then at_end Same bytes
+    else if letter == 109 then Some (Counts bytes)
     else if letter == 118 then option_map Speaks (version_in bytes)
     else None
 

@@ -7,7 +7,7 @@ use Rattle.map_core.specs.declared.op.Expect.{Expect}
 use Rattle.map_core.specs.declared.op.Expect.TheVariants.{Absent, Sequence, Unnumbered}
 use Rattle.wire.specs.declared.version.Version.{Version}
 use Rattle.wire.specs.declared.version.Version.TheVariants.{One, Two, Three}
-use Rattle.wire.specs.RequestForm.{Request, Set, SetIf, Append, Remove, Get, Fetch, FetchUnless, Speak}
+use Rattle.wire.specs.RequestForm.{Request, Set, SetIf, Append, Remove, Get, Fetch, FetchUnless, Stats, Speak}
 use Rattle.wire.specs.PayloadReading.{◌>>=◌, of_both}
 
 abbrev pub after_byte : ℕ → Option (List ℕ × List ℕ) → Option (List ℕ × List ℕ)
@@ -54,6 +54,7 @@ unfoldable pub expect_of : List ℕ → Option Expect
 expect_of word =
     if bytes_eq word (codes "absent") then Some Absent
     else if bytes_eq word (codes "none") then Some Unnumbered
+    else if bytes_eq word (codes "unnumbered") then Some Unnumbered
     else option_map Sequence (number_of word)
 
 unfoldable pub version_of : List ℕ → Option Version
@@ -96,7 +97,10 @@ request_by_verb verb rest =
     else None
 
 abbrev pub request_by_split : List ℕ → Option (List ℕ × List ℕ) → Option Request
-request_by_split line None = if bytes_eq line (codes "fetch") then Some Fetch else None
+request_by_split line None =
+    if bytes_eq line (codes "fetch") then Some Fetch
+    else if bytes_eq line (codes "stats") then Some Stats
+    else None
 request_by_split line (Some parts) = request_by_verb parts.0 parts.1
 
 -- the request of a line

@@ -34,6 +34,7 @@ impl<'a> ReplyForm<'a> {
             ReplyForm::Appended(None) => Some(head_of(b"appended -")),
             ReplyForm::Appended(Some(sequence)) => Some(number_words(b"appended ", *sequence)),
             ReplyForm::Found(_) => Some(head_of(b"found ")),
+            ReplyForm::Counts(_) => Some(head_of(b"stats ")),
             ReplyForm::All(count) => Some(number_words(b"all ", *count)),
             ReplyForm::Bundle(name, _) => bundle_words(name),
             ReplyForm::Same => Some(head_of(b"same")),

@@ -145,6 +145,7 @@ fn read_by_letter(letter: u8, bytes: &[u8]) -> Option<ReplyForm<'_>>
             Some(ReplyForm::Bundle(name, text))
         }
         (b'e', []) => Some(ReplyForm::Same),
+        (b'm', _) => Some(ReplyForm::Counts(bytes)),
         (b'v', _) => Some(ReplyForm::Speaks(read_version(bytes)?)),
         _ => None,
     }
@@ -184,6 +185,7 @@ impl<'a> ReplyForm<'a> {
             ReplyForm::Removed => front_of(b'd', &[]),
             ReplyForm::Appended(sequence) => front_of(b'p', sequence_bytes(*sequence).as_slice()),
             ReplyForm::Found(text) => found_front(text),
+            ReplyForm::Counts(text) => counts_front(text),
             ReplyForm::Bundle(_, _) => unreachable!(),
             ReplyForm::All(count) => front_of(b'a', &count.to_be_bytes()),
             ReplyForm::Speaks(version) => front_of(b'v', &[version.number()]),
@@ -248,10 +250,28 @@ pub fn found_front(text: &[u8]) -> ReplyFront
     ensures whole { result.items ++ text.now ≡ frame (102 ∷ text.now) }
     ensures long { length result.items ≡ 5 }
 {
+    text_front(b'f', text)
+}
+
+/// The same of counts.
+pub fn counts_front(text: &[u8]) -> ReplyFront
+    requires short { length text.now ≤ 1048576 }
+    ensures whole { result.items ++ text.now ≡ frame (109 ∷ text.now) }
+    ensures long { length result.items ≡ 5 }
+{
+    text_front(b'm', text)
+}
+
+/// What stands before a text that follows a code.
+fn text_front(code: u8, text: &[u8]) -> ReplyFront
+    requires short { length text.now ≤ 1048576 }
+    ensures whole { result.items ++ text.now ≡ frame (code ∷ text.now) }
+    ensures long { length result.items ≡ 5 }
+{
     let mut front = ArrayVec::new();
     let size = (text.len() + 1) as u32;
     put(&mut front, &size.to_be_bytes());
-    put(&mut front, b"f");
+    put(&mut front, &[code]);
     front
 }
 

@@ -2,7 +2,7 @@
 ghost use Rattle.std.specs.Prelude.{◌≡◌, false, ◌+◌, ◌≤◌, [], ◌∷◌, ◌++◌, ◌==◌, codes, length, None, Some, Option, MatchOption, IfSome};
 ghost use Rattle.std.specs.List.{list_any};
 ghost use Rattle.arrayvec.specs.ArrayVec.{array_vec_len};
-ghost use Rattle.wire.specs.RequestForm.{Request, request, text_of, line_of, expect_word, HasLine, IsLined, IsNameWord, IsOneLine, is_text_name, ◌then◌};
+ghost use Rattle.wire.specs.RequestForm.{Request, request, text_of, line_of, expect_word, HasLine, IsLined, IsNameWord, IsOneLine, Spells, is_text_name, ◌then◌};
 ghost use Rattle.hex.specs.Hex.{encode_lower};
 ghost use Rattle.wire.specs.Private.RequestReading.{expect_of, version_of, digest_of, fetch_unless_of, set_if_of, request_by_verb, read_line as line_read};
 
@@ -13,14 +13,14 @@ use crate::request::{MAX_NAME, RequestForm};
 use crate::word::{lone_name, read_number, split_name, split_word};
 use map_core::{DIGEST_BYTES, DumpDigest, Expect};
 
-/// `absent`, `none` for a bundle without a sequence, or a sequence.
+/// `absent`, `none` or `unnumbered` for a bundle without a sequence, or a sequence.
 #[tactic(auto, unfolding(crate::specs::Private::RequestReading::expect_of))]
 pub(crate) fn read_expect(word: &[u8]) -> Option<Expect>
     ensures { result ≡ expect_of word.now }
 {
     if word == b"absent".as_slice() {
         Some(Expect::Absent)
-    } else if word == b"none".as_slice() {
+    } else if word == b"none".as_slice() || word == b"unnumbered".as_slice() {
         Some(Expect::Unnumbered)
     } else {
         Some(Expect::Sequence(read_number(word)?))
@@ -119,14 +119,15 @@ fn read_line(line: &[u8]) -> Option<RequestForm<'_>>
     match split_word(line) {
         Some((verb, rest)) => read_by_verb(verb, rest),
         None if line == b"fetch".as_slice() => Some(RequestForm::Fetch),
+        None if line == b"stats".as_slice() => Some(RequestForm::Stats),
         None => None,
     }
 }
 
 /// The request of a line, without its line feed. None if the line is not a request.
 pub fn request_of_line(line: &[u8]) -> Option<RequestForm<'_>>
-    ensures found { IfSome result (λ form. (line.now ≡ line_of (request form)) × HasLine (request form)) }
-    ensures only { (wanted : Request) → HasLine wanted → line.now ≡ line_of wanted → MatchOption result ⊥ (λ form. request form ≡ wanted) }
+    ensures found { IfSome result (λ form. Spells (request form) line.now × HasLine (request form)) }
+    ensures only { (wanted : Request) → HasLine wanted → Spells wanted line.now → MatchOption result ⊥ (λ form. request form ≡ wanted) }
 {
     read_line(line)
 }
@@ -149,6 +150,7 @@ impl<'a> RequestForm<'a> {
             RequestForm::Fetch => Some(head_of(b"fetch")),
             RequestForm::Speak(Version::One) => Some(head_of(b"version 1")),
             RequestForm::FetchUnless(known) => Some(digest_words(known)),
+            RequestForm::Stats => Some(head_of(b"stats")),
             RequestForm::Speak(Version::Two) => Some(head_of(b"version 2")),
             RequestForm::Speak(Version::Three) => Some(head_of(b"version 3")),
         }

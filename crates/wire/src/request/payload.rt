@@ -102,6 +102,7 @@ fn read_payload(payload: &[u8]) -> Option<RequestForm<'_>>
         [b'G', bytes @ ..] => Some(RequestForm::Get(lone_named(bytes)?)),
         b"F" => Some(RequestForm::Fetch),
         [b'U', bytes @ ..] => Some(RequestForm::FetchUnless(read_digest(bytes)?)),
+        b"M" => Some(RequestForm::Stats),
         [b'V', bytes @ ..] => Some(RequestForm::Speak(read_version(bytes)?)),
         [b'C', bytes @ ..] => read_set_if(bytes),
         _ => None,
@@ -135,6 +136,7 @@ impl<'a> RequestForm<'a> {
             RequestForm::Get(name) => named_head(b'G', name, &[], &[]),
             RequestForm::Fetch => Some(head_of(&[0, 0, 0, 1, b'F'])),
             RequestForm::FetchUnless(known) => Some(digest_head(known)),
+            RequestForm::Stats => Some(head_of(&[0, 0, 0, 1, b'M'])),
             RequestForm::Speak(version) => Some(head_of(&[0, 0, 0, 2, b'V', version.number()])),
         }
     }

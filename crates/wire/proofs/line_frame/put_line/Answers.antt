@@ -1,6 +1,6 @@
 use Rattle.std.proofs.Common.{◌≡◌, ℕ, List, false, refl, sym, ap, subst, ◌∙◌, inr}
 use Rattle.wire.specs.Encoding.{Gives, IsBadLine, is_comment}
-use Rattle.wire.specs.RequestForm.{Request, Set, SetIf, Append, Remove, Get, Fetch, FetchUnless, Speak, HasLine, IsFramed, is_text_name, line_of, request, text_of, with_text}
+use Rattle.wire.specs.RequestForm.{Request, Set, SetIf, Append, Remove, Get, Fetch, FetchUnless, Stats, Speak, HasLine, IsFramed, Spells, is_text_name, request, text_of, with_text}
 use Rattle.wire.proofs.line_frame.put_line.Goals as goal
 
 with_its_own : (request : Request) → with_text request (text_of request) ≡ request
@@ -11,10 +11,11 @@ with_its_own (Remove name) = refl
 with_its_own (Get name) = refl
 with_its_own Fetch = refl
 with_its_own (FetchUnless known) = refl
+with_its_own Stats = refl
 with_its_own (Speak version) = refl
 
 -- no frame carries the request of the line, whose text stands for itself
-bad : (gives : Gives) (line : List ℕ) (form : Request) → is_comment line ≡ false → ((wanted : Request) → HasLine wanted → line ≡ line_of wanted → form ≡ wanted)
+bad : (gives : Gives) (line : List ℕ) (form : Request) → is_comment line ≡ false → ((wanted : Request) → HasLine wanted → Spells wanted line → form ≡ wanted)
     → is_text_name (text_of form) ≡ false → (IsFramed form → ⊥) → IsBadLine gives line
 bad gives line form asks only direct long = (
   asks,

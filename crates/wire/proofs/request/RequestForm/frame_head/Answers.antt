@@ -2,7 +2,7 @@ use Rattle.std.proofs.Common.{◌≡◌, ℕ, ◌<◌, ◌≤◌, List, MatchOpt
 use Rattle.wire.specs.Frame.{frame, most_payload}
 use Rattle.wire.specs.Fields.{expect_bytes, version_number}
 use Rattle.wire.specs.RequestForm.{named}
-use Rattle.wire.proofs.Heads.{fetch_frame, speak_frame}
+use Rattle.wire.proofs.Heads.{fetch_frame, stats_frame, speak_frame}
 use Rattle.wire.proofs.request.RequestForm.frame_head.Goals as goal
 
 pub returns-in-SetIf-clause-head : goal.returns-in-SetIf-clause-head
@@ -14,6 +14,9 @@ returns-in-SetIf-clause-head c =
 
 pub returns-in-Fetch-clause-head : goal.returns-in-Fetch-clause-head
 returns-in-Fetch-clause-head c = rw c.in-Fetch.is ((omega arith, omega arith), append-nil c.head_of.result.items ∙ c.head_of.ensures ∙ fetch_frame)
+
+pub returns-in-Stats-clause-head : goal.returns-in-Stats-clause-head
+returns-in-Stats-clause-head c = rw c.in-Stats.is ((omega arith, omega arith), append-nil c.head_of-in-Stats.result.items ∙ c.head_of-in-Stats.ensures ∙ stats_frame)
 
 pub returns-in-FetchUnless-clause-head : goal.returns-in-FetchUnless-clause-head
 returns-in-FetchUnless-clause-head c =
