@@ -5,7 +5,7 @@ ghost use Rattle.commands.specs.Fault.{asking_numbers, fault_line, fault_number,
 ghost use Rattle.wire.specs.Output.{Tells, TellsUnlessFailed, end_of};
 
 use arrayvec::ArrayVec;
-use client::ClientError;
+use client::{AskFault, ClientError};
 use frame_front::DumpError;
 use itoa::Buffer;
 use map_core::AskError;
@@ -105,6 +105,22 @@ impl From<DumpError> for Fault {
 
     fn from(error: DumpError) -> Fault {
         Fault::Dump(error)
+    }
+}
+
+impl From<AskFault> for Fault {
+    ghost use Rattle.std.specs.Prelude.{◌≡◌};
+    ghost use Rattle.commands.specs.Ask.{asking_fault};
+
+    ghost from_gives = { λ error fault. fault ≡ asking_fault error };
+
+    fn from(error: AskFault) -> Fault {
+        match error {
+            AskFault::BadLine(line) => Fault::BadLine(line),
+            AskFault::Unreadable(line) => Fault::UnreadText(line),
+            AskFault::Server(error) => Fault::Server(ServerFault::Client(error)),
+            AskFault::Front(error) => Fault::Front(error),
+        }
     }
 }
 

@@ -1,3 +1,4 @@
+mod CountWords
 mod ReportLemmas
 pub mod LogLines
 pub mod Keeping

@@ -1,3 +1,5 @@
+pub mod Address
+pub mod Counts
 pub mod LogLine
 pub mod Saving
 pub mod Serve

@@ -7,10 +7,10 @@ use Rattle.server.specs.LogLine.{change_line}
 use Rattle.server.specs.Serve.{IsOffered}
 
 -- what its end holds, if that is known, and how many lines it did not take whole
-abbrev pub log_end : {N : Type 0} → (N → Option (List ℕ)) → LineLog N → End
+abbrev pub log_end : {C N : Type 0} → (N → Option (List ℕ)) → LineLog C N → End
 log_end held_of log = record { bytes = held_of log.end; faults = log.left_out }
 
 -- The line of the change is written whole; or only a front of it, and it is counted.
-abbrev pub TellsChange : {N : Type 0} → (N → Option (List ℕ)) → ℕ → ChangeView → LineLog N → LineLog N → Type 0
+abbrev pub TellsChange : {C N : Type 0} → (N → Option (List ℕ)) → ℕ → ChangeView → LineLog C N → LineLog C N → Type 0
 TellsChange held_of worker change old new =
     (taken : Bool) × IsOffered taken (change_line worker change) (log_end held_of old) (log_end held_of new) × (new.is_on ≡ old.is_on)

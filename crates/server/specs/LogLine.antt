@@ -1,15 +1,16 @@
--- The lines of the log of a server: one for each change of a bundle, for each that was refused because another was faster, and for
--- each end of a session.
+-- The lines of the log of a server: one for each change of a bundle, for each that was refused by 31 or 36, or at a port for
+-- reads only, and for each end of a session.
 use Rattle.std.specs.Prelude.{ℕ, List, [], ◌∷◌, ◌++◌, codes, decimal, Option, None, Some, Result, Ok, Err}
 use Rattle.map_core.specs.declared.op.Expect.{Expect}
 use Rattle.map_core.specs.declared.op.Expect.TheVariants.{Absent, Unnumbered, Sequence}
 use Rattle.map_core.specs.Reply.{refusal_number}
-use Rattle.map_core.specs.declared.reply.MapRefusal.{MapRefusal}
 use Rattle.map_core.specs.declared.reply.MapRefusal.TheVariants.{Stale, NotExpected}
 use Rattle.workers.specs.Ended.{session_number}
 use Rattle.workers.specs.Log.{ChangeView}
 use Rattle.workers.specs.declared.log.How.{How}
 use Rattle.workers.specs.declared.log.How.TheVariants.{Set, Appended, Removed}
+use Rattle.workers.specs.declared.log.ChangeRefusal.{ChangeRefusal}
+use Rattle.workers.specs.declared.log.ChangeRefusal.TheVariants.{Map, ReadOnly}
 use Rattle.workers.specs.declared.ended.SessionFault.{SessionFault}
 
 abbrev pub how_word : How → List ℕ
@@ -35,17 +36,27 @@ change_line worker change =
     ++ before_word change.before ++ codes " to " ++ state_word change.after ++ 10 ∷ []
 
 -- the number of a refusal; with 31 the sequence that stands there, and with 36 what stands there
-abbrev pub refusal_words : MapRefusal → List ℕ
-refusal_words (Stale sequence) = codes "31 " ++ decimal sequence
-refusal_words (NotExpected found) = codes "36 " ++ state_word found
-refusal_words refusal = decimal (refusal_number refusal)
+abbrev pub refusal_words : ChangeRefusal → List ℕ
+refusal_words (Map (Stale sequence)) = codes "31 " ++ decimal sequence
+refusal_words (Map (NotExpected found)) = codes "36 " ++ state_word found
+refusal_words (Map refusal) = decimal (refusal_number refusal)
+refusal_words ReadOnly = codes "56"
 
 -- such as `worker 3 refused a.example 31 7`; a line feed ends it
-abbrev pub refusal_line : ℕ → List ℕ → MapRefusal → List ℕ
+abbrev pub refusal_line : ℕ → List ℕ → ChangeRefusal → List ℕ
 refusal_line worker domain refusal =
     codes "worker " ++ decimal worker ++ codes " refused " ++ domain ++ codes " " ++ refusal_words refusal ++ 10 ∷ []
 
--- such as `worker 3 session ended after 12 replies`, or `worker 3 session fault 53`; a line feed ends it
-abbrev pub end_line : ℕ → Result ℕ SessionFault → List ℕ
-end_line worker (Ok count) = codes "worker " ++ decimal worker ++ codes " session ended after " ++ decimal count ++ codes " replies" ++ 10 ∷ []
-end_line worker (Err fault) = codes "worker " ++ decimal worker ++ codes " session fault " ++ decimal (session_number fault) ++ 10 ∷ []
+-- such as `worker 3 session ended after 12 replies`, or `worker 3 session fault 53`
+abbrev pub end_words : ℕ → Result ℕ SessionFault → List ℕ
+end_words worker (Ok count) = codes "worker " ++ decimal worker ++ codes " session ended after " ++ decimal count ++ codes " replies"
+end_words worker (Err fault) = codes "worker " ++ decimal worker ++ codes " session fault " ++ decimal (session_number fault)
+
+-- such as ` from 40312`, if the client has a port; a line feed ends it
+abbrev pub peer_words : Option ℕ → List ℕ
+peer_words None = 10 ∷ []
+peer_words (Some port) = codes " from " ++ decimal port ++ 10 ∷ []
+
+-- how a session of the worker ended, and the port of its client
+abbrev pub end_line : ℕ → Result ℕ SessionFault → Option ℕ → List ℕ
+end_line worker end peer = end_words worker end ++ peer_words peer

@@ -1,5 +1,5 @@
 -- What the command `serve` says, and how it ends.
-use Rattle.std.specs.Prelude.{◌≡◌, ◌⊎◌, ℕ, ◌+◌, ◌&&◌, min, if◌then◌else◌, List, [], ◌∷◌, ◌++◌, length, codes, decimal, Bool, true, false, Option, Some, None, Result, Ok, Err}
+use Rattle.std.specs.Prelude.{◌≡◌, ◌⊎◌, ℕ, ◌+◌, ◌&&◌, min, if◌then◌else◌, List, [], ◌∷◌, ◌++◌, length, codes, decimal, Bool, true, false, Option, Some, None, option_map, Result, Ok, Err}
 use Rattle.std.specs.List.{All, flat_map}
 use Rattle.std.specs.Io.KnownBytes.{Appends}
 use Rattle.wire.specs.Counted.{next_count}
@@ -15,6 +15,8 @@ use Rattle.shard_store.specs.Pass.{StoreView, PassView}
 use Rattle.shard_store.specs.declared.close.CloseError.{CloseError}
 use Rattle.commands.specs.declared.fault.Fault.{Fault}
 use Rattle.commands.specs.declared.fault.Fault.TheVariants.{Front, Dump, Listen as ListenFault, Close}
+use Rattle.server.specs.Address.{address_text}
+use Rattle.server.specs.declared.address.Address.{Address}
 use Rattle.server.specs.declared.lines.ServerLine.{ServerLine}
 use Rattle.server.specs.declared.lines.ServerLine.TheVariants.{Listening, Served, Domains}
 use Rattle.workers.specs.declared.ended.SessionFault.{SessionFault}
@@ -28,10 +30,14 @@ use Rattle.workers.specs.declared.filling.FillError.TheVariants as fill
 use Rattle.server.specs.Saving.{KeepsDump}
 use Rattle.workers.specs.Closing.{ranges_of, AreAll, ClosesAs}
 
--- a line of words, each with a number
+-- where it listens, and where for clients that only read, if there is such a place
+abbrev pub listening_line : Address → Option Address → List ℕ
+listening_line all None = codes "listening " ++ (address_text all ++ 10 ∷ [])
+listening_line all (Some reads) = codes "listening " ++ (address_text all ++ (codes " read-only " ++ (address_text reads ++ 10 ∷ [])))
+
+-- a line of words, each with an address or a number
 abbrev pub said_line : ServerLine → List ℕ
-said_line (Listening port None) = codes "listening " ++ (decimal port ++ 10 ∷ [])
-said_line (Listening port (Some read_port)) = codes "listening " ++ (decimal port ++ (codes " read-only " ++ (decimal read_port ++ 10 ∷ [])))
+said_line (Listening all reads) = listening_line all.now (option_map (λ address. address.now) reads)
 said_line (Served count) = codes "served " ++ (decimal count ++ 10 ∷ [])
 said_line (Domains count) = codes "domains " ++ (decimal count ++ 10 ∷ [])
 
@@ -174,13 +180,13 @@ module _ (Kept : List ℕ → Type 0) (Served : StoreView → List PassView → 
   ServesIf true store passes before status out_old out_new err_old err_new = Serves store passes before status out_old out_new err_old err_new
   ServesIf false store passes before status out_old out_new err_old err_new = (status ≡ 1) × (out_new ≡ out_old) × (err_new ≡ err_old)
 
-  -- The line of the ports is offered, and then connections are served.
-  pub record Listens (store : StoreView) (passes : List PassView) (port status : ℕ) (out_old out_new err_old err_new : End) : Type 0 where
+  -- The line of the addresses is offered, and then connections are served.
+  pub record Listens (store : StoreView) (passes : List PassView) (all : Address) (status : ℕ) (out_old out_new err_old err_new : End) : Type 0 where
     pub taken : Bool
     pub out : End
     pub error : End
-    pub read_port : Option ℕ
-    pub listening : IsOffered taken (said_line (Listening port read_port)) out_old out
+    pub reads : Option Address
+    pub listening : IsOffered taken (listening_line all reads) out_old out
     pub tells : TellsUnlessFailed err_old.faults err_old error (write_fault taken)
     pub serves : ServesIf taken store passes err_old.faults status out out_new error err_new
 
@@ -188,7 +194,7 @@ module _ (Kept : List ℕ → Type 0) (Served : StoreView → List PassView → 
   abbrev pub ServeRun : StoreView → List PassView → ℕ → End → End → End → End → Type 0
   ServeRun store passes status out_old out_new err_old err_new =
       EndsEarly ListenFault status out_old out_new err_old err_new
-      ⊎ ((port : ℕ) × Listens store passes port status out_old out_new err_old err_new)
+      ⊎ ((all : Address) × Listens store passes all status out_old out_new err_old err_new)
 
   -- The store is set up, and serves; or it is not, and why is told.
   abbrev pub SetUpRun : Settings → List ℕ → ℕ → End → End → End → End → Type 0

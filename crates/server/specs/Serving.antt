@@ -1,7 +1,6 @@
 -- The two forms of a server: what it is that workers have served their clients.
 use Rattle.std.specs.Prelude.{◌≡◌, ℕ, ◌+◌, ◌*◌, ◌<◌, min, List, map, Option, Some, None, Result, Ok, Err}
 use Rattle.std.specs.List.{All}
-use Rattle.std.specs.declared.net.TcpStream.{TcpStream}
 use Rattle.workers.specs.Connection.{counted}
 use Rattle.wire.specs.declared.counted.Counted.{Counted}
 use Rattle.shard_store.specs.Pass.{StoreView, PassView}
@@ -16,6 +15,7 @@ use Rattle.command_line.specs.declared.settings.Connections.TheVariants.{Each, U
 use Rattle.command_line.specs.declared.settings.Lasting.{Lasting}
 use Rattle.server.specs.Serve.{always_open}
 use Rattle.server.specs.declared.serving.blocking.Client.{Client}
+use Rattle.server.specs.declared.serving.blocking.CountedStream.{CountedStream}
 use Rattle.server.specs.declared.serving.clients.Clients.{Clients}
 
 -- nothing is known of what a client's connection has left, nor of what it holds
@@ -23,13 +23,13 @@ abbrev pub unknown : {E : Type 0} → E → Option (List ℕ)
 unknown end = None
 
 -- Each client that comes is one of those that a worker may take, and no more comes after the last; or the listener has failed.
-abbrev pub ClientComes : Clients → Result (Option (Session Client TcpStream)) ListenFault → Clients → Type 0
+abbrev pub ClientComes : Clients → Result (Option (Session Client CountedStream)) ListenFault → Clients → Type 0
 ClientComes old (Ok (Some session)) new = (new.left + 1 ≡ old.left) × (new.turns ≡ old.turns) × (session.turns ≡ old.turns)
 ClientComes old (Ok None) new = (old.left ≡ 0) × (new ≡ old)
 ClientComes old (Err fault) new = (0 < old.left) × (new ≡ old)
 
 -- A client whose session is over is let go, and changes nothing for those that come.
-abbrev pub EndsClient : Clients → Counted Client → Counted TcpStream → Clients → Type 0
+abbrev pub EndsClient : Clients → Counted Client → Counted CountedStream → Clients → Type 0
 EndsClient old reader writer new = new ≡ old
 
 -- each worker may take so many clients, and make so many reads of each

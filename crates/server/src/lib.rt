@@ -1,7 +1,9 @@
 //! What a server does with listeners that it is given: its store is set up and perhaps filled with a dump, its workers serve
-//! the clients that come, its lines and its log are written, and at the end its workers are reported.
+//! the clients that come, its lines and its log are written, what it does is counted, and at the end its workers are reported.
 #![tactic(auto)]
 
+mod address;
+mod counts;
 mod ending;
 mod lines;
 mod load;
@@ -12,12 +14,16 @@ mod set_up;
 mod stamped;
 mod start;
 
+pub use address::Address;
+pub use counts::{Count, Counts};
 pub use ending::{Done, report};
 pub use lines::{ServerLine, say};
 pub use load::requests_of;
 pub use log::LineLog;
 pub use saving::{Keeper, SavedFile};
-pub use serving::{Host, InTurn, NOBODY, Ports, Task, WorkerPolls, serve_at, serve_on, tell_early};
+pub use serving::{
+    Host, InTurn, Listener, NOBODY, Ports, Task, WorkerPolls, serve_at, serve_on, tell_early,
+};
 pub use set_up::SetUp;
 pub use stamped::Stamped;
 pub use start::tell_start;

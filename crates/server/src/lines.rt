@@ -1,9 +1,10 @@
 //! What a server says, on its output and on standard error.
-ghost use Rattle.std.specs.Prelude.{◌≡◌, ◌<◌, ◌≤◌, ◌-◌, ◌+◌, ◌^◌, ◌++◌, ◌∷◌, [], min, length, decimal, Some};
-ghost use Rattle.server.specs.declared.lines.ServerLine.TheVariants.{Listening};
-ghost use Rattle.server.specs.Serve.{IsOffered, said_line, write_fault, begun_by, have_all_come, session_lines, faults_by};
+ghost use Rattle.std.specs.Prelude.{◌≡◌, ◌<◌, ◌≤◌, ◌-◌, ◌+◌, ◌^◌, ◌++◌, ◌∷◌, [], min, length, decimal, None, Some};
+ghost use Rattle.server.specs.Address.{address_text};
+ghost use Rattle.server.specs.Serve.{IsOffered, listening_line, said_line, write_fault, begun_by, have_all_come, session_lines, faults_by};
 ghost use Rattle.wire.specs.Output.{TellsUnlessFailed, end_of};
 
+use crate::address::Address;
 use arrayvec::ArrayVec;
 use commands::{Fault, write_flushed};
 use itoa::Buffer;
@@ -11,34 +12,36 @@ use std::io::Write;
 use wire::Counted;
 use workers::{SessionFault, Worked};
 
-/// The most bytes of a line: two words of 9 letters, two numbers of 20 digits, three spaces and a line feed.
-const LINE_BYTES: usize = 62;
+/// The most bytes of a line: two words of 9 letters, two paths of 107 bytes, three spaces and a line feed.
+const LINE_BYTES: usize = 236;
 
-/// What a server says on its output: words, each with a number.
+type Line = ArrayVec<u8, LINE_BYTES>;
+
+/// What a server says on its output: words, each with an address or a number.
 #[derive(Clone, Copy)]
-pub enum ServerLine {
-    /// The port where it listens, and the port for reads only, if there is one.
-    Listening(u16, Option<u16>),
+pub enum ServerLine<'a> {
+    /// Where it listens, and where for clients that only read, if there is such a place.
+    Listening(&'a Address, Option<&'a Address>),
     /// How many sessions were begun.
     Served(u64),
     /// How many domains had a bundle at the end.
     Domains(u64),
 }
 
-impl ServerLine {
-    fn line(self) -> ArrayVec<u8, LINE_BYTES>
-        ensures { result.items ≡ said_line self }
+impl ServerLine<'_> {
+    fn line(self) -> Line
+        ensures { result.items ≡ said_line self.entry }
     {
         match self {
-            ServerLine::Listening(port, None) => line_of(b"listening ", u64::from(port)),
-            ServerLine::Listening(port, Some(read_port)) => ports_line(port, read_port),
+            ServerLine::Listening(all, None) => address_line(all),
+            ServerLine::Listening(all, Some(reads)) => addresses_line(all, reads),
             ServerLine::Served(count) => line_of(b"served ", count),
             ServerLine::Domains(count) => line_of(b"domains ", count),
         }
     }
 }
 
-fn line_of(word: &[u8], number: u64) -> ArrayVec<u8, LINE_BYTES>
+fn line_of(word: &[u8], number: u64) -> Line
     requires { length word.now ≤ 10 }
     ensures { result.items ≡ word.now ++ (decimal number ++ 10 ∷ []) }
 {
@@ -50,31 +53,56 @@ fn line_of(word: &[u8], number: u64) -> ArrayVec<u8, LINE_BYTES>
     line
 }
 
-/// Adds a word and a number.
-fn push_both(line: &mut ArrayVec<u8, LINE_BYTES>, word: &[u8], number: u64)
-    requires { length line.old.items + length word.now + 20 ≤ 62 }
-    ensures pushed { line.new.items ≡ line.old.items ++ (word.now ++ decimal number) }
-    ensures short { length line.new.items ≤ length line.old.items + length word.now + 20 }
+/// Adds the number of a port, or the path of a socket.
+fn push_address(line: &mut Line, address: &Address)
+    requires { length line.old.items + 107 ≤ 236 }
+    ensures pushed { line.new.items ≡ line.old.items ++ address_text address.now }
+    ensures short { length line.new.items ≤ length line.old.items + 107 }
 {
-    let mut digits = Buffer::new();
+    match address {
+        Address::Port(number) => {
+            let mut digits = Buffer::new();
+            let _fits = line.try_extend_from_slice(digits.format(u64::from(*number)).as_bytes());
+        }
+        Address::Socket(path) => {
+            let _fits = line.try_extend_from_slice(path.as_str().as_bytes());
+        }
+    }
+}
+
+/// Adds a word and an address.
+fn push_both(line: &mut Line, word: &[u8], address: &Address)
+    requires { length line.old.items + length word.now + 107 ≤ 236 }
+    ensures pushed { line.new.items ≡ line.old.items ++ (word.now ++ address_text address.now) }
+    ensures short { length line.new.items ≤ length line.old.items + length word.now + 107 }
+{
     let _fits = line.try_extend_from_slice(word);
-    let _fits = line.try_extend_from_slice(digits.format(number).as_bytes());
+    push_address(line, address);
 }
 
 /// Adds a line feed.
-fn end_line(line: &mut ArrayVec<u8, LINE_BYTES>)
-    requires { length line.old.items < 62 }
+fn end_line(line: &mut Line)
+    requires { length line.old.items < 236 }
     ensures { line.new.items ≡ line.old.items ++ 10 ∷ [] }
 {
     let _fits = line.try_extend_from_slice(b"\n");
 }
 
-fn ports_line(port: u16, read_port: u16) -> ArrayVec<u8, LINE_BYTES>
-    ensures { result.items ≡ said_line (Listening port (Some read_port)) }
+fn address_line(all: &Address) -> Line
+    ensures { result.items ≡ listening_line all.now None }
 {
-    let mut line = ArrayVec::new();
-    push_both(&mut line, b"listening ", u64::from(port));
-    push_both(&mut line, b" read-only ", u64::from(read_port));
+    let mut line = Line::new();
+    push_both(&mut line, b"listening ", all);
+    end_line(&mut line);
+    line
+}
+
+fn addresses_line(all: &Address, reads: &Address) -> Line
+    ensures { result.items ≡ listening_line all.now (Some reads.now) }
+{
+    let mut line = Line::new();
+    push_both(&mut line, b"listening ", all);
+    push_both(&mut line, b" read-only ", reads);
     end_line(&mut line);
     line
 }
@@ -86,9 +114,9 @@ pub fn say<W: Write, E: Write>(
     out: &mut Counted<W>,
     err: &mut Counted<E>,
     before: u64,
-    said: ServerLine,
+    said: ServerLine<'_>,
 ) -> bool
-    ensures offered { IsOffered result (said_line said) (end_of W.contents out.old) (end_of W.contents out.new) }
+    ensures offered { IsOffered result (said_line said.entry) (end_of W.contents out.old) (end_of W.contents out.new) }
     ensures tells { TellsUnlessFailed before (end_of E.contents err.old) (end_of E.contents err.new) (write_fault result) }
 {
     let line = said.line();

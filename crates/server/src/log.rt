@@ -1,17 +1,21 @@
-//! The log of a server: a line for each change of a bundle, for each that was refused because another was faster, and for each
-//! end of a session.
+//! The log of a server: a line for each change of a bundle, for each that was refused by 31 or 36, or at a port for reads only,
+//! and for each end of a session. It also counts what it is told.
 ghost use Rattle.std.specs.Prelude.{◌≡◌, IfSome, OnOk};
 ghost use Rattle.std.specs.Bool.{OnTrue};
 ghost use Rattle.std.specs.Io.KnownBytes.{Appends};
 ghost use Rattle.wire.specs.Output.{WritesFront};
-ghost use Rattle.server.specs.LogLine.{before_word, change_line, end_line, how_word, refusal_line, refusal_words, state_word};
+ghost use Rattle.server.specs.LogLine.{before_word, change_line, end_line, end_words, how_word, peer_words, refusal_line, refusal_words, state_word};
 ghost use Rattle.workers.specs.Log.{change_view};
 
+use crate::counts::{Count, Counts};
 use arrayvec::ArrayVec;
 use map_core::{Expect, MapRefusal};
+use spiffe_doc::Memory;
+use std::alloc::{AllocError, Global};
 use std::io;
 use std::io::Write;
-use workers::{Changed, How, Log, Overtaken, SessionFault};
+use std::time::Clock;
+use workers::{ChangeRefusal, Changed, How, Log, RefusedChange, SessionFault};
 
 /// The most bytes of a line. The longest has a name of 255 bytes and three numbers of 20 digits.
 const LINE_BYTES: usize = 384;
@@ -20,8 +24,11 @@ type Line = ArrayVec<u8, LINE_BYTES>;
 
 /// Lines on an end that all workers share, such as standard error. Each line is one write, so that lines of two workers
 /// don't mix. A line that is not taken is left out: the log never stands in the way of a reply.
-#[derive(Clone, Copy)]
-pub struct LineLog<N> {
+///
+/// What it is told is counted, too, whether it is on or not.
+pub struct LineLog<'c, C, N> {
+    counts: &'c Counts,
+    clock: &'c C,
     end: N,
     is_on: bool,
     /// How many lines of changes the end did not take whole. Only by such a count a contract tells a line that was refused from
@@ -29,18 +36,41 @@ pub struct LineLog<N> {
     left_out: u64,
 }
 
-impl<N> LineLog<N> {
-    /// A log on this end, from which no line was left out yet. Changes are told to it only if it is on.
-    pub fn new(end: N, is_on: bool) -> LineLog<N>
+impl<'c, C, N> LineLog<'c, C, N> {
+    /// A log on this end, from which no line was left out yet. Changes are told to it only if it is on. The clock tells how
+    /// long it has counted.
+    pub fn new(counts: &'c Counts, clock: &'c C, end: N, is_on: bool) -> LineLog<'c, C, N>
         ensures end { result.end ≡ end }
         ensures is_on { result.is_on ≡ is_on }
         ensures left_out { result.left_out ≡ 0 }
     {
         LineLog {
+            counts,
+            clock,
             end,
             is_on,
             left_out: 0,
         }
+    }
+}
+
+impl<'c, C, N: Copy> Copy for LineLog<'c, C, N> {}
+
+impl<'c, C, N: Copy> Clone for LineLog<'c, C, N> {
+    ghost use Rattle.std.specs.Prelude.{◌≡◌, ⊤};
+
+    ghost is_clone = { λ x y. y ≡ x };
+
+    ghost is_infallible = { λ _. ⊤ };
+
+    fn clone(&self) -> Result<Self, AllocError> {
+        Ok(LineLog {
+            counts: self.counts,
+            clock: self.clock,
+            end: self.end,
+            is_on: self.is_on,
+            left_out: self.left_out,
+        })
     }
 }
 
@@ -85,34 +115,61 @@ fn write_change<W: Write>(line: &mut W, worker: u64, change: &Changed<'_>) -> io
 }
 
 /// Writes the number of a refusal, and what it tells.
-fn write_refusal<W: Write>(line: &mut W, refusal: MapRefusal) -> io::Result<()>
+fn write_refusal<W: Write>(line: &mut W, refusal: ChangeRefusal) -> io::Result<()>
     ensures { OnOk result (Appends (W.contents line.old) (W.contents line.new) (refusal_words refusal)) }
 {
     match refusal {
-        MapRefusal::Stale(sequence) => write!(line, "31 {sequence}"),
-        MapRefusal::NotExpected(found) => {
+        ChangeRefusal::Map(MapRefusal::Stale(sequence)) => write!(line, "31 {sequence}"),
+        ChangeRefusal::Map(MapRefusal::NotExpected(found)) => {
             write!(line, "36 ")?;
             write_state(line, found)
         }
-        other => write!(line, "{}", other.number()),
+        ChangeRefusal::Map(other) => write!(line, "{}", other.number()),
+        ChangeRefusal::ReadOnly => write!(line, "56"),
     }
 }
 
-fn write_overtaken<W: Write>(line: &mut W, worker: u64, overtaken: &Overtaken<'_>) -> io::Result<()>
-    ensures { OnOk result (Appends (W.contents line.old) (W.contents line.new) (refusal_line worker overtaken.now.domain.now overtaken.now.refusal)) }
+fn write_refused<W: Write>(line: &mut W, worker: u64, refused: &RefusedChange<'_>) -> io::Result<()>
+    ensures { OnOk result (Appends (W.contents line.old) (W.contents line.new) (refusal_line worker refused.now.domain.now refused.now.refusal)) }
 {
-    write!(line, "worker {worker} refused {} ", overtaken.domain)?;
-    write_refusal(line, overtaken.refusal)?;
+    write!(line, "worker {worker} refused {} ", refused.domain)?;
+    write_refusal(line, refused.refusal)?;
     writeln!(line)
 }
 
-fn write_end<W: Write>(line: &mut W, worker: u64, end: &Result<u64, SessionFault>) -> io::Result<()>
-    ensures { OnOk result (Appends (W.contents line.old) (W.contents line.new) (end_line worker end.now)) }
+fn write_end_words<W: Write>(
+    line: &mut W,
+    worker: u64,
+    end: &Result<u64, SessionFault>,
+) -> io::Result<()>
+    ensures { OnOk result (Appends (W.contents line.old) (W.contents line.new) (end_words worker end.now)) }
 {
     match end {
-        Ok(count) => writeln!(line, "worker {worker} session ended after {count} replies"),
-        Err(fault) => writeln!(line, "worker {worker} session fault {}", fault.number()),
+        Ok(count) => write!(line, "worker {worker} session ended after {count} replies"),
+        Err(fault) => write!(line, "worker {worker} session fault {}", fault.number()),
     }
+}
+
+/// Writes the port of a client, if it has one, and ends the line.
+fn write_peer<W: Write>(line: &mut W, peer: Option<u16>) -> io::Result<()>
+    ensures { OnOk result (Appends (W.contents line.old) (W.contents line.new) (peer_words peer)) }
+{
+    match peer {
+        Some(port) => writeln!(line, " from {port}"),
+        None => writeln!(line),
+    }
+}
+
+fn write_end<W: Write>(
+    line: &mut W,
+    worker: u64,
+    end: &Result<u64, SessionFault>,
+    peer: Option<u16>,
+) -> io::Result<()>
+    ensures { OnOk result (Appends (W.contents line.old) (W.contents line.new) (end_line worker end.now peer)) }
+{
+    write_end_words(line, worker, end)?;
+    write_peer(line, peer)
 }
 
 /// The line of a change, if it has room.
@@ -127,22 +184,22 @@ fn text_of_change(worker: u64, change: &Changed<'_>) -> Option<Line>
 }
 
 /// The line of a refusal, if it has room.
-fn text_of_overtaken(worker: u64, overtaken: &Overtaken<'_>) -> Option<Line>
-    ensures { IfSome result (λ line. line.items ≡ refusal_line worker overtaken.now.domain.now overtaken.now.refusal) }
+fn text_of_refused(worker: u64, refused: &RefusedChange<'_>) -> Option<Line>
+    ensures { IfSome result (λ line. line.items ≡ refusal_line worker refused.now.domain.now refused.now.refusal) }
 {
     let mut line = Line::new();
-    match write_overtaken(&mut line, worker, overtaken) {
+    match write_refused(&mut line, worker, refused) {
         Ok(()) => Some(line),
         Err(_) => None,
     }
 }
 
 /// The line of an end of a session, if it has room.
-fn text_of_end(worker: u64, end: &Result<u64, SessionFault>) -> Option<Line>
-    ensures { IfSome result (λ line. line.items ≡ end_line worker end.now) }
+fn text_of_end(worker: u64, end: &Result<u64, SessionFault>, peer: Option<u16>) -> Option<Line>
+    ensures { IfSome result (λ line. line.items ≡ end_line worker end.now peer) }
 {
     let mut line = Line::new();
-    match write_end(&mut line, worker, end) {
+    match write_end(&mut line, worker, end, peer) {
         Ok(()) => Some(line),
         Err(_) => None,
     }
@@ -170,7 +227,7 @@ fn offer_change<N: Write>(end: &mut N, worker: u64, change: &Changed<'_>) -> boo
     }
 }
 
-impl<N: Write + Copy + Drop> Log for LineLog<N> {
+impl<C: Clock, N: Write + Copy + Drop> Log for LineLog<'_, C, N> {
     ghost use Rattle.server.specs.Log.{TellsChange};
 
     ghost wants = { λ log. log.is_on };
@@ -187,23 +244,53 @@ impl<N: Write + Copy + Drop> Log for LineLog<N> {
         }
     }
 
-    fn ended(&self, worker: u64, end: &Result<u64, SessionFault>) {
+    fn began(&self, worker: u64) {
+        self.counts.add(worker, Count::ConnectionsOpen, 1);
+        self.counts.add(worker, Count::ConnectionsOpened, 1);
+    }
+
+    fn ended(&self, worker: u64, end: &Result<u64, SessionFault>, peer: Option<u16>) {
+        // No session ends if none came.
+        if !matches!(end, Err(SessionFault::Listen)) {
+            self.counts.take_one(worker, Count::ConnectionsOpen);
+        }
         if !self.is_on {
             return;
         }
-        if let Some(line) = text_of_end(worker, end) {
+        if let Some(line) = text_of_end(worker, end, peer) {
             let mut all = self.end;
             let _ = offer(&mut all, &line);
         }
     }
 
-    fn refused(&self, worker: u64, overtaken: &Overtaken<'_>) {
+    fn refused(&self, worker: u64, refused: &RefusedChange<'_>) {
         if !self.is_on {
             return;
         }
-        if let Some(line) = text_of_overtaken(worker, overtaken) {
+        if let Some(line) = text_of_refused(worker, refused) {
             let mut all = self.end;
             let _ = offer(&mut all, &line);
         }
+    }
+
+    fn read(&self, worker: u64, bytes: usize) {
+        self.counts.add(worker, Count::BytesRead, bytes as u64);
+    }
+
+    fn written(&self, worker: u64, bytes: usize) {
+        self.counts.add(worker, Count::BytesWritten, bytes as u64);
+    }
+
+    fn answered(&self, worker: u64, letter: u8, code: u8) {
+        self.counts.add(worker, Count::Requests(letter), 1);
+        self.counts.add(worker, Count::of_reply(letter, code), 1);
+    }
+
+    fn asked_again(&self, worker: u64, times: u64) {
+        self.counts.add(worker, Count::AskedAgain, times);
+    }
+
+    fn counts(&self, alloc: Global) -> Result<Vec<u8>, Memory> {
+        self.counts.line(alloc, self.clock)
     }
 }

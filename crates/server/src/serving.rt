@@ -7,6 +7,7 @@ mod lasting;
 mod ports;
 mod ready;
 mod shared;
+mod sockets;
 mod stream;
 
 pub use blocking::{InTurn, serve_on};
@@ -14,3 +15,4 @@ pub use host::Host;
 pub use lasting::{Task, WorkerPolls, serve_at, tell_early};
 pub use ports::Ports;
 pub use ready::NOBODY;
+pub use sockets::Listener;

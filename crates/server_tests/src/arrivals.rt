@@ -74,7 +74,9 @@ fn is_asked_so<C: Clock>(
     };
     let mut ask = Retrying::new(busy, clock, retries);
     play_line(alloc, Shown::Counted, &mut ask, ("get a", last))?;
-    is_equal_at(&ask.ask.asked, &asked, &last)
+    is_equal_at(&ask.ask.asked, &asked, &last)?;
+    // (the first time is not counted as another one)
+    is_equal_at(&ask.asked_again.saturating_add(1), &asked, &last)
 }
 
 #[test]

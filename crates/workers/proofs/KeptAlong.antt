@@ -7,7 +7,7 @@ use Rattle.map_core.specs.declared.reply.AskError.{AskError}
 use Rattle.wire.specs.declared.counted.Counted.{Counted}
 use Rattle.wire.specs.declared.error.FrontError.{FrontError}
 use Rattle.wire.specs.declared.judge.Judged.{Judged}
-use Rattle.wire.specs.declared.judge.Judged.TheVariants.{Ask, SetVersion}
+use Rattle.wire.specs.declared.judge.Judged.TheVariants.{Ask, SetVersion, TellCounts}
 use Rattle.wire.specs.declared.refusal.Refusal.{Refusal}
 use Rattle.wire.specs.Judge.{request_of}
 use Rattle.frame_front.specs.Session.{SessionState, AnswersRequest, Answers, AnswersAll}
@@ -26,6 +26,7 @@ module _ {S : Type 0} (answers : S → Op → Result Reply AskError → S → Ty
   request_keeps : (r : Result Judged Refusal) (old : SessionState S) (text : List ℕ) (new : SessionState S) → AnswersRequest answers r old text new → Keeps old.1 new.1
   request_keeps (Err refusal) old text new a = kept_where_same old.1 new.1 (ap (λ (s : SessionState S). s.1) a.1)
   request_keeps (Ok (SetVersion version)) old text new a = kept_where_same old.1 new.1 (ap (λ (s : SessionState S). s.1) a.1)
+  request_keeps (Ok TellCounts) old text new a = kept_where_same old.1 new.1 (ap (λ (s : SessionState S). s.1) a.3)
   request_keeps (Ok (Ask op)) old text new a = each old.1 op a.0 new.1 a.1
 
   answer_keeps : (old : SessionState S) (payload text : List ℕ) (new : SessionState S) → Answers answers old payload text new → Keeps old.1 new.1

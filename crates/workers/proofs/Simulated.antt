@@ -7,7 +7,7 @@ use Rattle.map_core.specs.declared.reply.AskError.{AskError}
 use Rattle.wire.specs.declared.counted.Counted.{Counted}
 use Rattle.wire.specs.declared.error.FrontError.{FrontError}
 use Rattle.wire.specs.declared.judge.Judged.{Judged}
-use Rattle.wire.specs.declared.judge.Judged.TheVariants.{Ask, SetVersion}
+use Rattle.wire.specs.declared.judge.Judged.TheVariants.{Ask, SetVersion, TellCounts}
 use Rattle.wire.specs.declared.refusal.Refusal.{Refusal}
 use Rattle.wire.specs.Judge.{request_of}
 use Rattle.frame_front.specs.Session.{SessionState, AnswersRequest, Answers, AnswersAll}
@@ -29,6 +29,7 @@ module _ {S T : Type 0} (answers : S → Op → Result Reply AskError → S → 
       → AnswersRequest answers r old text new → Stays new.1 × AnswersRequest answers_seen r (seen_state old) text (seen_state new)
   request_seen (Err refusal) old text new stays a = let s = same_seen old new stays a.1 in (s.0, (a.0, s.1))
   request_seen (Ok (SetVersion version)) old text new stays a = let s = same_seen (version, old.1) new stays a.1 in (s.0, (a.0, s.1))
+  request_seen (Ok TellCounts) old text new stays a = let s = same_seen old new stays a.3 in (s.0, (a.0, a.1, a.2, s.1))
   request_seen (Ok (Ask op)) old text new stays a = let s = each old.1 op a.0 new.1 stays a.1 in (s.0, (a.0, s.1, a.2, a.3))
 
   answer_seen : (old : SessionState S) (payload text : List ℕ) (new : SessionState S) → Stays old.1

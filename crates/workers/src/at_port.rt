@@ -1,11 +1,20 @@
 //! A map that is asked at a port.
 ghost use Rattle.std.specs.Prelude.{◌≡◌};
 
-use map_core::{Ask, AskError, Op, Reply, Viewer};
-use spiffe_doc::TrustDomain;
+use map_core::{Ask, AskError, Contents, Op, Reply, Viewer};
+use spiffe_doc::{Memory, TrustDomain};
+use std::alloc::Global;
+
+/// Whoever is asked behind a port, and may take note of what the port refuses.
+pub trait BehindPort: Ask {
+    /// The port is for reads only, and this operation came to it. It is not asked.
+    fn refused_at_port(&self, _op: &Op) {}
+}
+
+impl BehindPort for Contents {}
 
 /// A map that is asked at a port. At a port for reads only, gets and fetch-alls are answered by the map behind it; to each
-/// other operation the answer is that the gate is shut (number 56), and the map behind it is not asked.
+/// other operation the answer is that the gate is shut (number 56), and the map behind it is not asked, but told.
 #[derive(Drop)]
 pub struct AtPort<A> {
     pub ask: A,
@@ -22,7 +31,7 @@ impl<A> AtPort<A> {
     }
 }
 
-impl<A: Ask> Ask for AtPort<A> {
+impl<A: BehindPort> Ask for AtPort<A> {
     ghost use Rattle.workers.specs.AtPort.{PortAnswer, port_answers_plainly};
 
     ghost answers = { λ old op answer new. (new.reads_only ≡ old.reads_only) × PortAnswer A.answers old.reads_only old.ask op answer new.ask };
@@ -33,6 +42,7 @@ impl<A: Ask> Ask for AtPort<A> {
 
     fn ask(&mut self, op: Op) -> Result<Reply, AskError> {
         if self.reads_only && !op.is_read() {
+            self.ask.refused_at_port(&op);
             drop(op);
             return Err(AskError::GateShut);
         }
@@ -45,5 +55,13 @@ impl<A: Ask> Ask for AtPort<A> {
         viewer: &mut V,
     ) -> Result<Option<Reply>, AskError> {
         self.ask.show_get(domain, viewer)
+    }
+
+    fn answered(&self, letter: u8, code: u8) {
+        self.ask.answered(letter, code);
+    }
+
+    fn counts(&self, alloc: Global) -> Result<Vec<u8>, Memory> {
+        self.ask.counts(alloc)
     }
 }

@@ -2,9 +2,11 @@
 ghost use Rattle.std.specs.Prelude.{◌≡◌};
 ghost use Rattle.wire.specs.Counted.{next_count};
 
+use crate::at_port::BehindPort;
 use crate::gate::Gate;
 use map_core::{Ask, AskError, Op, Reply, Viewer};
-use spiffe_doc::TrustDomain;
+use spiffe_doc::{Memory, TrustDomain};
+use std::alloc::Global;
 
 /// A map that one worker asks through a gate. Its calls are counted from 1; the count stays at 2^64 - 1 once there.
 #[derive(Drop)]
@@ -78,5 +80,19 @@ impl<'a, A: Ask, G: Gate> Ask for Gated<'a, A, G> {
         let answer = self.ask.show_get(domain, viewer);
         self.gate.after(self.worker, self.calls);
         answer
+    }
+
+    fn answered(&self, letter: u8, code: u8) {
+        self.ask.answered(letter, code);
+    }
+
+    fn counts(&self, alloc: Global) -> Result<Vec<u8>, Memory> {
+        self.ask.counts(alloc)
+    }
+}
+
+impl<A: BehindPort, G: Gate> BehindPort for Gated<'_, A, G> {
+    fn refused_at_port(&self, op: &Op) {
+        self.ask.refused_at_port(op);
     }
 }

@@ -3,6 +3,8 @@ ghost use Rattle.std.specs.Prelude.{⊤, false};
 
 use crate::ended::SessionFault;
 use map_core::{Expect, MapRefusal};
+use spiffe_doc::Memory;
+use std::alloc::Global;
 
 /// How a bundle was changed.
 #[derive(Clone, Copy, PartialEq, Eq)]
@@ -23,12 +25,19 @@ pub struct Changed<'a> {
     pub after: Expect,
 }
 
-/// A request that was refused because another was faster: its sequence was lower than the one that stands there (31), or what
-/// stands there was not what it expected (36).
+/// Why a request for a change was refused: by the map, or since its port is for reads only (56).
+#[derive(Clone, Copy, Debug, PartialEq, Eq)]
+pub enum ChangeRefusal {
+    Map(MapRefusal),
+    ReadOnly,
+}
+
+/// A request for a change that was refused: its sequence was lower than the one that stands there (31), what stands there was
+/// not what it expected (36), or it came to a port for reads only (56).
 #[derive(Clone, Copy)]
-pub struct Overtaken<'a> {
+pub struct RefusedChange<'a> {
     pub domain: &'a str,
-    pub refusal: MapRefusal,
+    pub refusal: ChangeRefusal,
 }
 
 /// What takes note of changes and of the ends of sessions. A log that can be copied may be told by many workers: each tells
@@ -51,11 +60,31 @@ pub trait Log: Drop {
     fn changed(&mut self, worker: u64, change: &Changed<'_>)
         ensures { tells self.old worker (change_view change.now) self.new };
 
-    /// A session of the worker ended so.
-    fn ended(&self, worker: u64, end: &Result<u64, SessionFault>);
+    /// A session of the worker has begun.
+    fn began(&self, _worker: u64) {}
+
+    /// A session of the worker ended so, or none came. Its client had the port `peer`, if it had one.
+    fn ended(&self, worker: u64, end: &Result<u64, SessionFault>, peer: Option<u16>);
 
     /// The worker was asked for a change that was refused so.
-    fn refused(&self, _worker: u64, _overtaken: &Overtaken<'_>) {}
+    fn refused(&self, _worker: u64, _refused: &RefusedChange<'_>) {}
+
+    /// A session of the worker has read so many bytes more. (Workers that wait in each client do not tell it.)
+    fn read(&self, _worker: u64, _bytes: usize) {}
+
+    /// And it has written so many more.
+    fn written(&self, _worker: u64, _bytes: usize) {}
+
+    /// The worker answered a request of this letter, its first byte, by a reply of this code, its first byte.
+    fn answered(&self, _worker: u64, _letter: u8, _code: u8) {}
+
+    /// The worker asked the store again so many times, since others were in the way (41 and 42).
+    fn asked_again(&self, _worker: u64, _times: u64) {}
+
+    /// What is counted, as words `name=value` with single spaces between. A log that counts nothing has none.
+    fn counts(&self, alloc: Global) -> Result<Vec<u8>, Memory> {
+        Ok(Vec::new(alloc))
+    }
 }
 
 /// A log that takes note of nothing.
@@ -73,5 +102,5 @@ impl Log for Quiet {
 
     fn changed(&mut self, _worker: u64, _change: &Changed<'_>) {}
 
-    fn ended(&self, _worker: u64, _end: &Result<u64, SessionFault>) {}
+    fn ended(&self, _worker: u64, _end: &Result<u64, SessionFault>, _peer: Option<u16>) {}
 }

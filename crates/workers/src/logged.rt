@@ -6,17 +6,19 @@ ghost use Rattle.shard_store.specs.Promise.{IsLater};
 ghost use Rattle.map_core.specs.Name.{Name};
 ghost use Rattle.workers.specs.Log.{change_told, change_view, found_in, HasLooked};
 ghost use Rattle.workers.specs.Private.Names.{changed_name};
-ghost use Rattle.workers.specs.Private.Overtaken.{overtaken_told, overtaken_view};
+ghost use Rattle.workers.specs.Private.RefusedChange.{refused_told, refused_view, shut_told};
 
-use crate::log::{Changed, How, Log, Overtaken};
+use crate::at_port::BehindPort;
+use crate::log::{ChangeRefusal, Changed, How, Log, RefusedChange};
 use crate::retrying::Retrying;
 use map_core::{Ask, AskError, Expect, MapRefusal, Op, Reply, Viewer};
 use shard_store::{Pass, Seated, Store};
-use spiffe_doc::TrustDomain;
-use std::alloc::AllocError;
+use spiffe_doc::{Memory, TrustDomain};
+use std::alloc::{AllocError, Global};
 use std::time::Clock;
 
-/// A pass at its store, asked again while others are in the way. The worker of this number tells its log what it changes.
+/// A pass at its store, asked again while others are in the way. The worker of this number tells its log what it changes, what
+/// it refuses, what it answers and how often it asks again.
 #[derive(Drop)]
 pub struct Logged<'a, C, L> {
     pub patient: Retrying<'a, Seated<'a>, C>,
@@ -81,12 +83,12 @@ fn change_by<'a>(
     })
 }
 
-/// That another request was faster than one that was to change the bundle of this name, if the answer to it says so.
-fn overtaken_by<'a>(
+/// That a request to change the bundle of this name was refused by 31 or 36, if the answer to it says so.
+fn refused_by<'a>(
     domain: Option<&'a TrustDomain>,
     answer: &Result<Reply, AskError>,
-) -> Option<Overtaken<'a>>
-    ensures { option_map overtaken_view result ≡ overtaken_told (option_copied domain.entry) answer.now }
+) -> Option<RefusedChange<'a>>
+    ensures { option_map refused_view result ≡ refused_told (option_copied domain.entry) answer.now }
 {
     let (domain, refusal) = match (domain, answer) {
         (Some(domain), Ok(Reply::Refused(MapRefusal::Stale(sequence)))) => {
@@ -98,9 +100,20 @@ fn overtaken_by<'a>(
         _ => return None,
     };
     let name = domain.as_str();
-    Some(Overtaken {
+    Some(RefusedChange {
         domain: name,
-        refusal,
+        refusal: ChangeRefusal::Map(refusal),
+    })
+}
+
+/// That a request to change the bundle of this name was refused at a port for reads only, if it was one.
+fn shut_to(domain: Option<&TrustDomain>) -> Option<RefusedChange<'_>>
+    ensures { option_map refused_view result ≡ shut_told (option_copied domain.entry) }
+{
+    let name = domain?.as_str();
+    Some(RefusedChange {
+        domain: name,
+        refusal: ChangeRefusal::ReadOnly,
     })
 }
 
@@ -141,14 +154,23 @@ impl<'a, C: Clock, L: Log> Logged<'a, C, L> {
             ask: seated,
             clock: _,
             retries: _,
+            asked_again: _,
         } = patient;
         seated.into_pass()
     }
 
-    /// Tells the log if another request was faster than this one.
-    fn tell_overtaken(&self, op: &Op, answer: &Result<Reply, AskError>) {
-        if let Some(overtaken) = overtaken_by(name_to_change(op), answer) {
-            self.log.refused(self.worker, &overtaken);
+    /// Tells the log if the change was refused by 31 or 36.
+    fn tell_refused(&self, op: &Op, answer: &Result<Reply, AskError>) {
+        if let Some(refused) = refused_by(name_to_change(op), answer) {
+            self.log.refused(self.worker, &refused);
+        }
+    }
+
+    /// Tells the log how often the store was asked again since it had been so often.
+    fn tell_again(&self, before: u64) {
+        let times = self.patient.asked_again.saturating_sub(before);
+        if times > 0 {
+            self.log.asked_again(self.worker, times);
         }
     }
 
@@ -182,8 +204,11 @@ impl<'a, C: Clock, L: Log> Ask for Logged<'a, C, L> {
     /// Asks. If changes are to be told, it looks at what stands there before, and tells of the change that the answer tells
     /// of. It is out of memory, and has changed nothing, if there is no room for a copy of the operation or for the look.
     fn ask(&mut self, op: Op) -> Result<Reply, AskError> {
+        let asked_before = self.patient.asked_again;
         if !self.log.is_on() {
-            return self.patient.ask(op);
+            let plain = self.patient.ask(op);
+            self.tell_again(asked_before);
+            return plain;
         }
         let Ok(copy) = op.copy() else {
             drop(op);
@@ -195,7 +220,8 @@ impl<'a, C: Clock, L: Log> Ask for Logged<'a, C, L> {
             return Err(AskError::Memory);
         };
         let answer = self.patient.ask(op);
-        self.tell_overtaken(&copy, &answer);
+        self.tell_again(asked_before);
+        self.tell_refused(&copy, &answer);
         if let Some(change) = change_by(&copy, before, &answer) {
             self.log.changed(self.worker, &change);
         }
@@ -209,6 +235,25 @@ impl<'a, C: Clock, L: Log> Ask for Logged<'a, C, L> {
         domain: TrustDomain,
         viewer: &mut V,
     ) -> Result<Option<Reply>, AskError> {
-        self.patient.show_get(domain, viewer)
+        let asked_before = self.patient.asked_again;
+        let shown = self.patient.show_get(domain, viewer);
+        self.tell_again(asked_before);
+        shown
+    }
+
+    fn answered(&self, letter: u8, code: u8) {
+        self.log.answered(self.worker, letter, code);
+    }
+
+    fn counts(&self, alloc: Global) -> Result<Vec<u8>, Memory> {
+        self.log.counts(alloc)
+    }
+}
+
+impl<C: Clock, L: Log> BehindPort for Logged<'_, C, L> {
+    fn refused_at_port(&self, op: &Op) {
+        if let Some(refused) = shut_to(name_to_change(op)) {
+            self.log.refused(self.worker, &refused);
+        }
     }
 }

@@ -3,7 +3,8 @@ ghost use Rattle.std.specs.Prelude.{◌≡◌};
 ghost use Rattle.workers.specs.Retrying.{is_transient};
 
 use map_core::{Ask, AskError, Op, Reply, Viewer};
-use spiffe_doc::TrustDomain;
+use spiffe_doc::{Memory, TrustDomain};
+use std::alloc::Global;
 use std::thread;
 use std::time::{Clock, Duration};
 
@@ -18,17 +19,21 @@ pub struct Retrying<'a, A, C> {
     pub clock: &'a C,
     /// How often an operation may be asked again.
     pub retries: u64,
+    /// How often one was. It stays at 2^64 - 1 once there.
+    pub asked_again: u64,
 }
 
 impl<'a, A, C> Retrying<'a, A, C> {
     pub fn new(ask: A, clock: &'a C, retries: u64) -> Retrying<'a, A, C>
         ensures ask { result.ask ≡ ask }
         ensures retries { result.retries ≡ retries }
+        ensures asked_again { result.asked_again ≡ 0 }
     {
         Retrying {
             ask,
             clock,
             retries,
+            asked_again: 0,
         }
     }
 }
@@ -62,6 +67,7 @@ impl<'a, A: Ask, C: Clock> Ask for Retrying<'a, A, C> {
                 drop(op);
                 return answer;
             }
+            self.asked_again = self.asked_again.saturating_add(1);
             thread::sleep(self.clock, Duration::from_micros(PAUSE));
         }
         self.ask.ask(op)
@@ -81,8 +87,17 @@ impl<'a, A: Ask, C: Clock> Ask for Retrying<'a, A, C> {
             if !may_change(&shown) {
                 return shown;
             }
+            self.asked_again = self.asked_again.saturating_add(1);
             thread::sleep(self.clock, Duration::from_micros(PAUSE));
         }
         self.ask.show_get(domain, viewer)
+    }
+
+    fn answered(&self, letter: u8, code: u8) {
+        self.ask.answered(letter, code);
+    }
+
+    fn counts(&self, alloc: Global) -> Result<Vec<u8>, Memory> {
+        self.ask.counts(alloc)
     }
 }

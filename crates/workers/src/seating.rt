@@ -38,8 +38,11 @@ pub trait Seating {
         ensures own { IsOf result (seated seat).store }
         ensures seen { result.seen ≡ (seated seat).seen };
 
-    /// A session of the worker has ended so.
-    fn ended(&self, _worker: u64, _end: &Result<u64, SessionFault>) {}
+    /// A session of the worker has begun.
+    fn began(&self, _worker: u64) {}
+
+    /// A session of the worker has ended so, or none came. Its client had the port `peer`, if it had one.
+    fn ended(&self, _worker: u64, _end: &Result<u64, SessionFault>, _peer: Option<u16>) {}
 
     // What a seat answers, the store answers to its pass.
     ghost answers_as_seated: { (old : Self.Seat) (op : Op) (answer : Result Reply AskError) (new : Self.Seat)
@@ -98,7 +101,11 @@ impl<'a, C: Clock + Sync, L: Log + Copy + Send + Sync> Seating for Patient<'a, C
         seat.into_pass()
     }
 
-    fn ended(&self, worker: u64, end: &Result<u64, SessionFault>) {
-        self.log.ended(worker, end);
+    fn began(&self, worker: u64) {
+        self.log.began(worker);
+    }
+
+    fn ended(&self, worker: u64, end: &Result<u64, SessionFault>, peer: Option<u16>) {
+        self.log.ended(worker, end, peer);
     }
 }

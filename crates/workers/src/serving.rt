@@ -9,10 +9,10 @@ ghost use Rattle.workers.specs.Places.{Place, AllTick, Fails, Follows, IsGivenUp
 ghost use Rattle.workers.specs.Private.Serving.{AreOpen, Asks, IsTurn, Serves, work_of};
 
 use crate::arrivals::{Arrival, Arrivals};
-use crate::at_port::AtPort;
+use crate::at_port::{AtPort, BehindPort};
+use crate::metered::Metered;
 use crate::worker::Worker;
 use crate::{Connection, Log, ROOM_BYTES, SessionEnds, SessionFault, Stream, TurnEnd};
-use map_core::Ask;
 use slab::Slab;
 use spiffe_doc::DocumentReader;
 use std::alloc::{AllocError, Global};
@@ -27,6 +27,8 @@ struct OpenConnection<E: Stream + Drop> {
     reads_only: bool,
     /// How many ticks have passed since its last turn.
     silent: u64,
+    /// The port of its client, if it has one.
+    peer: Option<u16>,
 }
 
 /// The connections of a worker, and what they share.
@@ -86,13 +88,16 @@ impl<E: Stream + Drop> Served<E> {
         ensures waits { OnOk result (self.new.waiting.items ≡ self.old.waiting.items ++ self.old.open.vacant_key ∷ []) }
         ensures ends { self.new.ends ≡ self.old.ends }
     {
+        let peer = end.peer();
         let placed = OpenConnection {
             connection: Connection::new(worker.alloc, end, worker.limits.turns)?,
             reads_only,
             silent: 0,
+            peer,
         };
         let place = self.open.insert(placed)?;
         self.waiting.push_back(place)?;
+        worker.log.began(worker.number);
         Ok(())
     }
 
@@ -105,6 +110,11 @@ impl<E: Stream + Drop> Served<E> {
     {
         drop(self.open.try_remove(place));
         wait_no_more(&mut self.waiting, place);
+    }
+
+    /// The port of the client at a place, if it has one.
+    fn peer(&self, place: usize) -> Option<u16> {
+        self.open.get(place)?.peer
     }
 
     /// Leaves the connection at a place, and notes how its session ended.
@@ -123,7 +133,8 @@ impl<E: Stream + Drop> Served<E> {
             Ok(count) => Ok(count),
             Err(error) => Err(SessionFault::Front(error)),
         };
-        worker.log.ended(worker.number, &ended);
+        let peer = self.peer(place);
+        worker.log.ended(worker.number, &ended, peer);
         self.remove(place);
         self.ends.note(&ended)?;
         Ok(())
@@ -131,7 +142,7 @@ impl<E: Stream + Drop> Served<E> {
 
     /// Gives the connection at a place a turn, if one is there. If it has more to do then, it waits behind the others; if its
     /// session is over, it is left.
-    fn serve<A: Ask, L: Log>(
+    fn serve<A: BehindPort, L: Log>(
         &mut self,
         place: usize,
         is_closing: bool,
@@ -224,7 +235,7 @@ impl<E: Stream + Drop> Served<E> {
 
     /// Ends the session at a place, if one is there, with its last turn: nothing is read any more, and what has come is answered,
     /// as far as the client takes it.
-    fn end<A: Ask, L: Log>(
+    fn end<A: BehindPort, L: Log>(
         &mut self,
         place: usize,
         ask: &mut AtPort<A>,
@@ -244,7 +255,7 @@ impl<E: Stream + Drop> Served<E> {
     }
 
     /// Ends all sessions.
-    fn end_all<A: Ask, L: Log>(
+    fn end_all<A: BehindPort, L: Log>(
         &mut self,
         ask: &mut AtPort<A>,
         worker: &Worker<'_, L>,
@@ -268,13 +279,13 @@ impl<E: Stream + Drop> Served<E> {
         ensures noted { OnOk result (Notes (told_by Fails) self.old.ends self.new.ends) }
     {
         let none_came = Err(SessionFault::Listen);
-        worker.log.ended(worker.number, &none_came);
+        worker.log.ended(worker.number, &none_came, None);
         self.ends.note(&none_came)?;
         Ok(())
     }
 
     /// Gives a turn to the connection that has waited longest for one.
-    fn serve_first<A: Ask, L: Log>(
+    fn serve_first<A: BehindPort, L: Log>(
         &mut self,
         ask: &mut AtPort<A>,
         worker: &Worker<'_, L>,
@@ -294,7 +305,7 @@ impl<E: Stream + Drop> Served<E> {
 /// frame, or that it takes replies, is given up after `limits.most_silent` ticks without a turn. Once no more come, what was
 /// read is answered, as far as the clients take it at once. The answer is what is kept of how the sessions ended, in this
 /// order; the log is told of each end.
-pub fn serve_arrivals<V: Arrivals, A: Ask, L: Log>(
+pub fn serve_arrivals<V: Arrivals, A: BehindPort, L: Log>(
     worker: &Worker<'_, L>,
     arrivals: &mut V,
     ask: &mut AtPort<A>,
@@ -307,7 +318,10 @@ pub fn serve_arrivals<V: Arrivals, A: Ask, L: Log>(
         let free = served.open.vacant_key();
         let is_busy = !served.waiting.is_empty();
         match arrivals.next(free, served.open.len(), is_busy) {
-            Arrival::Opens { end, reads_only } => served.take(end, reads_only, worker)?,
+            Arrival::Opens { end, reads_only } => {
+                let metered = Metered::new(end, worker);
+                served.take(metered, reads_only, worker)?;
+            }
             Arrival::Ready { place, is_closing } => served.serve(place, is_closing, ask, worker)?,
             Arrival::Tick => {
                 served.tick();

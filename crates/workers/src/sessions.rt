@@ -90,6 +90,7 @@ fn serve_session<S: Sessions, A: Ask>(
         reader,
         writer,
         turns,
+        peer: _,
     } = session;
     let mut reader = Counted::new(reader);
     let mut writer = Counted::new(writer);
@@ -124,14 +125,16 @@ pub(crate) fn serve_sessions<S: Sessions, A: Ask, P: Seating>(
     loop {
         match sessions.next() {
             Ok(Some(session)) => {
+                let peer = session.peer;
+                place.began(worker);
                 let end = end_of(serve_session(alloc, sessions, session, ask));
-                place.ended(worker, &end);
+                place.ended(worker, &end, peer);
                 results.push(end)?;
             }
             Ok(None) => return Ok(results),
             Err(ListenFault) => {
                 let none_came = Err(SessionFault::Listen);
-                place.ended(worker, &none_came);
+                place.ended(worker, &none_came, None);
                 results.push(none_came)?;
                 return Ok(results);
             }

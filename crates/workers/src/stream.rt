@@ -33,4 +33,9 @@ pub trait Stream {
         ensures left { left self.new ≡ left self.old }
         ensures may { WritesAs (may self.old) result }
         ensures same { may self.new ≡ may self.old };
+
+    /// The port of the client at the other end, if it has one.
+    fn peer(&self) -> Option<u16> {
+        None
+    }
 }

@@ -10,11 +10,13 @@ ghost use Rattle.server.specs.Saving.{Keeps};
 ghost use Rattle.server.specs.Serve.{SetUpRun, always_open};
 ghost use Rattle.server.specs.Serving.{ClientComes, EndsClient, MayTake, ServedInTurn, most_taken as taken_by, most_turns as turns_of, unknown};
 
+use crate::counts::{Count, Counts};
 use crate::ending::{Done, report};
 use crate::lines::{ServerLine, say};
 use crate::saving::Keeper;
 use crate::serving::clients::Clients;
 use crate::serving::host::Host;
+use crate::serving::sockets::{ClientStream, Listener};
 use crate::serving::stream::close;
 use crate::set_up::SetUp;
 use command_line::{Connections, Settings};
@@ -23,7 +25,6 @@ use shard_store::{Pass, Store};
 use std::alloc::{AllocError, Global};
 use std::io;
 use std::io::{Read, Write};
-use std::net::{TcpListener, TcpStream};
 use std::thread::Threads;
 use std::time::Clock;
 use wire::{Counted, FrontError};
@@ -32,36 +33,96 @@ use workers::{ListenFault, Log, Open, Patient, Session, Sessions, Worked, kept_a
 /// The most reads that may be made of a client.
 const MOST_TURNS: u64 = 1_000_000_000;
 
-/// What a client sends. Once it is dropped, the connection is closed.
-pub struct Client(TcpStream);
+/// One direction of a client's connection, whose bytes the worker counts.
+#[derive(Drop)]
+pub struct CountedStream<'a> {
+    inner: ClientStream,
+    counts: &'a Counts,
+    worker: u64,
+    /// As what its bytes are counted.
+    count: Count,
+}
 
-impl Read for Client {
+impl CountedStream<'_> {
+    /// So many bytes have gone this way.
+    fn add(&self, bytes: usize) {
+        self.counts.add(self.worker, self.count, bytes as u64);
+    }
+}
+
+impl Read for CountedStream<'_> {
+    fn read(&mut self, buf: &mut [u8]) -> io::Result<usize> {
+        let read = self.inner.read(buf);
+        if let Ok(bytes) = &read {
+            self.add(*bytes);
+        }
+        read
+    }
+}
+
+impl Write for CountedStream<'_> {
+    fn write(&mut self, buf: &[u8]) -> io::Result<usize> {
+        let written = self.inner.write(buf);
+        if let Ok(bytes) = &written {
+            self.add(*bytes);
+        }
+        written
+    }
+
+    fn flush(&mut self) -> io::Result<()> {
+        self.inner.flush()
+    }
+}
+
+/// What a client sends. Once it is dropped, the connection is closed.
+pub struct Client<'a>(CountedStream<'a>);
+
+impl Read for Client<'_> {
     fn read(&mut self, buf: &mut [u8]) -> io::Result<usize> {
         self.0.read(buf)
     }
 }
 
-impl Drop for Client {
+impl Drop for Client<'_> {
     fn drop(self) {
-        let Client(stream) = self;
-        let _ = stream.set_nonblocking(true);
-        close(stream);
+        let Client(CountedStream { inner, .. }) = self;
+        let _ = inner.set_nonblocking(true);
+        close(inner);
     }
 }
 
-/// Waits for the next client. What it sends, and what is sent to it.
-fn accepted(listener: &TcpListener) -> io::Result<(Client, TcpStream)> {
-    let (reader, _) = listener.accept()?;
-    // A reply is not to wait until the client has taken the one before.
-    reader.set_nodelay(true)?;
-    let writer = reader.try_clone()?;
-    Ok((Client(reader), writer))
+impl<'a> Clients<'a> {
+    /// Waits for the next client.
+    fn accept(&self) -> io::Result<Session<Client<'a>, CountedStream<'a>>>
+        ensures { IfOk result (λ session. session.turns ≡ self.now.turns) }
+    {
+        let reader = self.listener.accept()?;
+        // A reply is not to wait until the client has taken the one before.
+        reader.set_nodelay(true)?;
+        let writer = reader.try_clone()?;
+        let peer = reader.peer_port();
+        Ok(Session {
+            reader: Client(self.counted(reader, Count::BytesRead)),
+            writer: self.counted(writer, Count::BytesWritten),
+            turns: self.turns,
+            peer,
+        })
+    }
+
+    fn counted(&self, inner: ClientStream, count: Count) -> CountedStream<'a> {
+        CountedStream {
+            inner,
+            counts: self.counts,
+            worker: self.worker,
+            count,
+        }
+    }
 }
 
 impl<'a> Sessions for Clients<'a> {
-    type Reader = Client;
+    type Reader = Client<'a>;
 
-    type Writer = TcpStream;
+    type Writer = CountedStream<'a>;
 
     ghost use Rattle.server.specs.Serving.{ClientComes, EndsClient};
 
@@ -71,24 +132,20 @@ impl<'a> Sessions for Clients<'a> {
 
     ghost takes_back = { EndsClient };
 
-    fn next(&mut self) -> Result<Option<Session<Client, TcpStream>>, ListenFault> {
+    fn next(&mut self) -> Result<Option<Session<Client<'a>, CountedStream<'a>>>, ListenFault> {
         if self.left == 0 {
             return Ok(None);
         }
-        let Ok((reader, writer)) = accepted(self.listener) else {
+        let Ok(session) = self.accept() else {
             return Err(ListenFault);
         };
         self.left -= 1;
-        Ok(Some(Session {
-            reader,
-            writer,
-            turns: self.turns,
-        }))
+        Ok(Some(session))
     }
 
-    fn take_back(&mut self, reader: Counted<Client>, writer: Counted<TcpStream>)
+    fn take_back(&mut self, reader: Counted<Client<'a>>, writer: Counted<CountedStream<'a>>)
         ensures no_more { self.new.left ≤ self.old.left }
-        ensures taken { EndsClient self.old reader writer self.new }
+        ensures taken { EndsClient self.old reader.entry writer.entry self.new }
     {
         drop(writer);
         drop(reader);
@@ -108,7 +165,8 @@ fn most_taken(connections: Connections) -> u64
 /// What comes to each worker.
 fn clients_of<'a>(
     alloc: Global,
-    listener: &'a TcpListener,
+    listener: &'a Listener,
+    counts: &'a Counts,
     settings: Settings,
 ) -> Result<Vec<Clients<'a>>, AllocError>
     ensures count { IfOk result (λ all. vec_len all ≡ settings.workers) }
@@ -118,8 +176,11 @@ fn clients_of<'a>(
     let turns = settings.turns.min(MOST_TURNS);
     let mut all = Vec::new(alloc);
     for _ in 0..settings.workers {
+        let worker = all.len() as u64;
         all.push(Clients {
             listener,
+            counts,
+            worker,
             left,
             turns,
         })?;
@@ -152,7 +213,7 @@ fn run_in_turn<R: Threads + Clock + Sync, L: Log + Copy + Send + Sync>(
 /// Where clients come who are served one after the other, how they are served, and who keeps the last map, if somebody does.
 #[derive(Drop)]
 pub struct InTurn<'a, K> {
-    pub listener: &'a TcpListener,
+    pub listener: &'a Listener,
     pub settings: Settings,
     pub keeper: Option<K>,
 }
@@ -160,7 +221,7 @@ pub struct InTurn<'a, K> {
 /// Serves the clients of the listener over a store of these settings, each worker so many, one after the other; answers the
 /// exit status.
 ///
-/// `listening PORT` goes to the output first; no client is taken if it is not taken. At the end come `served N`, how many
+/// `listening` goes to the output first, with the address; no client is taken if it is not taken. At the end come `served N`, how many
 /// sessions there were, and `domains M`, how many domains have a bundle then. The faults of sessions are told in between, in
 /// order of the workers; they don't change the status, except that a listener that failed does.
 pub fn serve_on<
@@ -184,18 +245,13 @@ pub fn serve_on<
         Ok(set_up) => set_up,
         Err(error) => return Fault::Front(error).tell(err),
     };
-    let Ok(clients) = clients_of(host.alloc, listener, settings) else {
+    let Ok(clients) = clients_of(host.alloc, listener, host.counts, settings) else {
         return Fault::Front(FrontError::Memory).tell(err);
     };
-    let Ok(address) = listener.local_addr() else {
+    let Ok(address) = listener.address() else {
         return Fault::Listen.tell(err);
     };
-    if !say(
-        out,
-        err,
-        before,
-        ServerLine::Listening(address.port(), None),
-    ) {
+    if !say(out, err, before, ServerLine::Listening(&address, None)) {
         return 1;
     }
     match run_in_turn(host, &store, settings.retries, passes, clients) {

@@ -165,8 +165,8 @@ fn run_all<H: Threads + Clock + Sync, I: Read, L: Log + Copy + Sync>(
 
 /// Serves at the ports, until the end of the input if the server is to stop then; answers the exit status.
 ///
-/// `listening PORT` goes to the output first, and if there is a port for reads only, `read-only PORT` behind it on the same
-/// line; no connection is taken if it is not taken. At the end come `served N`, how many sessions were begun, and
+/// `listening` goes to the output first, with the address, and if there is one for reads only, `read-only` and that behind it
+/// on the same line; no connection is taken if it is not taken. At the end come `served N`, how many sessions were begun, and
 /// `domains M`, how many domains have a bundle then. The faults of sessions are told in between, in order of the workers;
 /// they don't change the status, except that a listener that failed does. The log is told of changes and of the ends of
 /// sessions while it serves.
@@ -197,18 +197,18 @@ pub fn serve_at<
     let before = err.faults();
     let Task {
         ports,
-        waits: WorkerPolls { all, seats },
+        waits: WorkerPolls { all: polls, seats },
         settings,
         lasting,
         set_up: SetUp { store, passes },
         keeper,
     } = task;
-    let (port, read_port) = ports.numbers();
     let shared = Shared::new(ports, seats, lasting.most_open);
-    let Ok(incoming) = incoming_of(host.alloc, host.rt, &shared, all) else {
+    let Ok(incoming) = incoming_of(host.alloc, host.rt, &shared, polls) else {
         return Fault::Front(FrontError::Memory).tell(err);
     };
-    if !say(out, err, before, ServerLine::Listening(port, read_port)) {
+    let (all, reads) = shared.ports().addresses();
+    if !say(out, err, before, ServerLine::Listening(all, reads)) {
         return 1;
     }
     let work = Work {

@@ -1,28 +1,29 @@
 //! Where a server that lasts listens.
+use crate::address::Address;
+use crate::serving::sockets::{ClientStream, Listener};
 use std::io;
 use std::io::ErrorKind;
-use std::net::{TcpListener, TcpStream};
-use std::os::fd::{AsRawFd, RawFd};
+use std::os::fd::RawFd;
 
-/// A port that clients come to.
+/// A port, or a Unix socket, that clients come to.
 #[derive(Drop)]
 struct Port {
-    listener: TcpListener,
-    number: u16,
+    listener: Listener,
+    address: Address,
 }
 
 impl Port {
     /// The port of the listener. No call waits from then on.
-    fn new(listener: TcpListener) -> io::Result<Port> {
+    fn new(listener: Listener) -> io::Result<Port> {
         listener.set_nonblocking(true)?;
-        let number = listener.local_addr()?.port();
-        Ok(Port { listener, number })
+        let address = listener.address()?;
+        Ok(Port { listener, address })
     }
 
     /// The next client that waits, if there is one.
-    fn accept(&self) -> io::Result<Option<TcpStream>> {
+    fn accept(&self) -> io::Result<Option<ClientStream>> {
         match self.listener.accept() {
-            Ok((stream, _)) => Ok(Some(stream)),
+            Ok(stream) => Ok(Some(stream)),
             Err(error) if error.kind() == ErrorKind::WouldBlock => Ok(None),
             Err(error) => Err(error),
         }
@@ -38,7 +39,7 @@ pub struct Ports {
 
 impl Ports {
     /// The ports of these listeners.
-    pub fn new(all: TcpListener, reads: Option<TcpListener>) -> io::Result<Ports> {
+    pub fn new(all: Listener, reads: Option<Listener>) -> io::Result<Ports> {
         let all = Port::new(all)?;
         let reads = match reads {
             Some(listener) => Some(Port::new(listener)?),
@@ -47,27 +48,24 @@ impl Ports {
         Ok(Ports { all, reads })
     }
 
-    /// Their numbers.
-    pub fn numbers(&self) -> (u16, Option<u16>) {
+    /// Where they are.
+    pub fn addresses(&self) -> (&Address, Option<&Address>) {
         match &self.reads {
-            Some(reads) => (self.all.number, Some(reads.number)),
-            None => (self.all.number, None),
+            Some(reads) => (&self.all.address, Some(&reads.address)),
+            None => (&self.all.address, None),
         }
     }
 
     /// What the system knows them by.
     pub fn fds(&self) -> (RawFd, Option<RawFd>) {
         match &self.reads {
-            Some(reads) => (
-                self.all.listener.as_raw_fd(),
-                Some(reads.listener.as_raw_fd()),
-            ),
-            None => (self.all.listener.as_raw_fd(), None),
+            Some(reads) => (self.all.listener.fd(), Some(reads.listener.fd())),
+            None => (self.all.listener.fd(), None),
         }
     }
 
     /// The next client that waits, if there is one, and whether it may only read.
-    pub fn accept(&self) -> io::Result<Option<(TcpStream, bool)>> {
+    pub fn accept(&self) -> io::Result<Option<(ClientStream, bool)>> {
         if let Some(stream) = self.all.accept()? {
             return Ok(Some((stream, false)));
         }

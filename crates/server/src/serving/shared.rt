@@ -54,6 +54,11 @@ impl Shared {
         }
     }
 
+    /// The ports that clients come to.
+    pub fn ports(&self) -> &Ports {
+        &self.ports
+    }
+
     /// Whether the server is to stop now.
     pub fn is_asked(&self) -> bool {
         self.is_asked.load(Ordering::SeqCst)

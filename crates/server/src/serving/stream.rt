@@ -2,10 +2,10 @@
 ghost use Rattle.std.specs.Prelude.{None};
 
 use crate::serving::shared::Shared;
+use crate::serving::sockets::ClientStream;
 use std::io;
 use std::io::{Read, Write};
-use std::net::{Shutdown, TcpStream};
-use std::os::fd::{AsRawFd, RawFd};
+use std::os::fd::RawFd;
 
 /// How many reads there are of what a client sends that is not answered any more.
 const LAST_READS: usize = 16;
@@ -14,8 +14,8 @@ const LAST_READS: usize = 16;
 ///
 /// If a connection is closed while bytes of it are unread, the system resets it, and the client may lose the last replies. So
 /// the client is told that no more replies come, and what has come from it is read.
-pub fn close(mut stream: TcpStream) {
-    let _ = stream.shutdown(Shutdown::Write);
+pub fn close(mut stream: ClientStream) {
+    let _ = stream.end_writes();
     let mut unread = [0; 4096];
     for _ in 0..LAST_READS {
         if !matches!(stream.read(&mut unread), Ok(1..)) {
@@ -27,15 +27,22 @@ pub fn close(mut stream: TcpStream) {
 /// The stream of a client, whose reads and writes return at once. When it is dropped, it is closed, and there is room for
 /// another client.
 pub struct Stream<'a> {
-    inner: TcpStream,
+    inner: ClientStream,
     shared: &'a Shared,
+    /// The port of its client, if the system knows it.
+    peer: Option<u16>,
 }
 
 impl<'a> Stream<'a> {
     /// The stream of a client that is counted from now on.
-    pub fn new(inner: TcpStream, shared: &'a Shared) -> io::Result<Stream<'a>> {
+    pub fn new(inner: ClientStream, shared: &'a Shared) -> io::Result<Stream<'a>> {
         shared.come();
-        let stream = Stream { inner, shared };
+        let peer = inner.peer_port();
+        let stream = Stream {
+            inner,
+            shared,
+            peer,
+        };
         // Replies are gathered into few writes already; none of them is to wait for an answer to the one before.
         let _ = stream.inner.set_nodelay(true);
         stream.inner.set_nonblocking(true)?;
@@ -44,7 +51,7 @@ impl<'a> Stream<'a> {
 
     /// What the system knows it by.
     pub fn fd(&self) -> RawFd {
-        self.inner.as_raw_fd()
+        self.inner.fd()
     }
 }
 
@@ -64,11 +71,19 @@ impl workers::Stream for Stream<'_> {
     fn write(&mut self, buf: &[u8]) -> io::Result<usize> {
         self.inner.write(buf)
     }
+
+    fn peer(&self) -> Option<u16> {
+        self.peer
+    }
 }
 
 impl Drop for Stream<'_> {
     fn drop(self) {
-        let Stream { inner, shared } = self;
+        let Stream {
+            inner,
+            shared,
+            peer: _,
+        } = self;
         close(inner);
         shared.leave();
     }

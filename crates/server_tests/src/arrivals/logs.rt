@@ -33,7 +33,7 @@ impl Log for Kept {
         self.last = Some((worker, change.how, letter, change.before, change.after));
     }
 
-    fn ended(&self, _worker: u64, _end: &Result<u64, SessionFault>) {}
+    fn ended(&self, _worker: u64, _end: &Result<u64, SessionFault>, _peer: Option<u16>) {}
 }
 
 /// An operation, its reply, and the change that is told of it, if one is.

@@ -60,6 +60,7 @@ impl<'i, 'o> Sessions for Once<'i, 'o> {
             reader: self.input,
             writer,
             turns: 1_000,
+            peer: None,
         }))
     }
 
@@ -131,6 +132,7 @@ fn unseen<'a>(alloc: Global, reader: &'a [u8]) -> Unseen<'a> {
         reader,
         writer: Vec::new(alloc),
         turns: 1_000,
+        peer: None,
     }
 }
 

@@ -1,19 +1,46 @@
 //! What a log is told.
 use super::memory::run_two_noted;
 use super::{GET_A, is_equal};
-use map_core::{Expect, MapRefusal};
+use map_core::{Ask, Expect, MapRefusal};
+use shard_store::Store;
 use std::sync::{Mutex, Wait};
 use std::test::Fail;
-use workers::{Changed, How, Log, Open, Overtaken, SessionFault};
+use test_kit::{Shown, play_line};
+use workers::{
+    AtPort, ChangeRefusal, Changed, How, Log, Logged, Open, RefusedChange, SessionFault,
+};
 
-/// What a log was told: how many changes, the last of them, the last that was refused because another was faster, and how many
-/// ends.
+/// What a log was told: how many changes, the last of them, the last that was refused, how many sessions began and ended, the
+/// last port of a client, how many bytes were read and written, and the last answer.
 #[derive(Drop)]
 struct Notes {
     changes: u64,
     last: Option<(How, Option<Expect>, Expect)>,
-    overtaken: Option<MapRefusal>,
+    refused: Option<ChangeRefusal>,
+    begun: u64,
     ends: u64,
+    peer: Option<u16>,
+    read: u64,
+    written: u64,
+    /// The last answer: the worker's number, the letter and the code.
+    answered: Option<(u64, u8, u8)>,
+}
+
+impl Notes {
+    /// Nothing was told yet.
+    fn new() -> Notes {
+        Notes {
+            changes: 0,
+            last: None,
+            refused: None,
+            begun: 0,
+            ends: 0,
+            peer: None,
+            read: 0,
+            written: 0,
+            answered: None,
+        }
+    }
 }
 
 /// A log that keeps notes.
@@ -40,27 +67,43 @@ impl<'a, R: Wait + Copy> Log for Noted<'a, R> {
         notes.last = Some((change.how, change.before, change.after));
     }
 
-    fn refused(&self, _worker: u64, overtaken: &Overtaken<'_>) {
+    fn refused(&self, _worker: u64, refused: &RefusedChange<'_>) {
         let mut notes = self.notes.lock(self.rt);
-        notes.overtaken = Some(overtaken.refusal);
+        notes.refused = Some(refused.refusal);
     }
 
-    fn ended(&self, _worker: u64, _end: &Result<u64, SessionFault>) {
+    fn began(&self, _worker: u64) {
+        let mut notes = self.notes.lock(self.rt);
+        notes.begun = notes.begun.saturating_add(1);
+    }
+
+    fn ended(&self, _worker: u64, _end: &Result<u64, SessionFault>, peer: Option<u16>) {
         let mut notes = self.notes.lock(self.rt);
         notes.ends = notes.ends.saturating_add(1);
+        notes.peer = peer;
+    }
+
+    fn read(&self, _worker: u64, bytes: usize) {
+        let mut notes = self.notes.lock(self.rt);
+        notes.read = notes.read.saturating_add(bytes as u64);
+    }
+
+    fn written(&self, _worker: u64, bytes: usize) {
+        let mut notes = self.notes.lock(self.rt);
+        notes.written = notes.written.saturating_add(bytes as u64);
+    }
+
+    fn answered(&self, worker: u64, letter: u8, code: u8) {
+        let mut notes = self.notes.lock(self.rt);
+        notes.answered = Some((worker, letter, code));
     }
 }
 
 // Of seven requests three change a bundle, and one comes too late: a set of what stands there, a get and a refused removal are
-// not told.
+// not told. Each session begins and ends, and the port of its client and all bytes are told.
 #[test]
 fn a_log_is_told_of_changes_alone(rt: HostRuntime) -> Result<(), Fail> {
-    let notes = Mutex::new(Notes {
-        changes: 0,
-        last: None,
-        overtaken: None,
-        ends: 0,
-    });
+    let notes = Mutex::new(Notes::new());
     let log = Noted {
         rt: &rt,
         notes: &notes,
@@ -76,7 +119,36 @@ fn a_log_is_told_of_changes_alone(rt: HostRuntime) -> Result<(), Fail> {
     let notes = notes.lock(&rt);
     is_equal(&rt, &notes.changes, &3);
     assert!(&rt; notes.last == Some((How::Removed, Some(Expect::Sequence(8)), Expect::Absent)));
-    assert!(&rt; notes.overtaken == Some(MapRefusal::Stale(7)));
+    assert!(&rt; notes.refused == Some(ChangeRefusal::Map(MapRefusal::Stale(7))));
+    is_equal(&rt, &notes.begun, &2);
     is_equal(&rt, &notes.ends, &2);
+    assert!(&rt; notes.peer == Some(40_312));
+    is_equal(&rt, &notes.read, &(requests.len() as u64 + 7));
+    is_equal(&rt, &notes.written, &(ended.first.len() as u64 + 5));
+    Ok(())
+}
+
+// At a port for reads only a change is told to be refused by 56, and nothing is stored. What is answered there is told, too.
+#[test]
+fn a_log_is_told_what_a_port_refuses(rt: HostRuntime) -> Result<(), Fail> {
+    let (store, pass) = Store::new(rt.alloc(), 4, 3, 1_000_000)?;
+    let notes = Mutex::new(Notes::new());
+    let log = Noted {
+        rt: &rt,
+        notes: &notes,
+    };
+    let mut port = AtPort::new(Logged::new(&store, pass, &rt, 0, log, 3), true);
+    play_line(rt.alloc(), Shown::Counted, &mut port, ("set a 5", "shut"))?;
+    play_line(
+        rt.alloc(),
+        Shown::Counted,
+        &mut port,
+        ("get a", "refused 30"),
+    )?;
+    port.answered(b'S', 56);
+    let notes = notes.lock(&rt);
+    is_equal(&rt, &notes.changes, &0);
+    assert!(&rt; notes.refused == Some(ChangeRefusal::ReadOnly));
+    assert!(&rt; notes.answered == Some((3, b'S', 56)));
     Ok(())
 }

@@ -33,6 +33,10 @@ impl<'i, 'o> Stream for Memory<'i, 'o> {
     fn write(&mut self, buf: &[u8]) -> io::Result<usize> {
         self.output.write(buf)
     }
+
+    fn peer(&self) -> Option<u16> {
+        Some(40_312)
+    }
 }
 
 /// One client over memory, which is ready until it has left; then the listener fails so often.

@@ -30,7 +30,7 @@ returns-in_default-clause-session g c = (
     used = tt;
     ended = tt;
     stands = refl;
-    told = λ calm. (refl, refl);
+    told = λ none calm. (refl, refl);
   },
 )
 

@@ -1,7 +1,6 @@
+use Rattle.std.proofs.KnownBytes.{Appends-trans}
 use Rattle.std.proofs.lemmas.Result.{on_ok_weaker}
-use Rattle.server.proofs.LogLines.{fault_line_whole}
 use Rattle.server.proofs.log.write_end.Goals as goal
 
-pub returns-in-Err : goal.returns-in-Err
-returns-in-Err g c =
-    on_ok_weaker c.writeln-in-Err.result (fault_line_whole _ _ c.args.worker c.number.result c.in-Err.fault c.args.end.now c.in-Err.is c.number.ensures) c.writeln-in-Err.ensures.bytes
+pub returns : goal.returns
+returns g c = on_ok_weaker c.write_peer.result (Appends-trans _ _ _ _ _ c.in_ok-write_end_words.ensures) c.write_peer.ensures

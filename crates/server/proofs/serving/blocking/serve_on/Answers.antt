@@ -46,9 +46,9 @@ returns-in-Ok-run_in_turn g c =
       c.in-Ok.set_up.passes.items,
       c.in-Ok.ensures.set_up,
       inr (
-        c.port.result,
+        c.in-Ok-address.address,
         record {
-          read_port = None;
+          reads = None;
           taken = true;
           out = end_of g.W.Write.contents c.say.new.out;
           error = end_of g.E.Write.contents c.say.new.err;
@@ -72,9 +72,9 @@ returns-then-not-say g c =
       c.in-Ok.set_up.passes.items,
       c.in-Ok.ensures.set_up,
       inr (
-        c.port.result,
+        c.in-Ok-address.address,
         record {
-          read_port = None;
+          reads = None;
           taken = false;
           out = end_of g.W.Write.contents c.say.new.out;
           error = end_of g.E.Write.contents c.say.new.err;
@@ -94,9 +94,9 @@ returns-in-Err-run_in_turn g c =
       c.in-Ok.set_up.passes.items,
       c.in-Ok.ensures.set_up,
       inr (
-        c.port.result,
+        c.in-Ok-address.address,
         record {
-          read_port = None;
+          reads = None;
           taken = true;
           out = end_of g.W.Write.contents c.say.new.out;
           error = end_of g.E.Write.contents c.say.new.err;

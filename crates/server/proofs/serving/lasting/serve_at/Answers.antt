@@ -1,4 +1,4 @@
-use Rattle.std.proofs.Common.{ℕ, [], true, refl, subst, sym, arith, inl, inr}
+use Rattle.std.proofs.Common.{ℕ, [], true, refl, subst, sym, arith, inl, inr, option_map}
 use Rattle.workers.specs.Closing.{AreAll}
 use Rattle.server.specs.Saving.{Keeps}
 use Rattle.server.specs.Serve.{always_open, Reports}
@@ -25,9 +25,9 @@ pub returns-in-Ok-run_all-clause-run : goal.returns-in-Ok-run_all-clause-run
 returns-in-Ok-run_all-clause-run g c =
     let before = c.faults-before.ensures in
     inr (inr (
-      c.numbers-port.result.0,
+      c.addresses.result.0.now,
       record {
-        read_port = c.numbers-port.result.1;
+        reads = option_map (λ address. address.now) c.addresses.result.1;
         taken = true;
         out = end_of g.W.Write.contents c.say.new.out;
         error = end_of g.E.Write.contents c.say.new.err;
@@ -46,9 +46,9 @@ pub returns-in-Err-clause-run : goal.returns-in-Err-clause-run
 returns-in-Err-clause-run g c =
     let before = c.faults-before.ensures in
     inr (inr (
-      c.numbers-port.result.0,
+      c.addresses.result.0.now,
       record {
-        read_port = c.numbers-port.result.1;
+        reads = option_map (λ address. address.now) c.addresses.result.1;
         taken = true;
         out = end_of g.W.Write.contents c.say.new.out;
         error = end_of g.E.Write.contents c.say.new.err;

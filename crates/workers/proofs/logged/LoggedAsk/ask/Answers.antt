@@ -12,9 +12,9 @@ pub returns-then-not-is_on : goal.returns-then-not-is_on
 returns-then-not-is_on g c =
     let old = c.args.self.now in
     let off : false ≡ g.L.Log.wants old.log = grind (arith, c.is_on.ensures, c.if-not-is_on.true) in
-    let answered = patient_answer old.patient.retries old.patient.ask c.args.op c.ask.result c.ask.new.self.ask c.ask.ensures.answered.1 in
+    let answered = patient_answer old.patient.retries old.patient.ask c.args.op c.ask-plain.result c.ask-plain.new.self.ask c.ask-plain.ensures.answered.1 in
     record {
-      answered = (refl, off_logged g.L.Log.tells g.L.Log.wants old.worker (old.patient.ask, old.log) (c.ask.new.self.ask, old.log) c.args.op c.ask.result off answered refl);
+      answered = (refl, off_logged g.L.Log.tells g.L.Log.wants old.worker (old.patient.ask, old.log) (c.ask-plain.new.self.ask, old.log) c.args.op c.ask-plain.result off answered refl);
     }
 
 pub returns : goal.returns
