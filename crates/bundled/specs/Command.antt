@@ -3,7 +3,7 @@ use Rattle.std.specs.Prelude.{◌≡◌, ℕ, Bool, true, false, List, map, Resu
 use Rattle.wire.specs.Output.{End, Tells}
 use Rattle.wire.specs.declared.error.FrontError.TheVariants.{Memory, ReadFault}
 use Rattle.command_line.specs.declared.wanted.Wanted.{Wanted}
-use Rattle.command_line.specs.declared.wanted.Wanted.TheVariants.{Run, Ask, Encode, Decode, Explain, Check, Map, Import, Pem, Diff, Digest, Trace, Migrate, Race, Refresh, Snapshot, Serve}
+use Rattle.command_line.specs.declared.wanted.Wanted.TheVariants.{Run, Ask, Encode, Decode, Explain, Check, Map, Import, Pem, Diff, Digest, Trace, Migrate, Race, Refresh, Snapshot, Stats, Serve}
 use Rattle.commands.specs.declared.fault.Fault.{Fault}
 use Rattle.commands.specs.declared.fault.Fault.TheVariants.{Front}
 use Rattle.commands.specs.Fault.{fault_line}
@@ -26,6 +26,7 @@ use Rattle.commands.specs.Diff.{Inputs, DiffRun}
 use Rattle.bundled.specs.Ask.{AskRun}
 use Rattle.bundled.specs.Refresh.{RefreshRun}
 use Rattle.bundled.specs.Snapshot.{SnapshotRun}
+use Rattle.bundled.specs.Stats.{StatsRun}
 use Rattle.bundled.specs.Race.{RaceRun}
 use Rattle.bundled.specs.Serve.{ServedAs}
 use Rattle.server.specs.Saving.{IsUnknown}
@@ -61,7 +62,8 @@ Does Migrate status old new = Filters MigrationOf Unread status old new
 Does (Race seconds) status old new = RaceRun status old new
 Does (Refresh wanted) status old new = RefreshRun status old new
 Does (Snapshot wanted) status old new = SnapshotRun status old new
-Does (Serve port load save log settings) status old new =
+Does (Stats wanted) status old new = StatsRun status old new
+Does (Serve places load save log settings) status old new =
     (stops_at_end settings.connections ≡ false → new.input ≡ old.input) × ServeCommand IsUnknown (ServedAs settings.connections settings.turns) load settings status old.output new.output old.error new.error
 
 -- Help or the version is written to standard output, and nothing is read. Or memory ran out before that or a command.

@@ -1,6 +1,7 @@
 pub mod Ask
 pub mod Refresh
 pub mod Snapshot
+pub mod Stats
 pub mod Race
 pub mod Serve
 pub mod Command

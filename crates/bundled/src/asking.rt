@@ -17,7 +17,7 @@ use std::io::{Read, Write};
 use std::net::Net;
 use wire::{Counted, FrontError};
 
-/// Asks the server at a port of this machine, and answers the exit status: 0 if each request was done, 3 if some reply is a
+/// Asks the server at a place of this machine, and answers the exit status: 0 if each request was done, 3 if some reply is a
 /// refusal, 1 after a fault.
 pub fn ask_server<H: Files + Net, R: Read, W: Write, E: Write>(
     alloc: Global,
@@ -35,7 +35,7 @@ pub fn ask_server<H: Files + Net, R: Read, W: Write, E: Write>(
         Ok(known) => known,
         Err(fault) => return fault.tell(err),
     };
-    let Ok((from, to)) = streams(host, wanted.port) else {
+    let Ok((from, to)) = streams(host, wanted.place) else {
         return Fault::Server(ServerFault::NoConnection).tell(err);
     };
     let mut link = ServerStreams {

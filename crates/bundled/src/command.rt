@@ -11,6 +11,7 @@ use crate::racing::race_over;
 use crate::refreshing::refresh_over;
 use crate::serving::{Host, Serving, serve_over};
 use crate::snapshotting::snapshot_over;
+use crate::stats::stats_over;
 use clap::error::ErrorKind;
 use command_line::{Wanted, wanted_by};
 use commands::{
@@ -19,7 +20,7 @@ use commands::{
     trace_over, write_flushed,
 };
 use dump_views::Profile;
-use server::{LineLog, Stamped, tell_start};
+use server::{Counts, LineLog, Stamped, tell_start};
 use std::alloc::{AllocError, Global};
 use std::env::{Args, Env};
 use std::fs::{File, Files};
@@ -139,23 +140,28 @@ fn run_wanted<
         Wanted::Race { seconds } => race_over(alloc, host, out, err, *seconds),
         Wanted::Refresh(refreshing) => refresh_over(alloc, host, out, err, refreshing),
         Wanted::Snapshot(snapshotting) => snapshot_over(alloc, host, out, err, snapshotting),
+        Wanted::Stats(counting) => stats_over(alloc, host, out, err, counting),
         Wanted::Serve {
-            port,
+            places,
             load,
             save,
             log: is_on,
             settings,
         } => {
             tell_start(host, settings, *is_on, notes);
-            let log = LineLog::new(Stamped::new(host, notes), *is_on);
+            let Ok(counts) = Counts::new(alloc, host, settings.workers) else {
+                return Fault::Front(FrontError::Memory).tell(err);
+            };
+            let log = LineLog::new(&counts, host, Stamped::new(host, notes), *is_on);
             let host = Host {
                 rt: host,
                 alloc,
                 log: &log,
+                counts: &counts,
                 requests: &[],
             };
             let serving = Serving {
-                port: *port,
+                places: *places,
                 load: *load,
                 save: *save,
                 settings: *settings,

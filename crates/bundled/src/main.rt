@@ -3,10 +3,13 @@
 
 mod asking;
 mod command;
+mod exposition;
 mod racing;
 mod refreshing;
+mod server_stream;
 mod serving;
 mod snapshotting;
+mod stats;
 
 use command::command_over;
 use std::process::ExitCode;

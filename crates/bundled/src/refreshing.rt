@@ -5,8 +5,9 @@ ghost use Rattle.bundled.specs.Refresh.{RefreshRun};
 ghost use Rattle.wire.specs.Output.{Tells, end_of};
 ghost use Rattle.commands.specs.Streams.{Source};
 
+use crate::server_stream::ServerStream;
 use client::Client;
-use command_line::Refreshing;
+use command_line::{Place, Refreshing};
 use commands::{Fault, RefreshFault, ServerFault, ended_after, read_schedule};
 use refresh::{Folder, Sender, Server, Times, refresh_each};
 use std::alloc::Global;
@@ -14,6 +15,7 @@ use std::fs::Files;
 use std::io;
 use std::io::Write;
 use std::net::{Ipv4Addr, Net, OpenStream, SocketAddr};
+use std::os::unix::net::UnixStream;
 use std::time::{Clock, Duration};
 use wire::{Counted, FrontError};
 
@@ -22,7 +24,7 @@ const PATIENCE: u64 = 30;
 
 /// Refreshes each relationship of the list once, and answers the exit status: 0 if each bundle was stored, unchanged or
 /// sent, 3 if not, 1 after a fault. A list that is refused is a fault, and then nothing is asked. A line for each
-/// refresh goes to standard output, or, without a port, to standard error.
+/// refresh goes to standard output, or, without a place to ask, to standard error.
 pub fn refresh_over<H: Files + Clock + Net, W: Write, E: Write>(
     alloc: Global,
     host: &H,
@@ -59,9 +61,9 @@ fn refresh_list<H: Files + Clock + Net, W: Write, E: Write>(
         at_least: wanted.at_least,
     };
     let mut folder = Folder::new(alloc, host, wanted.folder);
-    match wanted.port {
-        Some(port) => {
-            let mut server = connect(alloc, host, port)?;
+    match wanted.place {
+        Some(place) => {
+            let mut server = connect(alloc, host, place)?;
             Ok(!refresh_each(
                 alloc,
                 &mut folder,
@@ -97,13 +99,13 @@ fn time_of<H: Clock>(host: &H, wanted: &Refreshing<'_>) -> Result<u64, Fault> {
     }
 }
 
-/// Connects to the server that listens at a port of this machine.
+/// Connects to the server that listens at the place.
 fn connect<H: Net>(
     alloc: Global,
     host: &H,
-    port: u16,
-) -> Result<Server<H::Stream, H::Stream>, Fault> {
-    match streams(host, port) {
+    place: Place<'_>,
+) -> Result<Server<ServerStream<H::Stream>, ServerStream<H::Stream>>, Fault> {
+    match streams(host, place) {
         Ok((stream, other)) => {
             let client = Client::new(alloc, Counted::new(stream), Counted::new(other));
             Ok(Server::new(client))
@@ -112,14 +114,41 @@ fn connect<H: Net>(
     }
 }
 
-/// A stream to a port of this machine, to read from and to write to.
-pub fn streams<H: Net>(host: &H, port: u16) -> io::Result<(H::Stream, H::Stream)> {
+/// A stream to the server that listens at the place, to read from and to write to.
+pub fn streams<H: Net>(
+    host: &H,
+    place: Place<'_>,
+) -> io::Result<(ServerStream<H::Stream>, ServerStream<H::Stream>)> {
+    match place {
+        Place::Port(port) => {
+            let (from, to) = port_streams(host, port)?;
+            Ok((ServerStream::Port(from), ServerStream::Port(to)))
+        }
+        Place::Socket(path) => {
+            let (from, to) = socket_streams(host, path)?;
+            Ok((ServerStream::Socket(from), ServerStream::Socket(to)))
+        }
+    }
+}
+
+/// A stream to a port of 127.0.0.1.
+fn port_streams<H: Net>(host: &H, port: u16) -> io::Result<(H::Stream, H::Stream)> {
     let stream = host.connect(SocketAddr::from((Ipv4Addr::LOCALHOST, port)))?;
     let patience = Some(Duration::from_secs(PATIENCE));
     stream.set_read_timeout(patience)?;
     stream.set_write_timeout(patience)?;
     // A request is written in two calls, and the second would wait for an answer to the first.
     stream.set_nodelay(true)?;
+    let other = stream.try_clone()?;
+    Ok((stream, other))
+}
+
+/// A stream to the Unix socket at the path.
+fn socket_streams<H: Net>(host: &H, path: &str) -> io::Result<(UnixStream, UnixStream)> {
+    let stream = UnixStream::connect(host, path)?;
+    let patience = Some(Duration::from_secs(PATIENCE));
+    stream.set_read_timeout(patience)?;
+    stream.set_write_timeout(patience)?;
     let other = stream.try_clone()?;
     Ok((stream, other))
 }

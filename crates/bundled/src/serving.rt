@@ -2,6 +2,7 @@
 mod lasting;
 mod ports;
 mod serve;
+mod socket_file;
 mod waits;
 
 pub use lasting::serve_many;

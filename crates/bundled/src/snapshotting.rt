@@ -8,7 +8,7 @@ ghost use Rattle.commands.specs.Fault.{fault_line};
 
 use crate::refreshing::streams;
 use client::{Client, ClientError};
-use command_line::Snapshotting;
+use command_line::{Place, Snapshotting};
 use commands::{Fault, ServerFault, SnapshotFault, ended_after, write_flushed};
 use map_core::{AskError, Snapshot};
 use snapshots::{FetchError, FolderError, HostFolder, SnapshotError, fetch, update};
@@ -88,8 +88,13 @@ fn take_and_tell<H: Files + Net, W: Write>(
     wanted: &Snapshotting<'_>,
     last: &mut Option<Snapshot>,
 ) -> Result<(), Fault> {
-    let fetched = fetch_from(alloc, host, wanted.port, last.take())?;
-    let domains = last.insert(fetched);
+    if let Some(domains) = fetch_from(alloc, host, wanted.place, last)? {
+        *last = Some(domains);
+    }
+    let Some(domains) = last else {
+        // (Only a fetch that knows a digest is told that they are the same.)
+        return Err(Fault::Server(ServerFault::Client(ClientError::BadReply)));
+    };
     let mut folder = match HostFolder::open(alloc, host, wanted.folder) {
         Ok(folder) => folder,
         Err(error) => return Err(fault_of(SnapshotError::from(error))),
@@ -108,25 +113,21 @@ fn take_and_tell<H: Files + Net, W: Write>(
     }
 }
 
-/// All domains of the server that listens at a port of this machine. Those that were fetched last do not come again if they are
-/// the same.
+/// All domains of the server that listens at the place; none if they are those that were fetched last.
 fn fetch_from<H: Net>(
     alloc: Global,
     host: &H,
-    port: u16,
-    last: Option<Snapshot>,
-) -> Result<Snapshot, Fault> {
-    let Ok((stream, other)) = streams(host, port) else {
+    place: Place<'_>,
+    last: &Option<Snapshot>,
+) -> Result<Option<Snapshot>, Fault> {
+    let Ok((stream, other)) = streams(host, place) else {
         return Err(Fault::Server(ServerFault::NoConnection));
     };
     let mut client = Client::new(alloc, Counted::new(stream), Counted::new(other));
-    let known = last.as_ref().map(Snapshot::digest);
-    match (fetch(&mut client, known), last) {
-        (Ok(Some(domains)), _) => Ok(domains),
-        (Ok(None), Some(domains)) => Ok(domains),
-        (Ok(None), None) => Err(Fault::Server(ServerFault::Client(ClientError::BadReply))),
-        (Err(FetchError::Refused(why)), _) => { Err(Fault::Snapshot(SnapshotFault::Refused(why))) }
-        (Err(FetchError::Ended(why)), _) => Err(Fault::Server(ServerFault::Client(why))),
+    match fetch(&mut client, last.as_ref().map(Snapshot::digest)) {
+        Ok(fetched) => Ok(fetched),
+        Err(FetchError::Refused(why)) => Err(Fault::Snapshot(SnapshotFault::Refused(why))),
+        Err(FetchError::Ended(why)) => Err(Fault::Server(ServerFault::Client(why))),
     }
 }
 

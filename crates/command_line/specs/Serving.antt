@@ -1,10 +1,11 @@
 -- The two forms of the command `serve`, and what belongs to each.
-use Rattle.std.specs.Prelude.{◌≡◌, ◌⊎◌, ℕ, ◌<◌, ◌≤◌, List, [], ◌∷◌, Bool, false, codes}
+use Rattle.std.specs.Prelude.{◌≡◌, ◌⊎◌, ℕ, ◌<◌, ◌≤◌, List, [], ◌∷◌, Bool, false, codes, None}
 use Rattle.std.specs.List.{list_any}
 use Rattle.clap.specs.declared.parser.matches.ArgMatches.{ArgMatches}
 use Rattle.command_line.specs.Answers.{is_given}
 use Rattle.command_line.specs.declared.settings.Connections.{Connections}
 use Rattle.command_line.specs.declared.settings.Connections.TheVariants.{Each, Unlimited}
+use Rattle.command_line.specs.declared.wanted.Places.{Places}
 
 -- numbers within their ranges
 abbrev pub AreConnections : Connections → Type 0
@@ -23,12 +24,17 @@ IsLimit (Unlimited lasting) turns = ((0 < turns) × (turns ≤ 1000000000)) ⊎ 
 
 -- the options of a server that lasts
 abbrev pub lasting_options : List (List ℕ)
-lasting_options = codes "max-open" ∷ codes "read-port" ∷ codes "until-eof" ∷ codes "idle" ∷ []
+lasting_options = codes "max-open" ∷ codes "read-port" ∷ codes "read-socket" ∷ codes "until-eof" ∷ codes "idle" ∷ []
 
 -- if the server does not last, none of these is given
 abbrev pub FitsForm : ArgMatches → Connections → Type 0
 FitsForm answers (Each count) = list_any (is_given answers) lasting_options ≡ false
 FitsForm answers (Unlimited lasting) = Unit {0}
+
+-- only a server that lasts has a place for reads only
+abbrev pub FitPlaces : Connections → Places → Type 0
+FitPlaces (Each count) places = places.reads ≡ None
+FitPlaces (Unlimited lasting) places = Unit {0}
 
 -- whether the server stops at the end of its input
 abbrev pub stops_at_end : Connections → Bool

@@ -1,6 +1,6 @@
 //! Answers of the command line that several commands have.
 ghost use Rattle.std.specs.Prelude.{◌≡◌};
-ghost use Rattle.command_line.specs.Answers.{is_given as stands_there};
+ghost use Rattle.command_line.specs.Answers.{is_given as stands_there, text_behind};
 
 use clap::ArgMatches;
 use clap::parser::ValueSource;
@@ -14,13 +14,10 @@ pub fn is_given(answers: &ArgMatches<'_>, name: &str) -> bool
 }
 
 /// The text of an argument that has to be given.
-pub fn text_of<'a>(answers: &ArgMatches<'a>, name: &str) -> &'a str {
+pub fn text_of<'a>(answers: &ArgMatches<'a>, name: &str) -> &'a str
+    ensures { result.now ≡ text_behind answers.now name.now }
+{
     answers.get_str(name).unwrap_or_default()
-}
-
-/// The port of an argument that has to be given.
-pub fn port_of(answers: &ArgMatches<'_>) -> u16 {
-    answers.get_one::<u16>("port").unwrap_or(0)
 }
 
 /// The words of an argument.

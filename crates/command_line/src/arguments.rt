@@ -52,8 +52,14 @@ pub const NUMBER: Argument = Argument {
 
 pub const ASKED_PORT: Argument = Argument {
     name: "port",
-    kind: Kind::Required("PORT", PORT),
+    kind: Kind::Optional("PORT", PORT),
     help: "The port of 127.0.0.1 where the server listens",
+};
+
+pub const ASKED_SOCKET: Argument = Argument {
+    name: "socket",
+    kind: Kind::Optional("PATH", ValueParser::NonEmptyString),
+    help: "The Unix socket where the server listens, in place of a port",
 };
 
 pub const RETRY: Argument = Argument {
@@ -84,6 +90,12 @@ pub const REQUEST: Argument = Argument {
     name: "request",
     kind: Kind::Words("REQUEST"),
     help: "The words of one request; by default each line of standard input is a request",
+};
+
+pub const PROMETHEUS: Argument = Argument {
+    name: "prometheus",
+    kind: Kind::Switch,
+    help: "Write the counts in the text format that Prometheus reads",
 };
 
 pub const RELATIONSHIPS: Argument = Argument {
@@ -137,13 +149,19 @@ pub const UNTIL_EOF: Argument = Argument {
 pub const LOG: Argument = Argument {
     name: "log",
     kind: Kind::Switch,
-    help: "Tell of each change, also if another was faster, and of each end of a connection on standard error",
+    help: "Tell of each change, of each that 31, 36 or 56 refuses, and of each end of a connection on standard error",
 };
 
 pub const LISTENED_PORT: Argument = Argument {
     name: "port",
-    kind: Kind::Required("PORT", FREE_PORT),
+    kind: Kind::Optional("PORT", FREE_PORT),
     help: "The port of 127.0.0.1 to listen at; 0 takes one that is free",
+};
+
+pub const LISTENED_SOCKET: Argument = Argument {
+    name: "socket",
+    kind: Kind::Optional("PATH", ValueParser::NonEmptyString),
+    help: "The Unix socket to listen at, in place of a port",
 };
 
 pub const WORKERS: Argument = Argument {
@@ -156,6 +174,12 @@ pub const READ_PORT: Argument = Argument {
     name: "read-port",
     kind: Kind::Optional("PORT", FREE_PORT),
     help: "If connections are unlimited: a second port, where clients may only read; 0 takes one that is free",
+};
+
+pub const READ_SOCKET: Argument = Argument {
+    name: "read-socket",
+    kind: Kind::Optional("PATH", ValueParser::NonEmptyString),
+    help: "If connections are unlimited: a Unix socket where clients may only read, in place of such a port",
 };
 
 pub const CONNECTIONS: Argument = Argument {

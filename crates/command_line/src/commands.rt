@@ -1,10 +1,11 @@
 //! The commands.
 use crate::argument::Argument;
 use crate::arguments::{
-    ASKED_PORT, AT_LEAST, CONNECTIONS, DOCUMENTS, EVERY, FILES, IDLE, LISTENED_PORT, LOAD, LOG,
-    MAX_OPEN, NAME, NAMES, NEW, NOW, NUMBER, OLD, OUT, PICTURE, RAW, READ_PORT, REFRESHED_PORT,
-    RELATIONSHIPS, REQUEST, RETRIES, RETRY, ROUNDS, SAVE, SECONDS, SERVED_TURNS, SHARDS, TEXT,
-    TRIES, TURNS, UNLESS, UNTIL_EOF, WORKERS, X509,
+    ASKED_PORT, ASKED_SOCKET, AT_LEAST, CONNECTIONS, DOCUMENTS, EVERY, FILES, IDLE, LISTENED_PORT,
+    LISTENED_SOCKET, LOAD, LOG, MAX_OPEN, NAME, NAMES, NEW, NOW, NUMBER, OLD, OUT, PICTURE,
+    PROMETHEUS, RAW, READ_PORT, READ_SOCKET, REFRESHED_PORT, RELATIONSHIPS, REQUEST, RETRIES,
+    RETRY, ROUNDS, SAVE, SECONDS, SERVED_TURNS, SHARDS, TEXT, TRIES, TURNS, UNLESS, UNTIL_EOF,
+    WORKERS, X509,
 };
 use crate::texts;
 
@@ -28,6 +29,7 @@ pub enum Verb {
     Refresh,
     Serve,
     Snapshot,
+    Stats,
     Check,
     Map,
     Import,
@@ -40,7 +42,7 @@ pub enum Verb {
 }
 
 /// All commands, in the order of the help.
-pub const VERBS: [Verb; 17] = [
+pub const VERBS: [Verb; 18] = [
     Verb::Run,
     Verb::Ask,
     Verb::Encode,
@@ -49,6 +51,7 @@ pub const VERBS: [Verb; 17] = [
     Verb::Refresh,
     Verb::Serve,
     Verb::Snapshot,
+    Verb::Stats,
     Verb::Check,
     Verb::Map,
     Verb::Import,
@@ -72,6 +75,7 @@ impl Verb {
             Verb::Refresh => &REFRESH,
             Verb::Serve => &SERVE,
             Verb::Snapshot => &SNAPSHOT,
+            Verb::Stats => &STATS,
             Verb::Check => &CHECK,
             Verb::Map => &MAP,
             Verb::Import => &IMPORT,
@@ -96,7 +100,7 @@ static ASK: Row = Row {
     name: "ask",
     about: "Asks a server, and writes its replies",
     notes: texts::ASKING,
-    arguments: &[ASKED_PORT, RETRY, RAW, TEXT, UNLESS, REQUEST],
+    arguments: &[ASKED_PORT, ASKED_SOCKET, RETRY, RAW, TEXT, UNLESS, REQUEST],
 };
 
 static ENCODE: Row = Row {
@@ -124,7 +128,14 @@ static REFRESH: Row = Row {
     name: "refresh",
     about: "Sets the bundles of a list of trust domains, out of a folder of documents",
     notes: texts::RELATIONSHIPS,
-    arguments: &[RELATIONSHIPS, DOCUMENTS, NOW, AT_LEAST, REFRESHED_PORT],
+    arguments: &[
+        RELATIONSHIPS,
+        DOCUMENTS,
+        NOW,
+        AT_LEAST,
+        REFRESHED_PORT,
+        ASKED_SOCKET,
+    ],
 };
 
 static SERVE: Row = Row {
@@ -133,6 +144,7 @@ static SERVE: Row = Row {
     notes: texts::SERVING,
     arguments: &[
         LISTENED_PORT,
+        LISTENED_SOCKET,
         CONNECTIONS,
         SERVED_TURNS,
         WORKERS,
@@ -145,6 +157,7 @@ static SERVE: Row = Row {
         RETRIES,
         MAX_OPEN,
         READ_PORT,
+        READ_SOCKET,
         UNTIL_EOF,
         IDLE,
     ],
@@ -154,7 +167,14 @@ static SNAPSHOT: Row = Row {
     name: "snapshot",
     about: "Writes the bundles of a server as files, all as they stood at one moment",
     notes: texts::SNAPSHOTS,
-    arguments: &[ASKED_PORT, OUT, EVERY],
+    arguments: &[ASKED_PORT, ASKED_SOCKET, OUT, EVERY],
+};
+
+static STATS: Row = Row {
+    name: "stats",
+    about: "Tells what a server has counted: requests, refusals, changes, connections and bytes",
+    notes: texts::COUNTS,
+    arguments: &[ASKED_PORT, ASKED_SOCKET, PROMETHEUS],
 };
 
 static CHECK: Row = Row {

@@ -311,17 +311,18 @@ What to do: Connect again, or raise --turns.
         56,
         "\
 56 GateShut
-The request was not asked: it would change something, and this port is for reads only. (Whoever
+The request was not asked: it would change something, and this port or socket is for reads only. (Whoever
 runs the workers in a program of their own may give them a gate that shuts; then that was shut.)
-What to do: Ask at the server's other port.
+What to do: Ask at the server's other port or socket.
 ",
     ),
     (
         57,
         "\
 57 ListenFault
-The server cannot listen at the port, or cannot accept a connection.
-What to do: See whether another program has the port.
+The server cannot listen at the port or the socket, or cannot accept a connection.
+What to do: See whether another program has the port, whether a server listens at the socket's path,
+and whether some other file is there: only the socket that a dead server has left is replaced.
 ",
     ),
     (
@@ -329,7 +330,7 @@ What to do: See whether another program has the port.
         "\
 58 BadReply
 What came is not a reply to the request.
-What to do: See whether the port is that of a server of bundles.
+What to do: See whether the port or the socket is that of a server of bundles.
 ",
     ),
     (
@@ -462,8 +463,8 @@ What to do: See whether the file is there and may be read.
         78,
         "\
 78 NoConnection
-No server listens at the port.
-What to do: See whether the server runs, and at which port.
+No server listens at the port or the socket, or the socket's rights do not let you connect.
+What to do: See whether the server runs, and where.
 ",
     ),
     (

@@ -10,6 +10,7 @@ mod arguments;
 mod building;
 mod commands;
 mod explanations;
+mod places;
 mod ranges;
 mod reading;
 mod refusal;
@@ -20,4 +21,4 @@ mod wanted;
 
 pub use reading::wanted_by;
 pub use settings::{Connections, Lasting, Settings};
-pub use wanted::{Inquiry, Refreshing, ReplyStyle, Snapshotting, Wanted};
+pub use wanted::{Counting, Inquiry, Place, Places, Refreshing, ReplyStyle, Snapshotting, Wanted};

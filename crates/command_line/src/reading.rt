@@ -1,16 +1,17 @@
 //! How the command line is read.
-ghost use Rattle.std.specs.Prelude.{◌≡◌, IfOk};
+ghost use Rattle.std.specs.Prelude.{◌≡◌, ◌∷◌, [], IfOk, codes, map, true};
 ghost use Rattle.command_line.specs.Asking.{style};
 ghost use Rattle.command_line.specs.Settings.{AreSettings};
 
-use crate::answers::{port_of, text_of, words_of};
+use crate::answers::{text_of, words_of};
 use crate::building::program;
 use crate::commands::{VERBS, Verb};
 use crate::explanations::explanation;
+use crate::places::{place_if_named, place_of};
 use crate::ranges::{AT_LEAST, RETRY, ROUNDS, SECONDS, SHARDS, TURNS};
 use crate::refusal::{name_refusal, refusal};
 use crate::serving::serving_of;
-use crate::wanted::{Inquiry, Refreshing, ReplyStyle, Snapshotting, Wanted};
+use crate::wanted::{Counting, Inquiry, Refreshing, ReplyStyle, Snapshotting, Wanted};
 use clap::{ArgMatches, Error};
 use spiffe_doc::{NameError, TrustDomain};
 use std::alloc::Global;
@@ -49,8 +50,9 @@ fn wanted_of<'a>(alloc: Global, verb: Verb, answers: &ArgMatches<'a>) -> Result<
         Verb::Map => mapping_of(alloc, verb, answers),
         Verb::Pem => certificates_of(alloc, verb, answers),
         Verb::Serve => serving_of(alloc, verb, answers),
-        Verb::Refresh => Ok(Wanted::Refresh(refreshing_of(answers))),
-        Verb::Snapshot => Ok(Wanted::Snapshot(snapshotting_of(answers))),
+        Verb::Refresh => refreshing_of(alloc, verb, answers),
+        Verb::Snapshot => snapshotting_of(alloc, verb, answers),
+        Verb::Stats => counting_of(alloc, verb, answers),
         Verb::Diff => Ok(Wanted::Diff(text_of(answers, "old"), text_of(answers, "new"))),
         Verb::Race => Ok(Wanted::Race {
             seconds: SECONDS.of(answers, "seconds"),
@@ -88,17 +90,22 @@ fn inquiry_of<'a>(alloc: Global, verb: Verb, answers: &ArgMatches<'a>) -> Result
     if unless.is_some() && !is_fetch(words.as_slice()) {
         return Err(refusal(alloc, verb, "--unless goes with the request `fetch` alone"));
     }
-    Ok(Wanted::Ask(Inquiry {
-        port: port_of(answers),
-        retries: RETRY.of(answers, "retry") as u32,
-        style,
-        unless,
-        words,
-    }))
+    match place_of(answers) {
+        Ok(place) => Ok(Wanted::Ask(Inquiry {
+            place,
+            retries: RETRY.of(answers, "retry") as u32,
+            style,
+            unless,
+            words,
+        })),
+        Err(reason) => Err(refusal(alloc, verb, reason)),
+    }
 }
 
 /// Whether the words are those of a fetch-all.
-fn is_fetch(words: &[&str]) -> bool {
+fn is_fetch(words: &[&str]) -> bool
+    ensures { result ≡ true → map (λ word. word.now) words.now ≡ codes "fetch" ∷ [] }
+{
     match words {
         [word] => *word == "fetch",
         _ => false,
@@ -165,20 +172,50 @@ fn certificates_of<'a>(
     }
 }
 
-fn refreshing_of<'a>(answers: &ArgMatches<'a>) -> Refreshing<'a> {
-    Refreshing {
-        list: text_of(answers, "relationships"),
-        folder: text_of(answers, "documents"),
-        now: answers.get_one::<u64>("now"),
-        at_least: AT_LEAST.of(answers, "at-least"),
-        port: answers.get_one::<u16>("port"),
+fn refreshing_of<'a>(
+    alloc: Global,
+    verb: Verb,
+    answers: &ArgMatches<'a>,
+) -> Result<Wanted<'a>, Error>
+    ensures { IfOk result AreSettings }
+{
+    match place_if_named(answers) {
+        Ok(place) => Ok(Wanted::Refresh(Refreshing {
+            list: text_of(answers, "relationships"),
+            folder: text_of(answers, "documents"),
+            now: answers.get_one::<u64>("now"),
+            at_least: AT_LEAST.of(answers, "at-least"),
+            place,
+        })),
+        Err(reason) => Err(refusal(alloc, verb, reason)),
     }
 }
 
-fn snapshotting_of<'a>(answers: &ArgMatches<'a>) -> Snapshotting<'a> {
-    Snapshotting {
-        port: port_of(answers),
-        folder: text_of(answers, "out"),
-        every: answers.get_one::<u64>("every"),
+fn snapshotting_of<'a>(
+    alloc: Global,
+    verb: Verb,
+    answers: &ArgMatches<'a>,
+) -> Result<Wanted<'a>, Error>
+    ensures { IfOk result AreSettings }
+{
+    match place_of(answers) {
+        Ok(place) => Ok(Wanted::Snapshot(Snapshotting {
+            place,
+            folder: text_of(answers, "out"),
+            every: answers.get_one::<u64>("every"),
+        })),
+        Err(reason) => Err(refusal(alloc, verb, reason)),
+    }
+}
+
+fn counting_of<'a>(alloc: Global, verb: Verb, answers: &ArgMatches<'a>) -> Result<Wanted<'a>, Error>
+    ensures { IfOk result AreSettings }
+{
+    match place_of(answers) {
+        Ok(place) => Ok(Wanted::Stats(Counting {
+            place,
+            prometheus: answers.get_flag("prometheus"),
+        })),
+        Err(reason) => Err(refusal(alloc, verb, reason)),
     }
 }

@@ -5,8 +5,9 @@ ghost use Rattle.command_line.specs.Answers.{is_given as stands_there};
 ghost use Rattle.command_line.specs.Serving.{AreConnections, FitsForm, IsLimit, lasting_options};
 ghost use Rattle.command_line.specs.Settings.{AreSettings};
 
-use crate::answers::{is_given, port_of};
+use crate::answers::is_given;
 use crate::commands::Verb;
+use crate::places::places_of;
 use crate::ranges;
 use crate::refusal::refusal;
 use crate::settings::{Connections, Lasting, Settings};
@@ -17,7 +18,7 @@ use std::alloc::Global;
 const NO_COUNT: &str = "--connections takes a number in 1..=1000, or `unlimited`";
 
 const OTHER_FORM: &str =
-    "--max-open, --read-port, --until-eof and --idle belong to --connections unlimited: \
+    "--max-open, --read-port, --read-socket, --until-eof and --idle belong to --connections unlimited: \
 with a number of connections each worker serves one client after the other";
 
 /// A server, by the answers of `serve`.
@@ -28,16 +29,25 @@ pub fn serving_of<'a>(
 ) -> Result<Wanted<'a>, Error>
     ensures { IfOk result AreSettings }
 {
-    match connections_of(answers) {
-        Ok(connections) => Ok(Wanted::Serve {
-            port: port_of(answers),
-            load: answers.get_str("load"),
-            save: answers.get_str("save"),
-            log: answers.get_flag("log"),
-            settings: settings_of(answers, connections),
-        }),
+    match server_of(answers) {
+        Ok(server) => Ok(server),
         Err(reason) => Err(refusal(alloc, verb, reason)),
     }
+}
+
+/// The same; or why the answers are refused.
+fn server_of<'a>(answers: &ArgMatches<'a>) -> Result<Wanted<'a>, &'static str>
+    ensures { IfOk result AreSettings }
+{
+    let connections = connections_of(answers)?;
+    let places = places_of(answers)?;
+    Ok(Wanted::Serve {
+        places,
+        load: answers.get_str("load"),
+        save: answers.get_str("save"),
+        log: answers.get_flag("log"),
+        settings: settings_of(answers, connections),
+    })
 }
 
 /// Which connections each worker takes; or why the answers are refused.
@@ -74,6 +84,7 @@ fn asks_to_last(answers: &ArgMatches<'_>) -> bool
 {
     is_given(answers, "max-open")
         || is_given(answers, "read-port")
+        || is_given(answers, "read-socket")
         || is_given(answers, "until-eof")
         || is_given(answers, "idle")
 }
@@ -83,7 +94,6 @@ fn lasting_of(answers: &ArgMatches<'_>) -> Lasting
 {
     Lasting {
         most_open: ranges::MAX_OPEN.of(answers, "max-open"),
-        read_port: answers.get_one::<u16>("read-port"),
         until_eof: answers.get_flag("until-eof"),
         idle: ranges::IDLE.of(answers, "idle"),
     }

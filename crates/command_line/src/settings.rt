@@ -36,8 +36,6 @@ pub enum Connections {
 pub struct Lasting {
     /// How many connections may be open at once, those of all workers together: at least one.
     pub most_open: u64,
-    /// Where connections may only read, if there is such a port: one that is free, if it is 0.
-    pub read_port: Option<u16>,
     /// Whether the server stops at the end of its input.
     pub until_eof: bool,
     /// For how many seconds a client may be silent inside a frame, and a write may make no progress: at least one.

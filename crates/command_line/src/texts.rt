@@ -27,6 +27,7 @@ The first byte of a payload is a letter:
   C  length of the name, name,             version 2: sets it only if the stored bundle is the expected
      expectation, document                 one: 0 none, 1 and a sequence of 8 bytes, 2 without a sequence
   U  digest, of 32 bytes                   version 3: fetches all unless it is the SHA-256 of their dump
+  M                                        version 3: tells what a server has counted
 
 The first example sets the bundle of the trust domain `a` to an empty document and gets it back:
 
@@ -42,13 +43,14 @@ pub const LINES: &str = "\
 Each line of the input is a request, and becomes one frame, as soon as the line is there:
 
   set D DOC         sets the bundle of the trust domain D
-  setif D E DOC     sets it only if the stored bundle is the expected one: E is absent, none for a bundle
-                    without a sequence, or a sequence
+  setif D E DOC     sets it only if the stored bundle is the expected one: E is absent, none or
+                    unnumbered for a bundle without a sequence, or a sequence
   append D JWK      appends an authority to it
   remove D          removes it
   get D             gets it
   fetch             fetches all
   fetch unless HEX  fetches all unless this is the SHA-256 of their dump, in 64 lower-case digits
+  stats             tells what a server has counted
   version 1|2|3     sets the version of the session
 
 DOC and JWK are the rest of the line, or @FILE for what the file holds. A line that is empty or begins with `#` asks
@@ -71,6 +73,7 @@ the line that `encode` takes, and a reply one of these:
   all N                              N domains follow, each as
   bundle D TEXT                      the bundle of D, as it stood at the moment of the fetch-all
   same                               all bundles have the digest that was known
+  stats NAME=N ..                    what was counted; nothing, if whoever is asked counts nothing
   version N                          the session speaks this version now
   refused N ..                       the request was refused, with the number of the refusal and what it tells
   memory   worn S   shut             not done: no memory, the shard S can count no more changes, not asked at all
@@ -89,6 +92,7 @@ The requests are those of `encode`, and the replies those of `decode`: see bundl
   bundled ask --port 8443 --raw fetch > dump
   bundled ask --port 8443 --raw --unless dump fetch > new
   bundled ask --port 8443 < requests
+  bundled ask --socket /run/bundles/all get a.example
 
 With --text the reply to a get is the text of its bundle and a line feed. A refusal and any other reply is its line, as
 without --text, so look at the status before you use the output.
@@ -102,6 +106,21 @@ Version 3 of the session is set first. Each reply is written before the next req
 The status is 0 if each request was done, 3 if some reply is a refusal, and 1 after a fault: `fault 78` if no server
 listens, 50, 52, 53, 54 or 58 if the exchange with it failed: whether its request took effect is not known. A word with
 a line feed is `fault 70 1`, and nothing is asked: give such a document as @FILE.";
+
+pub const COUNTS: &str = "\
+A line for each count, its name and its number, since the server began:
+
+  seconds 3600
+  connections_open 3
+  requests_get 41
+  refused_30 2
+
+With --prometheus they are written for its textfile collector:
+
+  bundled stats --port 8443 --prometheus > store.prom.new && mv store.prom.new store.prom
+
+The status is 0, or 3 if the server refuses to tell, whose reply is written then, and 1 after a fault: `fault 78` if no server
+listens, 50, 52, 53, 54 or 58 if the exchange with it failed.";
 
 pub const REPORTS: &str =
     "  a.json: bundle of 2 authorities (1 X.509, 1 JWT), sequence 1, refresh hint 300
@@ -172,11 +191,11 @@ The documents are fetched by whatever you trust with that, as curl or spire-serv
   curl -fsS https://bundles.example/a -o new && mv new documents/a.example.json
   bundled refresh --relationships list --documents documents | bundled run
 
-A line is printed for each relationship, on standard error, or with --port on standard output:
+A line is printed for each relationship, on standard error, or with --port or --socket on standard output:
 
   1000 a.example sent due 1300
 
-In place of `sent` comes, with --port, `stored`, `unchanged`, or `refused` with the number of the refusal; and
+In place of `sent` comes, with one of these, `stored`, `unchanged`, or `refused` with the number of the refusal; and
 `bad document` with its number, `no answer` if there is no file, or `given up`. `stored empty` says that the bundle
 has no authorities any more.
 
@@ -200,31 +219,36 @@ folder.";
 pub const SERVING: &str = "\
 With a number of --connections each worker serves so many clients one after the other, and then the server ends. With
 --connections unlimited it lasts, and each worker serves many clients beside each other: --max-open, --read-port,
---until-eof and --idle belong to this form only.
+--read-socket, --until-eof and --idle belong to this form only.
 
 Each worker is a thread. All share one store, which is empty at the start, or holds what --load gives it: a dump, judged
 whole and stored before the port is listened at. A connection carries the frames that `run` reads and writes; see
-bundled run --help. At the port of --read-port gets and fetch-alls are answered, and what would change a bundle is
-refused with 56.
+bundled run --help. At the port of --read-port, or the socket of --read-socket, gets and fetch-alls are answered, and
+what would change a bundle is refused with 56.
+
+With --socket the server listens at a Unix socket, a file that it makes: whoever may write to the file may connect, and
+the umask of the server says who may. A socket that a dead server has left is replaced. A path at which a server listens,
+or where some other file is, or of over 107 bytes, is `fault 57`. When the server ends, the file is removed.
 
 On standard output come `listening PORT` before the first connection is taken, with `read-only PORT` on the same line if
 there is such a port, and at the end `served N`, how many connections were served, and `domains M`, how many domains
-have a bundle. Faults of connections go to standard error then, in order of the workers. The status is 1 after a fault
-of the server itself, such as a port that is taken, and 0 otherwise.
+have a bundle. A socket is told by its path, in place of a port. Faults of connections go to standard error then, in
+order of the workers. The status is 1 after a fault of the server itself, such as a port that is taken, and 0 otherwise.
 
 With --save the map that is left at the end is written as a dump, which --load reads: to FILE.new, and that is renamed to
 FILE. If it cannot be written, that is `fault 59`, and FILE is as it was. With --until-eof a server that lasts has an end.
 
 With --log each change of a bundle is a line on standard error, with the sequence before and after it, and so is each one
-that was refused because another was faster, and each end of a connection. The settings are told first:
+that was refused by 31, 36 or 56, and each end of a connection, with its client's port. The settings are told first:
 
   2026-11-30T05:23:30Z settings workers 2 shards 4 connections 1
   2026-11-30T05:23:33Z worker 0 set a.example absent to 7
   2026-11-30T05:23:33Z worker 1 appended a.example 7 to 8
   2026-11-30T05:23:34Z worker 0 refused a.example 31 8
-  2026-11-30T05:23:35Z worker 1 session ended after 3 replies
+  2026-11-30T05:23:35Z worker 1 session ended after 3 replies from 40312
 
   bundled serve --port 8443 --read-port 8444 --connections unlimited
+  bundled serve --socket /run/bundles/all --read-socket /run/bundles/reads --connections unlimited
   bundled refresh --relationships list --documents documents --port 8443";
 
 pub const CERTIFICATES: &str = "\

@@ -49,10 +49,12 @@ pub enum Wanted<'a> {
     Refresh(Refreshing<'a>),
     /// A snapshot of a server's bundles in a folder.
     Snapshot(Snapshotting<'a>),
-    /// A server at this port of 127.0.0.1; one that is free, if it is 0. Its store is filled with the dump in a file, if one
-    /// is named, and at the end its map is kept as a dump in a file, if one is named.
+    /// What a server has counted.
+    Stats(Counting<'a>),
+    /// A server that listens at these places. Its store is filled with the dump in a file, if one is named, and at the end
+    /// its map is kept as a dump in a file, if one is named.
     Serve {
-        port: u16,
+        places: Places<'a>,
         load: Option<&'a str>,
         save: Option<&'a str>,
         log: bool,
@@ -60,22 +62,49 @@ pub enum Wanted<'a> {
     },
 }
 
+/// A place on this machine where a server listens.
+#[derive(Clone, Copy, Debug)]
+pub enum Place<'a> {
+    /// A port of 127.0.0.1. A server that is to listen at 0 takes one that is free.
+    Port(u16),
+    /// The Unix socket at this path: the rights of the file say who may connect.
+    Socket(&'a str),
+}
+
+/// The places where a server listens.
+#[derive(Clone, Copy, Debug)]
+pub struct Places<'a> {
+    /// Where clients may ask all.
+    pub all: Place<'a>,
+    /// Where they may only read, if there is such a place.
+    pub reads: Option<Place<'a>>,
+}
+
 /// What snapshots are to be made.
 #[derive(Clone, Copy, Debug)]
 pub struct Snapshotting<'a> {
-    /// Where the server listens on this machine.
-    pub port: u16,
+    /// Where the server listens.
+    pub place: Place<'a>,
     /// The folder of the snapshots.
     pub folder: &'a str,
     /// In how many seconds another one is made; without it, there is one.
     pub every: Option<u64>,
 }
 
+/// Which counts are to be told.
+#[derive(Clone, Copy, Debug)]
+pub struct Counting<'a> {
+    /// Where the server listens.
+    pub place: Place<'a>,
+    /// Whether they are written as Prometheus reads them.
+    pub prometheus: bool,
+}
+
 /// What is asked of a server.
 #[derive(Drop)]
 pub struct Inquiry<'a> {
-    /// Where the server listens on this machine.
-    pub port: u16,
+    /// Where the server listens.
+    pub place: Place<'a>,
     /// How often a request is asked again that others were in the way of.
     pub retries: u32,
     /// How the replies are written.
@@ -108,6 +137,6 @@ pub struct Refreshing<'a> {
     pub now: Option<u64>,
     /// In how many seconds, at the least, a relationship is due again.
     pub at_least: u64,
-    /// Where the server listens on this machine. Without it, requests go to standard output.
-    pub port: Option<u16>,
+    /// Where the server listens. Without it, requests go to standard output.
+    pub place: Option<Place<'a>>,
 }

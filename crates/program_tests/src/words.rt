@@ -1,5 +1,5 @@
 //! Command lines: which command they want, with which settings.
-use command_line::{Connections, ReplyStyle, Settings, Wanted, wanted_by};
+use command_line::{Connections, Place, Places, ReplyStyle, Settings, Wanted, wanted_by};
 use spiffe_doc::TrustDomain;
 use std::alloc::{AllocError, Global};
 use std::process::Abort;
@@ -29,6 +29,30 @@ fn told(
     Ok(told)
 }
 
+/// A place as a row has it: the number of a port, or a path.
+fn told_place(alloc: Global, place: Option<Place<'_>>) -> Result<String, AllocError> {
+    match place {
+        Some(Place::Port(number)) => format!(in alloc; "{number}"),
+        Some(Place::Socket(path)) => String::from_str(alloc, path),
+        None => String::from_str(alloc, "-"),
+    }
+}
+
+/// What is asked at a place: words, the place, and numbers.
+fn told_at(
+    alloc: Global,
+    name: &str,
+    words: &[&str],
+    place: Place<'_>,
+    numbers: &[Option<u64>],
+) -> Result<String, AllocError> {
+    let place = told_place(alloc, Some(place))?;
+    let mut texts = Vec::new(alloc);
+    texts.extend_from_slice(words)?;
+    texts.push(place.as_str())?;
+    told(alloc, name, texts.as_slice(), numbers)
+}
+
 fn told_map(alloc: Global, names: &[TrustDomain], x509: bool) -> Result<String, AllocError> {
     let mut texts = Vec::new(alloc);
     for name in names {
@@ -40,13 +64,12 @@ fn told_map(alloc: Global, names: &[TrustDomain], x509: bool) -> Result<String, 
 /// Those of a server end with its form: how many connections each worker takes, or the numbers of one that lasts.
 fn told_server(
     alloc: Global,
-    port: u16,
+    places: &Places<'_>,
     files: [Option<&str>; 2],
     log: bool,
     settings: &Settings,
 ) -> Result<String, AllocError> {
     let numbers = [
-        u64::from(port),
         u64::from(log),
         settings.workers,
         settings.turns,
@@ -61,8 +84,13 @@ fn told_server(
     }
     push_form(&mut all, settings.connections)?;
     let form = form_of(settings.connections);
-    let names = files.map(|file| file.unwrap_or("-"));
-    told(alloc, form, names.as_slice(), all.as_slice())
+    let (place, reads) = (
+        told_place(alloc, Some(places.all))?,
+        told_place(alloc, places.reads)?,
+    );
+    let [load, save] = files.map(|file| file.unwrap_or("-"));
+    let texts = [load, save, place.as_str(), reads.as_str()];
+    told(alloc, form, &texts, all.as_slice())
 }
 
 fn form_of(connections: Connections) -> &'static str {
@@ -77,7 +105,6 @@ fn push_form(numbers: &mut Vec<Option<u64>>, connections: Connections) -> Result
         Connections::Each(count) => numbers.push(Some(count))?,
         Connections::Unlimited(lasting) => {
             numbers.push(Some(lasting.most_open))?;
-            numbers.push(lasting.read_port.map(u64::from))?;
             numbers.push(Some(u64::from(lasting.until_eof)))?;
             numbers.push(Some(lasting.idle))?;
         }
@@ -123,36 +150,34 @@ fn told_wanted(alloc: Global, wanted: &Wanted<'_>) -> Result<String, AllocError>
             )
         }
         Wanted::Ask(it) => {
-            let (port, retries, style) = (
-                u64::from(it.port),
-                u64::from(it.retries),
-                number_of_style(it.style),
-            );
-            let numbers = [Some(port), Some(retries), Some(style)];
+            let numbers = [Some(u64::from(it.retries)), Some(number_of_style(it.style))];
             match it.unless {
-                Some(dump) => told(alloc, "ask unless", &[dump], &numbers),
-                None => told(alloc, "ask", it.words.as_slice(), &numbers),
+                Some(dump) => told_at(alloc, "ask unless", &[dump], it.place, &numbers),
+                None => told_at(alloc, "ask", it.words.as_slice(), it.place, &numbers),
             }
         }
         Wanted::Refresh(it) => {
-            let numbers = [it.now, Some(it.at_least), it.port.map(u64::from)];
-            told(alloc, "refresh", &[it.list, it.folder], &numbers)
+            let place = told_place(alloc, it.place)?;
+            let texts = [it.list, it.folder, place.as_str()];
+            told(alloc, "refresh", &texts, &[it.now, Some(it.at_least)])
         }
-        Wanted::Snapshot(it) => {
-            told(
+        Wanted::Snapshot(it) => { told_at(alloc, "snapshot", &[it.folder], it.place, &[it.every]) }
+        Wanted::Stats(it) => {
+            told_at(
                 alloc,
-                "snapshot",
-                &[it.folder],
-                &[Some(u64::from(it.port)), it.every],
+                "stats",
+                &[],
+                it.place,
+                &[Some(u64::from(it.prometheus))],
             )
         }
         Wanted::Serve {
-            port,
+            places,
             load,
             save,
             log,
             settings,
-        } => told_server(alloc, *port, [*load, *save], *log, settings),
+        } => told_server(alloc, places, [*load, *save], *log, settings),
     }
 }
 
@@ -226,11 +251,11 @@ static NUMBERS: [Line; 14] = [
     ("run --shards 256", "run|256|1000000"),
     (
         "refresh --relationships l --documents f",
-        "refresh|l|f|-|60|-",
+        "refresh|l|f|-|-|60",
     ),
     (
         "refresh --documents=f/g --relationships=-l --now=18446744073709551615 --at-least=0 --port=65535",
-        "refresh|-l|f/g|18446744073709551615|0|65535",
+        "refresh|-l|f/g|65535|18446744073709551615|0",
     ),
     ("trace", "trace|4|3|0"),
     ("trace --shards=1 --rounds=16", "trace|1|16|0"),
@@ -251,36 +276,96 @@ fn reads_the_command_line(rt: HostRuntime) -> Result<(), AllocError> {
 }
 
 const NO_COUNT: &str =
-    "error: --connections takes a number in 1..=1000, or `unlimited`\n\nUsage: serve [OPTIONS] --port <PORT>\n\nFor more information, try '--help'.\n";
+    "error: --connections takes a number in 1..=1000, or `unlimited`\n\nUsage: serve [OPTIONS]\n\nFor more information, try '--help'.\n";
 
 const OTHER_FORM: &str =
-    "error: --max-open, --read-port, --until-eof and --idle belong to --connections unlimited: with a number of connections each worker serves one client after the other\n\nUsage: serve [OPTIONS] --port <PORT>\n\nFor more information, try '--help'.\n";
+    "error: --max-open, --read-port, --read-socket, --until-eof and --idle belong to --connections unlimited: with a number of connections each worker serves one client after the other\n\nUsage: serve [OPTIONS]\n\nFor more information, try '--help'.\n";
+
+/// Where a server listens: at a port or at a Unix socket, and the same for reads.
+static PLACES: [Line; 15] = [
+    (
+        "serve --socket run/a",
+        "serve each|-|-|run/a|-|0|2|1000000|4|3|1000|1000|1",
+    ),
+    (
+        "serve --socket=run/a --read-socket=-b --connections unlimited",
+        "serve unlimited|-|-|run/a|-b|0|2|18446744073709551615|4|3|1000|1000|1000|0|60",
+    ),
+    (
+        "serve --port=0 --read-socket b --connections unlimited",
+        "serve unlimited|-|-|0|b|0|2|18446744073709551615|4|3|1000|1000|1000|0|60",
+    ),
+    (
+        "serve --socket a --read-port 0 --connections unlimited",
+        "serve unlimited|-|-|a|0|0|2|18446744073709551615|4|3|1000|1000|1000|0|60",
+    ),
+    ("ask --socket a fetch", "ask|fetch|a|100|0"),
+    ("snapshot --socket a --out b", "snapshot|b|a|-"),
+    (
+        "refresh --relationships=l --documents=f --socket=a",
+        "refresh|l|f|a|-|60",
+    ),
+    (
+        "serve",
+        "error: --port PORT or --socket PATH has to be given\n\nUsage: serve [OPTIONS]\n\nFor more information, try '--help'.\n",
+    ),
+    (
+        "serve --port 1 --socket a",
+        "error: --port and --socket exclude each other\n\nUsage: serve [OPTIONS]\n\nFor more information, try '--help'.\n",
+    ),
+    (
+        "serve --port 1 --read-port 1 --read-socket a --connections unlimited",
+        "error: --read-port and --read-socket exclude each other\n\nUsage: serve [OPTIONS]\n\nFor more information, try '--help'.\n",
+    ),
+    ("serve --port 1 --read-socket a", OTHER_FORM),
+    (
+        "ask fetch",
+        "error: --port PORT or --socket PATH has to be given\n\nUsage: ask [OPTIONS] [REQUEST]...\n\nFor more information, try '--help'.\n",
+    ),
+    (
+        "snapshot --port 1 --socket a --out b",
+        "error: --port and --socket exclude each other\n\nUsage: snapshot [OPTIONS] --out <FOLDER>\n\nFor more information, try '--help'.\n",
+    ),
+    (
+        "refresh --relationships l --documents f --port 1 --socket a",
+        "error: --port and --socket exclude each other\n\nUsage: refresh [OPTIONS] --relationships <FILE> --documents <FOLDER>\n\nFor more information, try '--help'.\n",
+    ),
+    (
+        "serve --socket=",
+        "error: a value is required for '--socket <PATH>' but none was supplied\n\nFor more information, try '--help'.\n",
+    ),
+];
+
+#[test]
+fn reads_where_a_server_listens(rt: HostRuntime) -> Result<(), AllocError> {
+    are_wanted(&rt, rt.alloc(), &PLACES, ' ')
+}
 
 /// The two forms of a server. What belongs to the one that lasts is refused in the other, also if it is the default.
 static SERVERS: [Line; 17] = [
     (
         "serve --port 0",
-        "serve each|-|-|0|0|2|1000000|4|3|1000|1000|1",
+        "serve each|-|-|0|-|0|2|1000000|4|3|1000|1000|1",
     ),
     (
         "serve --port=65535 --workers=64 --connections=1000 --turns=1000000000 --shards=256 --rounds=16 --tries=1000000 --retries=1000000 --load=dumps/a --log",
-        "serve each|dumps/a|-|65535|1|64|1000000000|256|16|1000000|1000000|1000",
+        "serve each|dumps/a|-|65535|-|1|64|1000000000|256|16|1000000|1000000|1000",
     ),
     (
         "serve --port 1 --turns 1",
-        "serve each|-|-|1|0|2|1|4|3|1000|1000|1",
+        "serve each|-|-|1|-|0|2|1|4|3|1000|1000|1",
     ),
     (
         "serve --port=1 --connections=unlimited",
-        "serve unlimited|-|-|1|0|2|18446744073709551615|4|3|1000|1000|1000|-|0|60",
+        "serve unlimited|-|-|1|-|0|2|18446744073709551615|4|3|1000|1000|1000|0|60",
     ),
     (
         "serve --port=1 --connections unlimited --max-open=1000000 --read-port=8444 --until-eof --idle=86400 --turns=1000000 --log --load=a",
-        "serve unlimited|a|-|1|1|2|1000000|4|3|1000|1000|1000000|8444|1|86400",
+        "serve unlimited|a|-|1|8444|1|2|1000000|4|3|1000|1000|1000000|1|86400",
     ),
     (
         "serve --port=1 --connections unlimited --max-open=1 --read-port=0 --idle=1 --save=dumps/b",
-        "serve unlimited|-|dumps/b|1|0|2|18446744073709551615|4|3|1000|1000|1|0|0|1",
+        "serve unlimited|-|dumps/b|1|0|0|2|18446744073709551615|4|3|1000|1000|1|0|1",
     ),
     ("serve --port 1 --connections 0", NO_COUNT),
     ("serve --port 1 --connections 1001", NO_COUNT),
@@ -307,6 +392,22 @@ static SERVERS: [Line; 17] = [
 #[test]
 fn reads_both_forms_of_a_server(rt: HostRuntime) -> Result<(), AllocError> {
     are_wanted(&rt, rt.alloc(), &SERVERS, ' ')
+}
+
+/// Which counts are wanted.
+static COUNTS: [Line; 4] = [
+    ("stats --port 1", "stats|1|0"),
+    ("stats --prometheus --port=65535", "stats|65535|1"),
+    ("stats --socket a/b", "stats|a/b|0"),
+    (
+        "stats --port 1 --prometheus=1",
+        "error: unexpected value '1' for '--prometheus' found; no more were expected\n\nUsage: bundled stats --prometheus\n\nFor more information, try '--help'.\n",
+    ),
+];
+
+#[test]
+fn reads_which_counts_are_wanted(rt: HostRuntime) -> Result<(), AllocError> {
+    are_wanted(&rt, rt.alloc(), &COUNTS, ' ')
 }
 
 /// Which snapshots are wanted.
@@ -343,7 +444,7 @@ static INQUIRIES: [Line; 11] = [
     ("ask|--text|--port=1|get|a", "ask|get|a|1|100|2"),
     (
         "ask|--port=1|--text|--raw|get|a",
-        "error: --raw and --text exclude each other\n\nUsage: ask [OPTIONS] --port <PORT> [REQUEST]...\n\nFor more information, try '--help'.\n",
+        "error: --raw and --text exclude each other\n\nUsage: ask [OPTIONS] [REQUEST]...\n\nFor more information, try '--help'.\n",
     ),
     (
         "ask|--port=1|--unless=all.dump|fetch",
@@ -351,11 +452,11 @@ static INQUIRIES: [Line; 11] = [
     ),
     (
         "ask|--port=1|--unless=all.dump|get|a",
-        "error: --unless goes with the request `fetch` alone\n\nUsage: ask [OPTIONS] --port <PORT> [REQUEST]...\n\nFor more information, try '--help'.\n",
+        "error: --unless goes with the request `fetch` alone\n\nUsage: ask [OPTIONS] [REQUEST]...\n\nFor more information, try '--help'.\n",
     ),
     (
         "ask|--port=1|--unless=all.dump",
-        "error: --unless goes with the request `fetch` alone\n\nUsage: ask [OPTIONS] --port <PORT> [REQUEST]...\n\nFor more information, try '--help'.\n",
+        "error: --unless goes with the request `fetch` alone\n\nUsage: ask [OPTIONS] [REQUEST]...\n\nFor more information, try '--help'.\n",
     ),
     (
         "ask|--port=1|set|a|{\"keys\": []}",

@@ -7,10 +7,10 @@ ghost use Rattle.server.specs.Saving.{IsUnknown};
 ghost use Rattle.server.specs.Serve.{EndsEarly, SetUpRun};
 ghost use Rattle.server.specs.Serving.{ServedBeside};
 
-use crate::serving::ports::ports_or_told;
+use crate::serving::ports::{BoundPorts, ports_or_told};
 use crate::serving::serve::saved_file;
 use crate::serving::waits::waits_of;
-use command_line::{Lasting, Settings};
+use command_line::{Lasting, Places, Settings};
 use commands::Fault;
 use server::{Host, SetUp, Task, serve_at, tell_early};
 use std::fs::Files;
@@ -24,14 +24,13 @@ use workers::Log;
 /// Where a server listens, how it serves, and in which file its last map is kept, if one is named.
 #[derive(Clone, Copy)]
 pub struct At<'a> {
-    /// The port of 127.0.0.1, or 0 for one that is free.
-    pub port: u16,
+    pub places: Places<'a>,
     pub settings: Settings,
     pub lasting: Lasting,
     pub save: Option<&'a str>,
 }
 
-/// Serves many clients beside each other, over a store that the requests have filled; answers the exit status. A port that
+/// Serves many clients beside each other, over a store that the requests have filled; answers the exit status. A place that
 /// can't be had is a fault, and so it is if memory runs out.
 pub fn serve_many<
     H: Files + Threads + Clock + Net<Listener = TcpListener, Stream = TcpStream> + Sync,
@@ -53,13 +52,16 @@ pub fn serve_many<
     ensures read { at.entry.lasting.until_eof ≡ false → input.new ≡ input.old }
 {
     let At {
-        port,
+        places,
         settings,
         lasting,
         save,
     } = at;
-    let ports = match ports_or_told(host.rt, port, lasting.read_port, err) {
-        Ok(ports) => ports,
+    let BoundPorts {
+        ports,
+        files: _files,
+    } = match ports_or_told(host.rt, places, err) {
+        Ok(bound) => bound,
         Err(status) => return status,
     };
     let set_up = match SetUp::new(host.alloc, settings, host.requests) {

@@ -1,5 +1,5 @@
 //! The command `serve`, in the form that its settings have.
-ghost use Rattle.std.specs.Prelude.{◌≡◌, ◌<◌, ◌-◌, ◌^◌, ◌⊎◌, false, IfErr, OnErr, OnOk};
+ghost use Rattle.std.specs.Prelude.{◌≡◌, ◌<◌, ◌-◌, ◌^◌, ◌⊎◌, false, IfErr, OnErr, OnOk, option_map};
 ghost use Rattle.wire.specs.Counted.{faults_in};
 ghost use Rattle.command_line.specs.Serving.{stops_at_end};
 ghost use Rattle.commands.specs.Fault.{fault_line};
@@ -11,43 +11,26 @@ ghost use Rattle.server.specs.Serving.{ServedInTurn, most_taken, most_turns};
 ghost use Rattle.bundled.specs.Serve.{ServedAs};
 
 use crate::serving::lasting::{At, serve_many};
-use command_line::{Connections, Settings};
-use commands::Fault;
+use crate::serving::ports::{Bound, listener_or_told};
+use command_line::{Connections, Places, Settings};
 use server::{Host, InTurn, SavedFile, requests_of, serve_on};
 use std::alloc::Global;
 use std::fs::Files;
 use std::io::{Read, Write};
-use std::net::{Ipv4Addr, Net, TcpListener, TcpStream};
+use std::net::{Net, TcpListener, TcpStream};
 use std::thread::Threads;
 use std::time::Clock;
 use wire::Counted;
 use workers::Log;
 
-/// What a server is asked for: the port of 127.0.0.1, or 0 for one that is free; the file whose dump fills the store before,
-/// and the file in which the last map is kept, if they are named; and its settings.
+/// What a server is asked for: where it listens; the file whose dump fills the store before, and the file in which the last
+/// map is kept, if they are named; and its settings.
 #[derive(Clone, Copy, Debug)]
 pub struct Serving<'a> {
-    pub port: u16,
+    pub places: Places<'a>,
     pub load: Option<&'a str>,
     pub save: Option<&'a str>,
     pub settings: Settings,
-}
-
-/// Listens at the port; or it can't be had, which is told, and the answer is the exit status.
-fn listener_or_told<H: Net<Listener = TcpListener, Stream = TcpStream>, E: Write>(
-    rt: &H,
-    port: u16,
-    err: &mut Counted<E>,
-) -> Result<TcpListener, u8>
-    requires { faults_in err.old < 2 ^ 64 - 1 }
-    ensures ok { OnOk result (err.new ≡ err.old) }
-    ensures status { IfErr result (λ status. status ≡ 1) }
-    ensures tells { OnErr result (Tells (end_of E.contents err.old) (end_of E.contents err.new) (fault_line Listen)) }
-{
-    match TcpListener::bind(rt, (Ipv4Addr::LOCALHOST, port)) {
-        Ok(listener) => Ok(listener),
-        Err(_) => Err(Fault::Listen.tell(err)),
-    }
 }
 
 /// The file in which the last map is kept, if one is named.
@@ -55,14 +38,16 @@ pub fn saved_file<'a, H: Files>(
     alloc: Global,
     files: &'a H,
     path: Option<&'a str>,
-) -> Option<SavedFile<'a, H>> {
+) -> Option<SavedFile<'a, H>>
+    ensures { option_map (λ file. file.path) result ≡ path.entry }
+{
     match path {
         Some(path) => Some(SavedFile { alloc, files, path }),
         None => None,
     }
 }
 
-/// Serves at the port, each worker its clients one after the other.
+/// Serves at the place, each worker its clients one after the other.
 fn serve_in_turn<
     H: Files + Threads + Clock + Net<Listener = TcpListener, Stream = TcpStream> + Sync,
     W: Write,
@@ -74,8 +59,11 @@ fn serve_in_turn<
         ⊎ SetUpRun IsUnknown (ServedInTurn (most_taken serving.entry.settings.connections) (most_turns serving.entry.settings.turns)) serving.entry.settings host.now.requests.now result
         (end_of W.contents out.old) (end_of W.contents out.new) (end_of E.contents err.old) (end_of E.contents err.new) }
 {
-    let listener = match listener_or_told(host.rt, serving.port, err) {
-        Ok(listener) => listener,
+    let Bound {
+        listener,
+        file: _file,
+    } = match listener_or_told(host.rt, serving.places.all, err) {
+        Ok(bound) => bound,
         Err(status) => return status,
     };
     let task = InTurn {
@@ -110,7 +98,7 @@ fn serve_as<
         Connections::Each(_) => serve_in_turn(host, serving, out, err),
         Connections::Unlimited(lasting) => {
             let at = At {
-                port: serving.port,
+                places: serving.places,
                 settings: serving.settings,
                 lasting,
                 save: serving.save,
@@ -121,7 +109,7 @@ fn serve_as<
 }
 
 /// Serves as it is asked for; answers the exit status. What is to fill the store is judged before: a file that can't be read
-/// or is not a dump is a fault, and so is a port that can't be had.
+/// or is not a dump is a fault, and so is a place that can't be had.
 pub fn serve_over<
     H: Files + Threads + Clock + Net<Listener = TcpListener, Stream = TcpStream> + Sync,
     I: Read,
@@ -148,6 +136,7 @@ pub fn serve_over<
         rt: host.rt,
         alloc: host.alloc,
         log: host.log,
+        counts: host.counts,
         requests: requests.as_slice(),
     };
     serve_as(&filled, serving, input, out, err)
