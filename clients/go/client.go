@@ -53,8 +53,8 @@ func Dial(ctx context.Context, address string, options ...Option) (*Client, erro
 	return DialNetwork(ctx, "tcp", address, options...)
 }
 
-// DialNetwork is as Dial, over the networks of net.Dial: with "unix" over a socket, behind which something hands on to the
-// port of the store.
+// DialNetwork is as Dial, over the networks of net.Dial: with "unix" over the socket at which the store listens, or behind
+// which something hands on to its port.
 func DialNetwork(ctx context.Context, network, address string, options ...Option) (*Client, error) {
 	var dialer net.Dialer
 	return DialFunc(ctx, func(ctx context.Context) (io.ReadWriteCloser, error) {

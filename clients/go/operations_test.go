@@ -180,6 +180,27 @@ func TestPipe(t *testing.T) {
 	is(t, err, ErrClosed)
 }
 
+// Over the Unix sockets at which the store listens: at that for reads only nothing is changed.
+func TestServedUnixSockets(t *testing.T) {
+	folder := t.TempDir()
+	all, reads := filepath.Join(folder, "all"), filepath.Join(folder, "reads")
+	words := serveAt(t, "--socket", all, "--read-socket", reads)
+	equal(t, strings.Join(words, " "), all+" read-only "+reads)
+	for _, at := range []struct {
+		path   string
+		wanted error
+	}{{all, nil}, {reads, ErrShut}} {
+		client, err := DialNetwork(soon(t), "unix", at.path)
+		check(t, err)
+		defer client.Close()
+		_, err = client.Set(soon(t), "a", third)
+		is(t, err, at.wanted)
+		found, err := client.Get(soon(t), "a")
+		check(t, err)
+		equal(t, string(found), string(third))
+	}
+}
+
 // Over a Unix socket, behind which something hands on to the port, also over a new connection.
 func TestUnixSocket(t *testing.T) {
 	path := filepath.Join(t.TempDir(), "socket")

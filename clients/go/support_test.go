@@ -49,7 +49,12 @@ func program(t testing.TB) string {
 // serve starts the program behind a port, and gives what stands in its line after "listening". It ends with its input, so
 // that it ends with the test, however that ends.
 func serve(t testing.TB, options ...string) []string {
-	words := append([]string{"serve", "--port", "0", "--workers", "2", "--connections", "unlimited", "--until-eof"}, options...)
+	return serveAt(t, append([]string{"--port", "0"}, options...)...)
+}
+
+// serveAt is as serve, behind the port or the socket that the options name.
+func serveAt(t testing.TB, options ...string) []string {
+	words := append([]string{"serve", "--workers", "2", "--connections", "unlimited", "--until-eof"}, options...)
 	server := exec.Command(program(t), words...)
 	_, err := server.StdinPipe()
 	check(t, err)

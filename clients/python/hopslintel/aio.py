@@ -67,8 +67,8 @@ class Client:
     @classmethod
     async def connect_unix(cls, path: str, *, timeout: Optional[float] = 30.0,
                            retries: int = 10) -> Client:
-        """A session over a Unix socket, behind which something hands on to
-        the port of the store."""
+        """A session over the Unix socket at which the store listens, or
+        behind which something hands on to its port."""
         return await cls._dialed(lambda: asyncio.open_unix_connection(path),
                                  timeout, retries)
 

@@ -64,8 +64,8 @@ class Client:
     @classmethod
     def connect_unix(cls, path: str, *, timeout: Optional[float] = 30.0,
                      retries: int = 10) -> Client:
-        """A session over a Unix socket, behind which something hands on to
-        the port of the store."""
+        """A session over the Unix socket at which the store listens, or
+        behind which something hands on to its port."""
         return cls._dialed(
             lambda deadline: SocketConnection.over_unix(path, deadline),
             timeout, retries)

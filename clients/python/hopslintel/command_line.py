@@ -48,8 +48,8 @@ def _parser() -> argparse.ArgumentParser:
                                      description=main.__doc__)
     at = parser.add_mutually_exclusive_group(required=True)
     at.add_argument("--port", type=int, help="of the store on this machine")
-    at.add_argument("--socket", metavar="PATH", help="a Unix socket, behind "
-                    "which something hands on to that port")
+    at.add_argument("--socket", metavar="PATH",
+                    help="the Unix socket of the store")
     parser.add_argument("--timeout", type=float, default=30.0,
                         metavar="SECONDS", help="of each call; 30")
     commands = parser.add_subparsers(dest="command", required=True)

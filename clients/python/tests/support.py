@@ -79,14 +79,21 @@ def over_a_pipe(*options):
 @contextlib.contextmanager
 def served(*options):
     """The port of `bundled serve`, which ends with its standard input."""
-    words = [PROGRAM, "serve", "--port", "0", "--connections", "unlimited",
+    with served_at("--port", "0", *options) as port:
+        yield int(port)
+
+
+@contextlib.contextmanager
+def served_at(*options):
+    """The port or the path where `bundled serve` listens."""
+    words = [PROGRAM, "serve", "--connections", "unlimited",
              "--workers", "3", "--until-eof", *options]
     how = {"stdin": subprocess.PIPE, "stdout": subprocess.PIPE}
     with subprocess.Popen(words, **how) as process:
         try:
-            said, port = process.stdout.readline().split()
-            assert said == b"listening"
-            yield int(port)
+            said, place = process.stdout.readline().decode().split()
+            assert said == "listening"
+            yield place
             process.communicate(timeout=60)
         finally:
             process.kill()

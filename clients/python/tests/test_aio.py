@@ -3,6 +3,7 @@
 import asyncio
 import inspect
 import math
+import tempfile
 import time
 import unittest
 import warnings
@@ -16,7 +17,8 @@ from hopslintel.aio import Client
 
 from .support import (ASKS_THREE, EMPTY, ENTRY, KEPT, PROGRAM, SAME, STAYS,
                       THREE, UNKNOWN, Server, all_of, document, found, frame,
-                      naming, nobody_listens, numbered, real, served, unless)
+                      naming, nobody_listens, numbered, real, served,
+                      served_at, unless)
 
 GET, SET = b"G\x01a", b"S\x01a" + EMPTY
 TWO = frame(b"v\x02")
@@ -78,6 +80,12 @@ class OperationsTest(unittest.IsolatedAsyncioTestCase):
         with served() as port:
             async with await Client.connect(port) as store:
                 await self.check_operations(store)
+
+    async def test_over_a_unix_socket(self):
+        with tempfile.TemporaryDirectory() as folder:
+            with served_at("--socket", f"{folder}/all") as path:
+                async with await Client.connect_unix(path) as store:
+                    await self.check_operations(store)
 
     async def test_over_a_pipe(self):
         pipe = asyncio.subprocess.PIPE

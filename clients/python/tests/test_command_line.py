@@ -14,7 +14,8 @@ from hopslintel import dump
 from hopslintel.command_line import main
 
 from .support import (EMPTY, ENTRY, SAME, STAYS, THREE, Server, all_of,
-                      document, frame, nobody_listens, numbered, real, served)
+                      document, frame, nobody_listens, numbered, real, served,
+                      served_at)
 
 FOLDER = os.path.dirname(hopslintel.__file__)
 
@@ -97,6 +98,9 @@ class CommandLineTest(unittest.TestCase):
         with tempfile.TemporaryDirectory() as folder:
             path = f"{folder}/socket"
             self.assertEqual(run("--socket", path, "map")[0], 1)
+            with served_at("--socket", path):
+                self.assertEqual(run("--socket", path, "map"),
+                                 (0, b'{"trust_domains":{}}\n'))
 
     def test_a_full_disk(self):
         with Server([all_of({"a": document(ENTRY)})]) as server:

@@ -3,6 +3,7 @@
 import hashlib
 import json
 import subprocess
+import tempfile
 import unittest
 
 from hopslintel import (MAX_PAYLOAD, All, Appended, Client, Expect, Found,
@@ -10,11 +11,12 @@ from hopslintel import (MAX_PAYLOAD, All, Appended, Client, Expect, Found,
                         Request, Same, Stored, Unchanged, Version)
 
 from .support import (EMPTY, ENTRY, GREATEST, KEPT, OTHER, PROGRAM, all_of,
-                      document, numbered, over_a_pipe, real, served)
+                      document, numbered, over_a_pipe, real, served,
+                      served_at)
 
 
 class OperationsTest(unittest.TestCase):
-    """What each operation gives, over a pipe and over TCP."""
+    """What each operation gives, over a pipe, TCP and a Unix socket."""
 
     def check_operations(self, store):
         self.assertEqual(store.fetch_all(), {})
@@ -43,6 +45,13 @@ class OperationsTest(unittest.TestCase):
     def test_over_tcp(self):
         with served() as port, Client.connect(port) as store:
             self.check_operations(store)
+
+    def test_over_a_unix_socket(self):
+        with tempfile.TemporaryDirectory() as folder:
+            with served_at("--socket", f"{folder}/all") as path:
+                self.assertEqual(path, f"{folder}/all")
+                with Client.connect_unix(path) as store:
+                    self.check_operations(store)
 
     def test_set_if(self):
         with over_a_pipe() as store:
