@@ -273,18 +273,25 @@ def line_of(process, stream=None):
         timer.cancel()
 
 
+def place_of(word):
+    """A port by its number, or the path of a Unix socket."""
+    return int(word) if word.isdigit() else word
+
+
 class Server:
-    """The program behind a port that it has chosen, if none is given. If a check fails, what it said on standard error is told."""
+    """The program behind a port that it has chosen, if neither another one nor the path of a Unix socket is given. If a check
+    fails, what it said on standard error is told."""
 
     def __init__(self, *options, port=0, stdin=subprocess.DEVNULL, **how):
-        words = [program(), "serve", "--port", str(port), *options]
+        option = "--port" if str(port).isdigit() else "--socket"
+        words = [program(), "serve", option, str(port), *options]
         self.errors = AFTERWARDS.enter_context(tempfile.TemporaryFile())
         self.started = subprocess.Popen(words, stdin=stdin, stdout=subprocess.PIPE, stderr=self.errors, **how)
         AFTERWARDS.push(self.end)
         self.line = line_of(self.started).decode()
         words = self.line.split()
-        self.port = int(words[1]) if words[:1] == ["listening"] else None
-        self.read_port = int(words[3]) if words[2:3] == ["read-only"] else None
+        self.port = place_of(words[1]) if words[:1] == ["listening"] else None
+        self.read_port = place_of(words[3]) if words[2:3] == ["read-only"] else None
 
     def end(self, kind=None, _error=None, _trace=None):
         """Ends it, if it has not ended."""
@@ -299,7 +306,7 @@ class Server:
             print(f"a server {how}, and has said {self.said()!r}"[:SHOWN])
 
     def connect(self, port=None):
-        return socket.create_connection(("127.0.0.1", port or self.port), timeout=SECONDS)
+        return connected(port or self.port)
 
     def connections(self, count):
         """So many of them, which stand side by side until they are closed or the check ends."""
@@ -357,6 +364,20 @@ class Lasting(Server):
 
 
 # Sockets.
+
+
+def connected(place):
+    """A connection to a port, or to the Unix socket at a path."""
+    if isinstance(place, int):
+        return socket.create_connection(("127.0.0.1", place), timeout=SECONDS)
+    stream = socket.socket(socket.AF_UNIX)
+    try:
+        stream.settimeout(SECONDS)
+        stream.connect(place)
+    except BaseException:
+        stream.close()
+        raise
+    return stream
 
 
 def received(stream, size):

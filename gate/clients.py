@@ -20,7 +20,7 @@ sys.dont_write_bytecode = True
 from checks import BUNDLES, ROOT, SHOWN, Told, bytes_of, program, run_words  # noqa: E402
 
 SECONDS = 600
-LETTERS = set(b"SARGFUVC")
+LETTERS = set(b"SARGFUVMC")
 # Where Debian's packages of Go put their sources, and that of go-spiffe among them; and where its Go 1.24 stands.
 GO_SOURCES, GO_SPIFFE, GO_ROOT = "usr/share/gocode", "github.com/spiffe/go-spiffe", "usr/lib/go-1.24"
 

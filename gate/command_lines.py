@@ -59,6 +59,12 @@ NONE = hashlib.sha256(dump_of({})).digest()
 UNLESS_LINES = b"version 3\nfetch unless %s\nfetch unless %s\n" % (NONE.hex().encode(), b"0" * 64)
 UNLESS = frame(b"V\x03") + frame(b"U" + NONE) + frame(b"U" + bytes(32))
 UNLESS_REPLIES = frame(b"v\x03") + frame(b"e") + dump_of({})
+# Counts are asked for, of a session that counts nothing; and an expectation in both of its words.
+COUNT_LINES = b"version 3\nstats\n"
+COUNTS = frame(b"V\x03") + frame(b"M")
+COUNTS_REPLIES = frame(b"v\x03") + frame(b"m")
+EXPECTED = frame(b"C\x01a\x02" + EMPTY)
+
 FETCH_UNLESS = b"begin 1 fetch unless %s\nstep 1\nstep 1\nend 1\n"
 FETCHED_SAME = b"record 0 caller 1 first 0 last 3 reply same\norder 0\n"
 
@@ -97,6 +103,14 @@ RUNS = [
     ("encode", UNLESS_LINES, UNLESS),
     ("decode", UNLESS, UNLESS_LINES),
     ("decode", UNLESS_REPLIES, b"version 3\nsame\nall 0\n"),
+    ("run", COUNTS, COUNTS_REPLIES),
+    ("run", frame(b"M") + frame(b"V\x02") + frame(b"M"), frame(b"\x33") + frame(b"v\x02") + frame(b"\x33")),
+    ("encode", COUNT_LINES, COUNTS),
+    ("decode", COUNTS, COUNT_LINES),
+    ("decode", COUNTS_REPLIES + frame(b"ma=1 b=2"), b"version 3\nstats \nstats a=1 b=2\n"),
+    ("encode", b"setif a none " + EMPTY, EXPECTED),
+    ("encode", b"setif a unnumbered " + EMPTY, EXPECTED),
+    ("decode", EXPECTED, b"setif a none " + EMPTY + b"\n"),
     ("check", EMPTY, b"-: bundle of 0 authorities (0 X.509, 0 JWT), no sequence, no refresh hint\n" + NOTHING),
     ("map", DUMP_OF_TWO, MAP_OF_TWO + b"\n"),
     ("map a", DUMP_OF_TWO, MAP_OF_ONE + b"\n"),
@@ -141,6 +155,10 @@ FAULTS = [
     ("encode", UNLESS_LINES + b"fetch unless " + b"0" * 63, UNLESS, b"fault 70 4\n"),
     ("encode", UNLESS_LINES + b"fetch  unless " + b"0" * 64, UNLESS, b"fault 70 4\n"),
     ("encode", b"version 4\n", b"", b"fault 70 1\n"),
+    ("encode", COUNT_LINES + b"stats a\n", COUNTS, b"fault 70 3\n"),
+    ("encode", b"setif a Unnumbered " + EMPTY, b"", b"fault 70 1\n"),
+    ("decode", COUNTS + frame(b"Mx"), COUNT_LINES, b"fault 76 2\n"),
+    ("decode", COUNTS_REPLIES + frame(b"ma=1\nb=2"), b"version 3\nstats \n", b"fault 76 2\n"),
     ("encode", b"get a\nset a @/nowhere\n", frame(b"G\x01a"), b"fault 77 2\n"),
     ("encode", b"get a\nset a @/dev/zero\n", frame(b"G\x01a"), b"fault 70 2\n"),
     ("decode", FIRST_REPLIES + frame(b"X"), TOLD, b"fault 76 2\n"),
@@ -226,23 +244,30 @@ REFUSED = [
     ("refresh --relationships list", "--documents <FOLDER>"),
     (f"{REFRESH} --port 0", "0 is not in 1..=65535"),
     (f"{REFRESH} --port 65536", "--port <PORT>"),
+    (f"{REFRESH} --port 1 --socket a", "--port and --socket exclude each other"),
+    (f"{REFRESH} --socket=", "a value is required for '--socket <PATH>'"),
     (f"{REFRESH} --now -1", "unexpected argument '-1'"),
     (f"{REFRESH} --at-least 18446744073709551616", "--at-least <SECONDS>"),
-    ("ask", "--port <PORT>"),
-    ("ask get a", "--port <PORT>"),
+    ("ask", "--port PORT or --socket PATH has to be given"),
+    ("ask get a", "--port PORT or --socket PATH has to be given"),
+    ("ask --port 1 --socket a get a", "--port and --socket exclude each other"),
     ("ask --port 0 get a", "0 is not in 1..=65535"),
     ("ask --port 1 --retry 1000001 get a", "1000001 is not in 0..=1000000"),
     ("ask --port 1 --raw --text get a", "--raw and --text exclude each other"),
     ("snapshot --port 1", "--out <FOLDER>"),
-    ("snapshot --out a", "--port <PORT>"),
+    ("snapshot --out a", "--port PORT or --socket PATH has to be given"),
+    ("snapshot --port 1 --socket a --out a", "--port and --socket exclude each other"),
     ("snapshot --port 1 --out a --every 86401", "86401 is not in 1..=86400"),
-    ("serve", "--port <PORT>"),
+    ("serve", "--port PORT or --socket PATH has to be given"),
+    ("serve --port 0 --socket a", "--port and --socket exclude each other"),
+    ("serve --port 0 --connections unlimited --read-port 0 --read-socket a", "--read-port and --read-socket exclude each other"),
+    ("serve --socket a --read-socket b", "belong to --connections unlimited"),
     ("serve --port 1 --workers 65", "65 is not in 1..=64"),
     ("serve --port 1 --turns 0", "0 is not in 1..=1000000000"),
     ("serve --port 1 --connections unlimited --turns 1000000001", "1000000001 is not in 1..=1000000000"),
     ("serve --port 1 --connections 0", "--connections takes a number in 1..=1000, or `unlimited`"),
     ("serve --port 1 --connections 1001", "--connections takes a number in 1..=1000, or `unlimited`"),
-    ("serve --port 1 --max-open 1000", "--max-open, --read-port, --until-eof and --idle belong to --connections unlimited"),
+    ("serve --port 1 --max-open 1000", "--max-open, --read-port, --read-socket, --until-eof and --idle belong to --connections unlimited"),
     ("serve --port 1 --connections 1 --read-port 0", "belong to --connections unlimited"),
     ("serve --port 1 --until-eof --connections 1000", "belong to --connections unlimited"),
     ("serve --port 1 --idle 60", "belong to --connections unlimited"),

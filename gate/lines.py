@@ -29,8 +29,8 @@ def expectation(data):
 
 def request_line(payload):
     """The line of a request, or None if it has none."""
-    if payload == b"F":
-        return b"fetch"
+    if payload in (b"F", b"M"):
+        return b"fetch" if payload == b"F" else b"stats"
     if payload in (b"V\1", b"V\2", b"V\3"):
         return b"version %d" % payload[1]
     try:
@@ -63,8 +63,8 @@ def reply_line(payload):
     code, rest = payload[0], payload[1:]
     if code in WORDS:
         return WORDS[code]
-    if code == ord("f"):
-        return b"found " + rest
+    if code in b"fm":
+        return (b"found " if code == ord("f") else b"stats ") + rest
     if code == ord("i"):
         return b"bundle " + rest[1:1 + rest[0]] + b" " + rest[1 + rest[0]:]
     if code == ord("p"):
@@ -100,7 +100,7 @@ def requests_as_lines(seed):
 
 def requests_without_lines(seed):
     """What stands before one that has no line is written, and then it is a fault."""
-    lacking = [it for it in random_payloads(seed) if it[:1] in (b"S", b"C", b"A", b"R", b"G", b"F", b"U", b"V") and request_line(it) is None]
+    lacking = [it for it in random_payloads(seed) if it[:1] in (b"S", b"C", b"A", b"R", b"G", b"F", b"U", b"M", b"V") and request_line(it) is None]
     for payload in lacking[:MOST_RUNS]:
         ended = run_words("decode", given=frame(b"F") + frame(payload))
         assert ended == (1, b"fetch\n", b"fault 76 1\n"), (payload[:300], ended)

@@ -180,7 +180,7 @@ complete -F _bundled bundled
 """
 
 # By what is called so in a help, the kind of file that bash offers in its place.
-KINDS = {"FILE": "-f", "FOLDER": "-d", "OLD": "-f", "NEW": "-f"}
+KINDS = {"FILE": "-f", "FOLDER": "-d", "OLD": "-f", "NEW": "-f", "PATH": "-f"}
 
 
 def kind_of(value):

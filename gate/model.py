@@ -28,7 +28,7 @@ DIGEST_BYTES = 32
 NAME = set(b"abcdefghijklmnopqrstuvwxyz0123456789.-_")
 COORDINATE = {"P-256": 32, "P-384": 48, "P-521": 66}
 # The answers that the sessions of the gate have to show, so that nothing is left out: all that a session can give but 22.
-WANTED = {*b"supdfaev", 1, 3, *range(10, 22), 23, 30, 31, 32, 33, 34, 35, 36, 51}
+WANTED = {*b"supdfaevm", 1, 3, *range(10, 22), 23, 30, 31, 32, 33, 34, 35, 36, 51}
 
 
 class Refused(Exception):
@@ -199,6 +199,9 @@ class Store:
             return self.all()
         if letter == b"U" and self.version == 3 and len(rest) == DIGEST_BYTES:
             return [b"e"] if rest == self.digest() else self.all()
+        if payload == b"M" and self.version == 3:
+            # (one session by itself counts nothing)
+            return [b"m"]
         if letter == b"V" and rest in (b"\1", b"\2", b"\3"):
             self.version = rest[0]
             return [b"v" + rest]
@@ -386,11 +389,11 @@ class Requests:
         if self.is_rare():
             name = pick([b"", b"a/b", b"A", b"\xff", b"a" * 254 + b"@"])
         named = bytes([len(name)]) + name
-        letter = pick(b"SSSSAAAARRGGGCCCFUUV")
+        letter = pick(b"SSSSAAAARRGGGCCCFUUVM")
         if letter == ord("V"):
             payload = b"V" + pick([b"\1", b"\2", b"\2", b"\3", b"\3", b"\3", b"\4"])
-        elif letter == ord("F"):
-            payload = b"F"
+        elif letter in b"FM":
+            payload = bytes([letter])
         elif letter == ord("U"):
             payload = b"U" + self.digest()
         elif letter in b"RG":
@@ -426,11 +429,11 @@ def limits():
 
 
 def with_digests(payloads):
-    """The same, and then a fetch-all unless the bundles have the digest that they have, and one unless they have another."""
+    """The same, and then a fetch-all unless the bundles have the digest that they have, one unless they have another, and counts."""
     store = Store()
     for payload in payloads:
         store.answer(payload)
-    return [*payloads, b"V\3", b"U" + store.digest(), b"U" + bytes(DIGEST_BYTES)]
+    return [*payloads, b"V\3", b"U" + store.digest(), b"U" + bytes(DIGEST_BYTES), b"M"]
 
 
 def compared(shards, payloads, codes):

@@ -12,6 +12,7 @@ import hashlib
 import json
 import os
 import re
+import subprocess
 import sys
 
 sys.dont_write_bytecode = True
@@ -20,7 +21,7 @@ import recipes_etcd  # noqa: E402
 import recipes_service  # noqa: E402
 import recipes_systemd  # noqa: E402
 import recipes_tls  # noqa: E402
-from checks import ROOT, SECONDS, dump_of, pem_of, run_checks, wait_until  # noqa: E402
+from checks import ROOT, SECONDS, dump_of, line_of, pem_of, run_checks, wait_until  # noqa: E402
 from examples import PORT  # noqa: E402
 from recipe_rooms import A, B, BLOCKS, BOTH, Shell, a_store, without_pause  # noqa: E402
 
@@ -193,6 +194,15 @@ def is_put_right():
     assert json.loads(room.get("a.example")) == wanted
 
 
+def listens_at_sockets():
+    """A store at two Unix sockets: by the one it is changed, and by the other read."""
+    room = Shell()
+    start, ask = BLOCKS["Unix sockets"]
+    assert line_of(room.start(start, stderr=subprocess.DEVNULL)) == b"listening sockets/writers/all read-only sockets/reads\n"
+    assert room.run(ask) == f"stored\n{A.decode()}\n"
+    assert room.run(ask.replace("sockets/writers/all", "sockets/reads"), status=0) == f"shut\n{A.decode()}\n"
+
+
 def shows_the_race():
     """No fetch-all shows a map that never was."""
     last = Shell().run(BLOCKS["See why a fetch-all matters"][0]).splitlines()[-1]
@@ -202,7 +212,7 @@ def shows_the_race():
 # Each check, and the programs that its recipes call besides those of any system.
 CHECKS = {runs_a_store: [], fills_it_by_refreshes: [], fills_it_by_hand: [], sets_it_if_it_is_the_one: [], is_read: [],
           is_read_in_go: ["go"], hands_on_a_folder: [], hands_on_files: [], is_looked_at: [], is_looked_at_with_jq: ["jq"],
-          certificates_are_looked_at: ["jq", "openssl"], is_put_right: ["jq"], shows_the_race: [],
+          certificates_are_looked_at: ["jq", "openssl"], is_put_right: ["jq"], listens_at_sockets: [], shows_the_race: [],
           **recipes_tls.CHECKS, **recipes_service.CHECKS, **recipes_systemd.CHECKS,
           **recipes_etcd.CHECKS}
 

@@ -193,7 +193,7 @@ def silent_clients():
         assert received(patient, len(FOUND)) == FOUND
     told = ["set a absent to unnumbered", *2 * ["session fault 53"], "session ended after 4 replies"]
     wanted = "settings workers 1 shards 4 max-open 1000\n" + "".join(f"worker 0 {line}\n" for line in told)
-    wait_until(lambda: untimed(server.said()) == wanted, "each end is told")
+    wait_until(lambda: placeless(server.said()) == wanted, "each end is told")
 
 
 def client_that_never_reads():
@@ -203,9 +203,10 @@ def client_that_never_reads():
         stream.sendall(named(b"S", "a", bytes_of(REAL)) + TOO_MANY * GET_A)
         wait_until_it_writes(stream)
         assert server.ask(GET_A) == frame(b"f" + canonical("many"))
-        wait_until(lambda: server.said().endswith("worker 0 session fault 54\n"), "the client is given up")
+        told = f"worker 0 session fault 54 from {stream.getsockname()[1]}\n"
+        wait_until(lambda: server.said().endswith(told), "the client is given up")
         status, out, err = server.ended()
-        assert (status, out) == (0, "served 2\ndomains 1\n") and err.endswith("session fault 54\nfault 54\n"), (status, out, err)
+        assert (status, out) == (0, "served 2\ndomains 1\n") and err.endswith(f"{told}fault 54\n"), (status, out, err)
 
 
 def wait_until_it_writes(stream):
@@ -284,9 +285,22 @@ def untimed(told):
     return re.sub(r"^\d{4}-\d\d-\d\dT\d\d:\d\d:\d\dZ (?=worker |settings |max-open )", "", told, flags=re.M)
 
 
+def placeless(told):
+    """What is told, without the times, and without the ports of clients, which the system chooses."""
+    return re.sub(r"^(worker \d+ session .*) from \d+$", r"\1", untimed(told), flags=re.M)
+
+
+def asked_from(server, request, port=None):
+    """The port that a client has, and what comes back for its request, which is the last."""
+    with server.connect(port) as stream:
+        stream.sendall(request)
+        stream.shutdown(socket.SHUT_WR)
+        return stream.getsockname()[1], rest_of(stream)
+
+
 def told_changes():
-    """With --log each change is a line on standard error, and so is each one that was refused because another was faster, and
-    each end of a connection; nothing else is. The time stands before each."""
+    """With --log each change is a line on standard error, and so is each one that was refused by 31, 36 or 56, and
+    each end of a connection, with the port of its client; nothing else is. The time stands before each."""
     begun = int(time.time())
     server = Server("--workers", "1", "--connections", "2", "--log")
     turns = [
@@ -302,15 +316,29 @@ def told_changes():
         (b"R\x01b", b"d"),
         (b"R\x01b", b"\x1e"),
     ]
-    assert server.ask(b"".join(frame(request) for request, _ in turns)) == b"".join(frame(reply) for _, reply in turns)
-    assert server.ask(GET_A[:-1]) == b""
+    first, replies = asked_from(server, b"".join(frame(request) for request, _ in turns))
+    assert replies == b"".join(frame(reply) for _, reply in turns)
+    second, nothing = asked_from(server, GET_A[:-1])
+    assert nothing == b""
     told = ["set a absent to 7", "refused a 31 7", "refused a 36 7", "refused b 36 absent", "appended a 7 to 8", "set b absent to unnumbered", "removed b unnumbered to absent",
-            "session ended after 11 replies", "session fault 52"]
+            f"session ended after 11 replies from {first}", f"session fault 52 from {second}"]
     log = "settings workers 1 shards 4 connections 2\n" + "".join(f"worker 0 {line}\n" for line in told)
     status, out, err = server.ended()
     assert (status, out, untimed(err)) == (0, "served 2\ndomains 1\n", f"{log}fault 52\n"), "ended otherwise"
     times = [calendar.timegm(time.strptime(line.split()[0], "%Y-%m-%dT%H:%M:%SZ")) for line in err.splitlines()[:-1]]
     assert [begun, *times, int(time.time())] == sorted([begun, *times, int(time.time())]), times
+
+
+def told_refusals_of_a_port():
+    """With --log each change that comes to the port for reads only is told to be refused by 56, and none that can't be read."""
+    server = Lasting("--workers", "1", "--read-port", "0", "--log")
+    tried = [SET_A, named(b"A", "a", ENTRY), named(b"R", "b"), frame(b"V\2"), frame(b"C\x01c\0" + EMPTY), GET_A, frame(b"F"), named(b"S", "A", EMPTY)]
+    port, replies = asked_from(server, b"".join(tried), server.read_port)
+    assert replies.startswith(3 * frame(b"\x38") + frame(b"v\2") + frame(b"\x38") + NO_DOMAIN), replies
+    told = [*(f"refused {name} 56" for name in "aabc"), f"session ended after 8 replies from {port}"]
+    log = "settings workers 1 shards 4 max-open 1000\n" + "".join(f"worker 0 {line}\n" for line in told)
+    status, out, err = server.ended()
+    assert (status, out, untimed(err)) == (0, "served 1\ndomains 0\n", log), (status, out, err)
 
 
 def more_clients_than_descriptors():
@@ -513,7 +541,7 @@ def set_until_it_ends(server, number, stored, is_over):
 
 CHECKS = [two_workers, one_after_the_other, workers_without_threads, reads_that_are_counted, side_by_side, real_bundles,
           filled_stores, clients_that_fail, many_workers, ports_and_outputs, silent_clients, client_that_never_reads,
-          replies_before_a_bad_length, stops_at_the_end_of_input, keeps_the_last_map, cannot_keep_the_last_map, told_changes, more_clients_than_descriptors, a_thousand_connections, connections_in_wait,
+          replies_before_a_bad_length, stops_at_the_end_of_input, keeps_the_last_map, cannot_keep_the_last_map, told_changes, told_refusals_of_a_port, more_clients_than_descriptors, a_thousand_connections, connections_in_wait,
           read_only_port, one_client_that_asks_steadily, flood_beside_others, stops_while_clients_write]
 
 

@@ -95,7 +95,7 @@ def payloads():
     request = lambda letter, *rest: st.tuples(st.just(letter), named, *rest).map(b"".join)
     sets = request(b"S", documents().map(text))
     others = st.one_of(request(b"R"), request(b"G"), request(b"A", entries().map(text)), request(b"C", expected, documents().map(text)))
-    whole = st.sampled_from([b"F", b"V\2", b"V\3", b"V\1", *(b"U" + it for it in DIGESTS), b"V\4", b"Fx", b"U", b"Z", b"S"])
+    whole = st.sampled_from([b"F", b"V\2", b"V\3", b"V\1", *(b"U" + it for it in DIGESTS), b"V\4", b"Fx", b"U", b"M", b"Mx", b"Z", b"S"])
     return mostly(st.sampled_from([sets, sets, others]).flatmap(lambda it: it), whole)
 
 

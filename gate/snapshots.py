@@ -243,8 +243,8 @@ def turns_that_fail():
         (one,),
         (version, frame(b"e")),
         (version, one[:-1]),
-        (b"",),
-        (one,),
+        (b"", b""),
+        (version, frame(b"e")),
         (version, two),
         (version, frame(b"s")),
     ]
