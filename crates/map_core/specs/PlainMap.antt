@@ -1,5 +1,5 @@
 -- The plain map: one finite map from names to what they hold, and one operation after another.
-use Rattle.std.specs.Prelude.{ℕ, zero, suc, List, [], ◌∷◌, ◌++◌, Option, Some, None, option_map, ◌%◌, ◌==◌, sum}
+use Rattle.std.specs.Prelude.{ℕ, zero, suc, List, [], ◌∷◌, ◌++◌, Option, Some, None, option_map, option_and_then, ◌%◌, ◌==◌, sum}
 use Rattle.std.specs.Option.{unwrap_or}
 use Rattle.std.specs.FinMap.{FinMap}
 use Rattle.std.specs.FinMap as finite
@@ -10,7 +10,8 @@ use Rattle.map_core.specs.declared.held.Holding.TheVariants.{Published, Mark}
 use Rattle.map_core.specs.declared.reply.Reply.{Reply}
 use Rattle.map_core.specs.Name.{Name, name_cmp}
 use Rattle.map_core.specs.Op.{domain_of}
-use Rattle.map_core.specs.Table.{OnName, On_name, On_all, meaning, fetched}
+use Rattle.map_core.specs.declared.held.Standing.{Standing}
+use Rattle.map_core.specs.Table.{OnName, On_name, On_all, meaning, fetched, standing}
 
 -- a finite map from names to what they hold: two of them that hold the same under each name are one
 abbrev pub PlainMap : Type 0
@@ -43,6 +44,10 @@ ask_on m (On_all known) = record { reply = fetched known (bundles m); map = m }
 -- what an operation is answered, and what is held then
 unfoldable pub ask : PlainMap → Op → AskResult
 ask m op = ask_on m (meaning op)
+
+-- what stands under the name of an operation; nothing for a fetch-all
+abbrev pub standing_for : PlainMap → Op → Standing
+standing_for m op = standing (option_and_then (finite.get m) (domain_of op))
 
 -- the name of an operation on one name (of a fetch-all nothing is said)
 unfoldable pub name_of : Op → Name

@@ -12,6 +12,8 @@ use Rattle.map_core.specs.declared.op.Expect.{Expect}
 use Rattle.map_core.specs.declared.op.Expect.TheVariants.{Absent, Sequence, Unnumbered}
 use Rattle.map_core.specs.declared.held.Holding.{Holding}
 use Rattle.map_core.specs.declared.held.Holding.TheVariants.{Published, Mark}
+use Rattle.map_core.specs.declared.held.Standing.{Standing}
+use Rattle.map_core.specs.declared.held.Standing.TheVariants as stands
 use Rattle.map_core.specs.declared.reply.Reply.{Reply}
 use Rattle.map_core.specs.declared.reply.Reply.TheVariants.{Stored, Unchanged, Appended, Removed, Found, All, Same, Refused}
 use Rattle.map_core.specs.declared.reply.MapRefusal.TheVariants.{NoDomain, Stale, KidTaken, TooMany, TooLong, SequenceFull, NotExpected}
@@ -23,6 +25,12 @@ use Rattle.map_core.specs.Dump.{digest}
 pub record Effect : Type 0 where
   pub reply : Reply
   pub held : Option Holding
+
+-- what stands under a name, by what is held there
+abbrev pub standing : Option Holding → Standing
+standing None = stands.Nothing
+standing (Some (Published b)) = stands.Bundle
+standing (Some (Mark s)) = stands.Mark
 
 -- the name keeps what it held
 abbrev pub keep : Reply → Option Holding → Effect

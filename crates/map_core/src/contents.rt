@@ -5,14 +5,14 @@ ghost use Rattle.map_core.specs.Op.{domain_of, carries_nothing};
 ghost use Rattle.map_core.specs.declared.held.Holding.{Holding};
 ghost use Rattle.map_core.specs.declared.op.Op.TheVariants.{Get};
 ghost use Rattle.map_core.specs.Private.Outcome.{reply_of, left_by};
-ghost use Rattle.map_core.specs.PlainMap.{ask, union, bundles};
+ghost use Rattle.map_core.specs.PlainMap.{ask, union, bundles, standing_for};
 ghost use Rattle.map_core.specs.Ask.{ShowsGet};
 ghost use Rattle.map_core.specs.Reply.{is_change};
 ghost use Rattle.map_core.specs.Private.Held.{HaveSameBundles};
 ghost use Rattle.map_core.specs.Private.Turns.{put_in_turn};
 
 use crate::ask::Viewer;
-use crate::held::Holding;
+use crate::held::{Holding, Standing};
 use crate::op::Op;
 use crate::reply::{AskError, Reply, Snapshot};
 use crate::table;
@@ -149,6 +149,16 @@ impl Contents {
             }
         }
         Ok(Some(self.get(domain)?))
+    }
+
+    /// What stands under the name that the operation is on; nothing for a fetch-all.
+    pub fn standing(&self, op: &Op) -> Standing
+        ensures { result ≡ standing_for self.now op.now }
+    {
+        match op.domain() {
+            Some(domain) => Standing::of(self.at(domain)),
+            None => Standing::Nothing,
+        }
     }
 
     /// How many bundles there are. Marks don't count.

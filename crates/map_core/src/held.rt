@@ -1,4 +1,7 @@
 //! What a map holds under a name.
+ghost use Rattle.std.specs.Prelude.{◌≡◌, option_copied};
+ghost use Rattle.map_core.specs.Table.{standing};
+
 use shared_map::Shared;
 use spiffe_doc::Bundle;
 use std::alloc::AllocError;
@@ -16,6 +19,28 @@ impl Shared for Holding {
         match self {
             Holding::Published(bundle) => Ok(Holding::Published(bundle.copy()?)),
             Holding::Mark(sequence) => Ok(Holding::Mark(*sequence)),
+        }
+    }
+}
+
+/// What stands under a name, without what a bundle says.
+#[derive(Clone, Copy)]
+pub enum Standing {
+    Nothing,
+    Bundle,
+    /// A mark of the sequence of a bundle that was removed.
+    Mark,
+}
+
+impl Standing {
+    /// That which is held there.
+    pub(crate) fn of(held: Option<&Holding>) -> Standing
+        ensures { result ≡ standing (option_copied held.entry) }
+    {
+        match held {
+            None => Standing::Nothing,
+            Some(Holding::Published(_)) => Standing::Bundle,
+            Some(Holding::Mark(_)) => Standing::Mark,
         }
     }
 }

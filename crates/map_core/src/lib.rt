@@ -18,7 +18,7 @@ mod union;
 pub use ask::{Ask, Viewer};
 pub use contents::Contents;
 pub use dump::{DIGEST_BYTES, DumpDigest, canonical_text, item_front};
-pub use held::Holding;
+pub use held::{Holding, Standing};
 pub use op::{Expect, Op};
 pub use reply::{AskError, MapRefusal, Reply, Snapshot};
 pub use union::Union;

@@ -1,4 +1,5 @@
 pub mod Changes
+pub mod Tally
 pub mod Pass
 pub mod Promise
 pub mod Close

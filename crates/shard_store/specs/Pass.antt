@@ -2,6 +2,7 @@
 use Rattle.std.specs.Prelude.{◌≡◌, ℕ}
 use Rattle.atomic_table.specs.Seated.{TableId}
 use Rattle.shard_store.specs.declared.change.Seen.{Seen}
+use Rattle.shard_store.specs.declared.tally.Tally.{Tally}
 
 -- which store it is, with how many shards, how many rounds a fetch-all makes, and how many tries a call makes at one
 -- shard
@@ -10,14 +11,16 @@ pub record StoreView : Type 0 where
   pub rounds : ℕ
   pub tries : ℕ
 
--- the store that it comes from, and what it has seen
+-- the store that it comes from, what it has seen, and what its changes did
 pub record PassView : Type 0 where
   pub store : TableId
   pub seen : Seen
+  pub tally : Tally
 
 pub record HeldPassView : Type 0 where
   pub store : TableId
   pub seen : Seen
+  pub tally : Tally
   pub shard : ℕ
 
 pub record SeatedView : Type 0 where

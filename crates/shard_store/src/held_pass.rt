@@ -7,6 +7,7 @@ use crate::desk::Desk;
 use crate::holds::Hold;
 use crate::pass::Pass;
 use crate::store::Store;
+use crate::tally::Tally;
 use std::marker::Model;
 
 /// A pass that holds a shard. If it is dropped, the shard stays held.
@@ -15,6 +16,7 @@ pub struct HeldPass {
     pub(crate) desk: Desk,
     pub(crate) numbers: u64,
     pub(crate) hold: Hold,
+    pub(crate) tally: Tally,
 }
 
 impl Model for HeldPass {
@@ -26,7 +28,7 @@ impl Model for HeldPass {
 
     ghost Value = { HeldPassView };
 
-    ghost view = { λ h. record { store = h.desk.seat.table_id; seen = h.desk.seat.me.0.seen; shard = h.hold.shard } };
+    ghost view = { λ h. record { store = h.desk.seat.table_id; seen = h.desk.seat.me.0.seen; tally = h.tally; shard = h.hold.shard } };
 
     ghost invariant = { λ h. Holds h.desk.seat.table_id h.hold h.desk.seat × (own_count h.desk.seat.me.0.seen.ranges ≡ h.numbers) × AreLastReads h.desk.seat.table_id.slots h.desk.seat.me.0.seen.log h.desk.last_reads.by_shard.items };
 }
@@ -51,17 +53,20 @@ impl HeldPass {
         requires { self.store ≡ store.now.id }
         ensures own { IsOf result store.now }
         ensures seen { result.seen ≡ self.seen }
+        ensures tally { result.tally ≡ self.tally }
     {
         let HeldPass {
             mut desk,
             numbers,
             hold,
+            tally,
         } = self;
         store.release(&mut desk.seat, hold);
         Pass {
             desk,
             numbers,
             last_all: None,
+            tally,
         }
     }
 }

@@ -6,19 +6,20 @@ use crate::holds::Hold;
 use crate::one_shard::LAST_REVISION;
 use crate::rule::StoreSeat;
 use crate::store::Store;
+use crate::tally::Turn;
 use map_core::{Op, Reply};
 use std::alloc::AllocError;
 use std::sync::Arc;
 
 impl Store {
-    /// Asks the version in hand. None if others own it, if the operation is a get, whose version is to be remembered, or if
+    /// Asks the version in hand, and tells what stood there under the name before, and what stands there now. None if others own it, if the operation is a get, whose version is to be remembered, or if
     /// the shard takes no more changes.
     pub(crate) fn ask_in_hand(
         &self,
         seat: &mut StoreSeat,
         hold: Hold,
         op: &Op,
-    ) -> Result<Option<Reply>, AllocError>
+    ) -> Result<Option<(Reply, Turn)>, AllocError>
         requires held { Holds self.now.id hold seat.old }
         requires home { IsAtHome self.now.id op.now hold.shard }
         ensures seat { (seat.new.table_id ≡ self.now.id) × (seat.new.me.0 ≡ seat.old.me.0) }
@@ -34,9 +35,13 @@ impl Store {
         let Some(contents) = Arc::get_mut(version) else {
             return Ok(None);
         };
-        let op = op.copy()?;
-        match contents.ask(op) {
-            Ok(reply) => Ok(Some(reply)),
+        let copy = op.copy()?;
+        let before = contents.standing(op);
+        match contents.ask(copy) {
+            Ok(reply) => {
+                let after = contents.standing(op);
+                Ok(Some((reply, Turn { before, after })))
+            }
             Err(_) => Err(AllocError),
         }
     }

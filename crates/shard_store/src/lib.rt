@@ -22,6 +22,7 @@ mod rule;
 mod seated;
 mod steps;
 mod store;
+mod tally;
 
 pub use change::{Change, Seen};
 pub use close::CloseError;
@@ -29,3 +30,4 @@ pub use held_pass::HeldPass;
 pub use pass::Pass;
 pub use seated::Seated;
 pub use store::Store;
+pub use tally::{Flow, Tally};

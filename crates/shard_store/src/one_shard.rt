@@ -3,6 +3,7 @@ ghost use Rattle.std.specs.Prelude.{◌≡◌, ◌/◌, ◌^◌, ◌<◌, ◌≤
 ghost use Rattle.std.specs.Arc.{arc_value};
 ghost use Rattle.shard_store.specs.Numbers.{IsPart};
 ghost use Rattle.shard_store.specs.Promise.{IsLater, IsRefusedAt};
+ghost use Rattle.shard_store.specs.Tally.{CountsAnswer};
 ghost use Rattle.shard_store.specs.Private.Desk.{IsReady};
 ghost use Rattle.shard_store.specs.Private.Seat.{IsFree, IsAtHome, Holds, IsWordOf, Missed, ShardAnswer, Writes, Tried, change_by};
 
@@ -11,6 +12,7 @@ use crate::holds::Hold;
 use crate::last_reads::LastRead;
 use crate::rule::StoreSeat;
 use crate::store::Store;
+use crate::tally::{Tally, Turn};
 use map_core::{AskError, Contents, Op, Reply};
 use std::marker::Brand;
 use std::sync::Arc;
@@ -19,10 +21,10 @@ use std::thread;
 /// A shard takes no more changes than this.
 pub(crate) const LAST_REVISION: u64 = 1 << 62;
 
-/// What one try gave: a reply, with what was read for it if nothing was written, or the word that was found in place
-/// of the one expected.
+/// What one try gave: a reply, with what was read for it if nothing was written, and what was turned under the name; or the word
+/// that was found in place of the one expected.
 pub(crate) enum Attempt {
-    Replied(Reply, Option<LastRead>),
+    Replied(Reply, Option<LastRead>, Turn),
     Blocked(u64),
 }
 
@@ -49,12 +51,19 @@ pub(crate) fn given_up(tries: u64, failed: u64, shard: usize, word: u64) -> AskE
 impl Store {
     /// One operation on one name, at the shard where it is at home. A get is answered by what was read of the shard last, if
     /// that is still the shard's part; else what it reads under a hold is remembered. Before any other operation it is
-    /// forgotten, so that nobody but the store owns the version, which is changed where it is then.
-    pub(crate) fn ask_name(&self, desk: &mut Desk, shard: usize, op: &Op) -> Result<Reply, AskError>
+    /// forgotten, so that nobody but the store owns the version, which is changed where it is then. A change is counted.
+    pub(crate) fn ask_name(
+        &self,
+        desk: &mut Desk,
+        tally: &mut Tally,
+        shard: usize,
+        op: &Op,
+    ) -> Result<Reply, AskError>
         requires ready { IsReady self.now.id desk.old }
         requires home { IsAtHome self.now.id op.now shard }
         ensures ready { IsReady self.now.id desk.new }
         ensures answer { ShardAnswer self.now.id.slots op.now desk.old.seat.me.0.seen result desk.new.seat.me.0.seen }
+        ensures counted { CountsAnswer result desk.new.seat.me.0.seen.log tally.old tally.new }
     {
         if let Op::Get(domain) = op {
             if let Some(last) = self.recall(&mut desk.seat, &desk.last_reads, shard) {
@@ -68,8 +77,9 @@ impl Store {
         let mut failed = 0;
         for _ in 0..self.tries {
             match self.try_once(&mut desk.seat, shard, op)? {
-                Attempt::Replied(reply, read) => {
+                Attempt::Replied(reply, read, turn) => {
                     desk.last_reads.keep(shard, read);
+                    *tally = tally.counted(turn);
                     return Ok(reply);
                 }
                 Attempt::Blocked(found) => word = found,
@@ -96,13 +106,13 @@ impl Store {
         let hold = Hold { shard, word };
         match self.ask_in_hand(seat, hold, op) {
             Ok(None) => self.try_held(seat, hold, op),
-            Ok(Some(reply)) => {
+            Ok(Some((reply, turn))) => {
                 if reply.is_change() {
                     self.let_go_changed::<Brand>(seat, hold, op);
-                    return Ok(Attempt::Replied(reply, None));
+                    return Ok(Attempt::Replied(reply, None, turn));
                 }
                 self.release(seat, hold);
-                Ok(Attempt::Replied(reply, None))
+                Ok(Attempt::Replied(reply, None, turn))
             }
             Err(_) => {
                 self.release(seat, hold);
@@ -123,9 +133,16 @@ impl Store {
         let version = self.read_version(seat, hold)?;
         let (reply, next) = version.asked(op)?;
         let revision = hold.word / 2;
+        let before = version.standing(op);
         let Some(next) = next else {
-            return Ok(Attempt::Replied(reply, Some(LastRead { revision, version })));
+            let read = LastRead { revision, version };
+            let turn = Turn {
+                before,
+                after: before,
+            };
+            return Ok(Attempt::Replied(reply, Some(read), turn));
         };
+        let after = next.standing(op);
         drop(version);
         if revision >= LAST_REVISION {
             drop((reply, next));
@@ -136,7 +153,7 @@ impl Store {
             return Err(AskError::Memory);
         };
         match self.store_version(seat, hold, next, op) {
-            Ok(()) => Ok(Attempt::Replied(reply, None)),
+            Ok(()) => Ok(Attempt::Replied(reply, None, Turn { before, after })),
             Err(found) => {
                 drop(reply);
                 Ok(Attempt::Blocked(found))

@@ -9,6 +9,7 @@ use crate::desk::Desk;
 use crate::last_reads::{LastRead, LastReads};
 use crate::rule::StoreSeat;
 use crate::store::Store;
+use crate::tally::Tally;
 use map_core::{AskError, Op, Reply};
 use spiffe_doc::TrustDomain;
 
@@ -45,7 +46,9 @@ impl Store {
         ensures answer { ShardAnswer self.now.id.slots (Get domain.now) desk.old.seat.me.0.seen result desk.new.seat.me.0.seen }
     {
         let op = Op::Get(domain.copy()?);
-        let answer = self.ask_name(desk, shard, &op);
+        // It changes nothing.
+        let mut tally = Tally::new();
+        let answer = self.ask_name(desk, &mut tally, shard, &op);
         drop(op);
         answer
     }

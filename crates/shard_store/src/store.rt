@@ -1,5 +1,5 @@
 //! The store: what threads do with it, each with a pass of its own.
-ghost use Rattle.std.specs.Prelude.{◌≡◌, ◌<◌, ◌≤◌, ◌++◌, [], ◌∷◌, length, replicate, IfOk, Some};
+ghost use Rattle.std.specs.Prelude.{◌≡◌, ◌<◌, ◌≤◌, ◌++◌, [], ◌∷◌, length, replicate, IfOk, MatchResult, Some};
 ghost use Rattle.std.specs.List.{All};
 ghost use Rattle.map_core.specs.Ask.{ShowsGet};
 ghost use Rattle.map_core.specs.declared.op.Op.{Op};
@@ -7,6 +7,7 @@ ghost use Rattle.shard_store.specs.Changes.{Extends, own_count, without_last, ju
 ghost use Rattle.shard_store.specs.Close.{CloseAnswer};
 ghost use Rattle.shard_store.specs.Pass.{IsOf};
 ghost use Rattle.shard_store.specs.Promise.{StoreAnswer, HoldAnswer};
+ghost use Rattle.shard_store.specs.Tally.{CountsAnswer, both_tallies, no_tally};
 ghost use Rattle.shard_store.specs.Private.Fresh.{IsEmptyVersion};
 ghost use Rattle.shard_store.specs.Private.Seat.{IsFree};
 
@@ -17,6 +18,7 @@ use crate::holds::Hold;
 use crate::last_reads::LastReads;
 use crate::pass::Pass;
 use crate::rule::{ShardTable, Slot, StoreSeat};
+use crate::tally::Tally;
 use atomic_table::Table;
 use map_core::home::{home, shard_of};
 use map_core::{AskError, Contents, DumpDigest, Expect, Op, Reply, Viewer};
@@ -61,6 +63,7 @@ impl Store {
         ensures own { IfOk result (λ made. IsOf made.1 made.0 × (made.0.id.slots ≡ shards)) }
         ensures limits { IfOk result (λ made. (made.0.rounds ≡ rounds) × (made.0.tries ≡ tries)) }
         ensures seen { IfOk result (λ made. (made.1.seen.log ≡ []) × (made.1.seen.ranges ≡ (0, 4294967296) ∷ [])) }
+        ensures tally { IfOk result (λ made. made.1.tally ≡ no_tally) }
     {
         let words = zeros(alloc, shards)?;
         let slots = empty_slots(alloc, shards)?;
@@ -84,18 +87,20 @@ impl Store {
         ensures own { IsOf pass.new self.now × IsOf result self.now }
         ensures logs { (pass.new.seen.log ≡ pass.old.seen.log) × (result.seen.log ≡ pass.old.seen.log) }
         ensures numbers { (pass.new.seen.ranges ≡ without_last share pass.old.seen.ranges) × (result.seen.ranges ≡ just_last share pass.old.seen.ranges) }
+        ensures tallies { (pass.new.tally ≡ pass.old.tally) × (result.tally ≡ no_tally) }
     {
         let seat = self.split_off::<Brand>(&mut pass.desk.seat, share);
         pass.numbers -= share;
         self.first_pass(seat, share)
     }
 
-    // A pass that remembers nothing yet.
+    // A pass that remembers nothing yet, and has changed nothing.
     fn first_pass(&self, seat: StoreSeat, numbers: u64) -> Pass
         requires free { IsFree self.now.id seat }
         requires numbers { own_count seat.me.0.seen.ranges ≡ numbers }
         ensures own { IsOf result self.now }
         ensures seen { result.seen ≡ seat.me.0.seen }
+        ensures tally { result.tally ≡ no_tally }
     {
         let desk = Desk {
             seat,
@@ -105,17 +110,20 @@ impl Store {
             desk,
             numbers,
             last_all: None,
+            tally: Tally::new(),
         }
     }
 
     /// One pass in place of two. It has seen all that they have seen, has the first one's numbers, and has taken in
-    /// those of the other.
+    /// those of the other. What both have changed is counted together.
     pub fn join(&self, mut pass: Pass, other: Pass) -> Pass
         requires own { IsOf pass self.now × IsOf other self.now }
         ensures own { IsOf result self.now }
         ensures log { Extends result.seen.log pass.seen × Extends result.seen.log other.seen }
         ensures numbers { result.seen.ranges ≡ pass.seen.ranges ++ other.seen.ranges }
+        ensures tally { result.tally ≡ both_tallies pass.tally other.tally }
     {
+        pass.tally = pass.tally.with(other.tally);
         self.join_seats(&mut pass.desk.seat, other.desk.seat);
         pass
     }
@@ -126,10 +134,11 @@ impl Store {
         requires own { IsOf pass.old self.now }
         ensures own { IsOf pass.new self.now }
         ensures answer { StoreAnswer self.now op pass.old.seen result pass.new.seen }
+        ensures counted { CountsAnswer result pass.new.seen.log pass.old.tally pass.new.tally }
     {
         match shard_of(&op, self.shards.slot_count()) {
             Some(shard) => {
-                let answer = self.ask_name(&mut pass.desk, shard, &op);
+                let answer = self.ask_name(&mut pass.desk, &mut pass.tally, shard, &op);
                 drop(op);
                 answer
             }
@@ -152,6 +161,7 @@ impl Store {
         requires own { IsOf pass.old self.now }
         ensures own { IsOf pass.new self.now }
         ensures shown { ShowsGet V.notes (λ answer. StoreAnswer self.now (Op.Get domain.now) pass.old.seen answer pass.new.seen) (V.noted viewer.old) result (V.noted viewer.new) }
+        ensures tally { pass.new.tally ≡ pass.old.tally }
     {
         let shard = home(domain, self.shards.slot_count());
         if let Some(last) = self.recall(&mut pass.desk.seat, &pass.desk.last_reads, shard) {
@@ -171,6 +181,7 @@ impl Store {
         requires own { IsOf pass.old self.now }
         ensures own { IsOf pass.new self.now }
         ensures answer { StoreAnswer self.now (Op.Set domain bundle) pass.old.seen result pass.new.seen }
+        ensures counted { CountsAnswer result pass.new.seen.log pass.old.tally pass.new.tally }
     {
         self.ask(pass, Op::Set(domain, bundle))
     }
@@ -186,6 +197,7 @@ impl Store {
         requires own { IsOf pass.old self.now }
         ensures own { IsOf pass.new self.now }
         ensures answer { StoreAnswer self.now (Op.SetIf domain expect bundle) pass.old.seen result pass.new.seen }
+        ensures counted { CountsAnswer result pass.new.seen.log pass.old.tally pass.new.tally }
     {
         self.ask(pass, Op::SetIf(domain, expect, bundle))
     }
@@ -200,6 +212,7 @@ impl Store {
         requires own { IsOf pass.old self.now }
         ensures own { IsOf pass.new self.now }
         ensures answer { StoreAnswer self.now (Op.Append domain authority) pass.old.seen result pass.new.seen }
+        ensures counted { CountsAnswer result pass.new.seen.log pass.old.tally pass.new.tally }
     {
         self.ask(pass, Op::Append(domain, authority))
     }
@@ -209,6 +222,7 @@ impl Store {
         requires own { IsOf pass.old self.now }
         ensures own { IsOf pass.new self.now }
         ensures answer { StoreAnswer self.now (Op.Remove domain) pass.old.seen result pass.new.seen }
+        ensures counted { CountsAnswer result pass.new.seen.log pass.old.tally pass.new.tally }
     {
         self.ask(pass, Op::Remove(domain))
     }
@@ -218,6 +232,7 @@ impl Store {
         requires own { IsOf pass.old self.now }
         ensures own { IsOf pass.new self.now }
         ensures answer { StoreAnswer self.now (Op.Get domain) pass.old.seen result pass.new.seen }
+        ensures counted { CountsAnswer result pass.new.seen.log pass.old.tally pass.new.tally }
     {
         self.ask(pass, Op::Get(domain))
     }
@@ -227,6 +242,7 @@ impl Store {
         requires own { IsOf pass.old self.now }
         ensures own { IsOf pass.new self.now }
         ensures answer { StoreAnswer self.now Op.FetchAll pass.old.seen result pass.new.seen }
+        ensures counted { CountsAnswer result pass.new.seen.log pass.old.tally pass.new.tally }
     {
         self.ask(pass, Op::FetchAll)
     }
@@ -237,6 +253,7 @@ impl Store {
         requires own { IsOf pass.old self.now }
         ensures own { IsOf pass.new self.now }
         ensures answer { StoreAnswer self.now (Op.FetchUnless known) pass.old.seen result pass.new.seen }
+        ensures counted { CountsAnswer result pass.new.seen.log pass.old.tally pass.new.tally }
     {
         self.ask(pass, Op::FetchUnless(known))
     }
@@ -246,13 +263,15 @@ impl Store {
     pub fn hold(&self, mut pass: Pass, shard: usize) -> Result<HeldPass, (Pass, AskError)>
         requires own { IsOf pass self.now }
         requires shard { shard < self.now.id.slots }
-        ensures { HoldAnswer self.now shard pass.seen result }
+        ensures held { HoldAnswer self.now shard pass.seen result }
+        ensures tally { MatchResult result (λ h. h.tally ≡ pass.tally) (λ r. r.0.tally ≡ pass.tally) }
     {
         match self.try_hold(&mut pass.desk.seat, shard) {
             Ok(word) => Ok(HeldPass {
                 desk: pass.desk,
                 numbers: pass.numbers,
                 hold: Hold { shard, word },
+                tally: pass.tally,
             }),
             Err(found) => {
                 let error = AskError::Held {

@@ -188,7 +188,43 @@ const LAST_ALL: &[Row] = &[
     ('p', "free", "4294966296"),
 ];
 
-static SCRIPTS: [Script; 8] = [
+/// Each pass counts what its own changes have brought and taken, whether others had read the shard before or not: bundles that
+/// came and went, and marks. A bundle without a sequence leaves no mark, and a set over a mark takes it away.
+const TALLIED: &[Row] = &[
+    ('p', "tally", "0 0 0 0"),
+    ('p', "set a 5", "stored"),
+    ('p', "tally", "1 0 0 0"),
+    ('q', "fetch", "all 1 a 5/0"),
+    ('p', "set a 5", "unchanged"),
+    ('p', "set a 4", "refused 31 5"),
+    ('p', "setif a absent 6", "refused 36 5"),
+    ('p', "set a 6", "stored"),
+    ('p', "append a k", "appended 7"),
+    ('p', "tally", "1 0 0 0"),
+    ('q', "fetch", "all 1 a 7/1"),
+    ('q', "remove a", "removed"),
+    ('q', "tally", "0 1 1 0"),
+    ('p', "remove a", "refused 30"),
+    ('p', "setif a absent 7", "stored"),
+    ('p', "tally", "2 0 0 1"),
+    ('q', "set b -", "stored"),
+    ('q', "append b k", "appended -"),
+    ('q', "remove b", "removed"),
+    ('q', "get b", "refused 30"),
+    ('q', "tally", "1 2 1 0"),
+    ('p', "hold 0", "holds"),
+    ('q', "set b -", "held 0 3"),
+    ('q', "tally", "1 2 1 0"),
+    ('p', "free", "4294966296"),
+    ('p', "tally", "2 0 0 1"),
+    ('q', "split 10", "990"),
+    ('r', "tally", "0 0 0 0"),
+    ('q', "tally", "1 2 1 0"),
+    ('p', "join q", "4294966296"),
+    ('p', "tally", "3 2 1 1"),
+];
+
+static SCRIPTS: [Script; 9] = [
     Script {
         shards: 4,
         rounds: 3,
@@ -260,6 +296,15 @@ static SCRIPTS: [Script; 8] = [
         before: 0,
         rows: LAST_ALL,
         end: ('q', "3 domains"),
+    },
+    Script {
+        shards: 2,
+        rounds: 1,
+        tries: &[1, 3],
+        share: 1000,
+        before: 0,
+        rows: TALLIED,
+        end: ('p', "1 domains"),
     },
 ];
 

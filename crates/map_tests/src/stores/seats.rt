@@ -3,7 +3,7 @@ ghost use Rattle.std.specs.Prelude.{◌≡◌, IfOk};
 ghost use Rattle.shard_store.specs.Pass.{IsOf};
 
 use map_core::{AskError, Op, Reply};
-use shard_store::{HeldPass, Pass, Store};
+use shard_store::{HeldPass, Pass, Store, Tally};
 use std::alloc::Global;
 use std::marker::Model;
 use std::test::Fail;
@@ -200,7 +200,19 @@ impl<'a> Seats<'a> {
         Ok(format!(in alloc; "{numbers}")?)
     }
 
-    /// What a pass does by this line, and what it is told: it holds a shard, lets it go, is split or joined, or asks.
+    /// How many bundles the changes of the pass have brought and taken, and how many marks.
+    fn tally(&mut self, alloc: Global, who: char) -> Result<String, Fail>
+        ensures store { self.new ≡ self.old }
+    {
+        let pass = self.take(who)?;
+        let Tally { bundles, marks } = pass.tally();
+        self.put(who, pass);
+        let (came, went) = (bundles.come, bundles.gone);
+        Ok(format!(in alloc; "{came} {went} {} {}", marks.come, marks.gone)?)
+    }
+
+    /// What a pass does by this line, and what it is told: it holds a shard, lets it go, is split or joined, tells its tally, or
+    /// asks.
     pub(crate) fn act(&mut self, alloc: Global, who: char, line: &str) -> Result<String, Fail>
         ensures store { self.new ≡ self.old }
     {
@@ -211,6 +223,7 @@ impl<'a> Seats<'a> {
             "free" => self.free(alloc, who),
             "split" => self.split(alloc, who, rest.parse()?),
             "join" => self.join(alloc, who, rest.parse()?),
+            "tally" => self.tally(alloc, who),
             _ => self.ask(alloc, who, line),
         }
     }

@@ -2,6 +2,7 @@
 use Rattle.std.specs.Prelude.{◌≡◌, ℕ, ◌*◌, ◌/◌, ◌<◌, ◌≤◌, true, false, List, [], ◌∷◌, ◌++◌, Option, Some, None, Result, Ok, Err, MatchResult}
 use Rattle.std.specs.declared.alloc.AllocError.{AllocError}
 use Rattle.std.specs.Arc.{arc_value}
+use Rattle.std.specs.FinMap as finite
 use Rattle.std.specs.declared.sync.Arc.{Arc}
 use Rattle.atomic_table.specs.Table.{Me}
 use Rattle.atomic_table.specs.Seated.{TableId}
@@ -10,7 +11,8 @@ use Rattle.map_core.specs.declared.op.Op.{Op}
 use Rattle.map_core.specs.declared.reply.Reply.{Reply}
 use Rattle.map_core.specs.declared.reply.AskError.{AskError}
 use Rattle.map_core.specs.Reply.{is_change}
-use Rattle.map_core.specs.PlainMap.{PlainMap, ask, shard_of}
+use Rattle.map_core.specs.Table.{standing}
+use Rattle.map_core.specs.PlainMap.{PlainMap, ask, name_of, shard_of, standing_for}
 use Rattle.shard_store.specs.declared.change.Change.{Change}
 use Rattle.shard_store.specs.declared.change.Seen.{Seen}
 use Rattle.shard_store.specs.declared.change.View.{View}
@@ -18,6 +20,7 @@ use Rattle.shard_store.specs.declared.holds.Hold.{Hold}
 use Rattle.shard_store.specs.declared.last_reads.LastRead.{LastRead}
 use Rattle.shard_store.specs.declared.one_shard.Attempt.{Attempt}
 use Rattle.shard_store.specs.declared.one_shard.Attempt.TheVariants.{Replied, Blocked}
+use Rattle.shard_store.specs.declared.tally.Turn.{Turn}
 use Rattle.shard_store.specs.Changes.{after, change_of, count, Extends, own_count, own_number}
 use Rattle.shard_store.specs.Numbers.{IsPart}
 use Rattle.shard_store.specs.Promise.{IsLater, IsAlone, IsReply, IsRefusedAt}
@@ -80,21 +83,33 @@ IsReplyRead n shard op s reply read t = IsReply op s reply t × IsLastRead n sha
 abbrev pub ShardAnswer : ℕ → Op → Seen → Result Reply AskError → Seen → Type 0
 ShardAnswer n op s answer t = MatchResult answer (λ reply. IsReply op s reply t) (IsRefusedAt n op s t)
 
+-- The operation's change of what was seen is one from what stands under its name to what it leaves there; no change turns anything.
+abbrev pub Turns : Op → Seen → Reply → Turn → Type 0
+Turns op s reply turn = (is_change reply ≡ true → (turn.before ≡ standing (finite.get (after s.log) (name_of op))) × (turn.after ≡ standing (change_by op s).now))
+    × (is_change reply ≡ false → turn.before ≡ turn.after)
+
+-- and so the last change of the log is, if the reply tells of one
+abbrev pub TurnsLast : List Change → Reply → Turn → Type 0
+TurnsLast log reply turn = (is_change reply ≡ true → (list : List Change) × (change : Change) × (log ≡ list ++ change ∷ [])
+    × (turn.before ≡ standing (finite.get (after list) change.name)) × (turn.after ≡ standing change.now))
+    × (is_change reply ≡ false → turn.before ≡ turn.after)
+
 -- what one try of an operation gave
 abbrev pub Tried : ℕ → ℕ → Op → Seen → Seen → Attempt → Type 0
-Tried n shard op s t (Replied reply read) = IsReplyRead n shard op s reply read t
+Tried n shard op s t (Replied reply read turn) = IsReplyRead n shard op s reply read t × TurnsLast t.log reply turn
 Tried n shard op s t (Blocked found) = IsLater t s × Missed n shard s found t
 
 -- What a version says of the operation, and what it is then. Nothing is said if others own it, or if memory was refused.
-abbrev pub AsksAlone : Op → PlainMap → Result (Option Reply) AllocError → PlainMap → Type 0
-AsksAlone op old (Ok (Some reply)) new = (reply ≡ (ask old op).reply) × (new ≡ (ask old op).map)
+abbrev pub AsksAlone : Op → PlainMap → Result (Option (Reply × Turn)) AllocError → PlainMap → Type 0
+AsksAlone op old (Ok (Some found)) new = (found.0 ≡ (ask old op).reply) × (new ≡ (ask old op).map) × (found.1.before ≡ standing_for old op) × (found.1.after ≡ standing_for new op)
 AsksAlone op old (Ok None) new = new ≡ old
 AsksAlone op old (Err e) new = new ≡ old
 
 module _ {Z : Type 0} where
   -- What the version in hand says of the operation, and what is in hand then
-  abbrev pub AsksInHand : ℕ → ℕ → Op → Seen → Result (Option Reply) AllocError → Me (SlotValue Z) View → Type 0
-  AsksInHand n shard op s (Ok (Some reply)) m = (reply ≡ (ask (after s.log) op).reply)
-      × (is_change reply ≡ true → HasInHand n shard (s.log ++ change_by op s ∷ []) m) × (is_change reply ≡ false → HasInHand n shard s.log m)
+  abbrev pub AsksInHand : ℕ → ℕ → Op → Seen → Result (Option (Reply × Turn)) AllocError → Me (SlotValue Z) View → Type 0
+  AsksInHand n shard op s (Ok (Some found)) m = (found.0 ≡ (ask (after s.log) op).reply)
+      × (is_change found.0 ≡ true → HasInHand n shard (s.log ++ change_by op s ∷ []) m) × (is_change found.0 ≡ false → HasInHand n shard s.log m)
+      × Turns op s found.0 found.1
   AsksInHand n shard op s (Ok None) m = HasInHand n shard s.log m
   AsksInHand n shard op s (Err e) m = HasInHand n shard s.log m

@@ -1,5 +1,8 @@
-use Rattle.std.proofs.Common.{◌≡◌, rules, sym, ap, ◌∙◌}
+use Rattle.std.proofs.Common.{◌≡◌, rules, sym, ap, ◌∙◌, subst}
 use Rattle.map_core.specs.PlainMap.{shard_of}
+use Rattle.shard_store.specs.declared.tally.Tally.{Tally}
+use Rattle.shard_store.specs.Tally.{CountsAnswer}
+use Rattle.shard_store.proofs.Turns.{all_counts_nothing}
 use Rattle.shard_store.proofs.Asked.{shard_answers, all_answers}
 use Rattle.shard_store.proofs.AtTable.{ready_at, all_at_table, answer_keeps}
 use Rattle.shard_store.proofs.store.Store.ask.Goals as goal
@@ -29,3 +32,8 @@ ask_all-answer-requires-clause-all c = all_at_table _ _ c.pass.inside.desk.seat.
 
 pub returns-in-None-clause-answer : goal.returns-in-None-clause-answer
 returns-in-None-clause-answer c = all_answers c.ask_all-answer.result c.args.self.now c.args.op _ _ c.ask_all-answer.new.desk.seat.me.0.seen (ap (λ p. p.seen) c.pass.view_is) c.ask_all-answer.ensures.answer
+
+pub returns-in-None-clause-counted : goal.returns-in-None-clause-counted
+returns-in-None-clause-counted c = let size : c.slot_count.result ≡ c.args.self.now.id.slots = search rules in let t = c.ask_all-answer.new.desk.seat.me.0.seen in
+    subst (λ (u : Tally). CountsAnswer c.ask_all-answer.result t.log u c.pass.inside.tally) (ap (λ p. p.tally) c.pass.view_is)
+    (all_counts_nothing c.ask_all-answer.result c.args.self.now c.args.op _ t c.pass.inside.tally (ap (λ k. shard_of k c.args.op) (sym size) ∙ sym c.in-None.ensures.shard) c.ask_all-answer.ensures.answer)

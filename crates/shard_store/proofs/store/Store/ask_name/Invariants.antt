@@ -9,5 +9,6 @@ invariant-loop l = record {
   failed : l.failed ≡ l.counter;
   ready : IsReady l.fn.self.id l.desk;
   later : IsLater l.desk.seat.me.0.seen l.fn.desk.seat.me.0.seen;
+  tally : l.tally ≡ l.fn.tally;
   missed : 0 < l.counter → Missed l.fn.self.id.slots l.shard l.fn.desk.seat.me.0.seen l.word l.desk.seat.me.0.seen;
 }

@@ -29,8 +29,8 @@ invariant_of-pass c = let f = c.in-Err.ensures.found.0 in let p = c.pass.inside.
       all_at_table _ _ t all (sym f.0) (all_later _ s t all c.try_hold.ensures.later (all_at_table _ _ s all z c.pass.invariant.2)),
     )
 
-pub returns-in-Err : goal.returns-in-Err
-returns-in-Err c = let same : c.pass.inside.desk.seat.me.0.seen ≡ c.args.pass.seen = ap (λ p. p.seen) c.pass.view_is in let found = c.in-Err.ensures.found in (
+pub returns-in-Err-clause-held : goal.returns-in-Err-clause-held
+returns-in-Err-clause-held c = let same : c.pass.inside.desk.seat.me.0.seen ≡ c.args.pass.seen = ap (λ p. p.seen) c.pass.view_is in let found = c.in-Err.ensures.found in (
   found.0.0,
   subst (IsLater c.try_hold.new.seat.me.0.seen) same c.try_hold.ensures.later,
   (λ alone. found.1.0 (subst IsAlone (sym same) alone)),
