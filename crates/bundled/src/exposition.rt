@@ -12,7 +12,7 @@ struct Family {
     help: &'static str,
 }
 
-static FAMILIES: [Family; 9] = [
+static FAMILIES: [Family; 11] = [
     Family {
         name: "seconds",
         metric: "bundled_uptime_seconds",
@@ -61,6 +61,20 @@ static FAMILIES: [Family; 9] = [
         label: "",
         kind: "counter",
         help: "Changes of bundles.",
+    },
+    Family {
+        name: "domains",
+        metric: "bundled_domains",
+        label: "",
+        kind: "gauge",
+        help: "Bundles that stand in the store.",
+    },
+    Family {
+        name: "marks",
+        metric: "bundled_marks",
+        label: "",
+        kind: "gauge",
+        help: "Marks of removed bundles.",
     },
     Family {
         name: "requests_",

@@ -2,7 +2,7 @@
 use Rattle.std.specs.Prelude.{ℕ, List, [], ◌∷◌, ◌++◌, map, codes, decimal, Bool, true, false, Option, Some, None, ◌==◌, ◌&&◌, if◌then◌else◌}
 use Rattle.wire.specs.ReplyForm.{is_one_of}
 use Rattle.server.specs.declared.counts.Count.{Count}
-use Rattle.server.specs.declared.counts.Count.TheVariants.{ConnectionsOpen, ConnectionsOpened, BytesRead, BytesWritten, AskedAgain, Changes, Requests, Refused}
+use Rattle.server.specs.declared.counts.Count.TheVariants.{ConnectionsOpen, ConnectionsOpened, BytesRead, BytesWritten, AskedAgain, Changes, Domains, Marks, Requests, Refused}
 
 -- the numbers of replies that refuse a request or tell an error
 abbrev pub refused_numbers : List ℕ
@@ -16,6 +16,7 @@ refused_name number = codes "refused_" ++ decimal number
 abbrev pub names : List (List ℕ)
 names =
     codes "connections_open" ∷ codes "connections_opened" ∷ codes "bytes_read" ∷ codes "bytes_written" ∷ codes "asked_again" ∷ codes "changes"
+    ∷ codes "domains" ∷ codes "marks"
     ∷ codes "requests_set" ∷ codes "requests_set_if" ∷ codes "requests_append" ∷ codes "requests_remove" ∷ codes "requests_get"
     ∷ codes "requests_fetch" ∷ codes "requests_fetch_unless" ∷ codes "requests_version" ∷ codes "requests_stats" ∷ codes "requests_other"
     ∷ map refused_name refused_numbers
@@ -46,6 +47,8 @@ count_name BytesRead = Some (codes "bytes_read")
 count_name BytesWritten = Some (codes "bytes_written")
 count_name AskedAgain = Some (codes "asked_again")
 count_name Changes = Some (codes "changes")
+count_name Domains = Some (codes "domains")
+count_name Marks = Some (codes "marks")
 count_name (Requests letter) = Some (request_name letter)
 count_name (Refused number) = reply_name number
 

@@ -6,13 +6,20 @@ ghost use Rattle.server.specs.Counts.{is_change as changes};
 mod line;
 
 use crate::counts::line::line_of;
+use shard_store::Tally;
 use spiffe_doc::Memory;
 use std::alloc::{AllocError, Global};
 use std::sync::atomic::{AtomicU64, Ordering};
 use std::time::{Clock, Instant};
 
 /// How many names there are, beside that of the seconds.
-pub(crate) const COUNTS: usize = 44;
+pub(crate) const COUNTS: usize = 46;
+
+/// The place among the names of how many bundles stand in the store.
+const DOMAINS: usize = 6;
+
+/// The place of how many marks.
+const MARKS: usize = 7;
 
 /// What is counted.
 #[derive(Clone, Copy, Debug, PartialEq, Eq)]
@@ -27,6 +34,10 @@ pub enum Count {
     AskedAgain,
     /// The requests that have changed a bundle.
     Changes,
+    /// The bundles that stand in the store.
+    Domains,
+    /// The marks of removed bundles.
+    Marks,
     /// The requests of this letter.
     Requests(u8),
     /// The replies that refuse a request or tell an error by this number. Another number is not counted.
@@ -56,6 +67,8 @@ impl Count {
             Count::BytesWritten => Some(3),
             Count::AskedAgain => Some(4),
             Count::Changes => Some(5),
+            Count::Domains => Some(DOMAINS),
+            Count::Marks => Some(MARKS),
             Count::Requests(letter) => Some(place_of_letter(letter)),
             Count::Refused(number) => place_of_number(number),
         }
@@ -76,16 +89,16 @@ fn place_of_letter(letter: u8) -> usize
     ensures { slice_get names result ≡ Some (request_name letter) }
 {
     match letter {
-        b'S' => 6,
-        b'C' => 7,
-        b'A' => 8,
-        b'R' => 9,
-        b'G' => 10,
-        b'F' => 11,
-        b'U' => 12,
-        b'V' => 13,
-        b'M' => 14,
-        _ => 15,
+        b'S' => 8,
+        b'C' => 9,
+        b'A' => 10,
+        b'R' => 11,
+        b'G' => 12,
+        b'F' => 13,
+        b'U' => 14,
+        b'V' => 15,
+        b'M' => 16,
+        _ => 17,
     }
 }
 
@@ -95,36 +108,42 @@ fn place_of_number(number: u8) -> Option<usize>
     ensures { option_and_then (slice_get names) result ≡ reply_name number }
 {
     match number {
-        1 => Some(16),
-        3 => Some(17),
-        10 => Some(18),
-        11 => Some(19),
-        12 => Some(20),
-        13 => Some(21),
-        14 => Some(22),
-        15 => Some(23),
-        16 => Some(24),
-        17 => Some(25),
-        18 => Some(26),
-        19 => Some(27),
-        20 => Some(28),
-        21 => Some(29),
-        22 => Some(30),
-        23 => Some(31),
-        30 => Some(32),
-        31 => Some(33),
-        32 => Some(34),
-        33 => Some(35),
-        34 => Some(36),
-        35 => Some(37),
-        36 => Some(38),
-        40 => Some(39),
-        41 => Some(40),
-        42 => Some(41),
-        51 => Some(42),
-        56 => Some(43),
+        1 => Some(18),
+        3 => Some(19),
+        10 => Some(20),
+        11 => Some(21),
+        12 => Some(22),
+        13 => Some(23),
+        14 => Some(24),
+        15 => Some(25),
+        16 => Some(26),
+        17 => Some(27),
+        18 => Some(28),
+        19 => Some(29),
+        20 => Some(30),
+        21 => Some(31),
+        22 => Some(32),
+        23 => Some(33),
+        30 => Some(34),
+        31 => Some(35),
+        32 => Some(36),
+        33 => Some(37),
+        34 => Some(38),
+        35 => Some(39),
+        36 => Some(40),
+        40 => Some(41),
+        41 => Some(42),
+        42 => Some(43),
+        51 => Some(44),
+        56 => Some(45),
         _ => None,
     }
+}
+
+/// Of one bundle a worker may have told already that it has gone, and another not yet that it came: then the sum may be below
+/// none for a moment, and has wrapped.
+fn not_below_none(sum: u64) -> u64 {
+    if sum > u64::MAX / 2 { 0 } else { sum }
 }
 
 /// What one worker has counted, in the order of the names.
@@ -188,12 +207,31 @@ impl Counts {
         }
     }
 
+    /// The changes of the worker's pass have brought and taken so much by now. A worker may have taken what another brought: its
+    /// number is then below none, and wraps.
+    pub fn tallied(&self, worker: u64, tally: Tally) {
+        let Tally { bundles, marks } = tally;
+        self.put(
+            worker,
+            Count::Domains,
+            bundles.come.wrapping_sub(bundles.gone),
+        );
+        self.put(worker, Count::Marks, marks.come.wrapping_sub(marks.gone));
+    }
+
+    /// The worker has so many by now.
+    fn put(&self, worker: u64, count: Count, all: u64) {
+        if let Some(number) = self.number(worker, count) {
+            number.store(all, Ordering::SeqCst);
+        }
+    }
+
     /// What all workers have counted at a place.
     fn sum(&self, place: usize) -> u64 {
         let mut sum: u64 = 0;
         for slot in self.slots.as_slice() {
             if let Some(number) = slot.numbers.get(place) {
-                sum = sum.saturating_add(number.load(Ordering::SeqCst));
+                sum = sum.wrapping_add(number.load(Ordering::SeqCst));
             }
         }
         sum
@@ -213,6 +251,8 @@ impl Counts {
         for place in 0..COUNTS {
             numbers[place] = self.sum(place);
         }
+        numbers[DOMAINS] = not_below_none(numbers[DOMAINS]);
+        numbers[MARKS] = not_below_none(numbers[MARKS]);
         line_of(alloc, self.seconds(clock), &numbers)
     }
 }

@@ -10,6 +10,7 @@ ghost use Rattle.workers.specs.Log.{change_view};
 use crate::counts::{Count, Counts};
 use arrayvec::ArrayVec;
 use map_core::{Expect, MapRefusal};
+use shard_store::Tally;
 use spiffe_doc::Memory;
 use std::alloc::{AllocError, Global};
 use std::io;
@@ -288,6 +289,10 @@ impl<C: Clock, N: Write + Copy + Drop> Log for LineLog<'_, C, N> {
 
     fn asked_again(&self, worker: u64, times: u64) {
         self.counts.add(worker, Count::AskedAgain, times);
+    }
+
+    fn tallied(&self, worker: u64, tally: Tally) {
+        self.counts.tallied(worker, tally);
     }
 
     fn counts(&self, alloc: Global) -> Result<Vec<u8>, Memory> {

@@ -5,6 +5,7 @@ ghost use Rattle.shard_store.specs.Pass.{IsOf};
 ghost use Rattle.workers.specs.Workers.{IsFurther};
 ghost use Rattle.server.specs.Serve.{Filled, IsSetUp, NotFilled, NotSetUp};
 
+use crate::counts::Counts;
 use command_line::Settings;
 use shard_store::{Pass, Store};
 use std::alloc::Global;
@@ -52,6 +53,13 @@ impl SetUp {
         match passes_of(alloc, &store, first, settings.workers) {
             Ok(passes) => Ok(SetUp { store, passes }),
             Err(_) => Err(FrontError::Memory),
+        }
+    }
+
+    /// Counts what is stored already.
+    pub fn count(&self, counts: &Counts) {
+        for (worker, pass) in self.passes.as_slice().iter().enumerate() {
+            counts.tallied(worker as u64, pass.tally());
         }
     }
 }

@@ -3,6 +3,7 @@ ghost use Rattle.std.specs.Prelude.{⊤, false};
 
 use crate::ended::SessionFault;
 use map_core::{Expect, MapRefusal};
+use shard_store::Tally;
 use spiffe_doc::Memory;
 use std::alloc::Global;
 
@@ -80,6 +81,9 @@ pub trait Log: Drop {
 
     /// The worker asked the store again so many times, since others were in the way (41 and 42).
     fn asked_again(&self, _worker: u64, _times: u64) {}
+
+    /// The changes of the worker's pass have brought and taken so much by now.
+    fn tallied(&self, _worker: u64, _tally: Tally) {}
 
     /// What is counted, as words `name=value` with single spaces between. A log that counts nothing has none.
     fn counts(&self, alloc: Global) -> Result<Vec<u8>, Memory> {

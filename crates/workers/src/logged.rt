@@ -174,6 +174,15 @@ impl<'a, C: Clock, L: Log> Logged<'a, C, L> {
         }
     }
 
+    /// Tells the log what the changes of the pass have brought and taken, if the answer tells of one more.
+    fn tell_tally(&self, answer: &Result<Reply, AskError>) {
+        if let Ok(reply) = answer {
+            if reply.is_change() {
+                self.log.tallied(self.worker, self.patient.ask.pass.tally());
+            }
+        }
+    }
+
     /// What stands now under the name of the bundle that the operation asks to change, if the store says so. Errors only if
     /// memory runs out.
     fn look(&mut self, op: &Op) -> Result<Option<Expect>, AllocError>
@@ -208,6 +217,7 @@ impl<'a, C: Clock, L: Log> Ask for Logged<'a, C, L> {
         if !self.log.is_on() {
             let plain = self.patient.ask(op);
             self.tell_again(asked_before);
+            self.tell_tally(&plain);
             return plain;
         }
         let Ok(copy) = op.copy() else {
@@ -221,6 +231,7 @@ impl<'a, C: Clock, L: Log> Ask for Logged<'a, C, L> {
         };
         let answer = self.patient.ask(op);
         self.tell_again(asked_before);
+        self.tell_tally(&answer);
         self.tell_refused(&copy, &answer);
         if let Some(change) = change_by(&copy, before, &answer) {
             self.log.changed(self.worker, &change);

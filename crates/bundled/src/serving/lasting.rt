@@ -68,6 +68,7 @@ pub fn serve_many<
         Ok(set_up) => set_up,
         Err(error) => return Fault::Front(error).tell(err),
     };
+    set_up.count(host.counts);
     let waits = match waits_of(host.rt, host.alloc, &ports, settings.workers) {
         Ok(waits) => waits,
         Err(fault) => return tell_early(fault, err),

@@ -10,11 +10,11 @@ use std::io;
 use std::io::Write;
 
 /// The place of the first number of a reply. Before it stand words.
-const FIRST_NUMBER: usize = 16;
+const FIRST_NUMBER: usize = 18;
 
 /// The name at a place before the first number.
 fn word_at(place: usize) -> &'static str
-    requires { place < 16 }
+    requires { place < 18 }
     ensures { get_or names place [] ≡ result.now }
 {
     match place {
@@ -24,62 +24,64 @@ fn word_at(place: usize) -> &'static str
         3 => "bytes_written",
         4 => "asked_again",
         5 => "changes",
-        6 => "requests_set",
-        7 => "requests_set_if",
-        8 => "requests_append",
-        9 => "requests_remove",
-        10 => "requests_get",
-        11 => "requests_fetch",
-        12 => "requests_fetch_unless",
-        13 => "requests_version",
-        14 => "requests_stats",
-        15 => "requests_other",
+        6 => "domains",
+        7 => "marks",
+        8 => "requests_set",
+        9 => "requests_set_if",
+        10 => "requests_append",
+        11 => "requests_remove",
+        12 => "requests_get",
+        13 => "requests_fetch",
+        14 => "requests_fetch_unless",
+        15 => "requests_version",
+        16 => "requests_stats",
+        17 => "requests_other",
         _ => unreachable!(),
     }
 }
 
 /// The number of a reply whose name stands at a place.
 fn number_at(place: usize) -> u8
-    requires number { 16 ≤ place }
-    requires place { place < 44 }
+    requires number { 18 ≤ place }
+    requires place { place < 46 }
     ensures { get_or names place [] ≡ refused_name result }
 {
     match place {
-        16 => 1,
-        17 => 3,
-        18 => 10,
-        19 => 11,
-        20 => 12,
-        21 => 13,
-        22 => 14,
-        23 => 15,
-        24 => 16,
-        25 => 17,
-        26 => 18,
-        27 => 19,
-        28 => 20,
-        29 => 21,
-        30 => 22,
-        31 => 23,
-        32 => 30,
-        33 => 31,
-        34 => 32,
-        35 => 33,
-        36 => 34,
-        37 => 35,
-        38 => 36,
-        39 => 40,
-        40 => 41,
-        41 => 42,
-        42 => 51,
-        43 => 56,
+        18 => 1,
+        19 => 3,
+        20 => 10,
+        21 => 11,
+        22 => 12,
+        23 => 13,
+        24 => 14,
+        25 => 15,
+        26 => 16,
+        27 => 17,
+        28 => 18,
+        29 => 19,
+        30 => 20,
+        31 => 21,
+        32 => 22,
+        33 => 23,
+        34 => 30,
+        35 => 31,
+        36 => 32,
+        37 => 33,
+        38 => 34,
+        39 => 35,
+        40 => 36,
+        41 => 40,
+        42 => 41,
+        43 => 42,
+        44 => 51,
+        45 => 56,
         _ => unreachable!(),
     }
 }
 
 /// Writes the name at a place.
 fn write_name<W: Write>(line: &mut W, place: usize) -> io::Result<()>
-    requires { place < 44 }
+    requires { place < 46 }
     ensures { OnOk result (Appends (W.contents line.old) (W.contents line.new) (get_or names place [])) }
 {
     if place < FIRST_NUMBER {
@@ -93,7 +95,7 @@ fn write_name<W: Write>(line: &mut W, place: usize) -> io::Result<()>
 
 /// Writes the name at a place with its number, and a space before it.
 fn write_word<W: Write>(line: &mut W, place: usize, number: u64) -> io::Result<()>
-    requires { place < 44 }
+    requires { place < 46 }
     ensures { OnOk result (Appends (W.contents line.old) (W.contents line.new) (word (get_or names place []) number)) }
 {
     write!(line, " ")?;

@@ -241,10 +241,12 @@ pub fn serve_on<
         settings,
         keeper,
     } = task;
-    let SetUp { store, passes } = match SetUp::new(host.alloc, settings, host.requests) {
+    let set_up = match SetUp::new(host.alloc, settings, host.requests) {
         Ok(set_up) => set_up,
         Err(error) => return Fault::Front(error).tell(err),
     };
+    set_up.count(host.counts);
+    let SetUp { store, passes } = set_up;
     let Ok(clients) = clients_of(host.alloc, listener, host.counts, settings) else {
         return Fault::Front(FrontError::Memory).tell(err);
     };
