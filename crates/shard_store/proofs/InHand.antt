@@ -14,13 +14,13 @@ use Rattle.map_core.proofs.MapLaws.{ask_keeps}
 use Rattle.shard_store.specs.declared.change.Change.{Change}
 use Rattle.shard_store.specs.declared.change.Seen.{Seen}
 use Rattle.shard_store.specs.declared.change.View.{View}
-use Rattle.shard_store.specs.declared.tally.Turn.{Turn}
+use Rattle.shard_store.specs.declared.tally.Shift.{Shift}
 use Rattle.shard_store.specs.Changes.{after}
 use Rattle.shard_store.specs.Numbers.{IsPart}
 use Rattle.shard_store.specs.Rule.{SlotValue}
 use Rattle.shard_store.specs.Private.Seat.{HasInHand, Writes, AsksAlone, AsksInHand, change_by}
 use Rattle.shard_store.specs.Promise.{IsReply}
-use Rattle.shard_store.proofs.Turns.{turned}
+use Rattle.shard_store.proofs.Shifts.{shifted}
 use Rattle.shard_store.proofs.Promise.{bare, reply_of_part, part_after, later_self, answered_by_write}
 
 -- the slot in hand holds this version now
@@ -38,19 +38,19 @@ module _ {Z : Type 0} (n i : ℕ) (m : Me (SlotValue Z) View) (hand : HasInHand 
       same : hand.0 ≡ version
       same = let e : Some hand.0 ≡ Some version = ap (λ (l : List (ℕ × SlotValue Z)). (get_or l 0 (i, slot)).1) (sym hand.1 ∙ there) ∙ is in cc
 
-  pub asked_in_hand : (op : Op) (old new : Arc PlainMap Z) (answer : Result (Option (Reply × Turn)) AllocError) → shard_of n op ≡ Some i → IsPart n i m.0.seen.log (arc_value old) → AsksAlone op (arc_value old) answer (arc_value new)
+  pub asked_in_hand : (op : Op) (old new : Arc PlainMap Z) (answer : Result (Option (Reply × Shift)) AllocError) → shard_of n op ≡ Some i → IsPart n i m.0.seen.log (arc_value old) → AsksAlone op (arc_value old) answer (arc_value new)
       → AsksInHand n i op m.0.seen answer (left_with new)
   asked_in_hand op old new (Ok (Some found)) at p a = let s : Seen = m.0.seen in (
     a.0 ∙ reply_of_part n i op s.log (arc_value old) at p,
     (λ (_ : is_change found.0 ≡ true). still_in_hand (s.log ++ change_by op s ∷ []) new (part_after n i op s (arc_value old) (arc_value new) at p a.1)),
     (λ (quiet : is_change found.0 ≡ false). still_in_hand s.log new (a.1 ∙ (ask_keeps (arc_value old) op (ap is_change (sym a.0) ∙ quiet) ∙ p))),
-    turned n i op s (arc_value old) (arc_value new) found.0 found.1 at p a.0 a.1 a.2 a.3,
+    shifted n i op s (arc_value old) (arc_value new) found.0 found.1 at p a.0 a.1 a.2 a.3,
   )
   asked_in_hand op old new (Ok None) at p a = still_in_hand m.0.seen.log new (a ∙ p)
   asked_in_hand op old new (Err _) at p a = still_in_hand m.0.seen.log new (a ∙ p)
 
 -- so it is if memory was refused before it was asked
-pub refused_in_hand : {Z : Type 0} (n i : ℕ) (op : Op) (s : Seen) (answer : Result (Option (Reply × Turn)) AllocError) (e : AllocError) (m : Me (SlotValue Z) View) → IsErrAnd answer (λ x. x ≡ e) → AsksInHand n i op s (Err e) m → AsksInHand n i op s answer m
+pub refused_in_hand : {Z : Type 0} (n i : ℕ) (op : Op) (s : Seen) (answer : Result (Option (Reply × Shift)) AllocError) (e : AllocError) (m : Me (SlotValue Z) View) → IsErrAnd answer (λ x. x ≡ e) → AsksInHand n i op s (Err e) m → AsksInHand n i op s answer m
 refused_in_hand n i op s (Ok found) e m is a = absurd is
 refused_in_hand n i op s (Err x) e m is a = a
 

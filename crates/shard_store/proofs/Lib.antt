@@ -4,7 +4,7 @@ pub mod KeptSteps
 pub mod KeptSeats
 pub mod KeptEnds
 pub mod Promise
-pub mod Turns
+pub mod Shifts
 pub mod InHand
 pub mod Asked
 pub mod Readings

@@ -6,7 +6,7 @@ use crate::holds::Hold;
 use crate::one_shard::LAST_REVISION;
 use crate::rule::StoreSeat;
 use crate::store::Store;
-use crate::tally::Turn;
+use crate::tally::Shift;
 use map_core::{Op, Reply};
 use std::alloc::AllocError;
 use std::sync::Arc;
@@ -19,7 +19,7 @@ impl Store {
         seat: &mut StoreSeat,
         hold: Hold,
         op: &Op,
-    ) -> Result<Option<(Reply, Turn)>, AllocError>
+    ) -> Result<Option<(Reply, Shift)>, AllocError>
         requires held { Holds self.now.id hold seat.old }
         requires home { IsAtHome self.now.id op.now hold.shard }
         ensures seat { (seat.new.table_id ≡ self.now.id) × (seat.new.me.0 ≡ seat.old.me.0) }
@@ -40,7 +40,7 @@ impl Store {
         match contents.ask(copy) {
             Ok(reply) => {
                 let after = contents.standing(op);
-                Ok(Some((reply, Turn { before, after })))
+                Ok(Some((reply, Shift { before, after })))
             }
             Err(_) => Err(AllocError),
         }

@@ -12,7 +12,7 @@ use crate::holds::Hold;
 use crate::last_reads::LastRead;
 use crate::rule::StoreSeat;
 use crate::store::Store;
-use crate::tally::{Tally, Turn};
+use crate::tally::{Shift, Tally};
 use map_core::{AskError, Contents, Op, Reply};
 use std::marker::Brand;
 use std::sync::Arc;
@@ -21,10 +21,10 @@ use std::thread;
 /// A shard takes no more changes than this.
 pub(crate) const LAST_REVISION: u64 = 1 << 62;
 
-/// What one try gave: a reply, with what was read for it if nothing was written, and what was turned under the name; or the word
-/// that was found in place of the one expected.
+/// What one try gave: a reply, with what was read for it if nothing was written, and what it found and left under the name; or the
+/// word that was found in place of the one expected.
 pub(crate) enum Attempt {
-    Replied(Reply, Option<LastRead>, Turn),
+    Replied(Reply, Option<LastRead>, Shift),
     Blocked(u64),
 }
 
@@ -77,9 +77,9 @@ impl Store {
         let mut failed = 0;
         for _ in 0..self.tries {
             match self.try_once(&mut desk.seat, shard, op)? {
-                Attempt::Replied(reply, read, turn) => {
+                Attempt::Replied(reply, read, shift) => {
                     desk.last_reads.keep(shard, read);
-                    *tally = tally.counted(turn);
+                    *tally = tally.counted(shift);
                     return Ok(reply);
                 }
                 Attempt::Blocked(found) => word = found,
@@ -106,13 +106,13 @@ impl Store {
         let hold = Hold { shard, word };
         match self.ask_in_hand(seat, hold, op) {
             Ok(None) => self.try_held(seat, hold, op),
-            Ok(Some((reply, turn))) => {
+            Ok(Some((reply, shift))) => {
                 if reply.is_change() {
                     self.let_go_changed::<Brand>(seat, hold, op);
-                    return Ok(Attempt::Replied(reply, None, turn));
+                    return Ok(Attempt::Replied(reply, None, shift));
                 }
                 self.release(seat, hold);
-                Ok(Attempt::Replied(reply, None, turn))
+                Ok(Attempt::Replied(reply, None, shift))
             }
             Err(_) => {
                 self.release(seat, hold);
@@ -136,11 +136,11 @@ impl Store {
         let before = version.standing(op);
         let Some(next) = next else {
             let read = LastRead { revision, version };
-            let turn = Turn {
+            let shift = Shift {
                 before,
                 after: before,
             };
-            return Ok(Attempt::Replied(reply, Some(read), turn));
+            return Ok(Attempt::Replied(reply, Some(read), shift));
         };
         let after = next.standing(op);
         drop(version);
@@ -153,7 +153,7 @@ impl Store {
             return Err(AskError::Memory);
         };
         match self.store_version(seat, hold, next, op) {
-            Ok(()) => Ok(Attempt::Replied(reply, None, Turn { before, after })),
+            Ok(()) => Ok(Attempt::Replied(reply, None, Shift { before, after })),
             Err(found) => {
                 drop(reply);
                 Ok(Attempt::Blocked(found))

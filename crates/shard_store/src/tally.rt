@@ -6,7 +6,7 @@ use map_core::Standing;
 
 /// What stood under the name of a change before it, and what stands there by it.
 #[derive(Clone, Copy)]
-pub(crate) struct Turn {
+pub(crate) struct Shift {
     pub before: Standing,
     pub after: Standing,
 }
@@ -67,10 +67,10 @@ impl Tally {
     }
 
     /// The tally after one change more.
-    pub(crate) fn counted(self, turn: Turn) -> Tally
-        ensures { result ≡ tallied turn.before turn.after self }
+    pub(crate) fn counted(self, shift: Shift) -> Tally
+        ensures { result ≡ tallied shift.before shift.after self }
     {
-        let Turn { before, after } = turn;
+        let Shift { before, after } = shift;
         Tally {
             bundles: self.bundles.moved(bundle_in(before), bundle_in(after)),
             marks: self.marks.moved(mark_in(before), mark_in(after)),

@@ -20,7 +20,7 @@ use Rattle.shard_store.specs.declared.holds.Hold.{Hold}
 use Rattle.shard_store.specs.declared.last_reads.LastRead.{LastRead}
 use Rattle.shard_store.specs.declared.one_shard.Attempt.{Attempt}
 use Rattle.shard_store.specs.declared.one_shard.Attempt.TheVariants.{Replied, Blocked}
-use Rattle.shard_store.specs.declared.tally.Turn.{Turn}
+use Rattle.shard_store.specs.declared.tally.Shift.{Shift}
 use Rattle.shard_store.specs.Changes.{after, change_of, count, Extends, own_count, own_number}
 use Rattle.shard_store.specs.Numbers.{IsPart}
 use Rattle.shard_store.specs.Promise.{IsLater, IsAlone, IsReply, IsRefusedAt}
@@ -83,33 +83,33 @@ IsReplyRead n shard op s reply read t = IsReply op s reply t × IsLastRead n sha
 abbrev pub ShardAnswer : ℕ → Op → Seen → Result Reply AskError → Seen → Type 0
 ShardAnswer n op s answer t = MatchResult answer (λ reply. IsReply op s reply t) (IsRefusedAt n op s t)
 
--- The operation's change of what was seen is one from what stands under its name to what it leaves there; no change turns anything.
-abbrev pub Turns : Op → Seen → Reply → Turn → Type 0
-Turns op s reply turn = (is_change reply ≡ true → (turn.before ≡ standing (finite.get (after s.log) (name_of op))) × (turn.after ≡ standing (change_by op s).now))
-    × (is_change reply ≡ false → turn.before ≡ turn.after)
+-- The shift of the operation's change of what was seen: from what stands under its name to what it leaves there. Without a change both are the same.
+abbrev pub Shifts : Op → Seen → Reply → Shift → Type 0
+Shifts op s reply shift = (is_change reply ≡ true → (shift.before ≡ standing (finite.get (after s.log) (name_of op))) × (shift.after ≡ standing (change_by op s).now))
+    × (is_change reply ≡ false → shift.before ≡ shift.after)
 
--- and so the last change of the log is, if the reply tells of one
-abbrev pub TurnsLast : List Change → Reply → Turn → Type 0
-TurnsLast log reply turn = (is_change reply ≡ true → (list : List Change) × (change : Change) × (log ≡ list ++ change ∷ [])
-    × (turn.before ≡ standing (finite.get (after list) change.name)) × (turn.after ≡ standing change.now))
-    × (is_change reply ≡ false → turn.before ≡ turn.after)
+-- the same of the last change of the log, if the reply tells of one
+abbrev pub ShiftsLast : List Change → Reply → Shift → Type 0
+ShiftsLast log reply shift = (is_change reply ≡ true → (list : List Change) × (change : Change) × (log ≡ list ++ change ∷ [])
+    × (shift.before ≡ standing (finite.get (after list) change.name)) × (shift.after ≡ standing change.now))
+    × (is_change reply ≡ false → shift.before ≡ shift.after)
 
 -- what one try of an operation gave
 abbrev pub Tried : ℕ → ℕ → Op → Seen → Seen → Attempt → Type 0
-Tried n shard op s t (Replied reply read turn) = IsReplyRead n shard op s reply read t × TurnsLast t.log reply turn
+Tried n shard op s t (Replied reply read shift) = IsReplyRead n shard op s reply read t × ShiftsLast t.log reply shift
 Tried n shard op s t (Blocked found) = IsLater t s × Missed n shard s found t
 
 -- What a version says of the operation, and what it is then. Nothing is said if others own it, or if memory was refused.
-abbrev pub AsksAlone : Op → PlainMap → Result (Option (Reply × Turn)) AllocError → PlainMap → Type 0
+abbrev pub AsksAlone : Op → PlainMap → Result (Option (Reply × Shift)) AllocError → PlainMap → Type 0
 AsksAlone op old (Ok (Some found)) new = (found.0 ≡ (ask old op).reply) × (new ≡ (ask old op).map) × (found.1.before ≡ standing_for old op) × (found.1.after ≡ standing_for new op)
 AsksAlone op old (Ok None) new = new ≡ old
 AsksAlone op old (Err e) new = new ≡ old
 
 module _ {Z : Type 0} where
   -- What the version in hand says of the operation, and what is in hand then
-  abbrev pub AsksInHand : ℕ → ℕ → Op → Seen → Result (Option (Reply × Turn)) AllocError → Me (SlotValue Z) View → Type 0
+  abbrev pub AsksInHand : ℕ → ℕ → Op → Seen → Result (Option (Reply × Shift)) AllocError → Me (SlotValue Z) View → Type 0
   AsksInHand n shard op s (Ok (Some found)) m = (found.0 ≡ (ask (after s.log) op).reply)
       × (is_change found.0 ≡ true → HasInHand n shard (s.log ++ change_by op s ∷ []) m) × (is_change found.0 ≡ false → HasInHand n shard s.log m)
-      × Turns op s found.0 found.1
+      × Shifts op s found.0 found.1
   AsksInHand n shard op s (Ok None) m = HasInHand n shard s.log m
   AsksInHand n shard op s (Err e) m = HasInHand n shard s.log m

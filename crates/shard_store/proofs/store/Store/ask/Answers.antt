@@ -2,7 +2,7 @@ use Rattle.std.proofs.Common.{◌≡◌, rules, sym, ap, ◌∙◌, subst}
 use Rattle.map_core.specs.PlainMap.{shard_of}
 use Rattle.shard_store.specs.declared.tally.Tally.{Tally}
 use Rattle.shard_store.specs.Tally.{CountsAnswer}
-use Rattle.shard_store.proofs.Turns.{all_counts_nothing}
+use Rattle.shard_store.proofs.Shifts.{all_counts_nothing}
 use Rattle.shard_store.proofs.Asked.{shard_answers, all_answers}
 use Rattle.shard_store.proofs.AtTable.{ready_at, all_at_table, answer_keeps}
 use Rattle.shard_store.proofs.store.Store.ask.Goals as goal

@@ -11,7 +11,7 @@ use Rattle.shard_store.specs.Private.Desk.{IsReady}
 use Rattle.shard_store.specs.Private.Seat.{Tried}
 use Rattle.shard_store.proofs.Promise.{answered_by_read, answered_since, at_home, error_passed, later_self, later_then, missed_then, refused_since}
 use Rattle.shard_store.specs.Tally.{tallied}
-use Rattle.shard_store.proofs.Turns.{counts_error, counts_nothing, counts_turn}
+use Rattle.shard_store.proofs.Shifts.{counts_error, counts_nothing, counts_shift}
 use Rattle.shard_store.proofs.LastReads.{none_here, reads_answered, reads_later, reads_refused}
 use Rattle.shard_store.proofs.store.Store.ask_name.Goals.{in-Get+in_default-recall+in_ok-make_room, in_default}
 use Rattle.shard_store.proofs.store.Store.ask_name.Goals as goal
@@ -73,9 +73,9 @@ returns-in-Replied-clause-answer c = let t = c.loop.desk.seat.me.0.seen in let u
     answered_since c.args.op.now c.args.desk.now.seat.me.0.seen t u c.in-Replied.reply c.loop.invariant.later tried.0.0
 
 pub returns-in-Replied-clause-counted : goal.returns-in-Replied-clause-counted
-returns-in-Replied-clause-counted c = let t = c.loop.desk.seat.me.0.seen in let u = c.try_once.new.seat.me.0.seen in let turn = c.in-Replied.turn in
+returns-in-Replied-clause-counted c = let t = c.loop.desk.seat.me.0.seen in let u = c.try_once.new.seat.me.0.seen in let shift = c.in-Replied.shift in
     let tried = subst (λ (a : Attempt). Tried c.args.self.now.id.slots c.args.shard c.args.op.now t u a) c.in-Replied.is c.in_ok-reply.ensures.tried in
-    counts_turn u.log c.in-Replied.reply turn _ _ tried.1 (c.counted.ensures ∙ ap (tallied turn.before turn.after) c.loop.invariant.tally)
+    counts_shift u.log c.in-Replied.reply shift _ _ tried.1 (c.counted.ensures ∙ ap (tallied shift.before shift.after) c.loop.invariant.tally)
 
 pub loop-preserved : goal.loop-preserved
 loop-preserved c = let s = c.args.desk.now.seat.me.0.seen in let t = c.loop.desk.seat.me.0.seen in let u = c.try_once.new.seat.me.0.seen in let i = c.loop.invariant in

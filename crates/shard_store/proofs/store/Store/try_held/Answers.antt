@@ -6,7 +6,7 @@ use Rattle.shard_store.specs.Changes.{count}
 use Rattle.shard_store.specs.Numbers.{IsPart}
 use Rattle.shard_store.specs.Promise.{IsLater}
 use Rattle.shard_store.proofs.Promise.{later_then, seen_as, missed_then, answered_by_write, answered_by_read, changes_of_part, part_after}
-use Rattle.shard_store.proofs.Turns.{turned, turned_last, turned_nothing}
+use Rattle.shard_store.proofs.Shifts.{shifted, shifted_last, shifted_nothing}
 use Rattle.shard_store.proofs.LastReads.{halved, none_case, none_here, read_here, some_case}
 use Rattle.shard_store.proofs.store.Store.try_held.Goals as goal
 
@@ -26,7 +26,7 @@ returns-in_default-clause-tried c = let s = c.args.seat.now.me.0.seen in let u =
             (step.reply ∙ ap (λ (m : PlainMap). (ask m c.args.op.now).reply) c.deref.ensures) (none_case _ _ _ c.in_default.is step.left),
         read_here n i u.log (record { revision = c.args.hold.word / 2; version = c.in_ok-version.version }) counted shown,
       ),
-      turned_nothing u.log c.in_ok-reply.reply _ (none_case _ _ _ c.in_default.is step.left) refl,
+      shifted_nothing u.log c.in_ok-reply.reply _ (none_case _ _ _ c.in_default.is step.left) refl,
     )
 
 pub store_version-requires-clause-version : goal.store_version-requires-clause-version
@@ -45,8 +45,8 @@ returns-in-Ok-store_version-clause-tried c = let s = c.args.seat.now.me.0.seen i
         answered_by_write n i c.args.op.now s u x old c.in_ok-reply.reply c.requires.home.1 (seen_as s u same) shown is left.0 written,
         none_here n i x.log,
       ),
-      turned_last n i c.args.op.now u x c.in_ok-reply.reply _ c.requires.home.1 left.0
-          (turned n i c.args.op.now u old c.in-Some.next c.in_ok-reply.reply (record { before = c.standing-before.result; after = c.standing-after.result }) c.requires.home.1 shown is
+      shifted_last n i c.args.op.now u x c.in_ok-reply.reply _ c.requires.home.1 left.0
+          (shifted n i c.args.op.now u old c.in-Some.next c.in_ok-reply.reply (record { before = c.standing-before.result; after = c.standing-after.result }) c.requires.home.1 shown is
           (left.1 ∙ ap (λ (m : PlainMap). (ask m c.args.op.now).map) c.deref.ensures)
           (c.standing-before.ensures ∙ ap (λ (m : PlainMap). standing_for m c.args.op.now) c.deref-2.ensures) c.standing-after.ensures)
           written,

@@ -1,4 +1,4 @@
--- What a change turns under its name, and how it is counted.
+-- What stands under a name before a change and after it, and how that is counted.
 use Rattle.std.proofs.Common.{◌≡◌, ℕ, true, false, true≢false, cond, List, [], ◌∷◌, ◌++◌, Option, Some, None, sym, refl, ap, ◌∙◌}
 use Rattle.std.specs.Prelude.{MatchResult, Result, Ok, Err, option_map, option_and_then}
 use Rattle.std.specs.Result.{IsErrAnd}
@@ -20,13 +20,13 @@ use Rattle.map_core.proofs.MapLaws.{ask_keeps, fetch_reply}
 use Rattle.shard_store.specs.declared.change.Change.{Change}
 use Rattle.shard_store.specs.declared.change.Seen.{Seen}
 use Rattle.shard_store.specs.declared.tally.Tally.{Tally}
-use Rattle.shard_store.specs.declared.tally.Turn.{Turn}
+use Rattle.shard_store.specs.declared.tally.Shift.{Shift}
 use Rattle.shard_store.specs.Changes.{after}
 use Rattle.shard_store.specs.Numbers.{IsPart}
 use Rattle.shard_store.specs.Pass.{StoreView}
 use Rattle.shard_store.specs.Promise.{IsReply, IsRefused}
 use Rattle.shard_store.specs.Tally.{tallied, CountsAnswer}
-use Rattle.shard_store.specs.Private.Seat.{Turns, TurnsLast, Writes, change_by}
+use Rattle.shard_store.specs.Private.Seat.{Shifts, ShiftsLast, Writes, change_by}
 use Rattle.shard_store.proofs.Changes.{after_one, home_named, not_some}
 use Rattle.shard_store.proofs.Promise.{part_after, part_since}
 
@@ -48,9 +48,9 @@ left_by_change log c = ap (λ (m : PlainMap). finite.get m c.name) (after_one lo
     ∙ (get-put (after log) c.name c.now c.name ∙ ap (λ b. cond b c.now (finite.get (after log) c.name)) (name_itself c.name))
 
 -- what the version says of the operation's change, the map says
-pub turned : (n i : ℕ) (op : Op) (s : Seen) (old new : PlainMap) (reply : Reply) (turn : Turn) → shard_of n op ≡ Some i → IsPart n i s.log old → reply ≡ (ask old op).reply → new ≡ (ask old op).map
-    → turn.before ≡ standing_for old op → turn.after ≡ standing_for new op → Turns op s reply turn
-turned n i op s old new reply turn at p is left before by = (
+pub shifted : (n i : ℕ) (op : Op) (s : Seen) (old new : PlainMap) (reply : Reply) (shift : Shift) → shard_of n op ≡ Some i → IsPart n i s.log old → reply ≡ (ask old op).reply → new ≡ (ask old op).map
+    → shift.before ≡ standing_for old op → shift.after ≡ standing_for new op → Shifts op s reply shift
+shifted n i op s old new reply shift at p is left before by = (
   (λ _. (
     before ∙ standing_of_part n i op s.log old at p,
     by ∙ (standing_of_part n i op (s.log ++ change_by op s ∷ []) new at (part_after n i op s old new at p left) ∙ ap standing (left_by_change s.log (change_by op s))),
@@ -64,30 +64,30 @@ stands_since n i op s t at w = let here = home_named n i op at in sym (get-part_
     ∙ (ap (λ (m : PlainMap). finite.get m (name_of op)) (part_since n i s w.0 (partition n (after s.log) i) w.1 w.2 refl) ∙ get-part_home n (after w.0) i (name_of op) here)
 
 -- the change that was written last
-pub turned_last : (n i : ℕ) (op : Op) (s t : Seen) (reply : Reply) (turn : Turn) → shard_of n op ≡ Some i → is_change reply ≡ true → Turns op s reply turn → Writes n i op s t → TurnsLast t.log reply turn
-turned_last n i op s t reply turn at write told w = (
-  (λ _. let turns = told.0 write in (w.0, change_by op s, w.3, turns.0 ∙ ap standing (stands_since n i op s t at w), turns.1)),
+pub shifted_last : (n i : ℕ) (op : Op) (s t : Seen) (reply : Reply) (shift : Shift) → shard_of n op ≡ Some i → is_change reply ≡ true → Shifts op s reply shift → Writes n i op s t → ShiftsLast t.log reply shift
+shifted_last n i op s t reply shift at write told w = (
+  (λ _. let shifts = told.0 write in (w.0, change_by op s, w.3, shifts.0 ∙ ap standing (stands_since n i op s t at w), shifts.1)),
   λ quiet. absurd (true≢false (sym write ∙ quiet)),
 )
 
 -- no change
-pub turned_nothing : (log : List Change) (reply : Reply) (turn : Turn) → is_change reply ≡ false → turn.before ≡ turn.after → TurnsLast log reply turn
-turned_nothing log reply turn quiet same = ((λ write. absurd (true≢false (sym write ∙ quiet))), λ _. same)
+pub shifted_nothing : (log : List Change) (reply : Reply) (shift : Shift) → is_change reply ≡ false → shift.before ≡ shift.after → ShiftsLast log reply shift
+shifted_nothing log reply shift quiet same = ((λ write. absurd (true≢false (sym write ∙ quiet))), λ _. same)
 
 tallied_same : (s : Standing) (t : Tally) → tallied s s t ≡ t
 tallied_same Nothing t = refl
 tallied_same Bundle t = refl
 tallied_same Mark t = refl
 
-pub counts_turn : (log : List Change) (reply : Reply) (turn : Turn) (old new : Tally) → TurnsLast log reply turn → new ≡ tallied turn.before turn.after old → CountsAnswer (Ok reply) log old new
-counts_turn log reply turn old new told is = (
+pub counts_shift : (log : List Change) (reply : Reply) (shift : Shift) (old new : Tally) → ShiftsLast log reply shift → new ≡ tallied shift.before shift.after old → CountsAnswer (Ok reply) log old new
+counts_shift log reply shift old new told is = (
   (λ write. let t = told.0 write in (
     t.0,
     t.1,
     t.2,
-    is ∙ (ap (λ (b : Standing). tallied b turn.after old) t.3 ∙ ap (λ (a : Standing). tallied (standing (finite.get (after t.0) t.1.name)) a old) t.4),
+    is ∙ (ap (λ (b : Standing). tallied b shift.after old) t.3 ∙ ap (λ (a : Standing). tallied (standing (finite.get (after t.0) t.1.name)) a old) t.4),
   )),
-  λ quiet. is ∙ (ap (λ (b : Standing). tallied b turn.after old) (told.1 quiet) ∙ tallied_same turn.after old),
+  λ quiet. is ∙ (ap (λ (b : Standing). tallied b shift.after old) (told.1 quiet) ∙ tallied_same shift.after old),
 )
 
 -- so it is after an error
