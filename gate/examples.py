@@ -4,8 +4,8 @@
 usage: gate/examples.py   (over the program that rt ci or rt run has built in crates/bundled/out/)
 
 An example is a block of lines, four spaces in, with a command after each '$' and below it what it prints. The commands of a
-block are run by one shell, at the top of the repository, after the aliases of the blocks before it, those of the README for
-the other pages too. What they print comes in one order, at each run: two commands that run beside each other don't both print,
+block are run by one shell, at the top of the repository, after what the blocks before it say of where the program is, that of
+the README for the other pages too. What they print comes in one order, at each run: two commands that run beside each other don't both print,
 and one in the background is waited for.
 """
 import functools
@@ -39,15 +39,15 @@ def examples(page):
         yield text.count("\n", 0, block.start()) + 1, commands, [it for it in lines if not it.startswith("$ ")]
 
 
-def printed(commands):
-    """What the commands print, with what those in the background print until they end."""
-    script = ["shopt -s expand_aliases"]
+def printed(commands, at=ROOT):
+    """What the commands print in a folder, with what those in the background print until they end."""
+    script = []
     for command in commands:
         script += [command, UNTIL_READY] if command.endswith("&") else [command]
     room = Room()
     words = ["bash", room.write("script", "\n".join([*script, UNTIL_ENDED, ""]).encode())]
     with open(f"{room.path}/output", "wb") as output:
-        how = {"cwd": ROOT, "env": {**os.environ, "OUTPUT": output.name, "TMPDIR": room.path}, "stdin": subprocess.DEVNULL}
+        how = {"cwd": at, "env": {**os.environ, "OUTPUT": output.name, "TMPDIR": room.path}, "stdin": subprocess.DEVNULL}
         with subprocess.Popen(words, **how, stdout=output, stderr=subprocess.STDOUT, start_new_session=True) as running:
             try:
                 running.wait(SECONDS)
@@ -69,21 +69,21 @@ def alike(commands, lines):
     return lines
 
 
-def prints(commands, wanted):
-    """The commands print these lines."""
+def prints(commands, wanted, at=ROOT):
+    """The commands print these lines in a folder."""
     port = str(unused_port())
-    found = printed([it.replace(PORT, port) for it in commands])
+    found = printed([it.replace(PORT, port) for it in commands], at)
     wanted = [it.replace(PORT, port) for it in wanted]
     assert alike(commands, found) == alike(commands, wanted), "\n".join(["it prints something else:", *found])
 
 
-def checks():
-    """A check for each example, by its page and line."""
-    aliases, found = [], {}
+def checks(at=ROOT):
+    """A check for each example, by its page and line, in the repository or in a release that is unpacked in another folder."""
+    places, found = [], {}
     for page in PAGES:
         for line, commands, wanted in examples(page):
-            found[f"{page}:{line}"] = functools.partial(prints, [*aliases, *commands], wanted)
-            aliases += [it for it in commands if it.startswith("alias ")]
+            found[f"{page}:{line}"] = functools.partial(prints, [*places, *commands], wanted, at)
+            places += [it for it in commands if it.startswith("PATH=")]
     return found
 
 
