@@ -7,6 +7,7 @@ Each is made in a copy of the repository, whose files as they stand are one comm
 tried too, and nothing is left here.
 """
 import functools
+import glob
 import hashlib
 import os
 import re
@@ -17,7 +18,8 @@ import tarfile
 
 sys.dont_write_bytecode = True
 
-from checks import ROOT, SECONDS, Room, bytes_of, program, run_checks, version  # noqa: E402
+import examples  # noqa: E402
+from checks import ROOT, SECONDS, Room, bytes_of, part, program, run_checks, version  # noqa: E402
 from manual import man_of  # noqa: E402
 
 # What ./release reads of the crates, and of the client in Python.
@@ -106,8 +108,8 @@ class Unpacked(Room):
         self.folder = f"{self.path}/{tarball()[: -len('.tar.gz')]}"
         self.prefix = f"{self.path}/prefix"
 
-    def install(self, prefix=None, status=0, **env):
-        return said_by([f"{self.folder}/install", prefix or self.prefix], status, env={**os.environ, **env})
+    def install(self, prefix=None, status=0, options=(), **env):
+        return said_by([f"{self.folder}/install", *options, prefix or self.prefix], status, env={**os.environ, **env})
 
     def names(self, top):
         """The files below a folder."""
@@ -135,12 +137,34 @@ def the_tarball_has_what_is_wanted():
     assert {it.mode for it in members} == {0o644, 0o755}
     assert [it.name for it in members] == sorted((it.name for it in members), key=lambda it: it.split("/"))
     names = room.names(room.folder)
-    assert {"KIT", "LICENSE", "install", "clients/go/go.mod", "clients/python/pyproject.toml", "examples/systemd/hopslintel.sysusers",
+    assert {"KIT", "LICENSE", "install", "README.md", "SECURITY.md", "CONTRIBUTING.md", "gate/bundles/spire-default.json", "examples/race.events", "clients/go/go.mod", "clients/python/pyproject.toml", "examples/systemd/hopslintel.sysusers",
             "examples/etcd/publish", "docs/USING.md", "share/man/man1/bundled.1"} <= names, names
     assert not any(it.endswith(".pyc") for it in names)
     kit, commit = bytes_of(f"{room.folder}/KIT").decode().splitlines()
     assert kit == said_by(["rt", "version"]).strip() and commit.split()[1].startswith(tarball().split("+")[1].split("-")[0]), (kit, commit)
     assert bytes_of(f"{room.folder}/bin/bundled") == bytes_of(program())
+
+
+def links_lead_somewhere():
+    """Those of all pages, in the tarball and where they are installed."""
+    room = Unpacked()
+    room.install()
+    for top, pages in ((room.folder, "*.md docs/*.md clients/*/*.md"), (f"{room.prefix}/share/doc/hopslintel", "*.md docs/*.md")):
+        found = [page for pattern in pages.split() for page in glob.glob(f"{top}/{pattern}")]
+        links = [(page, it) for page in found for it in re.findall(r"\]\(([^)#\s]+)", bytes_of(page).decode()) if "://" not in it]
+        assert len(links) > 100, links
+        dead = [it for it in links if not os.path.exists(f"{os.path.dirname(it[0])}/{it[1]}")]
+        assert not dead, dead
+
+
+def examples_run_from_the_tarball():
+    """Those of the README and of the pages that continue it, at the top of a release that is unpacked."""
+    room = Unpacked()
+    found = examples.checks(room.folder)
+    assert len(found) >= 7, found
+    for name, check in found.items():
+        with part(example=name):
+            check()
 
 
 def it_is_installed():
@@ -157,8 +181,27 @@ def it_is_installed():
     named = [it for it in names if not it.startswith("share/doc/") and b"/opt/hopslintel" in bytes_of(f"{room.prefix}/{it}")]
     assert named == [], named
     assert os.access(f"{room.prefix}/share/hopslintel/etcd/publish", os.X_OK)
+    said = said_by([sys.executable, "-B", f"{room.prefix}/share/hopslintel/clients/python/hopslintel", "--help"])
+    assert said.startswith("usage: "), said
     room.install()
     assert room.names(room.prefix) == names
+
+
+def it_is_removed():
+    """All of it, and nothing else; and of a release that had more, what this one has not."""
+    room = Unpacked()
+    listed = f"{room.prefix}/share/hopslintel/installed"
+    assert "nothing was installed below this PREFIX" in room.install(status=1, options=["--uninstall"])
+    room.install()
+    room.write("prefix/share/hopslintel/cron/of-others", b"")
+    room.write("prefix/share/hopslintel/cron/of-before", b"")
+    with open(listed, "a", encoding="utf-8") as it:
+        it.write("share/hopslintel/cron/of-before\n")
+    room.install()
+    assert not os.path.exists(f"{room.prefix}/share/hopslintel/cron/of-before")
+    room.install(options=["--uninstall"])
+    assert room.names(room.prefix) == {"share/hopslintel/cron/of-others"}
+    assert not os.path.lexists(f"{room.prefix}/share/doc/hopslintel")
 
 
 def it_is_installed_for_a_package():
@@ -211,17 +254,64 @@ def bash_completes_the_installed_program():
 
 
 def the_package_has_what_is_wanted():
-    """All that `install` puts below /usr, of root; and a version that Debian sorts before the release of that number."""
+    """All that `install` puts below /usr, of root, as Debian wants it; and a version that Debian sorts before the release of that
+    number."""
     room = Unpacked()
     path = room.write(package(), made()[package()])
     lines = [it.split(None, 5) for it in said_by(["dpkg-deb", "--contents", path]).splitlines()]
     assert {it[1] for it in lines} == {"root/root"}
     room.install("/usr", DESTDIR=f"{room.path}/package")
-    assert {os.path.relpath(it[5]) for it in lines if it[0][0] == "-"} == room.names(f"{room.path}/package")
+    names = {re.sub(r"(/man1/.*)", r"\1.gz", it) for it in room.names(f"{room.path}/package")}
+    docs = "usr/share/doc/hopslintel"
+    names = names - {f"{docs}/LICENSE", "usr/share/hopslintel/installed"} | {f"{docs}/copyright", f"{docs}/changelog.gz"}
+    found = {os.path.relpath(it[5]) for it in lines if it[0][0] == "-"}
+    assert found == names, found ^ names
     fields = dict(it.split(": ", 1) for it in said_by(["dpkg-deb", "--field", path]).splitlines() if not it.startswith(" "))
     assert (fields["Package"], fields["Architecture"]) == ("hopslintel", "amd64") and fields["Depends"].startswith("libc6 (>= 2."), fields
     if version().endswith("-dev"):
         said_by(["dpkg", "--compare-versions", fields["Version"], "lt", version().replace("-dev", "")])
+
+
+def lintian_finds_no_error():
+    room = Room()
+    path = room.write(package(), made()[package()])
+    said = said_by(["lintian", "--allow-root", "--fail-on", "error", path], env={**os.environ, "TMPDIR": room.path, "LANG": "C.UTF-8"})
+    assert not re.search("^E: ", said, re.M), said
+
+
+def the_package_is_installed_and_purged():
+    """In a folder of its own: the users and groups that the units name are made, and with a purge all goes, the dumps too."""
+    room = Room()
+    path, top = room.write(package(), made()[package()]), f"{room.path}/system"
+    for name in ("var/lib/dpkg/info", "var/lib/dpkg/updates", "var/lib/private/hopslintel", "etc"):
+        os.makedirs(f"{top}/{name}")
+    room.write("system/var/lib/dpkg/status", b"")
+    room.write("system/var/lib/private/hopslintel/dump", b"")
+    dpkg = lambda *words: said_by(["dpkg", f"--root={top}", f"--log={room.path}/log", "--force-script-chrootless", "--force-depends", *words])
+    dpkg("--install", path)
+    named = names_in_units(f"{top}/usr/lib/systemd/system")
+    for kind, file in (("group", "group"), ("user", "passwd")):
+        lines = room.read(f"system/etc/{file}").decode().splitlines() if named[kind] else []
+        assert named[kind] <= {it.split(":")[0] for it in lines}, (named, lines)
+    assert "hopslintel-writers" in named["group"], named
+    assert said_by([f"{top}/usr/bin/bundled", "--version"]) == f"bundled {version()}\n"
+    dpkg("--verify", "hopslintel")
+    dpkg("--remove", "hopslintel")
+    assert not os.path.exists(f"{top}/usr/bin/bundled") and os.path.exists(f"{top}/var/lib/private/hopslintel/dump")
+    dpkg("--purge", "hopslintel")
+    assert not os.path.exists(f"{top}/var/lib/private/hopslintel") and not os.path.exists(f"{top}/usr/share/hopslintel")
+
+
+def names_in_units(folder):
+    """The users and groups that the units name and that systemd does not make by itself."""
+    named = {"user": set(), "group": set()}
+    for name in os.listdir(folder):
+        text = bytes_of(f"{folder}/{name}").decode()
+        for key, value in re.findall(r"^(\w*(?:User|Group|Groups))=(.+)$", text, re.M):
+            kind = "user" if key.endswith("User") and key != "DynamicUser" else "group"
+            if key in ("User", "Group", "SocketUser", "SocketGroup", "SupplementaryGroups") and not (key in ("User", "Group") and "\nDynamicUser=yes\n" in text):
+                named[kind].update(value.split())
+    return {kind: found - {"root"} for kind, found in named.items()}
 
 
 def no_release_is_made_of_what_is_not_one():
@@ -250,9 +340,13 @@ def no_release_is_made_of_what_is_not_one():
 
 
 OF_ALL = ["git", "rt"]
-CHECKS = {the_same_files_give_the_same_bytes: [], sums_are_those_of_the_files: [], the_tarball_has_what_is_wanted: [], it_is_installed: [],
+OF_PACKAGE = ["dpkg-deb", "strip"]
+CHECKS = {the_same_files_give_the_same_bytes: [], sums_are_those_of_the_files: [], the_tarball_has_what_is_wanted: [],
+          links_lead_somewhere: [], examples_run_from_the_tarball: ["bash", "xxd"], it_is_installed: [], it_is_removed: [],
           it_is_installed_for_a_package: [], install_refuses: [], man_shows_the_installed_page: ["man"],
-          bash_completes_the_installed_program: ["bash"], the_package_has_what_is_wanted: ["dpkg-deb"],
+          bash_completes_the_installed_program: ["bash"], the_package_has_what_is_wanted: OF_PACKAGE,
+          lintian_finds_no_error: [*OF_PACKAGE, "lintian"],
+          the_package_is_installed_and_purged: [*OF_PACKAGE, "systemd-sysusers", *([] if os.geteuid() == 0 else ["rights of root"])],
           no_release_is_made_of_what_is_not_one: []}
 
 
