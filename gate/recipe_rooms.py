@@ -7,6 +7,7 @@ import socket
 import subprocess
 import sys
 
+import checks
 from checks import AFTERWARDS, BUNDLES, ROOT, SECONDS, Room, bytes_of, canonical, frame, line_of, named, rest_of, unused_port
 from examples import PORT
 
@@ -62,6 +63,7 @@ class Shell(Room):
 
     def python(self, text, program=sys.executable):
         env = {**os.environ, "PYTHONPATH": f"{ROOT}/clients/python", "PYTHONDONTWRITEBYTECODE": "1"}
+        env["PATH"] = f"{os.path.dirname(checks.program())}:{os.environ['PATH']}"
         words = [program, "-c", text.replace(PORT, self.port)]
         ran = subprocess.run(words, cwd=ROOT, env=env, stdin=subprocess.DEVNULL, capture_output=True, timeout=SECONDS)
         assert (ran.returncode, ran.stderr) == (0, b""), (text, ran)
