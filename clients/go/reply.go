@@ -3,10 +3,10 @@
 package hopslintel
 
 import (
+	"bufio"
 	"crypto/sha256"
 	"encoding/binary"
 	"fmt"
-	"io"
 	"strings"
 )
 
@@ -59,12 +59,12 @@ var refusals = map[byte]struct {
 }
 
 // readReply reads the reply to a request. After an error the next frame can't be found.
-func readReply(stream io.Reader, request Request) (Reply, error) {
-	hash := sha256.New()
-	if letter := request.payload[0]; letter == 'F' || letter == 'U' {
-		stream = io.TeeReader(stream, hash)
+func readReply(stream *bufio.Reader, request Request) (Reply, error) {
+	frames := frames{stream: stream}
+	if request.isFetch() {
+		frames.hash = sha256.New()
 	}
-	payload, err := readFrame(stream)
+	payload, err := frames.next()
 	if err != nil {
 		return Reply{}, err
 	}
@@ -81,8 +81,8 @@ func readReply(stream io.Reader, request Request) (Reply, error) {
 		return Reply{}, malformed(payload)
 	}
 	if code == 'a' {
-		reply.Bundles, err = readBundles(stream, binary.BigEndian.Uint64(rest))
-		copy(reply.Digest[:], hash.Sum(nil))
+		reply.Bundles, err = readBundles(frames, binary.BigEndian.Uint64(rest))
+		copy(reply.Digest[:], frames.hash.Sum(nil))
 	}
 	return reply, err
 }
@@ -172,10 +172,10 @@ func parseExpectation(rest []byte) (Expectation, bool) {
 }
 
 // readBundles reads the rest of a reply to a fetch-all: a frame for each trust domain, in order of their names.
-func readBundles(stream io.Reader, count uint64) (Bundles, error) {
+func readBundles(frames frames, count uint64) (Bundles, error) {
 	bundles, last := Bundles{}, ""
 	for ; count > 0; count-- {
-		payload, err := readFrame(stream)
+		payload, err := frames.next()
 		if err != nil {
 			return nil, err
 		}

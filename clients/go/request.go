@@ -81,7 +81,12 @@ func (r Request) check() error {
 
 // isRead tells whether it changes nothing, so that it may be asked again if nobody knows what became of it.
 func (r Request) isRead() bool {
-	return r.payload[0] == 'G' || r.payload[0] == 'F' || r.payload[0] == 'U'
+	return r.payload[0] == 'G' || r.isFetch()
+}
+
+// isFetch tells whether its reply may have the bundles of all trust domains.
+func (r Request) isFetch() bool {
+	return r.payload[0] == 'F' || r.payload[0] == 'U'
 }
 
 func areReads(requests []Request) bool {
@@ -97,10 +102,10 @@ func areReads(requests []Request) bool {
 func neededVersion(requests []Request) (version byte) {
 	version = 1
 	for _, request := range requests {
-		switch {
-		case request.payload[0] == 'U':
+		switch request.payload[0] {
+		case 'U':
 			return 3
-		case request.payload[0] == 'C':
+		case 'C':
 			version = 2
 		}
 	}
@@ -119,7 +124,7 @@ const (
 func nextBatch(requests []Request) int {
 	size := 0
 	for count, request := range requests {
-		size += 4 + len(request.payload)
+		size += lengthBytes + len(request.payload)
 		if count > 0 && size > batchBytes || count == batchRequests {
 			return count
 		}
