@@ -18,8 +18,9 @@ import (
 // A call ends as soon as its context does, also while it waits for others, and after the time of WithTimeout. Its
 // connection is then dropped if a reply is still owed, and the next call makes a new one.
 //
-// If the connection is found closed, what changes nothing is asked once more, over a new one. A change never is, since it may
-// have taken effect: it is ErrInDoubt.
+// Before something is sent, the connection is looked at. If the server has closed it, there is a new one, so that its restart
+// costs no call. If it is found closed later, what changes nothing is asked once more, over a new one. A change never is, since
+// it may have taken effect: it is ErrInDoubt.
 type Client struct {
 	dial    func(context.Context) (io.ReadWriteCloser, error)
 	timeout time.Duration

@@ -15,6 +15,7 @@ import (
 type line struct {
 	stream   io.ReadWriteCloser
 	reader   *bufio.Reader
+	look     func() error
 	sending  []byte
 	version  byte
 	refusals map[byte]error
@@ -27,7 +28,7 @@ type line struct {
 }
 
 func newLine(stream io.ReadWriteCloser) *line {
-	l := &line{stream: stream, reader: bufio.NewReader(stream), version: 1, refusals: map[byte]error{}}
+	l := &line{stream: stream, reader: bufio.NewReader(stream), look: looking(stream), version: 1, refusals: map[byte]error{}}
 	l.cut = func() { l.close() }
 	return l
 }
@@ -93,12 +94,16 @@ func (l *line) exchange(requests []Request) sent {
 	return done
 }
 
-// isQuiet tells that nothing has come that nobody has asked for, which would be taken for the reply.
+// isQuiet looks at the connection before something is sent. One that the server has closed is found so, and what was sent by
+// a server that nobody has asked, which would be taken for the reply.
 func (l *line) isQuiet() error {
 	if size := l.reader.Buffered(); size > 0 {
 		return fmt.Errorf("%w: %d bytes came that nobody has asked for", ErrProtocol, size)
 	}
-	return nil
+	if l.look == nil {
+		return nil
+	}
+	return l.look()
 }
 
 // raise puts the session into a version, if it is in an earlier one. A server is asked once for one that it does not have.
