@@ -22,9 +22,10 @@ import (
 // costs no call. If it is found closed later, what changes nothing is asked once more, over a new one. A change never is, since
 // it may have taken effect: it is ErrInDoubt.
 type Client struct {
-	dial    func(context.Context) (io.ReadWriteCloser, error)
-	timeout time.Duration
-	retries int
+	dial     func(context.Context) (io.ReadWriteCloser, error)
+	timeout  time.Duration
+	retries  int
+	maxBytes int64
 
 	// turn is full while some call has its turn: only that one may use the line.
 	turn    chan struct{}
@@ -51,6 +52,12 @@ func WithTimeout(timeout time.Duration) Option {
 // which has changed anything. It is 10 if nothing is said. Nothing else is asked again.
 func WithRetries(retries int) Option {
 	return func(c *Client) { c.retries = retries }
+}
+
+// WithMaxBytes sets the most bytes that a fetch-all may have, with 128 more for each trust domain: about the memory that it
+// takes. It is 1 GiB if nothing is said, and 0 is no limit. A fetch-all with more is ErrTooLarge, before they are read.
+func WithMaxBytes(bytes int64) Option {
+	return func(c *Client) { c.maxBytes = bytes }
 }
 
 // Dial opens a session with the server at an address such as "127.0.0.1:8443".
@@ -88,11 +95,12 @@ func NewClient(stream io.ReadWriteCloser, options ...Option) *Client {
 func newClient(options []Option) *Client {
 	closing := make(chan struct{})
 	client := &Client{
-		timeout: 30 * time.Second,
-		retries: 10,
-		turn:    make(chan struct{}, 1),
-		closing: closing,
-		close:   onlyOnce(func() { close(closing) }),
+		timeout:  30 * time.Second,
+		retries:  10,
+		maxBytes: 1 << 30,
+		turn:     make(chan struct{}, 1),
+		closing:  closing,
+		close:    onlyOnce(func() { close(closing) }),
 	}
 	for _, option := range options {
 		option(client)
@@ -212,7 +220,7 @@ func (c *Client) ask(call limits, request Request) (Reply, error) {
 // Pipeline asks many requests in few round trips, and gives each reply to the function, in their order. It ends with the
 // first error of the function. Nothing is asked again because others were in the way.
 //
-// At most 64 requests and 4096 bytes, or one longer request, are sent before they are answered.
+// At most 64 requests and 4096 bytes, or one longer request, are sent before they are answered, and one fetch-all among them.
 // Between two such batches others may ask the client something, also the function itself. If it fails, the replies that came
 // before have been given: a reply that is missing is that of a request of which nothing is known, or that was not sent.
 func (c *Client) Pipeline(ctx context.Context, requests []Request, each func(place int, reply Reply) error) error {

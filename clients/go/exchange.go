@@ -121,7 +121,7 @@ func (c *Client) speak(call limits, requests []Request) sent {
 	line := c.line
 	c.line = nil // also if a stream of the caller's panics
 	watch := c.watch(call, line)
-	done := line.speak(requests)
+	done := line.speak(requests, c.maxBytes)
 	if isCut := watch.end(); isCut || done.err != nil {
 		line.close()
 	} else {
@@ -135,7 +135,7 @@ func (c *Client) speak(call limits, requests []Request) sent {
 	if ended := c.ended(call); ended != nil {
 		failure.cause = errors.Unwrap(ended)
 	} else {
-		failure.isDisconnected = !errors.Is(done.err, ErrProtocol)
+		failure.isDisconnected = !errors.Is(done.err, ErrProtocol) && !errors.Is(done.err, ErrTooLarge)
 	}
 	done.err = failure
 	return done

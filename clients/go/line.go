@@ -58,16 +58,16 @@ type sent struct {
 }
 
 // speak puts the session into the version that the requests need, and asks them. If that is refused, nothing is asked.
-func (l *line) speak(requests []Request) sent {
+func (l *line) speak(requests []Request, most int64) sent {
 	refusal, err := l.raise(neededVersion(requests))
 	if refusal != nil || err != nil {
 		return sent{refusal: refusal, err: err}
 	}
-	return l.exchange(requests)
+	return l.exchange(requests, most)
 }
 
 // exchange sends requests, all before any is answered, and reads the replies.
-func (l *line) exchange(requests []Request) sent {
+func (l *line) exchange(requests []Request, most int64) sent {
 	if err := l.isQuiet(); err != nil {
 		return sent{err: err}
 	}
@@ -84,7 +84,7 @@ func (l *line) exchange(requests []Request) sent {
 	}
 	done := sent{replies: make([]Reply, 0, len(requests)), isSent: true}
 	for _, request := range requests {
-		reply, err := readReply(l.reader, request)
+		reply, err := readReply(l.reader, request, most)
 		if err != nil {
 			done.err = err
 			return done
@@ -114,7 +114,7 @@ func (l *line) raise(version byte) (refusal, err error) {
 	if refusal, ok := l.refusals[version]; ok {
 		return refusal, nil
 	}
-	done := l.exchange([]Request{versionRequest(version)})
+	done := l.exchange([]Request{versionRequest(version)}, 0)
 	if done.err != nil {
 		return nil, done.err
 	}

@@ -7,6 +7,7 @@ import (
 	"crypto/sha256"
 	"encoding/binary"
 	"fmt"
+	"math"
 	"strings"
 )
 
@@ -58,11 +59,12 @@ var refusals = map[byte]struct {
 	51: {"BadRequest", 0},
 }
 
-// readReply reads the reply to a request. After an error the next frame can't be found.
-func readReply(stream *bufio.Reader, request Request) (Reply, error) {
+// readReply reads the reply to a request, which is of a certain most if it is a fetch-all. After an error the next frame can't
+// be found.
+func readReply(stream *bufio.Reader, request Request, most int64) (Reply, error) {
 	frames := frames{stream: stream}
 	if request.isFetch() {
-		frames.hash = sha256.New()
+		frames.fetch = newFetch(most)
 	}
 	payload, err := frames.next()
 	if err != nil {
@@ -82,9 +84,17 @@ func readReply(stream *bufio.Reader, request Request) (Reply, error) {
 	}
 	if code == 'a' {
 		reply.Bundles, err = readBundles(frames, binary.BigEndian.Uint64(rest))
-		copy(reply.Digest[:], frames.hash.Sum(nil))
+		copy(reply.Digest[:], frames.fetch.hash.Sum(nil))
 	}
 	return reply, err
+}
+
+// newFetch is before the first frame of a fetch-all.
+func newFetch(most int64) *fetch {
+	if most <= 0 {
+		most = math.MaxInt64
+	}
+	return &fetch{hash: sha256.New(), most: most, left: most}
 }
 
 func malformed(payload []byte) error {

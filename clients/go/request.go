@@ -113,7 +113,7 @@ func neededVersion(requests []Request) (version byte) {
 }
 
 // What is sent before any of it is answered: so many bytes, which a pipe or a socket takes even if nobody reads, or one
-// longer request; and so many requests, as their replies are kept until the last has come.
+// longer request; and so many requests, of which one may be a fetch-all, as their replies are kept until the last has come.
 const (
 	batchBytes    = 4096
 	batchRequests = 64
@@ -122,12 +122,13 @@ const (
 // nextBatch gives how many of the requests, of which there is one at least, are sent before any is answered. A client that
 // writes more without reading would block for ever as soon as the server waits for it to read.
 func nextBatch(requests []Request) int {
-	size := 0
+	size, isFull := 0, false
 	for count, request := range requests {
 		size += lengthBytes + len(request.payload)
-		if count > 0 && size > batchBytes || count == batchRequests {
+		if count > 0 && size > batchBytes || count == batchRequests || isFull && request.isFetch() {
 			return count
 		}
+		isFull = isFull || request.isFetch()
 	}
 	return len(requests)
 }
