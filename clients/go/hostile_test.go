@@ -120,6 +120,7 @@ func dripping(t testing.TB, begin, next string) (port string) {
 func TestDrips(t *testing.T) {
 	get := func(ctx context.Context, c *Client) error { _, err := c.Get(ctx, "a"); return err }
 	fetch := func(ctx context.Context, c *Client) error { _, err := c.FetchAll(ctx); return err }
+	stats := func(ctx context.Context, c *Client) error { _, err := c.Stats(ctx); return err }
 	remove := func(ctx context.Context, c *Client) error { return c.Remove(ctx, "a") }
 	const long = "\x00\x0f\xff\xff"
 	for _, row := range []struct {
@@ -127,11 +128,13 @@ func TestDrips(t *testing.T) {
 		ask         func(context.Context, *Client) error
 		isInDoubt   bool
 	}{
+		{"", long, stats, false},
 		{"\x00\x0f", "\xff\xff", get, false},
 		{long, "f", get, false},
 		{long + "f", "", get, false},
 		{framed(count(1)) + long + "i\x01a", "", fetch, false},
 		{framed(count(9), item("a"), item("b")), long, fetch, false},
+		{long + "m", "", stats, false},
 		{long + "d", "", remove, true},
 	} {
 		port := dripping(t, row.begin, row.next)
@@ -161,6 +164,7 @@ func TestRequestsThatAreNotTaken(t *testing.T) {
 func TestNonsense(t *testing.T) {
 	fetch := func(c *Client) error { _, err := c.FetchAll(soon(t)); return err }
 	get := func(c *Client) error { _, err := c.Get(soon(t), "a"); return err }
+	stats := func(c *Client) error { _, err := c.Stats(soon(t)); return err }
 	for _, row := range []struct {
 		reply string
 		ask   func(*Client) error
@@ -175,6 +179,8 @@ func TestNonsense(t *testing.T) {
 		{framed(count(2), item("b"), item("a")), fetch},
 		{framed(count(2), "a\x00\x00\x00\x00\x00\x00\x00\x01", item("a")), fetch},
 		{framed(count(1)) + "\x00\x10\x01\xa9", fetch},
+		{framed("f{}"), stats},
+		{three + framed("m\x1b[2J=1"), stats},
 	} {
 		port := attack(t, func(stream net.Conn, _ int) {
 			readFrame(stream)

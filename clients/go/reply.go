@@ -27,6 +27,8 @@ type Reply struct {
 	Digest Digest
 	// Same tells of a FetchAllUnless that the bundles have the digest that was known.
 	Same bool
+	// Stats are what the server has counted.
+	Stats map[string]uint64
 }
 
 // isInTheWay tells whether others were in the way, and may not be next time.
@@ -39,7 +41,10 @@ func (r Reply) isInTheWay() bool {
 const leastLetter = 64
 
 // done has the codes of the replies that tell that it was done, by the letter of the request.
-var done = map[byte]string{'S': "su", 'C': "su", 'A': "pu", 'R': "d", 'G': "f", 'F': "a", 'U': "ae", 'V': "v"}
+var done = map[byte]string{'S': "su", 'C': "su", 'A': "pu", 'R': "d", 'G': "f", 'F': "a", 'U': "ae", 'V': "v", 'M': "m"}
+
+// maxStats is the most bytes of counts.
+const maxStats = 65_536
 
 // givenUp has how many bytes follow the numbers of what a store gives up with.
 var givenUp = map[byte]int{22: 0, 40: 4, 41: 20, 42: 12, 56: 0}
@@ -115,6 +120,12 @@ func parseDone(request Request, code byte, rest []byte) (reply Reply, ok bool) {
 		return Reply{Same: true}, len(rest) == 0
 	case 'v':
 		return Reply{}, string(rest) == string(request.payload[1:])
+	case 'm':
+		if len(rest) > maxStats {
+			return Reply{}, false
+		}
+		reply.Stats, ok = parseStats(string(rest))
+		return reply, ok
 	case 'p':
 		after, ok := parseExpectation(rest)
 		reply.Stored = true

@@ -47,6 +47,11 @@ func RemoveRequest(domain string) Request {
 	return named('R', domain)
 }
 
+// StatsRequest asks for what the server has counted. A server of before version 3 of the protocol refuses it.
+func StatsRequest() Request {
+	return Request{payload: []byte{'M'}}
+}
+
 // versionRequest sets the version of the session.
 func versionRequest(version byte) Request {
 	return Request{payload: []byte{'V', version}}
@@ -81,7 +86,7 @@ func (r Request) check() error {
 
 // isRead tells whether it changes nothing, so that it may be asked again if nobody knows what became of it.
 func (r Request) isRead() bool {
-	return r.payload[0] == 'G' || r.isFetch()
+	return r.payload[0] == 'G' || r.payload[0] == 'M' || r.isFetch()
 }
 
 // isFetch tells whether its reply may have the bundles of all trust domains.
@@ -103,7 +108,7 @@ func neededVersion(requests []Request) (version byte) {
 	version = 1
 	for _, request := range requests {
 		switch request.payload[0] {
-		case 'U':
+		case 'U', 'M':
 			return 3
 		case 'C':
 			version = 2
