@@ -5,7 +5,8 @@ usage: gate/clients.py   (over the program that rt ci or rt run has built in cra
 
 Neither the tests nor the exchanges take what they expect from the program. What of them a machine has no program for, such
 as go, is left out. go-spiffe is looked for in the folder that HOPSLINTEL_GO_SPIFFE names, into which .ci/go-spiffe has put it
-with a Go that compiles it, and else among Debian's packages.
+with a Go that compiles it, and else among Debian's packages. The client in Go is tested by that Go too, since some of its files
+are of newer ones only.
 """
 import os
 import re
@@ -37,7 +38,7 @@ class Exchanges(unittest.TestCase):
 
 
 class InGo:
-    """What is checked of the clients in Go, over the go of this machine."""
+    """What is checked of the clients in Go, over the go of this machine and the one that came with go-spiffe."""
 
     def __init__(self, told):
         self.told = told
@@ -59,19 +60,19 @@ class InGo:
                 self.is_vetted_and_tested("go", f"{ROOT}/clients/go")
             else:
                 self.lacks("the client in Go", "go")
-            self.follows_for_go_spiffe(home)
+            unpacked = os.environ.get("HOPSLINTEL_GO_SPIFFE")
+            if unpacked and os.path.isdir(f"{unpacked}/{GO_ROOT}"):
+                self.env.update(GOROOT=f"{unpacked}/{GO_ROOT}", PATH=f"{unpacked}/{GO_ROOT}/bin:{os.environ['PATH']}")
+                self.is_vetted_and_tested(os.path.basename(GO_ROOT), f"{ROOT}/clients/go")
+            self.follows_for_go_spiffe(home, unpacked)
 
     def is_formatted(self):
         status, said = self.said("gofmt", "-l", f"{ROOT}/clients/go")
         self.check("gofmt", said or ("gofmt failed" if status else ""))
 
-    def follows_for_go_spiffe(self, home):
+    def follows_for_go_spiffe(self, home, unpacked):
         """The module for go-spiffe, over the go-spiffe that Debian has as sources and without go.mod files."""
-        folders = [*os.environ.get("GOPATH", "").split(":"), f"/{GO_SOURCES}"]
-        unpacked = os.environ.get("HOPSLINTEL_GO_SPIFFE")
-        if unpacked:
-            folders = [f"{unpacked}/{GO_SOURCES}"]
-            self.env.update(GOROOT=f"{unpacked}/{GO_ROOT}", PATH=f"{unpacked}/{GO_ROOT}/bin:{os.environ['PATH']}")
+        folders = [f"{unpacked}/{GO_SOURCES}"] if unpacked else [*os.environ.get("GOPATH", "").split(":"), f"/{GO_SOURCES}"]
         found = [it for it in folders if os.path.isdir(f"{it}/src/{GO_SPIFFE}")]
         if not found or not (unpacked or shutil.which("go")):
             self.lacks("the source for go-spiffe", "go" if found else "go-spiffe")

@@ -54,7 +54,7 @@ func (c *Client) Follow(ctx context.Context, interval time.Duration, changed fun
 	for {
 		fetched, err := c.fetchAfter(ctx, known)
 		if err != nil {
-			if ended := c.ended(ctx); ended != nil {
+			if ended := c.ended(limitsOf(ctx)); ended != nil {
 				return ended
 			}
 			if onError == nil || !c.isOfTheMoment(err) {
@@ -67,7 +67,7 @@ func (c *Client) Follow(ctx context.Context, interval time.Duration, changed fun
 			}
 			before, known = fetched.Bundles, &fetched.Digest
 		}
-		if err := c.wait(ctx, interval); err != nil {
+		if err := c.wait(limitsOf(ctx), interval); err != nil {
 			return err
 		}
 	}

@@ -8,7 +8,7 @@ import (
 	"hash/maphash"
 	"io"
 	"net"
-	"os"
+	"sync"
 	"time"
 )
 
@@ -18,18 +18,24 @@ import (
 // A call ends as soon as its context does, also while it waits for others, and after the time of WithTimeout. Its
 // connection is then dropped if a reply is still owed, and the next call makes a new one.
 //
-// If the connection is found closed, a Get, a FetchAll or a FetchAllUnless is asked once more, over a new one. A change
-// never is, since it may have taken effect: it is ErrInDoubt.
+// Before something is sent, the connection is looked at. If the server has closed it, there is a new one, so that its restart
+// costs no call. If it is found closed later, what changes nothing is asked once more, over a new one. A change never is, since
+// it may have taken effect: it is ErrInDoubt.
 type Client struct {
-	dial    func(context.Context) (io.ReadWriteCloser, error)
-	timeout time.Duration
-	retries int
+	dial     func(context.Context) (io.ReadWriteCloser, error)
+	timeout  time.Duration
+	retries  int
+	maxBytes int64
 
 	// turn is full while some call has its turn: only that one may use the line.
 	turn    chan struct{}
 	line    *line
 	closing chan struct{}
 	close   func()
+
+	// cut is how Close cuts off what the call whose turn it is does.
+	lock sync.Mutex
+	cut  func()
 }
 
 // Option is a setting of a client.
@@ -46,6 +52,12 @@ func WithTimeout(timeout time.Duration) Option {
 // which has changed anything. It is 10 if nothing is said. Nothing else is asked again.
 func WithRetries(retries int) Option {
 	return func(c *Client) { c.retries = retries }
+}
+
+// WithMaxBytes sets the most bytes that a fetch-all may have, with 128 more for each trust domain: about the memory that it
+// takes. It is 1 GiB if nothing is said, and 0 is no limit. A fetch-all with more is ErrTooLarge, before they are read.
+func WithMaxBytes(bytes int64) Option {
+	return func(c *Client) { c.maxBytes = bytes }
 }
 
 // Dial opens a session with the server at an address such as "127.0.0.1:8443".
@@ -67,9 +79,7 @@ func DialNetwork(ctx context.Context, network, address string, options ...Option
 func DialFunc(ctx context.Context, dial func(context.Context) (io.ReadWriteCloser, error), options ...Option) (*Client, error) {
 	client := newClient(options)
 	client.dial = dial
-	ctx, cancel := client.timed(ctx)
-	defer cancel()
-	if err := client.dialAnew(ctx); err != nil {
+	if err := client.dialAnew(client.limits(ctx)); err != nil {
 		return nil, err
 	}
 	return client, nil
@@ -85,11 +95,12 @@ func NewClient(stream io.ReadWriteCloser, options ...Option) *Client {
 func newClient(options []Option) *Client {
 	closing := make(chan struct{})
 	client := &Client{
-		timeout: 30 * time.Second,
-		retries: 10,
-		turn:    make(chan struct{}, 1),
-		closing: closing,
-		close:   onlyOnce(func() { close(closing) }),
+		timeout:  30 * time.Second,
+		retries:  10,
+		maxBytes: 1 << 30,
+		turn:     make(chan struct{}, 1),
+		closing:  closing,
+		close:    onlyOnce(func() { close(closing) }),
 	}
 	for _, option := range options {
 		option(client)
@@ -101,6 +112,7 @@ func newClient(options []Option) *Client {
 // does nothing.
 func (c *Client) Close() error {
 	c.close()
+	c.cutOff()
 	return c.dropIfFree()
 }
 
@@ -131,11 +143,10 @@ type Fetched struct {
 //
 // It puts the session into version 3. A server of before that version sends all, and the digests are compared here.
 func (c *Client) FetchAllUnless(ctx context.Context, known Digest) (Fetched, error) {
-	ctx, cancel := c.timed(ctx)
-	defer cancel()
-	reply, err := c.ask(ctx, FetchAllUnlessRequest(known))
+	call := c.limits(ctx)
+	reply, err := c.ask(call, FetchAllUnlessRequest(known))
 	if errors.Is(err, errBadRequest) {
-		reply, err = c.ask(ctx, FetchAllRequest())
+		reply, err = c.ask(call, FetchAllRequest())
 	}
 	if err != nil {
 		return Fetched{}, err
@@ -185,24 +196,22 @@ func (c *Client) Do(ctx context.Context, request Request) (Reply, error) {
 	if err := request.check(); err != nil {
 		return Reply{}, err
 	}
-	ctx, cancel := c.timed(ctx)
-	defer cancel()
-	return c.ask(ctx, request)
+	return c.ask(c.limits(ctx), request)
 }
 
-// ask is a call, or a part of one, whose context is that of the call.
-func (c *Client) ask(ctx context.Context, request Request) (Reply, error) {
+// ask is a call, or a part of one.
+func (c *Client) ask(call limits, request Request) (Reply, error) {
 	for tries := 0; ; tries++ {
-		replies, err := c.exchange(ctx, []Request{request})
+		replies, err := c.exchange(call, []Request{request})
 		if err != nil {
 			return Reply{}, err
 		}
 		reply := replies[0]
 		pause := pauseAfter(tries)
-		if !reply.isInTheWay() || tries >= c.retries || !allows(ctx, pause) {
+		if !reply.isInTheWay() || tries >= c.retries || !call.allow(pause) {
 			return reply, reply.Err
 		}
-		if err := c.wait(ctx, pause); err != nil {
+		if err := c.wait(call, pause); err != nil {
 			return Reply{}, err
 		}
 	}
@@ -211,9 +220,9 @@ func (c *Client) ask(ctx context.Context, request Request) (Reply, error) {
 // Pipeline asks many requests in few round trips, and gives each reply to the function, in their order. It ends with the
 // first error of the function. Nothing is asked again because others were in the way.
 //
-// At most 64 requests and 4096 bytes, or one longer request, are sent before they are answered. Between two such batches
-// others may ask the client something, also the function itself. If it fails, the replies that came before have been
-// given: a reply that is missing is that of a request of which nothing is known, or that was not sent.
+// At most 64 requests and 4096 bytes, or one longer request, are sent before they are answered, and one fetch-all among them.
+// Between two such batches others may ask the client something, also the function itself. If it fails, the replies that came
+// before have been given: a reply that is missing is that of a request of which nothing is known, or that was not sent.
 func (c *Client) Pipeline(ctx context.Context, requests []Request, each func(place int, reply Reply) error) error {
 	for _, request := range requests {
 		if err := request.check(); err != nil {
@@ -222,7 +231,7 @@ func (c *Client) Pipeline(ctx context.Context, requests []Request, each func(pla
 	}
 	for place := 0; place < len(requests); {
 		batch := requests[place : place+nextBatch(requests[place:])]
-		replies, failure := c.exchangeTimed(ctx, batch)
+		replies, failure := c.exchange(c.limits(ctx), batch)
 		for number, reply := range replies {
 			if err := each(place+number, reply); err != nil {
 				return err
@@ -234,37 +243,6 @@ func (c *Client) Pipeline(ctx context.Context, requests []Request, each func(pla
 		place += len(batch)
 	}
 	return nil
-}
-
-// timed is the context of one call: it ends with the given one, and after the time of the client.
-func (c *Client) timed(ctx context.Context) (context.Context, context.CancelFunc) {
-	if c.timeout <= 0 {
-		return ctx, func() {}
-	}
-	own, cancel := context.WithTimeout(ctx, c.timeout)
-	return timedContext{own, ctx}, cancel
-}
-
-type timedContext struct {
-	context.Context
-	given context.Context
-}
-
-// Err tells whose time was over.
-func (t timedContext) Err() error {
-	if err := t.given.Err(); err != nil {
-		return err
-	}
-	if t.Context.Err() != nil {
-		return os.ErrDeadlineExceeded
-	}
-	return nil
-}
-
-// allows tells whether more than this time is left.
-func allows(ctx context.Context, pause time.Duration) bool {
-	end, ok := ctx.Deadline()
-	return !ok || time.Now().Add(pause).Before(end)
 }
 
 // pauseAfter is the time before a retry: from nothing to 1, 2, 4 and at last 64 milliseconds, at random, so that those who

@@ -19,6 +19,6 @@
 //
 // A [RefusedError] or a [GivenUpError] is the answer of the store, and nothing has changed. Every other error says why a
 // call has no answer, and keeps its cause for [errors.Is] and [errors.As]: [ErrClosed], [ErrDisconnected], [ErrProtocol],
-// the error of the context, or [os.ErrDeadlineExceeded] if the time of [WithTimeout] was over. If such a call was a
-// change and may have been sent, the error is [ErrInDoubt] too: whether the change took effect is not known.
+// [ErrTooLarge], the error of the context, or [os.ErrDeadlineExceeded] if the time of [WithTimeout] was over. If such a call
+// was a change and may have been sent, the error is [ErrInDoubt] too: whether the change took effect is not known.
 package hopslintel

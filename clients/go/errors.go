@@ -120,6 +120,8 @@ var (
 	ErrDisconnected = errors.New("the connection failed")
 	// ErrProtocol: what came is not a reply to the request.
 	ErrProtocol = errors.New("not a reply to the request")
+	// ErrTooLarge: a fetch-all has more bytes than the client may take, which WithMaxBytes sets.
+	ErrTooLarge = errors.New("a fetch-all has too many bytes")
 	// ErrInDoubt: the call was a change and may have been sent, so whether it took effect is not known. A Get shows what
 	// is stored now.
 	ErrInDoubt = errors.New("whether the change took effect is not known")

@@ -3,92 +3,62 @@
 package hopslintel
 
 import (
-	"bufio"
-	"context"
 	"errors"
-	"fmt"
-	"io"
 	"sync"
 	"time"
 )
 
-// line is a connection, with the version of its session, and what the server said to the versions that it refused.
-type line struct {
-	stream   io.ReadWriteCloser
-	reader   *bufio.Reader
-	version  byte
-	refusals map[byte]error
-}
-
-func newLine(stream io.ReadWriteCloser) *line {
-	return &line{stream: stream, reader: bufio.NewReader(stream), version: 1, refusals: map[byte]error{}}
-}
-
-// exchange sends requests, and gives the replies to them, as many as come. If nothing of them was sent, it says so.
-func (l *line) exchange(requests []Request) (replies []Reply, isSent bool, err error) {
-	if size := l.reader.Buffered(); size > 0 {
-		return nil, false, fmt.Errorf("%w: %d bytes came that nobody has asked for", ErrProtocol, size)
-	}
-	var stream []byte
-	for _, request := range requests {
-		stream = appendFrame(stream, request.payload)
-	}
-	if size, err := l.stream.Write(stream); err != nil {
-		return nil, size > 0, err
-	}
-	for _, request := range requests {
-		reply, err := readReply(l.reader, request)
-		if err != nil {
-			return replies, true, err
-		}
-		replies = append(replies, reply)
-	}
-	return replies, true, nil
-}
-
-func (c *Client) exchangeTimed(ctx context.Context, requests []Request) ([]Reply, error) {
-	ctx, cancel := c.timed(ctx)
-	defer cancel()
-	return c.exchange(ctx, requests)
-}
-
 // exchange asks requests, all before any is answered, and gives the replies to them, as many as came. A connection that is
-// found closed is no error if there can be another one, and if the requests may be asked again.
-func (c *Client) exchange(ctx context.Context, requests []Request) ([]Reply, error) {
-	if err := c.take(ctx); err != nil {
+// found closed is no error if there can be another one, and if the requests may be asked again or nothing of them was sent.
+func (c *Client) exchange(call limits, requests []Request) ([]Reply, error) {
+	if err := c.take(call); err != nil {
 		return nil, err
 	}
 	defer c.release()
 	isNew := c.line == nil
 	if isNew {
-		if err := c.dialAnew(ctx); err != nil {
+		if err := c.dialAnew(call); err != nil {
 			return nil, err
 		}
 	}
-	replies, err := c.speak(ctx, requests)
-	if isNew || c.dial == nil || !areReads(requests) || !errors.Is(err, ErrDisconnected) {
-		return replies, err
+	done := c.speak(call, requests)
+	if isNew || c.dial == nil || done.isSent && !areReads(requests) || !errors.Is(done.err, ErrDisconnected) {
+		return done.replies, done.err
 	}
-	if err := c.dialAnew(ctx); err != nil {
+	if err := c.dialAnew(call); err != nil {
 		return nil, err
 	}
-	return c.speak(ctx, requests)
+	done = c.speak(call, requests)
+	return done.replies, done.err
 }
 
 // take waits for this call's turn to use the line. One exchange at a time: a reply to a get has no name, so nobody could
 // tell that it is that of another call.
-func (c *Client) take(ctx context.Context) error {
-	if err := c.ended(ctx); err != nil {
+func (c *Client) take(call limits) error {
+	if err := c.ended(call); err != nil {
 		return err
 	}
 	select {
 	case c.turn <- struct{}{}:
-	case <-ctx.Done():
-		return c.ended(ctx)
-	case <-c.closing:
-		return c.ended(ctx)
+		return nil
+	default:
 	}
-	if err := c.ended(ctx); err != nil {
+	var over <-chan time.Time
+	if end := call.end(); !end.IsZero() {
+		timer := time.NewTimer(time.Until(end))
+		defer timer.Stop()
+		over = timer.C
+	}
+	select {
+	case c.turn <- struct{}{}:
+	case <-over:
+		return c.ended(call)
+	case <-call.ctx.Done():
+		return c.ended(call)
+	case <-c.closing:
+		return c.ended(call)
+	}
+	if err := c.ended(call); err != nil {
 		c.release()
 		return err
 	}
@@ -111,28 +81,28 @@ func (c *Client) isClosed() bool {
 	}
 }
 
-// ended is the error of a call that may not go on, since the client was closed or its context has ended.
-func (c *Client) ended(ctx context.Context) error {
+// ended is the error of a call that may not go on, since the client was closed, its context has ended or its time is over.
+func (c *Client) ended(call limits) error {
 	if c.isClosed() {
 		return &callError{cause: ErrClosed}
 	}
-	if err := ctx.Err(); err != nil {
+	if err := call.err(); err != nil {
 		return &callError{cause: err}
 	}
 	return nil
 }
 
 // dialAnew makes a new line.
-func (c *Client) dialAnew(ctx context.Context) error {
+func (c *Client) dialAnew(call limits) error {
 	if c.dial == nil {
 		return &callError{cause: errors.New("the session has ended"), isDisconnected: true}
 	}
-	inner, cancel := context.WithCancel(ctx)
+	inner, cancel := call.inner()
 	defer cancel()
-	stop := c.watch(ctx, cancel)
+	c.setCut(cancel)
 	stream, err := c.dial(inner)
-	stop()
-	if failure := c.ended(ctx); failure != nil {
+	c.setCut(nil)
+	if failure := c.ended(call); failure != nil {
 		if err == nil {
 			stream.Close()
 		}
@@ -145,92 +115,91 @@ func (c *Client) dialAnew(ctx context.Context) error {
 	return nil
 }
 
-// speak is one exchange over the line. Whatever fails in it, the next frame can't be found, so the line is dropped.
-func (c *Client) speak(ctx context.Context, requests []Request) ([]Reply, error) {
+// speak is one exchange over the line. Whatever fails in it, the next frame can't be found, so the line is dropped. What it
+// ends with is the error of a call, or the refusal of a version.
+func (c *Client) speak(call limits, requests []Request) sent {
 	line := c.line
 	c.line = nil // also if a stream of the caller's panics
-	stop := c.watch(ctx, func() { line.stream.Close() })
-	replies, isSent, refusal, err := line.speak(requests)
-	if isCut := stop(); isCut || err != nil {
-		line.stream.Close()
+	watch := c.watch(call, line)
+	done := line.speak(requests, c.maxBytes)
+	if isCut := watch.end(); isCut || done.err != nil {
+		line.close()
 	} else {
 		c.line = line
 	}
-	if err == nil {
-		return replies, refusal
+	if done.err == nil {
+		done.err = done.refusal
+		return done
 	}
-	failure := &callError{cause: err, isInDoubt: isSent && !areReads(requests[len(replies):])}
-	if ended := c.ended(ctx); ended != nil {
+	failure := &callError{cause: done.err, isInDoubt: done.isSent && !areReads(requests[len(done.replies):])}
+	if ended := c.ended(call); ended != nil {
 		failure.cause = errors.Unwrap(ended)
 	} else {
-		failure.isDisconnected = !errors.Is(err, ErrProtocol)
+		failure.isDisconnected = !errors.Is(done.err, ErrProtocol) && !errors.Is(done.err, ErrTooLarge)
 	}
-	return replies, failure
+	done.err = failure
+	return done
 }
 
-// speak puts the session into the version that an exchange needs. If that is refused, nothing is asked.
-func (l *line) speak(requests []Request) (replies []Reply, isSent bool, refusal, err error) {
-	refusal, err = l.raise(neededVersion(requests))
-	if refusal != nil || err != nil {
-		return nil, false, refusal, err
-	}
-	replies, isSent, err = l.exchange(requests)
-	return replies, isSent, nil, err
+// watch is what cuts the line off during a call.
+type watch struct {
+	client *Client
+	line   *line
+	timed  bool
+	stop   func() bool
 }
 
-// raise puts the session into a version, if it is in an earlier one. A server is asked once for one that it does not have.
-func (l *line) raise(version byte) (refusal, err error) {
-	if l.version >= version {
-		return nil, nil
+// watch cuts the line off once the time of the call is over, its context has ended or the client is closed.
+func (c *Client) watch(call limits, line *line) watch {
+	end := call.end()
+	watch := watch{client: c, line: line, timed: !end.IsZero()}
+	if call.ctx.Done() != nil {
+		watch.stop = afterEnd(call.ctx, line.cut)
 	}
-	if refusal, ok := l.refusals[version]; ok {
-		return refusal, nil
+	if watch.timed {
+		line.cutAt(end)
 	}
-	replies, _, err := l.exchange([]Request{versionRequest(version)})
-	if err != nil {
-		return nil, err
-	}
-	refusal = replies[0].Err
-	switch {
-	case refusal == nil:
-		l.version = version
-	case errors.Is(refusal, errBadRequest):
-		l.refusals[version] = refusal
-	}
-	return refusal, nil
+	c.setCut(line.cut)
+	return watch
 }
 
-// watch calls the function once the context has ended or the client is closed, unless what it gives is called before. That
-// tells whether it was so.
-func (c *Client) watch(ctx context.Context, end func()) (stop func() (isCut bool)) {
-	over, isCut := make(chan struct{}), make(chan bool, 1)
-	go func() {
-		select {
-		case <-over:
-			isCut <- false
-			return
-		case <-ctx.Done():
-		case <-c.closing:
-		}
-		end()
-		isCut <- true
-	}()
-	return func() bool {
-		close(over)
-		return <-isCut
+// end ends that, and tells whether the line was cut off by the time or the context.
+func (w watch) end() (isCut bool) {
+	w.client.setCut(nil)
+	isLate := w.timed && !w.line.timer.Stop()
+	return w.stop != nil && !w.stop() || isLate
+}
+
+// setCut sets how Close cuts off what the call whose turn it is does, or that there is nothing to cut off.
+func (c *Client) setCut(cut func()) {
+	c.lock.Lock()
+	c.cut = cut
+	c.lock.Unlock()
+	if cut != nil && c.isClosed() {
+		cut()
+	}
+}
+
+// cutOff cuts that off.
+func (c *Client) cutOff() {
+	c.lock.Lock()
+	cut := c.cut
+	c.lock.Unlock()
+	if cut != nil {
+		cut()
 	}
 }
 
 // wait is a pause of a call.
-func (c *Client) wait(ctx context.Context, pause time.Duration) error {
+func (c *Client) wait(call limits, pause time.Duration) error {
 	timer := time.NewTimer(pause)
 	defer timer.Stop()
 	select {
 	case <-timer.C:
-	case <-ctx.Done():
+	case <-call.ctx.Done():
 	case <-c.closing:
 	}
-	return c.ended(ctx)
+	return c.ended(call)
 }
 
 // dropIfFree closes the line after Close. If it is some call's turn, that call does so at its end.
@@ -238,7 +207,7 @@ func (c *Client) dropIfFree() (err error) {
 	select {
 	case c.turn <- struct{}{}:
 		if c.line != nil {
-			err = c.line.stream.Close()
+			err = c.line.close()
 			c.line = nil
 		}
 		<-c.turn
@@ -250,26 +219,4 @@ func (c *Client) dropIfFree() (err error) {
 func onlyOnce(does func()) func() {
 	var once sync.Once
 	return func() { once.Do(does) }
-}
-
-// Pipe joins two streams to one for NewClient, such as the standard output and input of a process "bundled run".
-func Pipe(reader io.ReadCloser, writer io.WriteCloser) io.ReadWriteCloser {
-	return pipe{reader, writer}
-}
-
-type pipe struct {
-	io.ReadCloser
-	writer io.WriteCloser
-}
-
-func (p pipe) Write(data []byte) (int, error) {
-	return p.writer.Write(data)
-}
-
-func (p pipe) Close() error {
-	err := p.writer.Close()
-	if other := p.ReadCloser.Close(); err == nil {
-		err = other
-	}
-	return err
 }

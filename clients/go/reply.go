@@ -3,10 +3,11 @@
 package hopslintel
 
 import (
+	"bufio"
 	"crypto/sha256"
 	"encoding/binary"
 	"fmt"
-	"io"
+	"math"
 	"strings"
 )
 
@@ -26,6 +27,8 @@ type Reply struct {
 	Digest Digest
 	// Same tells of a FetchAllUnless that the bundles have the digest that was known.
 	Same bool
+	// Stats are what the server has counted.
+	Stats map[string]uint64
 }
 
 // isInTheWay tells whether others were in the way, and may not be next time.
@@ -38,7 +41,10 @@ func (r Reply) isInTheWay() bool {
 const leastLetter = 64
 
 // done has the codes of the replies that tell that it was done, by the letter of the request.
-var done = map[byte]string{'S': "su", 'C': "su", 'A': "pu", 'R': "d", 'G': "f", 'F': "a", 'U': "ae", 'V': "v"}
+var done = map[byte]string{'S': "su", 'C': "su", 'A': "pu", 'R': "d", 'G': "f", 'F': "a", 'U': "ae", 'V': "v", 'M': "m"}
+
+// maxStats is the most bytes of counts.
+const maxStats = 65_536
 
 // givenUp has how many bytes follow the numbers of what a store gives up with.
 var givenUp = map[byte]int{22: 0, 40: 4, 41: 20, 42: 12, 56: 0}
@@ -58,13 +64,14 @@ var refusals = map[byte]struct {
 	51: {"BadRequest", 0},
 }
 
-// readReply reads the reply to a request. After an error the next frame can't be found.
-func readReply(stream io.Reader, request Request) (Reply, error) {
-	hash := sha256.New()
-	if letter := request.payload[0]; letter == 'F' || letter == 'U' {
-		stream = io.TeeReader(stream, hash)
+// readReply reads the reply to a request, which is of a certain most if it is a fetch-all. After an error the next frame can't
+// be found.
+func readReply(stream *bufio.Reader, request Request, most int64) (Reply, error) {
+	frames := frames{stream: stream}
+	if request.isFetch() {
+		frames.fetch = newFetch(most)
 	}
-	payload, err := readFrame(stream)
+	payload, err := frames.next()
 	if err != nil {
 		return Reply{}, err
 	}
@@ -81,10 +88,18 @@ func readReply(stream io.Reader, request Request) (Reply, error) {
 		return Reply{}, malformed(payload)
 	}
 	if code == 'a' {
-		reply.Bundles, err = readBundles(stream, binary.BigEndian.Uint64(rest))
-		copy(reply.Digest[:], hash.Sum(nil))
+		reply.Bundles, err = readBundles(frames, binary.BigEndian.Uint64(rest))
+		copy(reply.Digest[:], frames.fetch.hash.Sum(nil))
 	}
 	return reply, err
+}
+
+// newFetch is before the first frame of a fetch-all.
+func newFetch(most int64) *fetch {
+	if most <= 0 {
+		most = math.MaxInt64
+	}
+	return &fetch{hash: sha256.New(), most: most, left: most}
 }
 
 func malformed(payload []byte) error {
@@ -105,6 +120,12 @@ func parseDone(request Request, code byte, rest []byte) (reply Reply, ok bool) {
 		return Reply{Same: true}, len(rest) == 0
 	case 'v':
 		return Reply{}, string(rest) == string(request.payload[1:])
+	case 'm':
+		if len(rest) > maxStats {
+			return Reply{}, false
+		}
+		reply.Stats, ok = parseStats(string(rest))
+		return reply, ok
 	case 'p':
 		after, ok := parseExpectation(rest)
 		reply.Stored = true
@@ -172,10 +193,10 @@ func parseExpectation(rest []byte) (Expectation, bool) {
 }
 
 // readBundles reads the rest of a reply to a fetch-all: a frame for each trust domain, in order of their names.
-func readBundles(stream io.Reader, count uint64) (Bundles, error) {
+func readBundles(frames frames, count uint64) (Bundles, error) {
 	bundles, last := Bundles{}, ""
 	for ; count > 0; count-- {
-		payload, err := readFrame(stream)
+		payload, err := frames.next()
 		if err != nil {
 			return nil, err
 		}

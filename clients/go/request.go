@@ -47,6 +47,11 @@ func RemoveRequest(domain string) Request {
 	return named('R', domain)
 }
 
+// StatsRequest asks for what the server has counted. A server of before version 3 of the protocol refuses it.
+func StatsRequest() Request {
+	return Request{payload: []byte{'M'}}
+}
+
 // versionRequest sets the version of the session.
 func versionRequest(version byte) Request {
 	return Request{payload: []byte{'V', version}}
@@ -81,7 +86,12 @@ func (r Request) check() error {
 
 // isRead tells whether it changes nothing, so that it may be asked again if nobody knows what became of it.
 func (r Request) isRead() bool {
-	return r.payload[0] == 'G' || r.payload[0] == 'F' || r.payload[0] == 'U'
+	return r.payload[0] == 'G' || r.payload[0] == 'M' || r.isFetch()
+}
+
+// isFetch tells whether its reply may have the bundles of all trust domains.
+func (r Request) isFetch() bool {
+	return r.payload[0] == 'F' || r.payload[0] == 'U'
 }
 
 func areReads(requests []Request) bool {
@@ -97,10 +107,10 @@ func areReads(requests []Request) bool {
 func neededVersion(requests []Request) (version byte) {
 	version = 1
 	for _, request := range requests {
-		switch {
-		case request.payload[0] == 'U':
+		switch request.payload[0] {
+		case 'U', 'M':
 			return 3
-		case request.payload[0] == 'C':
+		case 'C':
 			version = 2
 		}
 	}
@@ -108,7 +118,7 @@ func neededVersion(requests []Request) (version byte) {
 }
 
 // What is sent before any of it is answered: so many bytes, which a pipe or a socket takes even if nobody reads, or one
-// longer request; and so many requests, as their replies are kept until the last has come.
+// longer request; and so many requests, of which one may be a fetch-all, as their replies are kept until the last has come.
 const (
 	batchBytes    = 4096
 	batchRequests = 64
@@ -117,12 +127,13 @@ const (
 // nextBatch gives how many of the requests, of which there is one at least, are sent before any is answered. A client that
 // writes more without reading would block for ever as soon as the server waits for it to read.
 func nextBatch(requests []Request) int {
-	size := 0
+	size, isFull := 0, false
 	for count, request := range requests {
-		size += 4 + len(request.payload)
-		if count > 0 && size > batchBytes || count == batchRequests {
+		size += lengthBytes + len(request.payload)
+		if count > 0 && size > batchBytes || count == batchRequests || isFull && request.isFetch() {
 			return count
 		}
+		isFull = isFull || request.isFetch()
 	}
 	return len(requests)
 }

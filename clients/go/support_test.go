@@ -10,6 +10,7 @@ import (
 	"bufio"
 	"context"
 	"crypto/sha256"
+	"encoding/binary"
 	"errors"
 	"fmt"
 	"io"
@@ -54,6 +55,12 @@ func serve(t testing.TB, options ...string) []string {
 
 // serveAt is as serve, behind the port or the socket that the options name.
 func serveAt(t testing.TB, options ...string) []string {
+	_, words := start(t, options...)
+	return words
+}
+
+// start is as serveAt, and gives the process too.
+func start(t testing.TB, options ...string) (*exec.Cmd, []string) {
 	words := append([]string{"serve", "--workers", "2", "--connections", "unlimited", "--until-eof"}, options...)
 	server := exec.Command(program(t), words...)
 	_, err := server.StdinPipe()
@@ -67,7 +74,7 @@ func serveAt(t testing.TB, options ...string) []string {
 	})
 	line, err := bufio.NewReader(output).ReadString('\n')
 	check(t, err)
-	return strings.Fields(line)[1:]
+	return server, strings.Fields(line)[1:]
 }
 
 func dial(t testing.TB, port string, options ...Option) *Client {
@@ -119,6 +126,17 @@ func framed(payloads ...string) string {
 		stream = appendFrame(stream, []byte(payload))
 	}
 	return string(stream)
+}
+
+// readFrame reads the payload of a request.
+func readFrame(stream io.Reader) ([]byte, error) {
+	length := make([]byte, 4)
+	if _, err := io.ReadFull(stream, length); err != nil {
+		return nil, err
+	}
+	payload := make([]byte, binary.BigEndian.Uint32(length))
+	_, err := io.ReadFull(stream, payload)
+	return payload, err
 }
 
 // The payloads of some requests, and replies to them.
@@ -194,6 +212,37 @@ func answer(t testing.TB, sessions ...[]string) *server {
 		<-ended
 	})
 	return s
+}
+
+// attack serves connections, which are numbered from 0, side by side, and gives the port. They end with the test.
+func attack(t testing.TB, serve func(stream net.Conn, number int)) (port string) {
+	listener, err := net.Listen("tcp", "127.0.0.1:0")
+	check(t, err)
+	streams, ended := []net.Conn{}, make(chan struct{})
+	go func() {
+		defer close(ended)
+		for {
+			stream, err := listener.Accept()
+			if err != nil {
+				return // it was closed
+			}
+			streams = append(streams, stream)
+			go func(number int) {
+				defer stream.Close()
+				serve(stream, number)
+			}(len(streams) - 1)
+		}
+	}()
+	t.Cleanup(func() {
+		listener.Close()
+		<-ended
+		for _, stream := range streams {
+			stream.Close()
+		}
+	})
+	_, port, err = net.SplitHostPort(listener.Addr().String())
+	check(t, err)
+	return port
 }
 
 func (s *server) run() {

@@ -19,7 +19,6 @@ import (
 	"errors"
 	"fmt"
 	"log"
-	"sync"
 	"sync/atomic"
 	"time"
 
@@ -41,6 +40,9 @@ var (
 // certificate. Nobody of that domain is trusted.
 var ErrBadBundle = errors.New("a bundle that cannot be used")
 
+// ErrTooOld: the bundles are older than WithMaxAge allows. Nobody is trusted until a fetch-all succeeds again.
+var ErrTooOld = errors.New("the bundles are too old")
+
 // ErrClosed: the source was closed.
 var ErrClosed = errors.New("the source is closed")
 
@@ -49,14 +51,24 @@ type Source struct {
 	client   *hopslintel.Client
 	settings settings
 
-	entries  atomic.Pointer[map[string]entry]
+	found    atomic.Pointer[found]
+	failure  atomic.Pointer[failure]
 	updated  chan struct{}
 	first    chan struct{}
-	isFirst  sync.Once
 	isClosed atomic.Bool
 	cancel   context.CancelFunc
 	ended    chan struct{}
 }
+
+// found is what the last fetch-all that succeeded has found, and when it began.
+type found struct {
+	entries map[string]entry
+	digest  hopslintel.Digest
+	at      time.Time
+}
+
+// failure is why the fetch-all that was made last has failed; nil if it has not.
+type failure struct{ err error }
 
 // entry is what a trust domain has: the text of its bundle, and the bundle, or why it can't be used.
 type entry struct {
@@ -67,6 +79,7 @@ type entry struct {
 
 type settings struct {
 	interval    time.Duration
+	maxAge      time.Duration
 	onError     func(error)
 	onBadBundle func(domain string, err error)
 }
@@ -80,8 +93,16 @@ func WithInterval(interval time.Duration) Option {
 	return func(s *settings) { s.interval = interval }
 }
 
-// WithOnError sets what is told of a fetch-all that failed. The bundles of before stay in use, and the next fetch-all comes
-// after the interval, unless the client was closed. If nothing is said, the log of the package log is told.
+// WithMaxAge sets how old bundles may be that are still in use while fetch-alls fail, or do not end. After that time there is no
+// bundle of any trust domain: the error is ErrTooOld, and what the last fetch-all failed of. It has to be longer than the
+// interval and the time of the client. If nothing is said, or 0, they stay in use for ever.
+func WithMaxAge(age time.Duration) Option {
+	return func(s *settings) { s.maxAge = age }
+}
+
+// WithOnError sets what is told of a fetch-all that failed. The bundles of before stay in use, for as long as WithMaxAge says,
+// and the next fetch-all comes after the interval, unless the client was closed. If nothing is said, the log of the package log
+// is told.
 func WithOnError(onError func(error)) Option {
 	return func(s *settings) { s.onError = onError }
 }
@@ -92,8 +113,9 @@ func WithOnBadBundle(onBadBundle func(domain string, err error)) Option {
 	return func(s *settings) { s.onBadBundle = onBadBundle }
 }
 
-// NewSource makes a source that follows the store of a client. It waits until a fetch-all has been made or the context has
-// ended; after that the context is not looked at any more. The client stays the caller's.
+// NewSource makes a source that follows the store of a client. It waits until a fetch-all has succeeded or the context has
+// ended; after that the context is not looked at any more. If it has ended, the error is also what the last fetch-all failed of.
+// The client stays the caller's.
 func NewSource(ctx context.Context, client *hopslintel.Client, options ...Option) (*Source, error) {
 	own, cancel := context.WithCancel(context.Background())
 	source := &Source{
@@ -111,7 +133,6 @@ func NewSource(ctx context.Context, client *hopslintel.Client, options ...Option
 	for _, option := range options {
 		option(&source.settings)
 	}
-	source.entries.Store(&map[string]entry{})
 	go source.run(own)
 	select {
 	case <-source.first:
@@ -120,19 +141,30 @@ func NewSource(ctx context.Context, client *hopslintel.Client, options ...Option
 		return nil, fmt.Errorf("hopslintel/spiffe: %w", hopslintel.ErrClosed)
 	case <-ctx.Done():
 		source.Close()
-		return nil, fmt.Errorf("hopslintel/spiffe: no bundles yet: %w", ctx.Err())
+		return nil, fmt.Errorf("hopslintel/spiffe: no bundles yet: %w", source.because(ctx.Err()))
 	}
+}
+
+// because is the error with what the last fetch-all failed of, if it did.
+func (s *Source) because(err error) error {
+	if last := s.failure.Load(); last != nil {
+		return fmt.Errorf("%w: %w", err, last.err)
+	}
+	return err
 }
 
 // run follows the store until the source or the client is closed.
 func (s *Source) run(ctx context.Context) {
 	defer close(s.ended)
 	for ctx.Err() == nil {
-		err := s.client.Follow(ctx, s.settings.interval, s.update, s.settings.onError)
+		err := s.refresh(ctx)
 		if ctx.Err() != nil {
 			return
 		}
-		s.settings.onError(err)
+		if err != nil {
+			s.failure.Store(&failure{err})
+			s.settings.onError(err)
+		}
 		if errors.Is(err, hopslintel.ErrClosed) {
 			return
 		}
@@ -143,35 +175,59 @@ func (s *Source) run(ctx context.Context) {
 	}
 }
 
-// update takes what a fetch-all has found. Canonical texts are equal if and only if the bundles are, so only others are
-// parsed.
-func (s *Source) update(changes hopslintel.Changes) error {
-	before, after := *s.entries.Load(), make(map[string]entry, len(changes.Bundles))
-	for name, text := range changes.Bundles {
-		if old, ok := before[name]; ok && bytes.Equal(old.text, text) {
-			after[name] = old
-			continue
-		}
-		bundle, err := parse(name, text)
-		if err != nil {
-			err = fmt.Errorf("%w: %w", ErrBadBundle, err)
-			s.settings.onBadBundle(name, err)
-		}
-		after[name] = entry{text, bundle, err}
+// refresh makes a fetch-all, which transfers no bundle if nothing has changed. What it finds is as old as its beginning.
+func (s *Source) refresh(ctx context.Context) error {
+	before, at := s.found.Load(), time.Now()
+	fetched, err := s.fetch(ctx, before)
+	if err != nil {
+		return err
 	}
-	s.entries.Store(&after)
-	isFirst := false
-	s.isFirst.Do(func() {
+	after := &found{digest: fetched.Digest, at: at}
+	if fetched.IsSame {
+		after.entries = before.entries
+	} else {
+		after.entries = s.parsed(before, fetched.Bundles)
+	}
+	s.found.Store(after)
+	s.failure.Store(nil)
+	if before == nil {
 		close(s.first)
-		isFirst = true
-	})
-	if !isFirst {
+	} else if !fetched.IsSame {
 		select {
 		case s.updated <- struct{}{}:
 		default:
 		}
 	}
 	return nil
+}
+
+func (s *Source) fetch(ctx context.Context, before *found) (hopslintel.Fetched, error) {
+	if before != nil {
+		return s.client.FetchAllUnless(ctx, before.digest)
+	}
+	reply, err := s.client.Do(ctx, hopslintel.FetchAllRequest())
+	return hopslintel.Fetched{Bundles: reply.Bundles, Digest: reply.Digest}, err
+}
+
+// parsed makes entries of bundles. Canonical texts are equal if and only if the bundles are, so only others than those of
+// before are parsed.
+func (s *Source) parsed(before *found, bundles hopslintel.Bundles) map[string]entry {
+	entries := make(map[string]entry, len(bundles))
+	for name, text := range bundles {
+		if before != nil {
+			if old, ok := before.entries[name]; ok && bytes.Equal(old.text, text) {
+				entries[name] = old
+				continue
+			}
+		}
+		bundle, err := parse(name, text)
+		if err != nil {
+			err = fmt.Errorf("%w: %w", ErrBadBundle, err)
+			s.settings.onBadBundle(name, err)
+		}
+		entries[name] = entry{text, bundle, err}
+	}
+	return entries
 }
 
 func parse(name string, text []byte) (*spiffebundle.Bundle, error) {
@@ -189,12 +245,28 @@ func (s *Source) Close() error {
 	return nil
 }
 
+// LastRefreshed gives the moment at which the last fetch-all began that succeeded: what the store held then is known.
+func (s *Source) LastRefreshed() time.Time {
+	return s.found.Load().at
+}
+
+// isTooOld tells whether what began at a moment is, by one clock or the other: the one that timers go by stands still while a
+// machine sleeps, and somebody may set the other one.
+func (s *Source) isTooOld(at time.Time) bool {
+	now, most := time.Now(), s.settings.maxAge
+	return most > 0 && (now.Sub(at) > most || now.Round(0).Sub(at.Round(0)) > most)
+}
+
 // bundle is that of a trust domain. Nobody may change it.
 func (s *Source) bundle(domain spiffeid.TrustDomain) (*spiffebundle.Bundle, error) {
 	if s.isClosed.Load() {
 		return nil, fmt.Errorf("hopslintel/spiffe: %w", ErrClosed)
 	}
-	found, ok := (*s.entries.Load())[domain.Name()]
+	last := s.found.Load()
+	if s.isTooOld(last.at) {
+		return nil, fmt.Errorf("hopslintel/spiffe: trust domain %q: %w", domain, s.because(ErrTooOld))
+	}
+	found, ok := last.entries[domain.Name()]
 	if !ok {
 		return nil, fmt.Errorf("hopslintel/spiffe: no bundle of trust domain %q: %w", domain, hopslintel.ErrNoDomain)
 	}
@@ -231,12 +303,14 @@ func (s *Source) GetJWTBundleForTrustDomain(domain spiffeid.TrustDomain) (*jwtbu
 	return bundle.JWTBundle(), nil
 }
 
-// Updated gives a channel on which something comes whenever some bundle has changed since NewSource.
+// Updated gives a channel on which something comes whenever some bundle has changed since NewSource. Of several that wait at it
+// one is told.
 func (s *Source) Updated() <-chan struct{} {
 	return s.updated
 }
 
-// WaitUntilUpdated waits until something comes on that channel, or the context has ended.
+// WaitUntilUpdated waits until something comes on that channel, or the context has ended. Of several that wait one is told, as
+// with a source of go-spiffe itself.
 func (s *Source) WaitUntilUpdated(ctx context.Context) error {
 	select {
 	case <-s.updated:

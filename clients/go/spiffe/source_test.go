@@ -104,10 +104,10 @@ func TestBundlesAreKept(t *testing.T) {
 	a := newAuthority(t, "a.example")
 	set(t, client, "a.example", document(t, 1, a.x509Entry(), a.entry(map[string]any{"use": "jwt-svid", "kid": "k"})))
 	source := following(t, client)
-	kept := (*source.entries.Load())["a.example"].bundle
+	kept := source.found.Load().entries["a.example"].bundle
 	set(t, client, "b.example", document(t, 1))
 	check(t, source.WaitUntilUpdated(soon(t)))
-	if (*source.entries.Load())["a.example"].bundle != kept {
+	if source.found.Load().entries["a.example"].bundle != kept {
 		t.Fatal("it was parsed again")
 	}
 	given, err := source.GetBundleForTrustDomain(a.domain)
