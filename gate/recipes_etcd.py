@@ -7,9 +7,10 @@ import re
 import signal
 import subprocess
 
-from checks import SECONDS, Beside, canonical, dump_of, numbered, unused_port, wait_until
+from checks import SECONDS, Beside, Room, bytes_of, canonical, dump_of, numbered, unused_port, wait_until
 from examples import PORT
 from recipe_rooms import A, BLOCKS, BOTH, EXAMPLES, a_store, stop, without_pause
+from recipes_service import analyze
 
 DOMAINS = 2000
 # How often a writer publishes beside a reader.
@@ -136,8 +137,6 @@ def thousands_of_domains():
     replica = Replica(room)
     wait_until(lambda: replica.digest() == digest_of(wanted), "the other machine shows it")
     room.set({name_of(7): numbered(8)})
-    # (snapshots are made beside, and tell of changes)
-    os.mkdir(f"{room.path}/bundles")
     room.start(without_pause(BLOCKS["etcd"][0]), stdout=subprocess.DEVNULL, stderr=subprocess.DEVNULL)
     changed = digest_of(dump_of({**items, name_of(7): numbered(8)}))
     wait_until(lambda: replica.digest() == changed, "it shows the change")
@@ -280,7 +279,7 @@ def a_machine_that_was_away():
     follower.comes_to(dump_of(items), "what was published after etcd was away")
     assert all(it in (dump_of(BOTH), *(dump_of({**items, "a.example": numbered(number)}) for number in range(8, 14))) for it in follower.shown())
     once = room.run(f"{EXAMPLES}/etcd/follow --once dump true")
-    assert (once, room.read("dump")) == ("", dump_of(items))
+    assert (once, room.read("dump")) == ("", dump_of(items)), once
 
 
 def a_command_that_fails():
@@ -293,6 +292,18 @@ def a_command_that_fails():
     assert room.read("tries") == 3 * b"\n"
     room.run(f"{EXAMPLES}/etcd/follow --once dump {command}")
     assert room.read("tries") == 3 * b"\n"
+
+
+def units_are_judged():
+    """systemd takes the units of the pair without a word."""
+    room = Room()
+    paths = []
+    for name in ("hopslintel-publish.service", "hopslintel-follow.service"):
+        text = bytes_of(f"{EXAMPLES}/etcd/{name}").decode().replace("/opt/hopslintel/share/hopslintel", EXAMPLES)
+        paths.append(room.write(name, text.encode()))
+    # (verify looks for manual pages by default)
+    said = analyze("verify", "--man=no", *paths)
+    assert said == "", said
 
 
 def a_config_map():
@@ -308,4 +319,4 @@ def a_config_map():
 
 CHECKS = {it: ["etcd", "etcdctl"] for it in (one_value, thousands_of_domains, a_reader_beside_a_writer, a_torn_publish, one_of_two_publishers,
                                               a_machine_that_was_away, a_command_that_fails)}
-CHECKS[a_config_map] = ["kubectl"]
+CHECKS |= {units_are_judged: ["systemd-analyze"], a_config_map: ["kubectl"]}

@@ -234,9 +234,10 @@ def refreshes_what_is_due():
     wrong = "d.example not fetched\n"
     said = room.run(recipe)
     assert said == wrong, (said, room.read("faults"))
-    assert (served.asked(), room.get("a.example")) == (["a", "b", "d"], canonical("rotation"))
+    # (they are asked side by side)
+    assert (sorted(served.asked()), room.get("a.example")) == (["a", "b", "d"], canonical("rotation"))
     assert room.run(recipe) == ""
-    assert served.asked() == ["a", "b", "d", "d"], "only what could not be fetched is due"
+    assert served.asked()[3:] == ["d"], "only what could not be fetched is due"
     served.serve("d", b'{"keys":[],"spiffe_sequence":3}')
     assert (room.run(recipe), room.get("d.example")) == ("", b'{"keys":[],"spiffe_sequence":3}')
     # An older one, once it is due.
@@ -251,7 +252,7 @@ def refreshes_what_is_due():
     assert room.run(recipe) == ""
     served.serve("d", b"{")
     is_due(room, "d.example")
-    assert room.run(recipe).startswith("d.example bad document ")
+    assert room.run(recipe) == wrong
     # Beside a run that has not ended nothing is done.
     is_due(room, "d.example")
     before = len(served.asked())
@@ -262,10 +263,10 @@ def refreshes_what_is_due():
 
 def is_due(room, domain):
     """As if so much time had passed that the domain is due."""
-    lines = room.read("refreshed").decode()
-    changed = re.sub(rf"^({re.escape(domain)} .*due )\d+", r"\g<1>1", lines, flags=re.M)
+    lines = room.read("due").decode()
+    changed = re.sub(rf"^({re.escape(domain)} )\d+$", r"\g<1>1", lines, flags=re.M)
     assert changed != lines, lines
-    room.write("refreshed", changed.encode())
+    room.write("due", changed.encode())
 
 
 def server_that_is_away(room, recipe):
