@@ -23,7 +23,7 @@ import recipes_systemd  # noqa: E402
 import recipes_tls  # noqa: E402
 from checks import ROOT, SECONDS, dump_of, line_of, pem_of, run_checks, wait_until  # noqa: E402
 from examples import PORT  # noqa: E402
-from recipe_rooms import A, B, BLOCKS, BOTH, Shell, a_store, without_pause  # noqa: E402
+from recipe_rooms import A, B, BLOCKS, BOTH, Shell, a_store, stop, without_pause  # noqa: E402
 
 
 def runs_a_store():
@@ -38,6 +38,25 @@ def runs_a_store():
     for heading in ("Keep what it holds", "More than one machine"):
         room = a_store(recipe=(heading, 0), prepare=lambda it: it.write("dump", kept), is_filled=False)
         assert (room.get("a.example"), room.get("b.example")) == (A, B)
+
+
+def a_store_comes_back():
+    """What it held when it was told to end, and what was dumped before it was killed."""
+    lasting, dump = BLOCKS["A store that comes back"]
+    room = Shell()
+    for number, is_stopped in enumerate((True, False)):
+        server = room.start(f"exec {lasting}", stderr=subprocess.DEVNULL)
+        assert line_of(server) == f"listening {room.port}\n".encode()
+        if number == 0:
+            room.run(BLOCKS["Set one document"][1])
+        assert (room.get("a.example"), room.get("b.example")) == (A, B)
+        if is_stopped:
+            server.terminate()
+            assert server.wait(SECONDS) == 0
+        else:
+            room.run(f"store remove b.example && {dump}")
+            stop(server)
+    assert (room.read("dump"), room.read("dump.1")) == (dump_of({"a.example": A}), dump_of(BOTH))
 
 
 def fills_it_by_refreshes():
@@ -107,19 +126,21 @@ def is_read_in_go():
 
 
 def hands_on_a_folder():
-    """A snapshot again and again, something that is done at each change, and two files that are of one moment."""
-    again, at_changes, together = BLOCKS["A folder of files"]
+    """A snapshot again and again, two files that are of one moment, and something that is done at each change and looked at."""
+    again, together = BLOCKS["A folder of files"]
+    at_changes, look = BLOCKS["Something at each change"]
     room = a_store()
     room.start(again)
     wait_until(lambda: os.path.exists(f"{room.path}/bundles/current"), "the folder shows something")
     assert room.run(together).encode() == pem_of(A) + pem_of(B)
     room = a_store()
-    os.mkdir(f"{room.path}/bundles")
+    room.run(look, status=1)
     room.start(without_pause(at_changes))
     told = lambda: room.read("changes") if os.path.exists(f"{room.path}/changes") else b""
-    wait_until(lambda: told() == b"changed: shown snapshot-1 domains 2\n", "the first snapshot is told")
+    wait_until(lambda: told() == b"shown snapshot-1\n", "the first snapshot is told")
     room.run("store remove b.example")
-    wait_until(lambda: told().endswith(b"changed: shown snapshot-2 domains 1\n"), "the change is told")
+    wait_until(lambda: told().endswith(b"shown snapshot-2\n"), "the change is told")
+    wait_until(lambda: "snapshot-2 " in room.run(look, status=None), "it is known to be done")
 
 
 def hands_on_files():
@@ -210,8 +231,8 @@ def shows_the_race():
 
 
 # Each check, and the programs that its recipes call besides those of any system.
-CHECKS = {runs_a_store: [], fills_it_by_refreshes: [], fills_it_by_hand: [], sets_it_if_it_is_the_one: [], is_read: [],
-          is_read_in_go: ["go"], hands_on_a_folder: [], hands_on_files: [], is_looked_at: [], is_looked_at_with_jq: ["jq"],
+CHECKS = {runs_a_store: [], a_store_comes_back: ["flock"], fills_it_by_refreshes: [], fills_it_by_hand: [], sets_it_if_it_is_the_one: [], is_read: [],
+          is_read_in_go: ["go"], hands_on_a_folder: ["flock"], hands_on_files: [], is_looked_at: [], is_looked_at_with_jq: ["jq"],
           certificates_are_looked_at: ["jq", "openssl"], is_put_right: ["jq"], listens_at_sockets: [], shows_the_race: [],
           **recipes_tls.CHECKS, **recipes_service.CHECKS, **recipes_systemd.CHECKS,
           **recipes_etcd.CHECKS}

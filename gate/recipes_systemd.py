@@ -107,6 +107,11 @@ class Systemd:
         assert status is None or ran.returncode == status, (text, ran.returncode, ran.stdout)
         return ran.stdout
 
+    def write_unit(self, name, *lines):
+        """Writes a unit or a part of one, as whoever runs the machine would."""
+        path = f"/etc/systemd/system/{name}"
+        self.run(f"mkdir -p $(dirname {path}) && cat > {path} <<'END'\n" + "\n".join(lines) + "\nEND")
+
     def over(self, socket, words, status=0, groups="--clear-groups"):
         """What somebody says who asks over a socket: of the group of writers, or of no group."""
         who = ["setpriv", f"--reuid={USER}", f"--regid={USER}", groups]
@@ -132,6 +137,8 @@ def runs_under_systemd():
     assert systemd.over("write", "remove a.example", groups=writers) == "removed\n"
     survives_a_crash(systemd, writers)
     keeps_all_at_a_stop(systemd, writers)
+    tells_another_service(systemd, writers)
+    fails_and_is_told(systemd)
 
 
 def survives_a_crash(systemd, writers):
@@ -153,6 +160,35 @@ def keeps_all_at_a_stop(systemd, writers):
     systemd.run("systemctl start hopslintel.service")
     assert systemd.over("read", "get b.example") == '{"keys":[],"spiffe_sequence":10}\n'
     assert "hopslintel-dump.timer" in systemd.run("systemctl list-timers --no-pager")
+
+
+def tells_another_service(systemd, writers):
+    """A service that verifies by a file is told of each change, also after what tells it was killed."""
+    unit, at = "hopslintel-trust@a.example.service", 'Environment="AT=--socket /run/hopslintel-read.sock"'
+    reload = "ExecReload=/bin/cp /var/lib/hopslintel-trust/a.example.pem /run/seen"
+    systemd.write_unit(f"{unit}.d/at.conf", "[Service]", at)
+    systemd.write_unit("nginx.service", "[Service]", "Type=oneshot", "RemainAfterExit=yes", "ExecStart=/bin/true", reload)
+    systemd.run(f"systemctl daemon-reload && systemctl start nginx.service {unit}")
+    seen = lambda: int(systemd.run("cat /run/seen 2> /dev/null | grep -c BEGIN", status=None))
+    set_to = lambda text: systemd.run(f"printf '%s' '{text}' > documents/a") + systemd.over("write", "set a.example documents/a", groups=writers)
+    assert set_to(canonical("rotation").decode()) == "stored\n"
+    wait_until(lambda: seen() == 3, "it has the authorities, and that of nobody", 2 * SECONDS)
+    systemd.run(f"kill -9 $(systemctl show --property MainPID --value {unit})")
+    assert set_to('{"keys":[]}') == "stored\n"
+    wait_until(lambda: seen() == 1, "it has only that of nobody", 2 * SECONDS)
+
+
+def fails_and_is_told(systemd):
+    """A store whose dumps are all torn is failed after some starts, of which another unit hears; with a whole one it starts."""
+    folder = "/var/lib/private/hopslintel"
+    systemd.write_unit("hopslintel.service.d/told.conf", "[Unit]", "OnFailure=tell-me@%n.service")
+    systemd.write_unit("tell-me@.service", "[Service]", "Type=oneshot", "ExecStart=/bin/sh -c 'echo %i > /run/told'")
+    systemd.run(f"systemctl daemon-reload && systemctl stop hopslintel.service && cd {folder} && cp -p dump kept && head -c 20 kept > dump && : > dump.1")
+    systemd.run("systemctl start hopslintel.service", status=None)
+    wait_until(lambda: systemd.run("systemctl is-failed hopslintel.service", status=None) == "failed\n", "it is failed", 3 * SECONDS)
+    wait_until(lambda: systemd.run("cat /run/told 2> /dev/null", status=None) == "hopslintel.service\n", "it is told")
+    systemd.run(f"mv {folder}/kept {folder}/dump.1 && systemctl reset-failed hopslintel.service && systemctl start hopslintel.service")
+    assert systemd.over("read", "get b.example") == '{"keys":[],"spiffe_sequence":10}\n'
 
 
 CHECKS = {runs_under_systemd: [SYSTEMD, "git", "rt", "unshare", "nsenter", "setpriv", "ip", DEBIAN_PYTHON, f"{UNIFIED}/cgroup.procs",

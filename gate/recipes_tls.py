@@ -122,7 +122,7 @@ def write_at_start(room):
 
 def nginx_follows():
     """Mutual TLS by nginx, whose client is refused once its trust domain has withdrawn its authorities, or is removed."""
-    server, start, follow = BLOCKS["nginx"]
+    server, _, follow, _ = BLOCKS["nginx"]
     peers = Peers()
     room, port = peers.room, unused_port()
     write_at_start(room)
@@ -183,5 +183,5 @@ def is_written(path):
     return os.path.exists(path) and os.path.getsize(path) > 0
 
 
-CHECKS = {nginx_follows: ["openssl", "curl", "nginx"], haproxy_follows: ["openssl", "curl", "haproxy"], openssl_verifies: ["openssl"],
+CHECKS = {nginx_follows: ["openssl", "curl", "nginx", "flock"], haproxy_follows: ["openssl", "curl", "haproxy", "flock"], openssl_verifies: ["openssl", "flock"],
           pyjwt_verifies: [DEBIAN_PYTHON, PYJWT]}
