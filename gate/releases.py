@@ -210,7 +210,7 @@ def it_is_installed_for_a_package():
     room.install("/usr/local/", DESTDIR=f"{room.path}/package")
     assert os.listdir(f"{room.path}/package") == ["usr"]
     unit = bytes_of(f"{room.path}/package/usr/local/lib/systemd/system/hopslintel-dump.service").decode()
-    assert "'/usr/local/bin/bundled ask " in unit, unit
+    assert "\nExecStart=/usr/local/share/hopslintel/dump dump " in unit, unit
 
 
 def install_refuses():
