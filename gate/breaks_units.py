@@ -141,23 +141,23 @@ def a_killed_dump_leaves_whole_ones():
     room = Room()
     store = Store(room.path)
     path = f"{room.path}/dump"
-    moments = [dump_of(BEFORE), dump_of(AFTER)]
-    store.set(BEFORE)
-    run_script(DUMP, path, str(store.port))
-    for number in range(24):
-        store.set(AFTER if number % 2 else BEFORE)
+    moments = []
+    for number in range(1, 25):
+        items = {name: numbered(number) for name in NAMES}
+        store.set(items)
+        moments.append(dump_of(items))
         how = {"stdout": subprocess.DEVNULL, "stderr": subprocess.DEVNULL, "env": environment(), "start_new_session": True}
         dumping = subprocess.Popen([DUMP, path, str(store.port)], **how)
         try:
-            dumping.wait(0.004 * number)
+            dumping.wait(0.004 * (number - 1))
         except subprocess.TimeoutExpired:
             os.killpg(dumping.pid, signal.SIGKILL)
             dumping.wait(SECONDS)
-        assert room.read("dump") in moments, number
-        assert not os.path.exists(f"{path}.1") or room.read("dump.1") in moments, number
+        for name in ("dump", "dump.1"):
+            assert not os.path.exists(f"{room.path}/{name}") or room.read(name) in moments[-3:], (number, name)
         run_script(DUMP, path, str(store.port))
-        assert room.read("dump") == store.holds()
-        assert sorted(it for it in os.listdir(room.path) if it.startswith("dump")) in ALLOWED, os.listdir(room.path)
+        assert room.read("dump") == moments[-1]
+        assert [it for it in sorted(os.listdir(room.path)) if it.startswith("dump")] in ALLOWED, os.listdir(room.path)
 
 
 # What may stand there afterwards: the two dumps, and the files by which runs wait for each other.
