@@ -1,6 +1,6 @@
 -- What comes of one read.
-use Rattle.std.proofs.Common.{◌≡◌, ◌≢◌, ◌+◌, ℕ, List, [], ◌∷◌, Bool, refl, inl, sym, ap, arith, length, subst, append-nil, Result, Ok, Err}
-use Rattle.std.specs.Prelude.{◌<◌, ◌≤◌, true, false, not, Option}
+use Rattle.std.proofs.Common.{◌≡◌, ◌≢◌, ◌+◌, ℕ, List, [], ◌∷◌, Bool, refl, inl, sym, ap, arith, length, append-nil, Result, Ok, Err}
+use Rattle.std.specs.Prelude.{◌<◌, true, false, not, Option}
 use Rattle.std.specs.Io.KnownBytes.{Consumes, Keeps}
 use Rattle.std.proofs.KnownBytes.{Consumes-nil, Consumes-kept}
 use Rattle.wire.specs.declared.error.FrontError.{FrontError}

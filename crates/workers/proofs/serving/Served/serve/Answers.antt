@@ -1,5 +1,4 @@
-use Rattle.std.proofs.Common.{◌≡◌, refl, sym, ap, ◌∙◌}
-use Rattle.std.specs.Prelude.{Some}
+use Rattle.std.proofs.Common.{refl, sym}
 use Rattle.slab.specs.Slab.{get, with_value}
 use Rattle.workers.specs.declared.turn_end.TurnEnd.TheVariants.{Waits, Again}
 use Rattle.workers.specs.Places.{Place}
