@@ -209,6 +209,77 @@ def client_that_never_reads():
         assert (status, out) == (0, "served 2\ndomains 1\n") and err.endswith(f"{told}fault 54\n"), (status, out, err)
 
 
+def client_that_sends_and_never_reads():
+    """A client that reads nothing is given up, though it sends a byte now and then."""
+    server = Lasting("--workers", "1", "--idle", "2", "--log")
+    with server.connect() as stream:
+        stream.sendall(named(b"S", "a", bytes_of(REAL)) + TOO_MANY * GET_A)
+        wait_until_it_writes(stream)
+        told = f"worker 0 session fault 54 from {stream.getsockname()[1]}\n"
+        wait_until(lambda: told in server.said() or send_one_byte(stream), "the client that sends is given up")
+
+
+def send_one_byte(stream):
+    with contextlib.suppress(ConnectionError):
+        stream.sendall(b"\0")
+    time.sleep(0.3)
+
+
+def client_that_begins_a_frame():
+    """A client that sends a byte of its frame now and then, and takes longer for all of it than it may, is given up."""
+    server = Lasting("--workers", "1", "--idle", "2", "--log")
+    with server.connect() as stream:
+        stream.sendall(b"\0\0\xff\xff")
+        told = f"worker 0 session fault 53 from {stream.getsockname()[1]}\n"
+        wait_until(lambda: told in server.said() or send_one_byte(stream), "the client that sends is given up")
+
+
+def client_that_reads_slowly():
+    """A client that takes its replies slowly, but without a pause, is served for as long as it takes."""
+    server, idle, read = Lasting("--workers", "1", "--idle", "5", "--log"), 5, 0
+    with server.connect() as stream:
+        stream.sendall(named(b"S", "a", bytes_of(REAL)) + TOO_MANY * GET_A)
+        wait_until_it_writes(stream)
+        until = time.monotonic() + 4 * idle
+        while time.monotonic() < until:
+            read += len(stream.recv(25_000))
+            time.sleep(0.1)
+        assert "session" not in server.said(), server.said()
+        # More comes than the sockets held at the beginning, and the rest is taken at once.
+        whole = len(STORED) + TOO_MANY * len(frame(b"f" + canonical("many")))
+        while read < whole:
+            read += len(stream.recv(1 << 20)) or whole
+        assert read == whole, f"{read} bytes of {whole}"
+    status, out, err = server.ended()
+    assert (status, out) == (0, "served 1\ndomains 1\n") and "fault" not in err, (status, out, err)
+
+
+def others_are_taken_beside_long_turns():
+    """A worker that is busy with one client keeps no other from being taken: the other worker takes almost all that come."""
+    server, is_over = Lasting("--workers", "2", "--log"), threading.Event()
+    document = 500_000 * b"[" + 500_000 * b"]"
+    busy = Beside("the client of long turns", send_again_and_again, server, named(b"S", "a", document), is_over)
+    wait_until(lambda: int(server.of_system("VmRSS")) > 8_000, "a document is read")
+    took = [seconds_of(lambda: server.ask(GET_A), NO_DOMAIN) for _ in range(30)]
+    is_over.set()
+    busy.join()
+    wait_until(lambda: server.said().count("session ended after 1 replies") == len(took), "each end is told")
+    by_worker = [len(re.findall(f"worker {worker} session ended after 1 replies", server.said())) for worker in range(2)]
+    assert max(by_worker) >= 25, by_worker
+    assert server.ended()[1] == "served 31\ndomains 0\n", "ended otherwise"
+    return f"; {max(by_worker)} of {len(took)} by one worker, {answered_soon(took)}"
+
+
+def send_again_and_again(server, request, is_over):
+    """Sends a request without pause until it is over, and reads the replies beside that."""
+    with server.connect() as stream:
+        reader = Beside("the reader of long turns", read_all, stream)
+        while not is_over.is_set():
+            stream.sendall(request)
+        stream.shutdown(socket.SHUT_WR)
+        reader.join()
+
+
 def wait_until_it_writes(stream):
     """Waits until the server has written much that is not read, and leaves that there."""
     wait_until(lambda: len(stream.recv(1 << 16, socket.MSG_PEEK)) == 1 << 16, "there is much to read")
@@ -541,6 +612,7 @@ def set_until_it_ends(server, number, stored, is_over):
 
 CHECKS = [two_workers, one_after_the_other, workers_without_threads, reads_that_are_counted, side_by_side, real_bundles,
           filled_stores, clients_that_fail, many_workers, ports_and_outputs, silent_clients, client_that_never_reads,
+          client_that_sends_and_never_reads, client_that_begins_a_frame, client_that_reads_slowly, others_are_taken_beside_long_turns,
           replies_before_a_bad_length, stops_at_the_end_of_input, keeps_the_last_map, cannot_keep_the_last_map, told_changes, told_refusals_of_a_port, more_clients_than_descriptors, a_thousand_connections, connections_in_wait,
           read_only_port, one_client_that_asks_steadily, flood_beside_others, stops_while_clients_write]
 

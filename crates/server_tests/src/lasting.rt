@@ -6,6 +6,7 @@ mod logs;
 mod memory;
 mod ports;
 mod shares;
+mod silence;
 mod stops;
 mod threads;
 mod turns;

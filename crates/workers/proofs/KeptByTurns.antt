@@ -13,7 +13,7 @@ use Rattle.map_core.specs.Op.{is_read}
 use Rattle.workers.specs.AtPort.{PortAnswer}
 use Rattle.workers.specs.Connection.{ConnectionView, Turn, turn_rounds, last_rounds}
 use Rattle.workers.specs.declared.turn_end.TurnEnd.{TurnEnd}
-use Rattle.workers.specs.Places.{Places, Step, Opens, Turns, Misses, Ticks, Closes, GivesUp, Ends, Fails, Takes, TakesAll, ServedAll, nobody}
+use Rattle.workers.specs.Places.{Places, Step, Opens, Turns, Misses, Ticks, Skips, Spares, Closes, GivesUp, Ends, Fails, Takes, TakesAll, ServedAll, nobody}
 
 module _ {S : Type 0} (answers : S → Op → Result Reply AskError → S → Type 0) (Keeps : S → S → Type 0)
     (same : (s : S) → Keeps s s) (further : (s t u : S) → Keeps s t → Keeps t u → Keeps s u)
@@ -54,7 +54,9 @@ module _ {S : Type 0} (answers : S → Op → Result Reply AskError → S → Ty
   step_keeps (Opens place start reads_only) old new a = stays old.1 new.1 a.3
   step_keeps (Turns place ready after) old new a = turn_keeps turn_rounds a.0.reads_only after _ a.1.connection old.1 new.1 a.4
   step_keeps (Misses place is_closing) old new a = stays old.1 new.1 a.2
-  step_keeps Ticks old new a = stays old.1 new.1 a.1
+  step_keeps (Ticks places) old new a = stays old.1 new.1 a.2
+  step_keeps (Skips place) old new a = stays old.1 new.1 a.2
+  step_keeps (Spares place most) old new a = stays old.1 new.1 a.2
   step_keeps (Closes place result) old new a = stays old.1 new.1 a.5
   step_keeps (GivesUp place ticks error) old new a = stays old.1 new.1 a.6
   step_keeps (Ends place result) old new a = turn_keeps last_rounds a.0.reads_only a.3.0 _ a.1 old.1 new.1 a.3.1

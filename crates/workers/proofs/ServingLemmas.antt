@@ -1,6 +1,6 @@
 -- How turns and ends of connections are steps of a worker.
 use Rattle.std.proofs.Common.{◌≡◌, ◌≤◌, ℕ, List, [], ◌∷◌, ◌++◌, refl, sym, ap, ◌∙◌, subst, length, get_or, inl, inr, ◌<◌, ◌+◌, arith, Result, Ok, Err}
-use Rattle.std.specs.Prelude.{Option, Some, None, IsSome, Bool, OnOk, is_some, ◌⊎◌}
+use Rattle.std.specs.Prelude.{suc, Option, Some, None, IsSome, Bool, OnOk, is_some, ◌⊎◌}
 use Rattle.std.specs.List.{AllByRecursion}
 use Rattle.std.proofs.lemmas.Bool.{cases_lt}
 use Rattle.std.proofs.lemmas.List.{get_or_past}
@@ -10,7 +10,7 @@ use Rattle.map_core.specs.declared.op.Op.{Op}
 use Rattle.map_core.specs.declared.reply.Reply.{Reply}
 use Rattle.map_core.specs.declared.reply.AskError.{AskError}
 use Rattle.wire.specs.declared.error.FrontError.{FrontError}
-use Rattle.workers.specs.Connection.{ConnectionView, LastTurn, Owes, StopsFor, Turn, ended, last_rounds, opened, told, turn_rounds}
+use Rattle.workers.specs.Connection.{ConnectionView, LastTurn, Owes, StopsFor, Turn, ended, last_rounds, opened, silent_after, told, turn_rounds}
 use Rattle.workers.specs.Stream.{StreamLimits}
 use Rattle.workers.specs.declared.turn_end.TurnEnd.{TurnEnd}
 use Rattle.workers.specs.declared.turn_end.TurnEnd.TheVariants.{Over}
@@ -19,7 +19,7 @@ use Rattle.workers.specs.declared.at_port.AtPort.{AtPort}
 use Rattle.workers.specs.Arrivals.{News, NewClient, IsReady, HasTicked, HasFailed}
 use Rattle.workers.specs.declared.limits.Limits.{Limits}
 use Rattle.workers.specs.Ended.{EndsView, Notes}
-use Rattle.workers.specs.Places.{Place, Places, Step, Opens, Turns, Misses, Ticks, Closes, GivesUp, Ends, Fails, AllStay, AllTick, Follows, IsGivenUp, IsLast, OthersStay, ServesFirst, TakesAll, told_by, closing_of, front_end, ticked, turn_steps, waiting_after, without}
+use Rattle.workers.specs.Places.{Place, Places, Step, Opens, Turns, Misses, Ticks, Skips, Spares, Closes, GivesUp, Ends, Fails, AllStay, AllTick, Follows, HasNoReplies, IsLast, IsSpared, Judges, JudgesAll, OthersStay, ServesFirst, TakesAll, TriesWrite, told_by, closing_of, front_end, ticked, turn_steps, waiting_after, without}
 use Rattle.workers.specs.Private.Serving.{AreOpen, Asks, HadTurn, HadLastTurn, IsTurn, NobodyThere, Serves, Work}
 use Rattle.workers.proofs.SimulatedTurns.{turn_seen}
 use Rattle.workers.proofs.StepLemmas.{all_stay, all_then, serves_as, serves_none, serves_one, serves_quietly, serves_then, stay_then}
@@ -54,13 +54,18 @@ module _ {S : Type 0} (answers : S → Op → Result Reply AskError → S → Ty
       (turn_seen (AtItsPort answers) (PortAnswer answers reads_only) (λ s. s.ask) (λ s. s.reads_only ≡ reads_only)
       (λ s op answer t stays a. (a.0 ∙ stays, subst (λ r. PortAnswer answers r s.ask op answer t.ask) stays a.1)) rounds after a b s t at turn).1
 
+abbrev place_of : ConnectionView → (reads_only : Bool) → (silent : ℕ) → Place
+place_of connection reads_only silent = record { connection = connection; reads_only = reads_only; silent = silent }
+
 -- the connection at a place has a turn
-pub has_turn : {S : Type 0} (answers : S → Op → Result Reply AskError → S → Type 0) (slab : Slab Place) (place : ℕ) (is_closing : Bool) (after : TurnEnd) (p : Place) (c : ConnectionView) (s t : AtPort S)
-    → get slab place ≡ Some p → s.reads_only ≡ p.reads_only → Turn turn_rounds (AtItsPort answers) after (told is_closing p.connection) c s t
-    → HadTurn answers place is_closing (Some after) (get slab) (get (with_value slab place (record { connection = c; reads_only = p.reads_only; silent = 0 }))) s.ask t.ask
-has_turn answers slab place is_closing after p c s t was at turn =
-    let put = put_back slab place p (record { connection = c; reads_only = p.reads_only; silent = 0 }) was in
-    record { before = p; behind = c; was = was; is = put.changed; does = turn_behind answers turn_rounds after (told is_closing p.connection) c p.reads_only s t at turn; others = put.others }
+pub has_turn : {S : Type 0} (answers : S → Op → Result Reply AskError → S → Type 0) (slab : Slab Place) (place : ℕ) (is_closing : Bool) (after : TurnEnd) (p q : Place) (s t : S)
+    → get slab place ≡ Some p → Turn turn_rounds (PortAnswer answers p.reads_only) after (told is_closing p.connection) q.connection s t
+    → q.reads_only ≡ p.reads_only → q.silent ≡ silent_after p.connection q.connection p.silent
+    → HadTurn answers place is_closing (Some after) (get slab) (get (with_value slab place q)) s t
+has_turn answers slab place is_closing after p q s t was turn reads silent =
+    let put = put_back slab place p q was in
+    let is : q ≡ place_of q.connection p.reads_only (silent_after p.connection q.connection p.silent) = ap (λ (b : Bool). place_of q.connection b q.silent) reads ∙ ap (place_of q.connection p.reads_only) silent in
+    record { before = p; behind = q.connection; was = was; is = put.changed ∙ ap Some is; does = turn; others = put.others }
 
 -- or its last turn
 pub has_last_turn : {S : Type 0} (answers : S → Op → Result Reply AskError → S → Type 0) (slab : Slab Place) (place : ℕ) (end : Result ℕ FrontError) (p : Place) (c : ConnectionView) (s t : AtPort S)
@@ -97,7 +102,7 @@ module _ {S : Type 0} (answers : S → Op → Result Reply AskError → S → Ty
       → Serves answers limits (λ steps. steps ≡ Turns place ready after ∷ []) old new s t
   had_turn place is_closing ready found after old new s t is closes h waits kept =
       serves_quietly answers limits (λ steps. steps ≡ Turns place ready after ∷ []) (Turns place ready after) old new s t refl
-      (h.before, record { connection = h.behind; reads_only = h.before.reads_only; silent = 0 }, h.was, h.is, told_so, refl, refl, h.others) waits refl kept tt
+      (h.before, record { connection = h.behind; reads_only = h.before.reads_only; silent = silent_after h.before.connection h.behind h.before.silent }, h.was, h.is, told_so, refl, refl, h.others) waits refl kept tt
     where
       told_so : Turn turn_rounds (PortAnswer answers h.before.reads_only) after (told (closing_of ready) h.before.connection) h.behind s t
       told_so =
@@ -125,7 +130,7 @@ module _ {S : Type 0} (answers : S → Op → Result Reply AskError → S → Ty
       (λ xs ys line p q. is_turn place ready (Over end) (old.places place) h.before (xs ++ ys) h.was (ap (λ (l : List Step). l ++ ys) p ∙ ap (λ (l : List Step). turn ++ l) q))
       (had_turn place is_closing ready found (Over end) old mid s t is closes h waits kept)
       (serves_one answers limits (λ steps. steps ≡ close) (Closes place end) mid new t t refl
-      (record { connection = h.behind; reads_only = h.before.reads_only; silent = 0 }, h.is, ends, left, others, refl) leaves notes tt)
+      (record { connection = h.behind; reads_only = h.before.reads_only; silent = silent_after h.before.connection h.behind h.before.silent }, h.is, ends, left, others, refl) leaves notes tt)
     where
       ends : StopsFor end h.behind
       ends = (subst (λ a. Turn turn_rounds (PortAnswer answers h.before.reads_only) a (told is_closing h.before.connection) h.behind s t) is h.does).why
@@ -139,27 +144,64 @@ module _ {S : Type 0} (answers : S → Op → Result Reply AskError → S → Ty
       serves_quietly answers limits (IsTurn place (Some b) (old.places place)) (Misses place b) old new s t
       (subst (λ (o : Option Place). IsTurn place (Some b) o (Misses place b ∷ [])) (sym n.0) refl) (n.0, n.1, n.2) waits refl kept tt
 
-  -- clients may be given up in any run
-  given_up_anywhere : (steps : List Step) (p q : Places) (s : S) → AllByRecursion IsGivenUp steps → TakesAll Asks steps (p, tt) (q, tt) → TakesAll answers steps (p, s) (q, s)
-  given_up_anywhere [] p q s all a = (a.0, refl)
-  given_up_anywhere (GivesUp place ticks error ∷ steps) p q s all a =
-      let one = a.1 in
-      ((a.0.0, s), (one.0, one.1, one.2, one.3, one.4, one.5, refl), given_up_anywhere steps a.0.0 q s all.1 a.2)
-  given_up_anywhere (Opens place start reads_only ∷ steps) p q s all a = absurd all.0
-  given_up_anywhere (Turns place ready after ∷ steps) p q s all a = absurd all.0
-  given_up_anywhere (Misses place is_closing ∷ steps) p q s all a = absurd all.0
-  given_up_anywhere (Ticks ∷ steps) p q s all a = absurd all.0
-  given_up_anywhere (Closes place result ∷ steps) p q s all a = absurd all.0
-  given_up_anywhere (Ends place result ∷ steps) p q s all a = absurd all.0
-  given_up_anywhere (Fails ∷ steps) p q s all a = absurd all.0
+  still_anywhere : (p q : Places) (s : S) → TakesAll Asks [] (p, tt) (q, tt) → TakesAll answers [] (p, s) (q, s)
+  still_anywhere p q s a = (a.0, refl)
 
-  -- a tick is counted, and then clients are given up
-  pub tick_serves : (old mid new : Work) (s : S) → AllTick old.places mid.places → mid.waiting ≡ old.waiting → mid.kept ≡ old.kept → Serves Asks limits (AllByRecursion IsGivenUp) mid new tt tt
-      → Serves answers limits (Follows HasTicked) old new s s
-  tick_serves old mid new s ticks waits kept l =
-      serves_then answers limits (λ steps. steps ≡ Ticks ∷ []) (AllByRecursion IsGivenUp) (Follows HasTicked) old mid new s s s (λ xs ys line p q. (ys, ap (λ (l : List Step). l ++ ys) p, q))
-      (serves_quietly answers limits (λ steps. steps ≡ Ticks ∷ []) Ticks old mid s s refl (ticks, refl) waits refl kept tt)
-      (record { steps = l.steps; are = l.are; takes = given_up_anywhere l.steps mid.places new.places s l.are l.takes; waits = l.waits; notes = l.notes; limited = l.limited })
+  -- clients may be judged in any run
+  judged_anywhere : (place : ℕ) (steps : List Step) (p q : Places) (s : S) → Judges place steps → TakesAll Asks steps (p, tt) (q, tt) → TakesAll answers steps (p, s) (q, s)
+  judged_anywhere place steps p q s (inl spared) a =
+      subst (λ (l : List Step). TakesAll Asks l (p, tt) (q, tt) → TakesAll answers l (p, s) (q, s)) (sym spared.1)
+      (λ b. ((b.0.0, s), (b.1.0, b.1.1, refl), still_anywhere b.0.0 q s b.2)) a
+  judged_anywhere place steps p q s (inr given_up) a =
+      subst (λ (l : List Step). TakesAll Asks l (p, tt) (q, tt) → TakesAll answers l (p, s) (q, s)) (sym given_up.2)
+      (λ b. ((b.0.0, s), (b.1.0, b.1.1, b.1.2, b.1.3, b.1.4, b.1.5, refl), still_anywhere b.0.0 q s b.2)) a
+
+  judges : (place : ℕ) (old new : Work) (s : S) → Serves Asks limits (Judges place) old new tt tt → Serves answers limits (Judges place) old new s s
+  judges place old new s j =
+      record { steps = j.steps; are = j.are; takes = judged_anywhere place j.steps old.places new.places s j.are j.takes; waits = j.waits; notes = j.notes; limited = j.limited }
+
+  -- A tick is counted, and so many places have been judged since.
+  abbrev pub TicksTo : (places place : ℕ) → List Step → Type 0
+  TicksTo places place steps = (judged : List Step) × (steps ≡ Ticks places ∷ judged) × JudgesAll place judged
+
+  -- a tick is counted
+  pub ticks_serve : (places : ℕ) (old new : Work) (s : S) → AllTick old.places new.places → ((place : ℕ) → places ≤ place → old.places place ≡ None) → new.waiting ≡ old.waiting → new.kept ≡ old.kept
+      → Serves answers limits (TicksTo places 0) old new s s
+  ticks_serve places old new s ticks beyond waits kept =
+      serves_quietly answers limits (TicksTo places 0) (Ticks places) old new s s ([], refl, refl) (ticks, beyond, refl) waits refl kept tt
+
+  -- one place more is judged
+  pub ticks_more : (places place : ℕ) (a b c d : Work) (s t u : S) → Serves answers limits (TicksTo places place) a b s t → Serves answers limits (TriesWrite place) b c t u
+      → Serves Asks limits (Judges place) c d tt tt → Serves answers limits (TicksTo places (place + 1)) a d s u
+  ticks_more places place a b c d s t u before tries judged =
+      serves_then answers limits (TicksTo places place) Both (TicksTo places (place + 1)) a b d s t u
+      (λ xs ys waits p q. (p.0 ++ ys, ap (λ (l : List Step). l ++ ys) p.1, subst (λ (n : ℕ). JudgesAll n (p.0 ++ ys)) next (p.0, q.0, q.1, ap (λ (l : List Step). p.0 ++ l) q.2, p.2, q.3, q.4))) before
+      (serves_then answers limits (TriesWrite place) (Judges place) Both b c d t u u (λ xs ys waits p q. (xs, ys, refl, p, q)) tries (judges place c d u judged))
+    where
+      next : suc place ≡ place + 1
+      next = omega arith
+
+      Both : List Step → Type 0
+      Both steps = (write : List Step) × (judge : List Step) × (steps ≡ write ++ judge) × TriesWrite place write × Judges place judge
+
+  pub ticks_follow : (places place : ℕ) (old new : Work) (s t : S) → place ≡ places → Serves answers limits (TicksTo places place) old new s t → Serves answers limits (Follows HasTicked) old new s t
+  ticks_follow places place old new s t all done =
+      serves_as answers limits (TicksTo places place) (Follows HasTicked)
+      (λ steps p. (places, p.0, p.1, subst (λ (n : ℕ). JudgesAll n p.0) all p.2)) old new s t done
+
+  -- no write is tried where no reply waits
+  pub skips_write : (place : ℕ) (old : Work) (s : S) → HasNoReplies (old.places place) → Serves answers limits (TriesWrite place) old old s s
+  skips_write place old s none =
+      serves_quietly answers limits (TriesWrite place) (Skips place) old old s s (inl refl) (none, all_stay old.places, refl) refl refl refl tt
+
+  -- or the connection there has a turn
+  pub tries_write : (place : ℕ) (old new : Work) (s t : S) → IsSome (old.places place) → Serves answers limits (IsTurn place None (old.places place)) old new s t → Serves answers limits (TriesWrite place) old new s t
+  tries_write place old new s t there turn =
+      serves_as answers limits (IsTurn place None (old.places place)) (TriesWrite place) (tried (old.places place) there) old new s t turn
+    where
+      tried : (o : Option Place) → IsSome o → (steps : List Step) → IsTurn place None o steps → TriesWrite place steps
+      tried (Some p) there steps is = inr is
+      tried None there steps is = cc
 
   -- a free place is taken
   pub take_serves : (place : ℕ) (may : StreamLimits) (left held : Option (List ℕ)) (reads_only : Bool) (old new : Work) (s : S) → old.places place ≡ None
@@ -192,19 +234,17 @@ first_served places (first ∷ others) place steps are_there some is turn =
     there None some_there t = cc
 
 module _ (limits : Limits) where
-  pub leaves_none : (old : Work) → Serves Asks limits (AllByRecursion IsGivenUp) old old tt tt
-  leaves_none old = serves_none Asks limits (AllByRecursion IsGivenUp) old old tt tt tt (all_stay old.places) refl refl refl
+  -- a client is spared
+  pub spares : (place : ℕ) (old : Work) → IsSpared limits.most_silent (old.places place) → Serves Asks limits (Judges place) old old tt tt
+  spares place old spared =
+      serves_quietly Asks limits (Judges place) (Spares place limits.most_silent) old old tt tt (inl (limits.most_silent, refl)) (spared, all_stay old.places, refl) refl refl refl refl
 
-  pub leaves_then : (a b c : Work) → Serves Asks limits (AllByRecursion IsGivenUp) a b tt tt → Serves Asks limits (AllByRecursion IsGivenUp) b c tt tt → Serves Asks limits (AllByRecursion IsGivenUp) a c tt tt
-  leaves_then a b c p q =
-      serves_then Asks limits (AllByRecursion IsGivenUp) (AllByRecursion IsGivenUp) (AllByRecursion IsGivenUp) a b c tt tt tt (λ xs ys waits m n. all_then IsGivenUp xs ys m n) p q
-
-  -- a client is given up
-  pub leaves_one : (place : ℕ) (error : FrontError) (old new : Work) (p : Place) → old.places place ≡ Some p → Owes (Some error) p.connection → limits.most_silent ≤ p.silent
+  -- or given up
+  pub gives_up : (place : ℕ) (error : FrontError) (old new : Work) (p : Place) → old.places place ≡ Some p → Owes (Some error) p.connection → limits.most_silent ≤ p.silent
       → new.places place ≡ None → OthersStay place old.places new.places → new.waiting ≡ without place old.waiting → Notes (front_end (Err error) ∷ []) old.kept new.kept
-      → Serves Asks limits (AllByRecursion IsGivenUp) old new tt tt
-  leaves_one place error old new p was owes long left others leaves notes =
-      serves_one Asks limits (AllByRecursion IsGivenUp) (GivesUp place p.silent error) old new tt tt (tt, tt) (p, was, owes, refl, left, others, refl) leaves notes long
+      → Serves Asks limits (Judges place) old new tt tt
+  gives_up place error old new p was owes long left others leaves notes =
+      serves_one Asks limits (Judges place) (GivesUp place p.silent error) old new tt tt (inr (p.silent, error, refl)) (p, was, owes, refl, left, others, refl) leaves notes long
 
 -- ---- places one after the other
 

@@ -17,7 +17,7 @@ use Rattle.map_core.specs.Op.{is_read}
 use Rattle.workers.specs.AtPort.{PortAnswer}
 use Rattle.workers.specs.Connection.{ConnectionView, Turn, turn_rounds, last_rounds}
 use Rattle.workers.specs.declared.turn_end.TurnEnd.{TurnEnd}
-use Rattle.workers.specs.Places.{Places, Step, Opens, Turns, Misses, Ticks, Closes, GivesUp, Ends, Fails, Takes, TakesAll, ServedAll, nobody}
+use Rattle.workers.specs.Places.{Places, Step, Opens, Turns, Misses, Ticks, Skips, Spares, Closes, GivesUp, Ends, Fails, Takes, TakesAll, ServedAll, nobody}
 
 module _ {S T : Type 0} (answers : S → Op → Result Reply AskError → S → Type 0) (answers_seen : T → Op → Result Reply AskError → T → Type 0)
     (seen : S → T) (Stays : S → Type 0)
@@ -88,6 +88,7 @@ module _ {S T : Type 0} (answers : S → Op → Result Reply AskError → S → 
           does = all.1;
           consumes = t.consumes;
           appends = t.appends;
+          written = t.written;
           makes = t.makes;
           answered = t.answered;
           share = t.share;
@@ -128,7 +129,9 @@ module _ {S T : Type 0} (answers : S → Op → Result Reply AskError → S → 
       let t = port_turn_seen turn_rounds a.0.reads_only after _ a.1.connection old.1 new.1 stays a.4 in
       (t.0, (a.0, a.1, a.2, a.3, t.1, a.5, a.6, a.7))
   step_seen (Misses place is_closing) old new stays a = (subst Stays (sym a.2) stays, (a.0, a.1, ap seen a.2))
-  step_seen Ticks old new stays a = (subst Stays (sym a.1) stays, (a.0, ap seen a.1))
+  step_seen (Ticks places) old new stays a = (subst Stays (sym a.2) stays, (a.0, a.1, ap seen a.2))
+  step_seen (Skips place) old new stays a = (subst Stays (sym a.2) stays, (a.0, a.1, ap seen a.2))
+  step_seen (Spares place most) old new stays a = (subst Stays (sym a.2) stays, (a.0, a.1, ap seen a.2))
   step_seen (Closes place result) old new stays a = (subst Stays (sym a.5) stays, (a.0, a.1, a.2, a.3, a.4, ap seen a.5))
   step_seen (GivesUp place ticks error) old new stays a = (subst Stays (sym a.6) stays, (a.0, a.1, a.2, a.3, a.4, a.5, ap seen a.6))
   step_seen (Ends place result) old new stays a =

@@ -7,7 +7,7 @@ use Rattle.std.proofs.lemmas.List.Sums.{fold-append}
 use Rattle.map_core.specs.declared.op.Op.{Op}
 use Rattle.map_core.specs.declared.reply.Reply.{Reply}
 use Rattle.map_core.specs.declared.reply.AskError.{AskError}
-use Rattle.workers.specs.Places.{Places, Step, Opens, Turns, Misses, Ticks, Closes, GivesUp, Ends, Fails, GoesSoFar, OthersStay, AllStay, Takes, TakesAll, told_all, told_by, ticked, waiting_after}
+use Rattle.workers.specs.Places.{Places, Step, Opens, Turns, Misses, Ticks, Skips, Spares, Closes, GivesUp, Ends, Fails, GoesSoFar, HasNoReplies, IsSpared, OthersStay, AllStay, Takes, TakesAll, told_all, told_by, ticked, waiting_after}
 use Rattle.workers.specs.Private.Serving.{Serves, Work}
 use Rattle.workers.specs.declared.limits.Limits.{Limits}
 use Rattle.workers.specs.Ended.{EndsView, Notes, kept_of}
@@ -41,7 +41,9 @@ module _ {S : Type 0} (answers : S → Op → Result Reply AskError → S → Ty
   step_from (Opens place start reads_only) old also s new same a = (same place ∙ a.0, a.1, λ other else. a.2 other else ∙ sym (same other), a.3)
   step_from (Turns place ready after) old also s new same a = (a.0, a.1, same place ∙ a.2, a.3, a.4, a.5, a.6, λ other else. a.7 other else ∙ sym (same other))
   step_from (Misses place is_closing) old also s new same a = (same place ∙ a.0, λ other. a.1 other ∙ sym (same other), a.2)
-  step_from Ticks old also s new same a = (λ place. a.0 place ∙ ap ticked (sym (same place)), a.1)
+  step_from (Ticks places) old also s new same a = (λ place. a.0 place ∙ ap ticked (sym (same place)), λ place far. same place ∙ a.1 place far, a.2)
+  step_from (Skips place) old also s new same a = (subst HasNoReplies (sym (same place)) a.0, λ other. a.1 other ∙ sym (same other), a.2)
+  step_from (Spares place most) old also s new same a = (subst (IsSpared most) (sym (same place)) a.0, λ other. a.1 other ∙ sym (same other), a.2)
   step_from (Closes place result) old also s new same a = (a.0, same place ∙ a.1, a.2, a.3, λ other else. a.4 other else ∙ sym (same other), a.5)
   step_from (GivesUp place ticks error) old also s new same a = (a.0, same place ∙ a.1, a.2, a.3, a.4, λ other else. a.5 other else ∙ sym (same other), a.6)
   step_from (Ends place result) old also s new same a = (a.0, a.1, same place ∙ a.2, a.3, a.4, λ other else. a.5 other else ∙ sym (same other))

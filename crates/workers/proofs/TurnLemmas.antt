@@ -19,7 +19,7 @@ use Rattle.workers.specs.Connection.{ConnectionView, EndsFor, EndsHere, EndsShor
 use Rattle.workers.specs.Reads.{reads_for, reads_of}
 use Rattle.workers.specs.Stream.{StreamLimits}
 use Rattle.workers.specs.declared.limited.Limited.{Limited}
-use Rattle.workers.specs.Private.Limited.{stream_of, turns_of}
+use Rattle.workers.specs.Private.Limited.{stream_of, turns_of, written_of}
 use Rattle.workers.specs.Private.Goes.{Goes, GoesOn, ReadsAs, Round, StaysShort, StaysSo, StopsIn}
 use Rattle.workers.proofs.ReadLemmas.{makes_then}
 
@@ -28,6 +28,7 @@ abbrev pub view_of : {E : Type 0} (may : E → StreamLimits) (left held : E → 
 view_of may left held live answered end has_ended has_lost is_closing = record {
   live = live;
   answered = answered;
+  written = written_of end;
   turns = turns_of end;
   has_ended = has_ended;
   has_lost = has_lost;
@@ -45,7 +46,7 @@ pub reads_append : (xs ys : List LiveCall) → reads_of (xs ++ ys) ≡ reads_of 
 reads_append [] ys = omega arith
 reads_append (x ∷ xs) ys = omega (arith, reads_append xs ys)
 
-sent_append : (xs ys : List LiveCall) → length (sent (xs ++ ys)) ≡ length (sent xs) + length (sent ys)
+pub sent_append : (xs ys : List LiveCall) → length (sent (xs ++ ys)) ≡ length (sent xs) + length (sent ys)
 sent_append xs ys = ap length (flat_map-append bytes_of xs ys) ∙ length-append (sent xs) (sent ys)
 
 -- a round more
@@ -134,6 +135,7 @@ module _ {S : Type 0} (answers : S → Op → Result Reply AskError → S → Ty
           (Consumes-trans a.left b.left c.left (fed p.calls ++ []) (fed q.calls ++ lost) p.consumes q.consumes);
       appends = subst (Appends a.held c.held) (sym (flat_map-append bytes_of p.calls q.calls))
           (Appends-trans a.held b.held c.held (sent p.calls) (sent q.calls) p.appends q.appends);
+      written = omega (arith, p.written, q.written, sent_append p.calls q.calls);
       makes = makes_then (reads_of p.calls + 0) (reads_of q.calls + reads_for lost) (reads_of (p.calls ++ q.calls) + reads_for lost) a b c p.makes q.makes
           (omega (arith, reads_append p.calls q.calls));
       answered = omega (arith, p.answered, q.answered, frames_append p.calls q.calls);
@@ -168,6 +170,7 @@ module _ {S : Type 0} (answers : S → Op → Result Reply AskError → S → Ty
         does = q.does;
         consumes = q.consumes;
         appends = q.appends;
+        written = q.written;
         makes = q.makes;
         answered = q.answered;
         share = omega (arith, q.share);
@@ -191,14 +194,15 @@ module _ {S : Type 0} (answers : S → Op → Result Reply AskError → S → Ty
 
   -- frames are answered, and replies written
   pub round_sent : (answered : Answered) (bytes : List ℕ) (live : LiveView) (a c : ConnectionView) (m n : S) → LiveAnswers answers answered a.live live m n → answered.frames ≤ most_frames
-      → Sends bytes live c.live → Appends a.held c.held bytes → c.left ≡ a.left → c.turns ≡ a.turns → c.answered ≡ counted (a.answered + answered.frames) → StaysSo a c
+      → Sends bytes live c.live → Appends a.held c.held bytes → c.written ≡ counted (a.written + length bytes) → c.left ≡ a.left → c.turns ≡ a.turns → c.answered ≡ counted (a.answered + answered.frames) → StaysSo a c
       → c.has_lost ≡ a.has_lost → HasSent bytes a c m n
-  round_sent answered bytes live a c m n does few sends appends left turns count stays lost =
+  round_sent answered bytes live a c m n does few sends appends written left turns count stays lost =
       let goes : Goes answers most_frames [] a c m n = record {
         calls = Answer answered ∷ Send bytes ∷ [];
         does = ((live, n), does, ((c.live, n), (sends, refl), refl));
         consumes = subst (λ (l : Option (List ℕ)). Consumes a.left l []) (sym left) (Consumes-nil a.left);
         appends = subst (Appends a.held c.held) (sym (append-nil bytes)) appends;
+        written = omega (arith, written, length-append bytes []);
         makes = omega (arith, turns);
         answered = omega (arith, count);
         share = omega (arith, few);
@@ -221,6 +225,7 @@ module _ {S : Type 0} (answers : S → Op → Result Reply AskError → S → Ty
         does = ((c.live, n), (q.feeds, refl), refl);
         consumes = subst (λ (l : List ℕ). Consumes b.left c.left (l ++ q.lost)) (sym (append-nil q.piece)) q.consumes;
         appends = subst (λ (l : Option (List ℕ)). Appends b.held l []) (sym q.held) (Appends-nil b.held);
+        written = omega (arith, p.written, q.written);
         makes = subst (λ n. MakesReads n b c) (omega arith) q.makes;
         answered = omega (arith, p.answered, q.answered);
         share = omega arith;
@@ -255,6 +260,7 @@ module _ {S : Type 0} (answers : S → Op → Result Reply AskError → S → Ty
         does = goes.does;
         consumes = goes.consumes;
         appends = goes.appends;
+        written = goes.written;
         makes = goes.makes;
         answered = goes.answered;
         share = omega (arith, goes.share, few);
@@ -284,6 +290,7 @@ module _ {S : Type 0} (answers : S → Op → Result Reply AskError → S → Ty
         does = goes.does;
         consumes = goes.consumes;
         appends = goes.appends;
+        written = goes.written;
         makes = goes.makes;
         answered = goes.answered;
         share = subst (λ r. frames_of goes.calls ≤ r * most_frames) all goes.share;

@@ -1,5 +1,5 @@
 -- A connection, and what one turn of it does.
-use Rattle.std.specs.Prelude.{◌≡◌, ◌≢◌, ℕ, ◌+◌, ◌-◌, ◌*◌, ◌^◌, ◌<◌, ◌≤◌, ◌⊎◌, min, ⊤, List, [], ◌∷◌, ◌++◌, length, Option, Some, None, Result, Ok, Err, Bool, true, false}
+use Rattle.std.specs.Prelude.{◌≡◌, ◌≢◌, ℕ, ◌+◌, ◌-◌, ◌*◌, ◌^◌, ◌<◌, ◌≤◌, ◌⊎◌, ◌==◌, ◌||◌, if◌then◌else◌, not, min, ⊤, List, [], ◌∷◌, ◌++◌, length, Option, Some, None, Result, Ok, Err, Bool, true, false}
 use Rattle.std.specs.Io.KnownBytes.{Appends, Consumes, IsAtEnd}
 use Rattle.map_core.specs.declared.op.Op.{Op}
 use Rattle.map_core.specs.declared.reply.Reply.{Reply}
@@ -15,12 +15,13 @@ use Rattle.workers.specs.Reads.{reads_for, reads_of}
 use Rattle.workers.specs.declared.turn_end.TurnEnd.{TurnEnd}
 use Rattle.workers.specs.declared.turn_end.TurnEnd.TheVariants.{Waits, Again, Over}
 
--- A connection between two turns: its session, how many frames were answered, how many reads it may still make, whether its input
--- has ended, whether bytes that were read are lost, and whether its client is known to have closed its side. Of its stream: what
+-- A connection between two turns: its session, how many frames were answered, how many bytes of replies were written, how many
+-- reads it may still make, whether its input has ended, whether bytes that were read are lost, and whether its client is known to have closed its side. Of its stream: what
 -- its calls may come to and, where they are known, the bytes that it has left to read, and those that were written to it.
 pub record ConnectionView : Type 0 where
   pub live : LiveView
   pub answered : ℕ
+  pub written : ℕ
   pub turns : ℕ
   pub has_ended : Bool
   pub has_lost : Bool
@@ -34,6 +35,7 @@ abbrev pub opened : (turns : ℕ) → StreamLimits → (left held : Option (List
 opened turns may left held = record {
   live = live_start;
   answered = 0;
+  written = 0;
   turns = turns;
   has_ended = false;
   has_lost = false;
@@ -130,6 +132,19 @@ Owes (Some ReadFault) c = (c.live.ready ≡ []) × ((IsUnfinished c.live.kept ×
 Owes (Some WriteFault) c = c.live.ready ≢ []
 Owes (Some error) c = ⊥
 
+abbrev pub has_bytes : List ℕ → Bool
+has_bytes [] = false
+has_bytes (byte ∷ bytes) = true
+
+-- Whether a client got on in a turn. If replies waited for it, it took some bytes of them; else a frame of it was answered, unless
+-- it had begun none.
+abbrev pub got_on : ConnectionView → ConnectionView → Bool
+got_on old new = if has_bytes old.live.ready then not (new.written == old.written) else (not (has_bytes old.live.kept) || not (new.answered == old.answered))
+
+-- For how many ticks a client has been silent after a turn: since it got on last.
+abbrev pub silent_after : (old new : ConnectionView) → ℕ → ℕ
+silent_after old new silent = if got_on old new then 0 else silent
+
 -- bytes are lost only if some were read that reached no session
 abbrev pub LosesOnly : List ℕ → ConnectionView → ConnectionView → Type 0
 LosesOnly lost old new = new.has_lost ≡ true → (old.has_lost ≡ true) ⊎ (0 < length lost)
@@ -148,6 +163,7 @@ pub record Turn (rounds : ℕ) {S : Type 0} (answers : S → Op → Result Reply
   pub does : DoesAll answers calls (old.live, map_old) (new.live, map_new)
   pub consumes : Consumes old.left new.left (fed calls ++ lost)
   pub appends : Appends old.held new.held (sent calls)
+  pub written : new.written ≡ counted (old.written + length (sent calls))
   pub makes : MakesReads (reads_of calls + reads_for lost) old new
   pub answered : new.answered ≡ counted (old.answered + frames_of calls)
   pub share : frames_of calls ≤ rounds * most_frames

@@ -1,11 +1,11 @@
 -- What becomes of the connections of a worker.
-use Rattle.std.specs.Prelude.{◌≡◌, ◌≢◌, ◌≤◌, ◌==◌, ◌⊎◌, ℕ, ◌+◌, ⊤, List, [], ◌∷◌, ◌++◌, filter, fold, not, Option, Some, None, Bool, false, Result, Ok, Err}
+use Rattle.std.specs.Prelude.{◌≡◌, ◌≢◌, ◌≤◌, ◌==◌, ◌⊎◌, ℕ, zero, suc, ◌+◌, ◌<◌, ⊤, List, [], ◌∷◌, ◌++◌, filter, fold, not, Option, Some, None, Bool, false, Result, Ok, Err}
 use Rattle.std.specs.List.{AllByRecursion, flat_map}
 use Rattle.map_core.specs.declared.op.Op.{Op}
 use Rattle.map_core.specs.declared.reply.Reply.{Reply}
 use Rattle.map_core.specs.declared.reply.AskError.{AskError}
 use Rattle.wire.specs.declared.error.FrontError.{FrontError}
-use Rattle.workers.specs.Connection.{ConnectionView, LastTurn, Owes, StopsFor, Turn, counted, opened, told, turn_rounds}
+use Rattle.workers.specs.Connection.{ConnectionView, LastTurn, Owes, StopsFor, Turn, counted, opened, silent_after, told, turn_rounds}
 use Rattle.workers.specs.Stream.{StreamLimits}
 use Rattle.workers.specs.declared.turn_end.TurnEnd.{TurnEnd}
 use Rattle.workers.specs.declared.turn_end.TurnEnd.TheVariants.{Again, Over}
@@ -15,7 +15,7 @@ use Rattle.workers.specs.Ended.{EndsView, kept_of}
 use Rattle.workers.specs.declared.ended.SessionFault.{SessionFault}
 use Rattle.workers.specs.declared.ended.SessionFault.TheVariants.{Front, Listen}
 
--- one connection of a worker, whether it may only read, and how many ticks have passed since its last turn
+-- one connection of a worker, whether it may only read, and how many ticks have passed since its client got on last
 pub record Place : Type 0 where
   pub connection : ConnectionView
   pub reads_only : Bool
@@ -35,24 +35,28 @@ ticked None = None
 ticked (Some place) = Some (record place { silent = counted (place.silent + 1) })
 
 -- One thing that a worker does: it takes a connection at a free place; it gives the one at a place a turn, since its stream is
--- ready, and maybe closing, or since it waits for one; it finds nobody there whose stream would be ready; it counts a tick; it leaves
--- a connection whose session is over; it gives a client up that owes something, so many ticks after its last turn; it gives a
--- connection its last turn and leaves it; or it learns that its listener failed.
+-- ready, and maybe closing, or since it waits for one; it finds nobody there whose stream would be ready; it counts a tick, of the
+-- places below this one; it finds that no replies wait at a place; it spares the client at a place, which owes nothing, or has been
+-- silent for fewer ticks than that; it leaves a connection whose session is over; it gives a client up that owes something, and has
+-- been silent for so many ticks; it gives a connection its last turn and leaves it; or it learns that its listener failed.
 pub data Step : Type 0 where
   Opens : (place : ℕ) → (start : ConnectionView) → (reads_only : Bool) → Step
   Turns : (place : ℕ) → (ready : Option Bool) → (after : TurnEnd) → Step
   Misses : (place : ℕ) → (is_closing : Bool) → Step
-  Ticks : Step
+  Ticks : (places : ℕ) → Step
+  Skips : (place : ℕ) → Step
+  Spares : (place : ℕ) → (most : ℕ) → Step
   Closes : (place : ℕ) → (result : Result ℕ FrontError) → Step
   GivesUp : (place : ℕ) → (ticks : ℕ) → (error : FrontError) → Step
   Ends : (place : ℕ) → (result : Result ℕ FrontError) → Step
   Fails : Step
 
 -- how far a step may go with a client: a new connection has done nothing yet and may make so many reads; a client is given up only
--- after so many ticks
+-- after so many ticks, and spared only before
 abbrev pub GoesSoFar : (most_silent turns : ℕ) → Step → Type 0
 GoesSoFar most_silent turns (Opens place start reads_only) = (may : StreamLimits) × (left : Option (List ℕ)) × (held : Option (List ℕ)) × (start ≡ opened turns may left held)
 GoesSoFar most_silent turns (GivesUp place ticks error) = most_silent ≤ ticks
+GoesSoFar most_silent turns (Spares place most) = most ≡ most_silent
 GoesSoFar most_silent turns step = ⊤
 
 abbrev pub front_end : Result ℕ FrontError → Result ℕ SessionFault
@@ -91,16 +95,35 @@ abbrev pub turn_steps : ℕ → Option Bool → TurnEnd → List Step
 turn_steps place ready (Over result) = Turns place ready (Over result) ∷ Closes place result ∷ []
 turn_steps place ready after = Turns place ready after ∷ []
 
--- a client is given up
-abbrev pub IsGivenUp : Step → Type 0
-IsGivenUp (GivesUp place ticks error) = ⊤
-IsGivenUp step = ⊥
+-- no replies wait there
+abbrev pub HasNoReplies : Option Place → Type 0
+HasNoReplies None = ⊤
+HasNoReplies (Some p) = p.connection.live.ready ≡ []
+
+-- nobody is there who owes something and has been silent for so many ticks
+abbrev pub IsSpared : ℕ → Option Place → Type 0
+IsSpared most None = ⊤
+IsSpared most (Some p) = Owes None p.connection ⊎ (p.silent < most)
+
+-- A write is tried at a place, if replies wait there: the connection has a turn.
+abbrev pub TriesWrite : ℕ → List Step → Type 0
+TriesWrite place steps = (steps ≡ Skips place ∷ []) ⊎ ((after : TurnEnd) × (steps ≡ turn_steps place None after))
+
+-- the client at a place is given up or spared
+abbrev pub Judges : ℕ → List Step → Type 0
+Judges place steps = ((most : ℕ) × (steps ≡ Spares place most ∷ [])) ⊎ ((ticks : ℕ) × (error : FrontError) × (steps ≡ GivesUp place ticks error ∷ []))
+
+-- at each of so many places a write is tried, and then the client there is judged
+abbrev pub JudgesAll : ℕ → List Step → Type 0
+JudgesAll zero steps = steps ≡ []
+JudgesAll (suc place) steps = (before : List Step) × (write : List Step) × (judged : List Step) × (steps ≡ before ++ (write ++ judged))
+    × JudgesAll place before × TriesWrite place write × Judges place judged
 
 -- the steps that follow news, after which a worker goes on
 abbrev pub Follows : News → List Step → Type 0
 Follows (NewClient place start reads_only) steps = steps ≡ Opens place start reads_only ∷ []
 Follows (IsReady place is_closing) steps = (steps ≡ Misses place is_closing ∷ []) ⊎ ((after : TurnEnd) × (steps ≡ turn_steps place (Some is_closing) after))
-Follows HasTicked steps = (silent : List Step) × (steps ≡ Ticks ∷ silent) × AllByRecursion IsGivenUp silent
+Follows HasTicked steps = (places : ℕ) × (judged : List Step) × (steps ≡ Ticks places ∷ judged) × JudgesAll places judged
 Follows HasFailed steps = steps ≡ Fails ∷ []
 Follows IsQuiet steps = steps ≡ []
 Follows IsToStop steps = ⊥
@@ -142,9 +165,11 @@ module _ {S : Type 0} (answers : S → Op → Result Reply AskError → S → Ty
       × OthersStay place old.0 new.0 × (new.1 ≡ old.1)
   Takes (Turns place ready after) old new = (p : Place) × (q : Place) × (old.0 place ≡ Some p) × (new.0 place ≡ Some q)
       × Turn turn_rounds (PortAnswer answers p.reads_only) after (told (closing_of ready) p.connection) q.connection old.1 new.1
-      × (q.reads_only ≡ p.reads_only) × (q.silent ≡ 0) × OthersStay place old.0 new.0
+      × (q.reads_only ≡ p.reads_only) × (q.silent ≡ silent_after p.connection q.connection p.silent) × OthersStay place old.0 new.0
   Takes (Misses place is_closing) old new = (old.0 place ≡ None) × AllStay old.0 new.0 × (new.1 ≡ old.1)
-  Takes Ticks old new = AllTick old.0 new.0 × (new.1 ≡ old.1)
+  Takes (Ticks places) old new = AllTick old.0 new.0 × ((place : ℕ) → places ≤ place → old.0 place ≡ None) × (new.1 ≡ old.1)
+  Takes (Skips place) old new = HasNoReplies (old.0 place) × AllStay old.0 new.0 × (new.1 ≡ old.1)
+  Takes (Spares place most) old new = IsSpared most (old.0 place) × AllStay old.0 new.0 × (new.1 ≡ old.1)
   Takes (Closes place result) old new = (p : Place) × (old.0 place ≡ Some p) × StopsFor result p.connection × (new.0 place ≡ None)
       × OthersStay place old.0 new.0 × (new.1 ≡ old.1)
   Takes (GivesUp place ticks error) old new = (p : Place) × (old.0 place ≡ Some p) × Owes (Some error) p.connection × (ticks ≡ p.silent) × (new.0 place ≡ None)

@@ -2,7 +2,7 @@
 ghost use Rattle.std.specs.Prelude.{◌≡◌, ◌<◌, [], true, IfOk};
 ghost use Rattle.wire.specs.Frame.{IsUnfinished};
 ghost use Rattle.frame_front.specs.Live.{waiting};
-ghost use Rattle.workers.specs.Connection.{IsLost, LastTurn, Owes, StopsFor, Turn, ended, opened, told, turn_rounds};
+ghost use Rattle.workers.specs.Connection.{IsLost, LastTurn, Owes, has_bytes, StopsFor, Turn, ended, opened, told, turn_rounds};
 ghost use Rattle.workers.specs.Private.Limited.{LeavesAs};
 ghost use Rattle.workers.specs.Private.Goes.{ReadsAs};
 
@@ -39,13 +39,14 @@ pub struct Connection<E: Stream + Drop> {
 
 impl<E: Stream + Drop> Model for Connection<E> {
     ghost use Rattle.workers.specs.Connection.{ConnectionView};
-    ghost use Rattle.workers.specs.Private.Limited.{stream_of, turns_of};
+    ghost use Rattle.workers.specs.Private.Limited.{stream_of, turns_of, written_of};
 
     ghost Value = { ConnectionView };
 
     ghost view = { λ c. record {
       live = c.live;
       answered = c.answered;
+      written = written_of c.end;
       turns = turns_of c.end;
       has_ended = c.has_ended;
       has_lost = c.has_lost;
@@ -83,6 +84,37 @@ impl<E: Stream + Drop> Connection<E> {
             Ok(_) => None,
             Err(_) => Some(FrontError::ReadFault),
         }
+    }
+
+    /// Whether replies wait for the client to take them.
+    pub fn has_replies(&self) -> bool
+        ensures { result ≡ has_bytes self.now.live.ready }
+    {
+        !self.live.replies().is_empty()
+    }
+
+    /// Whether the client has begun a frame that is not answered.
+    pub(crate) fn has_begun(&self) -> bool
+        ensures { result ≡ has_bytes self.now.live.kept }
+    {
+        match self.live.finish() {
+            Ok(is_empty) => !is_empty,
+            Err(_) => true,
+        }
+    }
+
+    /// How many frames were answered.
+    pub(crate) fn answered(&self) -> u64
+        ensures { result ≡ self.now.answered }
+    {
+        self.answered
+    }
+
+    /// How many bytes of replies were written.
+    pub(crate) fn written(&self) -> u64
+        ensures { result ≡ self.now.written }
+    {
+        self.end.written()
     }
 
     /// Gives back the memory that no byte needs, as of a client that is quiet. Nothing else changes.

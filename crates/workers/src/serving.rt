@@ -1,11 +1,12 @@
 //! Serving many connections beside each other.
-ghost use Rattle.std.specs.Prelude.{◌≡◌, ◌≤◌, ◌++◌, ℕ, [], ◌∷◌, Bool, Option, None, Some, Err, IfOk, OnOk, IfSome};
+ghost use Rattle.std.specs.Prelude.{◌≡◌, ◌≤◌, ◌++◌, ℕ, [], ◌∷◌, Bool, true, false, Option, None, Some, Err, IfOk, OnOk, IfSome, IfNone, IsSome};
 ghost use Rattle.std.specs.List.{AllByRecursion};
 ghost use Rattle.slab.specs.Slab.{get};
 ghost use Rattle.workers.specs.Ended.{kept_of, Notes};
-ghost use Rattle.workers.specs.Connection.{Owes, opened};
-ghost use Rattle.workers.specs.Arrivals.{Brings, IsStop, IsToStop, news_in};
-ghost use Rattle.workers.specs.Places.{Place, AllTick, Fails, Follows, IsGivenUp, IsLast, OthersStay, ServedAll, ServesFirst, closing_of, front_end, ticked, told_by, without};
+ghost use Rattle.workers.specs.Connection.{Owes, Turn, opened, silent_after, told, turn_rounds};
+ghost use Rattle.workers.specs.AtPort.{PortAnswer};
+ghost use Rattle.workers.specs.Arrivals.{Brings, HasTicked, IsStop, IsToStop, news_in};
+ghost use Rattle.workers.specs.Places.{Place, AllTick, Fails, Follows, HasNoReplies, IsLast, IsSpared, Judges, OthersStay, ServedAll, ServesFirst, TriesWrite, closing_of, front_end, ticked, told_by, without};
 ghost use Rattle.workers.specs.Private.Serving.{AreOpen, Asks, IsTurn, Serves, work_of};
 
 use crate::arrivals::{Arrival, Arrivals};
@@ -25,7 +26,7 @@ use wire::FrontError;
 struct OpenConnection<E: Stream + Drop> {
     connection: Connection<E>,
     reads_only: bool,
-    /// How many ticks have passed since its last turn.
+    /// How many ticks have passed since its client got on last.
     silent: u64,
     /// The port of its client, if it has one.
     peer: Option<u16>,
@@ -50,6 +51,38 @@ impl<E: Stream + Drop> Model for OpenConnection<E> {
     ghost Value = { Place };
 
     ghost view = { λ p. record { connection = p.connection; reads_only = p.reads_only; silent = p.silent } };
+}
+
+impl<E: Stream + Drop> OpenConnection<E> {
+    /// Gives the connection a turn. Its client is silent no more if it got on: if it took some bytes of the replies that waited
+    /// for it, or else, if a frame of it was answered or it had begun none. So it does not help a client that takes no replies to
+    /// send a byte now and then, nor one that sends a frame.
+    fn turn<A: BehindPort>(
+        &mut self,
+        documents: &mut DocumentReader,
+        room: &mut [u8; ROOM_BYTES],
+        ask: &mut AtPort<A>,
+        is_closing: bool,
+    ) -> TurnEnd
+        ensures turn { Turn turn_rounds (PortAnswer A.answers self.old.reads_only) result (told is_closing self.old.connection) self.new.connection ask.old.ask ask.new.ask }
+        ensures reads_only { self.new.reads_only ≡ self.old.reads_only }
+        ensures silent { self.new.silent ≡ silent_after self.old.connection self.new.connection self.old.silent }
+    {
+        ask.reads_only = self.reads_only;
+        let connection = &mut self.connection;
+        let (had_replies, had_begun) = (connection.has_replies(), connection.has_begun());
+        let (answered, written) = (connection.answered(), connection.written());
+        let after = connection.turn(documents, room, ask, is_closing);
+        let has_got_on = if had_replies {
+            connection.written() != written
+        } else {
+            !had_begun || connection.answered() != answered
+        };
+        if has_got_on {
+            self.silent = 0;
+        }
+        after
+    }
 }
 
 /// The connection at a place waits for no turn any more.
@@ -154,10 +187,7 @@ impl<E: Stream + Drop> Served<E> {
         let Some(placed) = self.open.get_mut(place) else {
             return Ok(());
         };
-        placed.silent = 0;
-        ask.reads_only = placed.reads_only;
-        let connection = &mut placed.connection;
-        let after = connection.turn(&mut self.documents, &mut self.room, ask, is_closing);
+        let after = placed.turn(&mut self.documents, &mut self.room, ask, is_closing);
         wait_no_more(&mut self.waiting, place);
         match after {
             TurnEnd::Waits => Ok(()),
@@ -179,9 +209,10 @@ impl<E: Stream + Drop> Served<E> {
         }
     }
 
-    /// A tick has passed.
-    fn tick(&mut self)
+    /// A tick has passed. The answer is below which place all connections stand.
+    fn tick(&mut self) -> usize
         ensures ticked { AllTick (get self.old.open) (get self.new.open) }
+        ensures beyond { (place : ℕ) → result ≤ place → get self.old.open place ≡ None }
         ensures waiting { self.new.waiting ≡ self.old.waiting }
         ensures ends { self.new.ends ≡ self.old.ends }
     {
@@ -191,12 +222,42 @@ impl<E: Stream + Drop> Served<E> {
             self.tick_at(place);
             place += 1;
         }
+        places
     }
 
-    /// Why the client at a place is to be given up: it owes the rest of a frame, or that it takes replies, and had no turn for
-    /// so many ticks.
+    /// Whether replies wait at a place.
+    fn has_replies(&self, place: usize) -> bool
+        ensures some { result ≡ true → IsSome (get self.now.open place) }
+        ensures none { result ≡ false → HasNoReplies (get self.now.open place) }
+    {
+        match self.open.get(place) {
+            Some(placed) => placed.connection.has_replies(),
+            None => false,
+        }
+    }
+
+    /// Tries a write at a place, if replies wait there: the connection has a turn. That its stream takes bytes again is told only
+    /// once it takes many.
+    fn try_write<A: BehindPort, L: Log>(
+        &mut self,
+        place: usize,
+        ask: &mut AtPort<A>,
+        worker: &Worker<'_, L>,
+    ) -> Result<(), AllocError>
+        ensures { OnOk result (Serves A.answers worker.now.limits (TriesWrite place) (work_of self.old) (work_of self.new) ask.old.ask ask.new.ask) }
+    {
+        if self.has_replies(place) {
+            self.serve(place, false, ask, worker)
+        } else {
+            Ok(())
+        }
+    }
+
+    /// Why the client at a place is to be given up: it owes the rest of a frame, or that it takes replies, and has been silent
+    /// for so many ticks.
     fn is_silent(&self, place: usize, most: u64) -> Option<FrontError>
-        ensures { IfSome result (λ error. (p : Place) × (get self.now.open place ≡ Some p) × Owes (Some error) p.connection × (most ≤ p.silent)) }
+        ensures some { IfSome result (λ error. (p : Place) × (get self.now.open place ≡ Some p) × Owes (Some error) p.connection × (most ≤ p.silent)) }
+        ensures none { IfNone result (IsSpared most (get self.now.open place)) }
     {
         let placed = self.open.get(place)?;
         let owed = placed.connection.owes()?;
@@ -212,7 +273,7 @@ impl<E: Stream + Drop> Served<E> {
         place: usize,
         worker: &Worker<'_, L>,
     ) -> Result<(), AllocError>
-        ensures { OnOk result (Serves Asks worker.now.limits (AllByRecursion IsGivenUp) (work_of self.old) (work_of self.new) tt tt) }
+        ensures { OnOk result (Serves Asks worker.now.limits (Judges place) (work_of self.old) (work_of self.new) tt tt) }
     {
         match self.is_silent(place, worker.limits.most_silent) {
             Some(error) => self.close(place, Err(error), worker),
@@ -220,13 +281,18 @@ impl<E: Stream + Drop> Served<E> {
         }
     }
 
-    /// Leaves each connection whose client has been silent for too long.
-    fn leave_silent<L: Log>(&mut self, worker: &Worker<'_, L>) -> Result<(), AllocError>
-        ensures { OnOk result (Serves Asks worker.now.limits (AllByRecursion IsGivenUp) (work_of self.old) (work_of self.new) tt tt) }
+    /// Follows a tick: at each place a write is tried, and the connection is left if its client has been silent for too long.
+    fn follow_tick<A: BehindPort, L: Log>(
+        &mut self,
+        ask: &mut AtPort<A>,
+        worker: &Worker<'_, L>,
+    ) -> Result<(), AllocError>
+        ensures { OnOk result (Serves A.answers worker.now.limits (Follows HasTicked) (work_of self.old) (work_of self.new) ask.old.ask ask.new.ask) }
     {
-        let places = self.open.capacity();
+        let places = self.tick();
         let mut place = 0;
         while place < places {
+            self.try_write(place, ask, worker)?;
             self.leave_if_silent(place, worker)?;
             place += 1;
         }
@@ -301,10 +367,14 @@ impl<E: Stream + Drop> Served<E> {
 
 /// Serves connections beside each other until no more come. What comes is followed at once: a connection whose stream is ready
 /// has a turn. After each arrival the connection that has waited longest has one: those that are new wait, and those that
-/// have had their share and may have more to do. A session may make `limits.turns` reads. A client that owes the rest of a
-/// frame, or that it takes replies, is given up after `limits.most_silent` ticks without a turn. Once no more come, what was
-/// read is answered, as far as the clients take it at once. The answer is what is kept of how the sessions ended, in this
-/// order; the log is told of each end.
+/// have had their share and may have more to do. A session may make `limits.turns` reads.
+///
+/// At each tick a connection whose replies wait has a turn, in which a write is tried. Then a client that owes the rest of a
+/// frame, or that it takes replies, is given up if `limits.most_silent` ticks have passed since it got on: since it took a byte
+/// of the replies that wait, or if none do, since a frame of it was answered or it began one.
+///
+/// Once no more come, what was read is answered, as far as the clients take it at once. The answer is what is kept of how the
+/// sessions ended, in this order; the log is told of each end.
 pub fn serve_arrivals<V: Arrivals, A: BehindPort, L: Log>(
     worker: &Worker<'_, L>,
     arrivals: &mut V,
@@ -323,10 +393,7 @@ pub fn serve_arrivals<V: Arrivals, A: BehindPort, L: Log>(
                 served.take(metered, reads_only, worker)?;
             }
             Arrival::Ready { place, is_closing } => served.serve(place, is_closing, ask, worker)?,
-            Arrival::Tick => {
-                served.tick();
-                served.leave_silent(worker)?;
-            }
+            Arrival::Tick => served.follow_tick(ask, worker)?,
             Arrival::Fails => served.note_failure(worker)?,
             Arrival::Nothing => {}
             Arrival::Stops => break,

@@ -35,6 +35,7 @@ pub record ReadsAs (had_left : Bool) (result : Result Bool TurnEnd) (old new : C
   pub consumes : Consumes old.left new.left (piece ++ lost)
   pub makes : MakesReads (reads_for piece + reads_for lost) old new
   pub held : new.held ≡ old.held
+  pub written : new.written ≡ old.written
   pub answered : new.answered ≡ old.answered
   pub stays : StaysSo old new
   pub quiet : old.has_ended ≡ true → piece ++ lost ≡ []
@@ -53,6 +54,7 @@ module _ {S : Type 0} (answers : S → Op → Result Reply AskError → S → Ty
     pub does : DoesAll answers calls (old.live, map_old) (new.live, map_new)
     pub consumes : Consumes old.left new.left (fed calls ++ lost)
     pub appends : Appends old.held new.held (sent calls)
+    pub written : new.written ≡ counted (old.written + length (sent calls))
     pub makes : MakesReads (reads_of calls + reads_for lost) old new
     pub answered : new.answered ≡ counted (old.answered + frames_of calls)
     pub share : frames_of calls ≤ most

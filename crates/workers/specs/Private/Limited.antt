@@ -17,6 +17,10 @@ stream_of limited = limited.end
 abbrev pub turns_of : {E : Type 0} → Limited E → ℕ
 turns_of limited = limited.turns
 
+-- how many bytes were written
+abbrev pub written_of : {E : Type 0} → Limited E → ℕ
+written_of limited = limited.written
+
 -- all is written, or bytes are left
 abbrev pub IsSentAs : Result Bool StreamFailed → StreamLimits → List ℕ → Type 0
 IsSentAs (Ok true) may left = left ≡ []

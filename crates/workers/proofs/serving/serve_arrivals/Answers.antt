@@ -7,10 +7,10 @@ use Rattle.workers.specs.Places.{Follows, FollowsAll, nobody}
 use Rattle.workers.specs.Private.Serving.{IsTurn, Serves, begun, work_of}
 use Rattle.workers.proofs.ArrivalLemmas.{brings_more, brings_none, goes_on}
 use Rattle.workers.proofs.StepLemmas.{all_stay, notes_then, serves_as, serves_none, steps_then, steps_to}
-use Rattle.workers.proofs.ServingLemmas.{beyond, by_news, fails_serves, take_serves, tick_serves, turn_follows}
+use Rattle.workers.proofs.ServingLemmas.{beyond, by_news, fails_serves, take_serves, turn_follows}
 use Rattle.workers.proofs.WaitingLemmas.{round_more, serves_open}
 use Rattle.workers.proofs.serving.serve_arrivals.Goals as goal
-use Rattle.workers.proofs.serving.serve_arrivals.Goals.{in-Opens+in_ok-take-in-Opens, in-Ready+in_ok-serve-in-Ready, in-Tick+in_ok-leave_silent-in-Tick, in-Fails+in_ok-note_failure-in-Fails, in-Nothing}
+use Rattle.workers.proofs.serving.serve_arrivals.Goals.{in-Opens+in_ok-take-in-Opens, in-Ready+in_ok-serve-in-Ready, in-Tick+in_ok-follow_tick-in-Tick, in-Fails+in_ok-note_failure-in-Fails, in-Nothing}
 
 pub loop-end-init : goal.loop-end-init
 loop-end-init g c =
@@ -50,11 +50,8 @@ loop-end-preserved g c =
           rw (w.served-is, w.ask-is) (by_news answers limits _ _ _ _ _ _ (ap news w.in-Ready.is)
           (serves_as answers limits (IsTurn place (Some is_closing) there) (Follows (IsReady place is_closing)) (turn_follows place is_closing there) (work_of old) (work_of w.serve.new.self)
           asked w.serve.new.ask.ask (w.in_ok-serve-in-Ready.ensures (Some is_closing) refl)))
-      | in-Tick+in_ok-leave_silent-in-Tick w ↦
-          let tick = w.tick.ensures in
-          rw (w.served-is, w.ask-is) (by_news answers limits _ _ _ _ _ _ (ap news w.in-Tick.is)
-          (tick_serves answers limits (work_of old) (work_of w.tick.new.self) (work_of w.leave_silent.new.self) asked
-          tick.ticked (ap (λ w. w.items) tick.waiting) tick.ends w.in_ok-leave_silent-in-Tick.ensures))
+      | in-Tick+in_ok-follow_tick-in-Tick w ↦
+          rw (w.served-is, w.ask-is) (by_news answers limits _ _ _ _ _ _ (ap news w.in-Tick.is) w.in_ok-follow_tick-in-Tick.ensures)
       | in-Fails+in_ok-note_failure-in-Fails w ↦
           let note = w.note_failure.ensures in
           rw (w.served-is, w.ask-is) (by_news answers limits _ _ _ _ _ _ (ap news w.in-Fails.is)
@@ -79,7 +76,7 @@ loop-end-smaller g c =
     goes_on c.next.result c.next.ensures.end (λ stop. elim c.match-next.branch [
       | in-Opens+in_ok-take-in-Opens w ↦ (cc (stop, w.in-Opens.is))
       | in-Ready+in_ok-serve-in-Ready w ↦ (cc (stop, w.in-Ready.is))
-      | in-Tick+in_ok-leave_silent-in-Tick w ↦ (cc (stop, w.in-Tick.is))
+      | in-Tick+in_ok-follow_tick-in-Tick w ↦ (cc (stop, w.in-Tick.is))
       | in-Fails+in_ok-note_failure-in-Fails w ↦ (cc (stop, w.in-Fails.is))
       | in-Nothing w ↦ (cc (stop, w.in-Nothing.is))
     ])

@@ -20,7 +20,7 @@ returns-in-Ok-false g c =
     let count : new.answered ≡ counted (old.answered + c.answer-answered.result.frames) = omega (arith, c.saturating_add-self-inside.ensures) in
     let round =
     round_sent g.A.Ask.answers c.answer-answered.result wrote.sends.0 c.answer-answered.new.self old new c.loop-rounds.ask c.answer-answered.new.ask answered.answers answered.share
-    wrote.sends.1 wrote.sends.2 wrote.left wrote.turns count (wrote.may, refl) refl in
+    wrote.sends.1 wrote.sends.2 wrote.sends.3 wrote.left wrote.turns count (wrote.may, refl) refl in
     let blocked = subst (λ b. IsSentAs (Ok b) old.may new.live.ready) c.in-Ok-false.field-0-test c.in-Ok-false.ensures.until in
     turn_ends g.A.Ask.answers c.args.most c.loop-rounds.rounds c.loop-rounds.has_left Waits c.args.self.now old new c.args.ask.now c.loop-rounds.ask c.answer-answered.new.ask c.loop-rounds-test.true before.0 before.1
     ([], round.0, refl, inl refl, inl (blocked.0, ap (λ m. m.write_waits) wrote.may ∙ blocked.1))
@@ -37,7 +37,7 @@ returns-in-Err g c =
     let count : new.answered ≡ counted (old.answered + c.answer-answered.result.frames) = omega (arith, c.saturating_add-self-inside.ensures) in
     let round =
     round_sent g.A.Ask.answers c.answer-answered.result wrote.sends.0 c.answer-answered.new.self old new c.loop-rounds.ask c.answer-answered.new.ask answered.answers answered.share
-    wrote.sends.1 wrote.sends.2 wrote.left wrote.turns count (wrote.may, refl) refl in
+    wrote.sends.1 wrote.sends.2 wrote.sends.3 wrote.left wrote.turns count (wrote.may, refl) refl in
     turn_ends g.A.Ask.answers c.args.most c.loop-rounds.rounds c.loop-rounds.has_left (Over (Err WriteFault)) c.args.self.now old new c.args.ask.now c.loop-rounds.ask c.answer-answered.new.ask c.loop-rounds-test.true before.0 before.1
     ([], round.0, refl, inl refl, (c.in-Err.ensures.until.0, ap (λ m. m.write_fails) wrote.may ∙ c.in-Err.ensures.until.1))
 
@@ -53,7 +53,7 @@ loop-rounds-preserved-in-Ok-Write g c =
     let count : new.answered ≡ counted (old.answered + c.answer-answered.result.frames) = omega (arith, c.saturating_add-self-inside.ensures) in
     let round =
     round_sent g.A.Ask.answers c.answer-answered.result wrote.sends.0 c.answer-answered.new.self old new c.loop-rounds.ask c.answer-answered.new.ask answered.answers answered.share
-    wrote.sends.1 wrote.sends.2 wrote.left wrote.turns count (wrote.may, refl) refl in
+    wrote.sends.1 wrote.sends.2 wrote.sends.3 wrote.left wrote.turns count (wrote.may, refl) refl in
     let sent = subst (λ b. IsSentAs (Ok b) old.may new.live.ready) c.in-Ok-true.field-0-test c.in-Ok-true.ensures.until in
     let all : c.answer-answered.new.self.ready ≡ wrote.sends.0 = wrote.sends.1.0 ∙ (ap (λ (l : List ℕ). wrote.sends.0 ++ l) sent ∙ append-nil wrote.sends.0) in
     let write = rw c.in-Ok-Write.is at c.in-Ok-Write.field-0-is in
@@ -74,7 +74,7 @@ loop-rounds-preserved g c =
     let count : new.answered ≡ counted (old.answered + c.answer-answered.result.frames) = omega (arith, c.saturating_add-self-inside.ensures) in
     let round =
     round_sent g.A.Ask.answers c.answer-answered.result wrote.sends.0 c.answer-answered.new.self old new c.loop-rounds.ask c.answer-answered.new.ask answered.answers answered.share
-    wrote.sends.1 wrote.sends.2 wrote.left wrote.turns count (wrote.may, refl) refl in
+    wrote.sends.1 wrote.sends.2 wrote.sends.3 wrote.left wrote.turns count (wrote.may, refl) refl in
     let has_read = round_read g.A.Ask.answers c.loop-rounds.has_left c.read.result old new c.read.new.self c.loop-rounds.ask c.answer-answered.new.ask round.0 c.read.ensures refl in
     let goes_round = subst (λ r. Round g.A.Ask.answers c.loop-rounds.has_left r old c.read.new.self c.loop-rounds.ask c.answer-answered.new.ask) c.in-Ok.is
     (round_ends g.A.Ask.answers c.loop-rounds.has_left c.read.result old new c.read.new.self c.loop-rounds.ask c.answer-answered.new.ask c.read.ensures has_read refl wrote.turns) in
@@ -94,7 +94,7 @@ returns-in-Err-read g c =
     let count : new.answered ≡ counted (old.answered + c.answer-answered.result.frames) = omega (arith, c.saturating_add-self-inside.ensures) in
     let round =
     round_sent g.A.Ask.answers c.answer-answered.result wrote.sends.0 c.answer-answered.new.self old new c.loop-rounds.ask c.answer-answered.new.ask answered.answers answered.share
-    wrote.sends.1 wrote.sends.2 wrote.left wrote.turns count (wrote.may, refl) refl in
+    wrote.sends.1 wrote.sends.2 wrote.sends.3 wrote.left wrote.turns count (wrote.may, refl) refl in
     let has_read = round_read g.A.Ask.answers c.loop-rounds.has_left c.read.result old new c.read.new.self c.loop-rounds.ask c.answer-answered.new.ask round.0 c.read.ensures refl in
     let goes_round = subst (λ r. Round g.A.Ask.answers c.loop-rounds.has_left r old c.read.new.self c.loop-rounds.ask c.answer-answered.new.ask) c.in-Err-read.is
     (round_ends g.A.Ask.answers c.loop-rounds.has_left c.read.result old new c.read.new.self c.loop-rounds.ask c.answer-answered.new.ask c.read.ensures has_read refl wrote.turns) in
@@ -113,7 +113,7 @@ returns-in-Err-next g c =
     let count : new.answered ≡ counted (old.answered + c.answer-answered.result.frames) = omega (arith, c.saturating_add-self-inside.ensures) in
     let round =
     round_sent g.A.Ask.answers c.answer-answered.result wrote.sends.0 c.answer-answered.new.self old new c.loop-rounds.ask c.answer-answered.new.ask answered.answers answered.share
-    wrote.sends.1 wrote.sends.2 wrote.left wrote.turns count (wrote.may, refl) refl in
+    wrote.sends.1 wrote.sends.2 wrote.sends.3 wrote.left wrote.turns count (wrote.may, refl) refl in
     let sent = subst (λ b. IsSentAs (Ok b) old.may new.live.ready) c.in-Ok-true.field-0-test c.in-Ok-true.ensures.until in
     let stops = subst (λ r. StopsAt r c.answer-answered.new.self) c.in-Err-next.is answered.answers.stops in
     turn_ends g.A.Ask.answers c.args.most c.loop-rounds.rounds c.loop-rounds.has_left (Over (Err c.in-Err-next.error)) c.args.self.now old new c.args.ask.now c.loop-rounds.ask c.answer-answered.new.ask c.loop-rounds-test.true before.0 before.1

@@ -1,4 +1,4 @@
-use Rattle.std.proofs.Common.{◌∙◌, ◌++◌, sym, ap, List, ℕ, subst, take, append_assoc}
+use Rattle.std.proofs.Common.{◌∙◌, ◌++◌, sym, ap, arith, length, length-append, length-take, List, ℕ, subst, take, append_assoc}
 use Rattle.std.proofs.KnownBytes.{Appends-trans}
 use Rattle.std.specs.Io.KnownBytes.{Appends}
 use Rattle.workers.proofs.limited.Limited.write_replies.Goals as goal
@@ -20,4 +20,5 @@ loop-self-preserved g c =
       c.in-Ok.ensures.left ∙ inv.3,
       inv.4,
       c.in-Ok.ensures.same ∙ inv.5,
+      omega (arith, c.saturating_add-self.ensures, inv.6, length-append inv.0 piece, length-take c.in-Ok.count c.loop-self.live.ready, c.in-Ok.ensures.bound, ap length c.replies-in-loop-self.ensures.ready),
     )

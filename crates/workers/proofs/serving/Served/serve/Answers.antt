@@ -1,5 +1,4 @@
-use Rattle.std.proofs.Common.{◌≡◌, refl, sym, ap, ◌∙◌}
-use Rattle.std.specs.Prelude.{Some}
+use Rattle.std.proofs.Common.{refl, sym}
 use Rattle.slab.specs.Slab.{get, with_value}
 use Rattle.workers.specs.declared.turn_end.TurnEnd.TheVariants.{Waits, Again}
 use Rattle.workers.specs.Places.{Place}
@@ -16,12 +15,10 @@ returns-in_default g c =
 
 pub returns-in-Waits : goal.returns-in-Waits
 returns-in-Waits g c =
-    let inside = c.placed.inside in
     let slab = c.args.self.now.open in
-    let before : Place = record { connection = inside.connection; reads_only = inside.reads_only; silent = inside.silent } in
-    let behind : Place = record { connection = c.turn-after.new.self; reads_only = inside.reads_only; silent = 0 } in
-    let was : get slab c.args.place ≡ Some before = sym c.in-Some.ensures.value ∙ ap Some (sym c.placed.view_is) in
-    let turn = has_turn g.A.Ask.answers slab c.args.place c.args.is_closing c.turn-after.result before behind.connection _ c.turn-after.new.ask was refl c.turn-after.ensures in
+    let behind : Place = c.turn-after.new.self in
+    let had = c.turn-after.ensures in
+    let turn = has_turn g.A.Ask.answers slab c.args.place c.args.is_closing c.turn-after.result c.in-Some.placed.now behind c.args.ask.now.ask c.turn-after.new.ask.ask (sym c.in-Some.ensures.value) had.turn had.reads_only had.silent in
     let new : Work = record { places = get (with_value slab c.args.place behind); waiting = c.wait_no_more.new.waiting.items; kept = c.args.self.now.ends } in
     λ ready closes.
     turn_serves g.A.Ask.answers c.args.worker.now.limits c.args.place c.args.is_closing ready c.turn-after.result Waits (work_of c.args.self.now) new c.args.ask.now.ask c.turn-after.new.ask.ask
@@ -29,12 +26,10 @@ returns-in-Waits g c =
 
 pub returns-in_ok-push_back-in-Again : goal.returns-in_ok-push_back-in-Again
 returns-in_ok-push_back-in-Again g c =
-    let inside = c.placed.inside in
     let slab = c.args.self.now.open in
-    let before : Place = record { connection = inside.connection; reads_only = inside.reads_only; silent = inside.silent } in
-    let behind : Place = record { connection = c.turn-after.new.self; reads_only = inside.reads_only; silent = 0 } in
-    let was : get slab c.args.place ≡ Some before = sym c.in-Some.ensures.value ∙ ap Some (sym c.placed.view_is) in
-    let turn = has_turn g.A.Ask.answers slab c.args.place c.args.is_closing c.turn-after.result before behind.connection _ c.turn-after.new.ask was refl c.turn-after.ensures in
+    let behind : Place = c.turn-after.new.self in
+    let had = c.turn-after.ensures in
+    let turn = has_turn g.A.Ask.answers slab c.args.place c.args.is_closing c.turn-after.result c.in-Some.placed.now behind c.args.ask.now.ask c.turn-after.new.ask.ask (sym c.in-Some.ensures.value) had.turn had.reads_only had.silent in
     let new : Work = record { places = get (with_value slab c.args.place behind); waiting = c.push_back.new.self.items; kept = c.args.self.now.ends } in
     λ ready closes.
     turn_serves g.A.Ask.answers c.args.worker.now.limits c.args.place c.args.is_closing ready c.turn-after.result Again (work_of c.args.self.now) new c.args.ask.now.ask c.turn-after.new.ask.ask
@@ -42,12 +37,10 @@ returns-in_ok-push_back-in-Again g c =
 
 pub returns-in-Over : goal.returns-in-Over
 returns-in-Over g c =
-    let inside = c.placed.inside in
     let slab = c.args.self.now.open in
-    let before : Place = record { connection = inside.connection; reads_only = inside.reads_only; silent = inside.silent } in
-    let behind : Place = record { connection = c.turn-after.new.self; reads_only = inside.reads_only; silent = 0 } in
-    let was : get slab c.args.place ≡ Some before = sym c.in-Some.ensures.value ∙ ap Some (sym c.placed.view_is) in
-    let turn = has_turn g.A.Ask.answers slab c.args.place c.args.is_closing c.turn-after.result before behind.connection _ c.turn-after.new.ask was refl c.turn-after.ensures in
+    let behind : Place = c.turn-after.new.self in
+    let had = c.turn-after.ensures in
+    let turn = has_turn g.A.Ask.answers slab c.args.place c.args.is_closing c.turn-after.result c.in-Some.placed.now behind c.args.ask.now.ask c.turn-after.new.ask.ask (sym c.in-Some.ensures.value) had.turn had.reads_only had.silent in
     let close = c.close.ensures in
     let mid : Work = record { places = get (with_value slab c.args.place behind); waiting = c.wait_no_more.new.waiting.items; kept = c.args.self.now.ends } in
     on_ok_then c.close.result (λ noted ready closes.

@@ -21,3 +21,6 @@ returns-clause-ticked g c =
     let inv = c.loop-place.invariant in
     all_ticked (get c.args.self.now.open) (get c.loop-place.self.open) c.loop-place.place c.capacity-places.result (omega (arith, c.loop-place-test.false)) inv.0 inv.1
     (λ other far. beyond c.args.self.now.open other (omega (arith, c.capacity-places.ensures.slots, far)))
+
+pub returns-clause-beyond : goal.returns-clause-beyond
+returns-clause-beyond g c = λ place far. beyond c.args.self.now.open place (omega (arith, c.capacity-places.ensures.slots, far))
