@@ -6,79 +6,22 @@ usage: gate/snapshots.py   (over the program that rt ci or rt run has built in c
 What is expected is not made by the program: each NAME.canonical in gate/bundles was made by another one, and certificates
 are cut into lines here.
 """
+import contextlib
 import json
 import os
-import signal
-import subprocess
+import shutil
 import sys
 import threading
 import time
 
 sys.dont_write_bytecode = True
 
-from checks import DUE, EMPTY, SECONDS, Beside, FakeServer, Room, Server, answers_with, bytes_of, canonical, dump_of  # noqa: E402
-from checks import dump_of_real, frame, frame_of, line_of, named, numbered, part, pem_of, program, run_checks  # noqa: E402
-from checks import run_words, start, unused_port, wait_until  # noqa: E402
+from checks import DUE, EMPTY, SECONDS, Beside, FakeServer, Room, Server, answers_with, canonical, dump_of, dump_of_real  # noqa: E402
+from checks import frame, frame_of, named, numbered, part, program, run_checks, unused_port, wait_until  # noqa: E402
 from refusals import MOST_GROWTHS, build_shim, run_once  # noqa: E402
-
-DUMP_OF_NONE = dump_of({})
-# Refusals of a fetch-all: shard 1 was changed from revision 2 to 3, or was held at revision 2.
-MOVED = b"\x29" + (1).to_bytes(4, "big") + (2).to_bytes(8, "big") + (3).to_bytes(8, "big")
-HELD = b"\x2a" + (1).to_bytes(4, "big") + (2).to_bytes(8, "big")
-
-
-def files_of(items):
-    """What a snapshot of these names and documents has."""
-    members = [b'"' + name.encode() + b'":' + text for name, text in sorted(items.items())]
-    files = {"map": b'{"trust_domains":{' + b",".join(members) + b"}}\n"}
-    for name, text in items.items():
-        files |= {f"{name}.json": text, f"{name}.pem": pem_of(text)}
-    return files
-
-
-def read_folder(path):
-    """The names of the files of a folder, with what they hold."""
-    return {name: bytes_of(f"{path}/{name}") for name in os.listdir(path)}
-
-
-def words_of(port, folder, *more):
-    return ["snapshot", "--port", str(port), "--out", folder, *more]
-
-
-def take(port, folder, *more):
-    """One snapshot: the status, and what was said."""
-    status, out, err = run_words(*words_of(port, folder, *more))
-    return status, out.decode(), err.decode()
-
-
-def shown(number, domains):
-    return 0, f"shown snapshot-{number} domains {domains}\n", ""
-
-
-def folder_names(folder):
-    return sorted(os.listdir(folder))
-
-
-def set_bundle(server, name, document):
-    assert server.ask(named(b"S", name, document)) == frame(b"s")
-
-
-class Place(Room):
-    """A folder for snapshots, and beside it something that must stay as it is."""
-
-    def __init__(self):
-        super().__init__()
-        self.folder = f"{self.path}/out"
-        os.mkdir(self.folder)
-        self.write("beside", b"stays")
-
-    def current(self):
-        return read_folder(f"{self.folder}/current")
-
-    def marks(self):
-        """What changes if anything is done in the folder."""
-        told = os.lstat(f"{self.folder}/current")
-        return folder_names(self.folder), os.readlink(f"{self.folder}/current"), told.st_ino, told.st_mtime_ns, os.stat(self.folder).st_mtime_ns
+from snapshot_rooms import DUMP_OF_NONE, HELD, MOVED, Place, files_of, folder_names, read_folder, remove_bundle, set_bundle  # noqa: E402
+from snapshot_rooms import shown, take, words_of  # noqa: E402
+from snapshot_turns import TURNS  # noqa: E402
 
 
 def real_bundles():
@@ -109,7 +52,7 @@ def changes_over_a_server():
         assert {name: read_folder(f"{room.folder}/{name}") for name in kept} == kept
         assert os.readlink(f"{room.folder}/current") == f"snapshot-{number}"
         assert take(server.port, room.folder) == (0, "", "")
-    assert server.ask(named(b"R", "a")) == frame(b"d")
+    remove_bundle(server, "a")
     assert take(server.port, room.folder) == shown(6, 0)
     assert room.current() == files_of({})
 
@@ -128,17 +71,107 @@ def names_that_bite():
 
 
 def names_that_are_too_long():
-    """A name with which `.json` does not fit into 255 bytes is told by its place, and nothing is done."""
+    """A name with which `.json` does not fit into 255 bytes is told, and has no files; it is in the map, and the others have theirs.
+    Not more than ten are told by their names."""
     for size in (251, 254, 255):
         room = Place()
-        server = FakeServer(answers_with(dump_of({"a": EMPTY, size * "b": EMPTY, "c": EMPTY})))
-        assert take(server.port, room.folder) == (1, "", "fault 73 2\n")
-        assert folder_names(room.folder) == []
-        good = FakeServer(answers_with(dump_of({"a": EMPTY})))
-        assert take(good.port, room.folder) == shown(1, 1)
+        name = size * "b"
+        items = {"a": numbered(1), name: numbered(2), "c": numbered(3)}
+        server = FakeServer(answers_with(dump_of(items)))
+        told = f"left out {name}: too long for a file\n"
+        assert take(server.port, room.folder) == (0, "shown snapshot-1 domains 3\n", told)
+        files = files_of(items)
+        del files[f"{name}.json"], files[f"{name}.pem"]
+        assert room.current() == files, sorted(room.current())
         before = room.marks()
-        assert take(server.port, room.folder) == (1, "", "fault 73 2\n")
+        assert take(server.port, room.folder) == (0, "", told)
         assert room.marks() == before
+    many = [f"{place:x}".rjust(251, "d") for place in range(13)]
+    ended = take(FakeServer(answers_with(dump_of({it: EMPTY for it in ("a", *many)}))).port, Place().folder)
+    told = "".join(f"left out {it}: too long for a file\n" for it in sorted(many)[:10]) + "left out 3 more: too long for a file\n"
+    assert ended == (0, "shown snapshot-1 domains 14\n", told), ended
+
+
+def fewer_domains_than_are_wanted():
+    """A server with fewer domains changes nothing, and the status is 3; one with as many is shown."""
+    room = Place()
+    one, two = ({it: EMPTY for it in names} for names in ("a", "ab"))
+    ended = take(FakeServer(answers_with(dump_of(one))).port, room.folder, "--at-least", "2")
+    assert ended == (3, "", "fewer than 2 domains: 1; nothing is shown\n"), ended
+    assert folder_names(room.folder) == []
+    assert take(FakeServer(answers_with(dump_of(two))).port, room.folder, "--at-least", "2") == shown(1, 2)
+    before = room.marks()
+    for items in ({}, one):
+        ended = take(FakeServer(answers_with(dump_of(items))).port, room.folder, "--at-least", "2")
+        assert ended == (3, "", f"fewer than 2 domains: {len(items)}; kept snapshot-1\n"), ended
+    assert room.marks() == before
+    assert take(FakeServer(answers_with(dump_of(one))).port, room.folder, "--at-least", "1") == shown(2, 1)
+
+
+def holes_in_the_numbers():
+    """Old snapshots go by the names that are there, also if a run that was killed has left holes, and if nothing else is to be done.
+    What only has such a name stays, and what `current` names."""
+    for is_new in (False, True):
+        room = Place()
+        assert take(FakeServer(answers_with(dump_of({"a": EMPTY}))).port, room.folder) == shown(1, 1)
+        os.rename(f"{room.folder}/snapshot-1", f"{room.folder}/snapshot-50")
+        room.link("snapshot-50", "current")
+        for number in (3, 20, 21, 46, 47, 48, 49, 51):
+            os.mkdir(f"{room.folder}/snapshot-{number}")
+            room.write(f"out/snapshot-{number}/map", b"old")
+        others = ["snapshot-05", "snapshot-6x", "snapshot-", "snapshot-0x1", "snapshots", "7"]
+        for name in others:
+            os.mkdir(f"{room.folder}/{name}")
+        room.write("out/snapshot-8", b"a file")
+        os.mkdir(f"{room.path}/elsewhere")
+        room.write("elsewhere/map", b"stays")
+        room.link("../elsewhere", "snapshot-9")
+        with open(os.fsencode(room.folder) + b"/snapshot-\xff", "wb"):
+            pass
+        items = {"b" if is_new else "a": EMPTY}
+        current = 51 if is_new else 50
+        ended = take(FakeServer(answers_with(dump_of(items))).port, room.folder)
+        assert ended == (shown(51, 1) if is_new else (0, "", "")), ended
+        kept = [f"snapshot-{it}" for it in range(current - 2, current + 1)]
+        left = sorted(["current", *kept, *others, "snapshot-8", "snapshot-9", os.fsdecode(b"snapshot-\xff")])
+        assert folder_names(room.folder) == left, folder_names(room.folder)
+        assert room.read("elsewhere/map") == b"stays"
+        assert room.current() == files_of(items)
+
+
+def links_that_are_planted():
+    """Whoever may write in the folder puts a link in the place of the new snapshot as it is written: no file that is there is
+    written over. (Before, a few runs were enough.)"""
+    room = Place()
+    os.mkdir(f"{room.path}/victim")
+    theirs = {"map": b"theirs", **{f"{name}.{end}": b"theirs" for name in "abcdefgh" for end in ("json", "pem")}}
+    for name, data in theirs.items():
+        room.write(f"victim/{name}", data)
+    is_over = threading.Event()
+    planter = Beside("the planter", plant_links, room, is_over)
+    for number in range(1, 101):
+        take(FakeServer(answers_with(dump_of({name: numbered(number) for name in "abcdefgh"}))).port, room.folder)
+        found = read_folder(f"{room.path}/victim")
+        assert {name: found.get(name) for name in theirs} == theirs, number
+    is_over.set()
+    planter.join()
+    assert take(FakeServer(answers_with(DUMP_OF_NONE)).port, room.folder)[0] == 0
+    assert room.current() == files_of({})
+
+
+def plant_links(room, is_over):
+    """Puts a link in the place of each folder that the command makes, as soon as it is there, and takes it away again."""
+    while not is_over.is_set():
+        for name in os.listdir(room.folder):
+            path = f"{room.folder}/{name}"
+            if name.startswith("snapshot-") and not os.path.islink(path) and not os.path.exists(f"{path}/map"):
+                with contextlib.suppress(OSError):
+                    os.rename(path, f"{room.path}/away")
+                    os.symlink("../victim", path)
+                    time.sleep(0.001)
+                with contextlib.suppress(OSError):
+                    os.remove(path)
+                shutil.rmtree(f"{room.path}/away", ignore_errors=True)
 
 
 def folders_that_are_not_used():
@@ -222,52 +255,6 @@ def answers_that_are_none():
             assert ended == (1, "", f"fault {number}\n"), ended
     assert take(unused_port(), room.folder) == (1, "", "fault 78\n")
     assert room.marks() == before
-
-
-def in_turn(replies):
-    """Each connection is answered by the next of these, a reply for each request, and by the last one again."""
-    left = list(replies)
-
-    def serve(stream):
-        answers_with(*(left.pop(0) if len(left) > 1 else left[0]))(stream)
-
-    return serve
-
-
-def turns_that_fail():
-    """With --every a refusal of the moment and a reply that is torn off are told and tried again; a malformed one ends it. What was
-    fetched is asked for by its digest, in version 3, and does not come again while it is the same."""
-    one, two, version = dump_of({"a": EMPTY}), dump_of({"a": EMPTY, "b": EMPTY}), frame(b"v\x03")
-    replies = [
-        (frame(b"\x16"),),
-        (one,),
-        (version, frame(b"e")),
-        (version, one[:-1]),
-        (b"", b""),
-        (version, frame(b"e")),
-        (version, two),
-        (version, frame(b"s")),
-    ]
-    room = Place()
-    ended = take(FakeServer(in_turn(replies)).port, room.folder, "--every", "1")
-    out = "shown snapshot-1 domains 1\nshown snapshot-2 domains 2\n"
-    assert ended == (1, out, "fault 22\nfault 52\nfault 52\nfault 58\n"), ended
-    assert room.current() == files_of({"a": EMPTY, "b": EMPTY})
-
-
-def server_that_comes_later():
-    """With --every a server that is not there yet is waited for, and a command that is stopped leaves a whole snapshot."""
-    room, port = Place(), unused_port()
-    how = {"stdin": subprocess.DEVNULL, "stdout": subprocess.PIPE, "stderr": subprocess.PIPE}
-    started = start(*words_of(port, room.folder, "--every", "1"), **how)
-    assert line_of(started, started.stderr) == b"fault 78\n"
-    server = Server("--workers", "1", "--connections", "unlimited", port=port)
-    assert line_of(started) == b"shown snapshot-1 domains 0\n"
-    set_bundle(server, "a", EMPTY)
-    assert line_of(started) == b"shown snapshot-2 domains 1\n"
-    started.send_signal(signal.SIGTERM)
-    started.communicate(timeout=SECONDS)
-    assert room.current() == files_of({"a": EMPTY})
 
 
 def memory_that_is_refused():
@@ -358,7 +345,8 @@ def moment_of(files):
 
 
 CHECKS = [real_bundles, changes_over_a_server, names_that_bite, names_that_are_too_long, folders_that_are_not_used, leftovers_of_a_crash,
-          damaged_snapshots, answers_that_are_none, turns_that_fail, server_that_comes_later, memory_that_is_refused, one_moment_beside_a_writer]
+          fewer_domains_than_are_wanted, holes_in_the_numbers, links_that_are_planted, damaged_snapshots, answers_that_are_none, memory_that_is_refused,
+          one_moment_beside_a_writer, *TURNS]
 
 
 if __name__ == "__main__":

@@ -61,7 +61,7 @@ Does (Trace shards rounds picture) status old new = Filters (RunOf shards rounds
 Does Migrate status old new = Filters MigrationOf Unread status old new
 Does (Race seconds) status old new = RaceRun status old new
 Does (Refresh wanted) status old new = RefreshRun status old new
-Does (Snapshot wanted) status old new = SnapshotRun status old new
+Does (Snapshot wanted) status old new = SnapshotRun wanted.at_least status old new
 Does (Stats wanted) status old new = StatsRun status old new
 Does (Serve places load save log settings) status old new =
     (stops_at_end settings.connections ≡ false → new.input ≡ old.input) × ServeCommand IsUnknown (ServedAs settings.connections settings.turns) load settings status old.output new.output old.error new.error

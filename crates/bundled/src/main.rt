@@ -8,6 +8,7 @@ mod racing;
 mod refreshing;
 mod server_stream;
 mod serving;
+mod snapshot_turns;
 mod snapshotting;
 mod stats;
 

@@ -140,6 +140,12 @@ pub const EVERY: Argument = Argument {
     help: "Repeat, with a pause of so many seconds",
 };
 
+pub const AT_LEAST_DOMAINS: Argument = Argument {
+    name: "at-least",
+    kind: Kind::Optional("DOMAINS", ValueParser::Unsigned(1, u64::MAX)),
+    help: "Show nothing if the server has fewer domains, as one that was started again empty",
+};
+
 pub const UNTIL_EOF: Argument = Argument {
     name: "until-eof",
     kind: Kind::Switch,

@@ -423,8 +423,8 @@ What to do: Give the time with --now.
         "\
 73 LongName, DOMAIN
 The name of the domain, from 1 in order of the names, has over 250 bytes: with `.json` it is too
-long for a file.
-What to do: Remove the bundle, or read the dump in another way.
+long for a file. `snapshot` told so up to 1.1; now it leaves out the files of this domain only.
+What to do: Read the bundle in the file map, or by ask.
 ",
     ),
     (
@@ -432,7 +432,8 @@ What to do: Remove the bundle, or read the dump in another way.
         "\
 74 BadFolder
 The folder of snapshots cannot be read or written, or its `current` is not a link to a snapshot.
-What to do: Make the folder, see its permissions and the room on the disk, and run again.
+What to do: Make the folder, see its permissions and the room on the disk. With --every the next
+turn tries again; without it, run again.
 ",
     ),
     (

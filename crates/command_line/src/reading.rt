@@ -203,6 +203,7 @@ fn snapshotting_of<'a>(
             place,
             folder: text_of(answers, "out"),
             every: answers.get_one::<u64>("every"),
+            at_least: answers.get_one::<u64>("at-least").unwrap_or(0),
         })),
         Err(reason) => Err(refusal(alloc, verb, reason)),
     }

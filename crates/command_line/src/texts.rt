@@ -210,11 +210,17 @@ first, and then reads, sees one moment. If no file differs from those of the cur
 
   shown snapshot-7 domains 2        with /run/bundles/current a link to snapshot-7
 
-A line is printed for each snapshot that is shown. The two before it are kept, and older ones are removed. A name of over
-250 bytes is too long for a file: `fault 73 DOMAIN`, counted from 1, and nothing is written. A folder that cannot be read
-or written is `fault 74`. With --every a server that is not there, a connection that is lost, and the refusals 22, 41
-and 42 are told and tried again; any other fault ends the command, with status 1. One command at a time may write to a
-folder.";
+A line is printed for each snapshot that is shown. The two before it are kept, and older ones are removed. A domain whose
+name has over 250 bytes has no files, as its name is too long for one: it is in map only, and standard error is told
+`left out NAME: too long for a file`. A folder that cannot be read or written is `fault 74`.
+
+With --at-least a server that has fewer domains, as one that was started again empty, changes nothing. That is told on
+standard error, and the status is 3.
+
+With --every no fault of the server or of the folder ends the command. It is told on standard error once, and so is that it
+is over; each turn tries again. The first line is `current snapshot-N domains M` if the folder shows a snapshot already, so
+that whoever acts on each line acts on it. Only if a line cannot be printed the command ends, with status 1. One command at
+a time may write to a folder.";
 
 pub const SERVING: &str = "\
 With a number of --connections each worker serves so many clients one after the other, and then the server ends. With

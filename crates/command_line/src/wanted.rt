@@ -89,6 +89,8 @@ pub struct Snapshotting<'a> {
     pub folder: &'a str,
     /// In how many seconds another one is made; without it, there is one.
     pub every: Option<u64>,
+    /// If the server has fewer domains, none is shown.
+    pub at_least: u64,
 }
 
 /// Which counts are to be told.

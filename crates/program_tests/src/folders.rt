@@ -4,7 +4,7 @@ ghost use Rattle.snapshots.specs.declared.error.FolderError.TheVariants.{Unusabl
 
 use client::{Client, ClientError};
 use map_core::AskError;
-use snapshots::{FetchError, Folder, FolderError, SnapshotError, fetch, update};
+use snapshots::{FetchError, Folder, FolderError, fetch, has_files, update};
 use spiffe_doc::{Bundle, TrustDomain, read_document};
 use std::alloc::{AllocError, Global};
 use std::io;
@@ -195,7 +195,7 @@ fn updated(
     alloc: Global,
     folder: &mut Told,
     documents: &[(&str, &str)],
-) -> Result<Result<bool, SnapshotError>, Fail> {
+) -> Result<Result<bool, FolderError>, Fail> {
     let domains = domains_of(alloc, documents)?;
     Ok(update(alloc, folder, domains.as_slice()))
 }
@@ -221,23 +221,52 @@ fn folders_that_fail(rt: HostRuntime) -> Result<(), Fail> {
     for left in 0..DEEDS.len() {
         let mut folder = Told::new(alloc, left, &[]);
         let found = updated(alloc, &mut folder, &[("a", SEVEN)])?;
-        is_equal_at(&found, &Err(SnapshotError::Folder), &left)?;
+        is_equal_at(&found, &Err(FolderError::Unusable), &left)?;
         let (deeds, _) = DEEDS.split_at(left);
         holds_at(folder.left == 0 && folder.has_done(deeds), &folder.lines)?;
     }
     Ok(())
 }
 
-/// A name of 250 bytes has files, and one of 251 has none: then nothing is done.
+/// How many bytes a name has, and whether it has files.
+static SIZES: [(usize, bool); 4] = [(250, true), (251, false), (254, false), (255, false)];
+
+/// A name of 250 bytes has files, and a longer one has none: it is in the map, and the domains before and behind it have theirs.
 #[test]
 fn long_names(rt: HostRuntime) -> Result<(), Fail> {
     let alloc = rt.alloc();
-    for &(size, wanted) in &[(250, Ok(true)), (251, Err(SnapshotError::LongName(1)))] {
-        let name = "z".repeat(alloc, size)?;
+    for &(size, has) in &SIZES {
+        let name = "b".repeat(alloc, size)?;
+        is_equal_at(
+            &has_files(&TrustDomain::parse(alloc, name.as_str())?),
+            &has,
+            &size,
+        )?;
+        let documents = [("a", SEVEN), (name.as_str(), EIGHT), ("c", NINE)];
+        let map = format!(in alloc;
+            "put map {{\"trust_domains\":{{\"a\":{SEVEN},\"{name}\":{EIGHT},\"c\":{NINE}}}}}\n\n"
+        )?;
+        let json = format!(in alloc; "put {name}.json {EIGHT}\n")?;
+        let pem = format!(in alloc; "put {name}.pem \n")?;
+        let (json, pem) = if has {
+            (json.as_str(), pem.as_str())
+        } else {
+            ("", "")
+        };
+        let deeds = [
+            "begin\n",
+            map.as_str(),
+            "put a.json {\"keys\":[],\"spiffe_sequence\":7}\n",
+            "put a.pem \n",
+            json,
+            pem,
+            "put c.json {\"keys\":[],\"spiffe_sequence\":9}\n",
+            "put c.pem \n",
+            "show\n",
+        ];
         let mut folder = Told::new(alloc, 100, &[]);
-        let found = updated(alloc, &mut folder, &[("a", SEVEN), (name.as_str(), SEVEN)])?;
-        is_equal_at(&found, &wanted, &size)?;
-        holds_at(folder.lines.is_empty() == wanted.is_err(), &size)?;
+        is_equal_at(&updated(alloc, &mut folder, &documents)?, &Ok(true), &size)?;
+        holds_at(folder.has_done(&deeds), &folder.lines)?;
     }
     Ok(())
 }
@@ -301,7 +330,7 @@ fn a_refused_growth_shows_nothing(rt: HostRuntime) -> Result<(), Fail> {
     let was_refused = found.is_err();
     let is_told = match found {
         Ok(is_new) => is_new && folder.lines.as_str().ends_with("show\n"),
-        Err(error) => { error == SnapshotError::Memory && !folder.lines.as_str().contains("show") }
+        Err(error) => { error == FolderError::Memory && !folder.lines.as_str().contains("show") }
     };
     holds_at(is_told, &folder.lines)?;
     let ended = fetched(alloc, ALL_OF_ONE);

@@ -161,7 +161,10 @@ fn told_wanted(alloc: Global, wanted: &Wanted<'_>) -> Result<String, AllocError>
             let texts = [it.list, it.folder, place.as_str()];
             told(alloc, "refresh", &texts, &[it.now, Some(it.at_least)])
         }
-        Wanted::Snapshot(it) => { told_at(alloc, "snapshot", &[it.folder], it.place, &[it.every]) }
+        Wanted::Snapshot(it) => {
+            let numbers = [it.every, Some(it.at_least)];
+            told_at(alloc, "snapshot", &[it.folder], it.place, &numbers)
+        }
         Wanted::Stats(it) => {
             told_at(
                 alloc,
@@ -300,7 +303,7 @@ static PLACES: [Line; 15] = [
         "serve unlimited|-|-|a|0|0|2|18446744073709551615|4|3|1000|1000|1000|0|60",
     ),
     ("ask --socket a fetch", "ask|fetch|a|100|0"),
-    ("snapshot --socket a --out b", "snapshot|b|a|-"),
+    ("snapshot --socket a --out b", "snapshot|b|a|-|0"),
     (
         "refresh --relationships=l --documents=f --socket=a",
         "refresh|l|f|a|-|60",
@@ -411,11 +414,19 @@ fn reads_which_counts_are_wanted(rt: HostRuntime) -> Result<(), AllocError> {
 }
 
 /// Which snapshots are wanted.
-static SNAPSHOTS: [Line; 5] = [
-    ("snapshot --port 1 --out a/b", "snapshot|a/b|1|-"),
+static SNAPSHOTS: [Line; 7] = [
+    ("snapshot --port 1 --out a/b", "snapshot|a/b|1|-|0"),
     (
         "snapshot --port=65535 --every=86400 --out=-",
-        "snapshot|-|65535|86400",
+        "snapshot|-|65535|86400|0",
+    ),
+    (
+        "snapshot --port=1 --out=a --at-least=18446744073709551615",
+        "snapshot|a|1|-|18446744073709551615",
+    ),
+    (
+        "snapshot --port=1 --out=a --at-least=0",
+        "error: invalid value '0' for '--at-least <DOMAINS>': 0 is not in 1..=18446744073709551615\n\nFor more information, try '--help'.\n",
     ),
     (
         "snapshot --port=0 --out=a",

@@ -1,6 +1,7 @@
 -- Lemmas on files that are compared one after the other.
-use Rattle.std.proofs.Common.{◌≡◌, List, [], ◌∷◌, ◌++◌, Bool, true, false, refl, sym, ap, ◌∙◌, append_assoc}
-use Rattle.std.specs.List.{AllByRecursion}
+use Rattle.std.proofs.Common.{◌≡◌, List, [], ◌∷◌, ◌++◌, Bool, true, false, Result, Ok, Err, sym, ap, ◌∙◌, append_assoc}
+use Rattle.std.specs.Prelude.{IfOk}
+use Rattle.snapshots.specs.declared.error.FolderError.{FolderError}
 use Rattle.snapshots.specs.Files.{File}
 use Rattle.snapshots.specs.Update.{AreThere, SomeDiffers}
 
@@ -42,6 +43,12 @@ two_there there first second one two true true same-one same-two other a b = rw 
 two_there there first second one two true false same-one same-two other a b =
     record { before = first ∷ []; file = two; after = []; placed = ap (λ f. first ∷ f ∷ []) (sym same-two); differs = b }
 two_there there first second one two false last same-one same-two other a b = absurd (false_true other)
+
+-- the same if the answer on the second may be an error
+pub two_answered : (there : File → Bool → Type 0) (first second one two : File) (found : Bool) (last : Result Bool FolderError) → one ≡ first → two ≡ second → found ≡ true
+    → there one found → IfOk last (λ l. there two l) → IfOk last (AreThere there (first ∷ second ∷ []))
+two_answered there first second one two found (Ok last) same-one same-two is-there a b = two_there there first second one two found last same-one same-two is-there a b
+two_answered there first second one two found (Err error) same-one same-two is-there a b = tt
 
 pub head_there : (there : File → Bool → Type 0) (file found : File) (yes : Bool) → found ≡ file → yes ≡ true → there found yes → AreThere there (file ∷ []) true
 head_there there file found true same other answer = rw (sym same) (answer, tt)

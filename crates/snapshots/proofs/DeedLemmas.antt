@@ -1,11 +1,22 @@
 -- Lemmas on what is done, one deed after the other.
-use Rattle.std.proofs.Common.{◌≡◌, List, [], ◌∷◌, ◌++◌, Option, Some, None, Result, Ok, Err, ℕ, ◌<◌, ◌+◌, map, length, take, drop, get_or, refl, sym, ap, ◌∙◌, append_assoc, append-nil}
-use Rattle.std.specs.Prelude.{OnErr, flat_map}
+use Rattle.std.proofs.Common.{◌≡◌, List, [], ◌∷◌, ◌++◌, true, false, Option, Some, None, Result, Ok, Err, ℕ, ◌<◌, ◌+◌, map, length, take, drop, get_or, refl, sym, ap, ◌∙◌, append_assoc, append-nil}
+use Rattle.std.specs.Prelude.{OnErr, flat_map, if◌then◌else◌}
+use Rattle.spiffe_doc.specs.Authority.{BundleValue}
+use Rattle.map_core.specs.Name.{Name}
 use Rattle.std.proofs.lemmas.List.{map-append, take-append-drop, drop_more}
 use Rattle.std.proofs.lemmas.List.Concat.{flat_map-append}
-use Rattle.snapshots.specs.Files.{File}
+use Rattle.snapshots.specs.Names.{is_short}
+use Rattle.snapshots.specs.Files.{File, both_files, domain_files}
 use Rattle.snapshots.specs.Deeds.Deed.{Put}
 use Rattle.snapshots.specs.Deeds.{Deed, then_done, IsCutShort}
+
+-- a domain whose name is short enough has both files
+pub has_both : (item : Name × BundleValue) → is_short item.0 ≡ true → domain_files item ≡ both_files item
+has_both item short = ap (λ yes. if yes then both_files item else []) short
+
+-- and another one has none
+pub has_none : (item : Name × BundleValue) → is_short item.0 ≡ false → domain_files item ≡ []
+has_none item long = ap (λ yes. if yes then both_files item else []) long
 
 pub then_nothing : (known : Option (List Deed)) → then_done known [] ≡ known
 then_nothing None = refl

@@ -1,24 +1,22 @@
 -- Lemmas on what a client answers to a fetch-all.
-use Rattle.std.proofs.Common.{◌≡◌, ◌≢◌, ◌⊎◌, ℕ, List, [], ◌∷◌, refl, sym, ap, ◌∙◌, inl, inr, Option, Ok, Err, Some, None, true, false}
+use Rattle.std.proofs.Common.{◌≡◌, ◌≢◌, ℕ, List, [], ◌∷◌, refl, ap, ◌∙◌, inl, inr, Option, Ok, Err, Some, None, true, false}
 use Rattle.std.specs.Prelude.{◌==◌, ◌||◌}
 use Rattle.map_core.specs.declared.op.Op.{Op}
 use Rattle.map_core.specs.declared.reply.Reply.{Reply}
 use Rattle.map_core.specs.declared.reply.Reply.TheVariants.{Stored, Unchanged, Appended, Removed, Found, All, Same, Refused}
 use Rattle.map_core.specs.declared.reply.MapRefusal.{MapRefusal}
 use Rattle.map_core.specs.declared.reply.MapRefusal.TheVariants.{NoDomain, Stale, KidTaken, TooMany, TooLong, SequenceFull, NotExpected}
-use Rattle.map_core.specs.declared.reply.AskError.{AskError}
 use Rattle.map_core.specs.declared.reply.AskError.TheVariants as error
 use Rattle.wire.specs.Frame.{frame}
 use Rattle.wire.specs.Answers.{code_of}
 use Rattle.frame_front.specs.Dump.{Domains}
 use Rattle.frame_front.proofs.ReplyLemmas.{not_both}
 use Rattle.client.specs.declared.client_error.ClientError.{ClientError}
-use Rattle.client.specs.Answer.{Answer, MayAnswer, is_code_for}
-use Rattle.client.specs.Client.{ClientState, Ends, Exchange, IsAsked, IsIdle, Asks}
+use Rattle.client.specs.Answer.{MayAnswer, is_code_for}
+use Rattle.client.specs.Client.{ClientState, Ends, Exchange, IsAsked, Asks}
 use Rattle.client.proofs.MapAnswers.{one_code}
-use Rattle.snapshots.specs.declared.fetching.FetchError.TheVariants as fetches
 use Rattle.wire.specs.ReplyForm.{is_error_code}
-use Rattle.snapshots.specs.Fetch.{Fetches, fetch_op}
+use Rattle.snapshots.specs.Fetch.{fetch_op}
 
 -- a reply to a fetch-all has the code a, or e if a digest is known
 fetch_codes : (known : Option (List ℕ)) (code : ℕ) → (code == 97) ≡ false → (code == 101) ≡ false → is_error_code code ≡ false → is_code_for (fetch_op known) code ≡ false

@@ -1,14 +1,15 @@
 -- The laws of the names of files.
 use Rattle.std.proofs.Common.{◌≡◌, ◌≢◌, ℕ, ◌==◌, ◌<◌, ◌≤◌, List, [], ◌∷◌, ◌++◌, length, get_or, reverse, not, true, false, refl, sym, ap, ◌∙◌, arith, codes, Bool}
 use Rattle.std.proofs.lemmas.List.{append_cancel_right, reverse-append, length-append}
-use Rattle.std.proofs.lemmas.List.Elements.{All-append, All-from_recursion, recursion_from_All}
-use Rattle.std.specs.List.{All, AllPass, AllByRecursion}
-use Rattle.std.specs.Prelude.{flat_map}
+use Rattle.std.proofs.lemmas.List.Elements.{All-append, All-from_recursion}
+use Rattle.std.specs.List.{AllPass, AllByRecursion}
+use Rattle.std.specs.Prelude.{flat_map, if◌then◌else◌}
 use Rattle.frame_front.specs.Dump.{Domains, AreValid}
-use Rattle.snapshots.specs.Files.{File, domain_files, files_of}
+use Rattle.spiffe_doc.specs.Authority.{BundleValue}
+use Rattle.snapshots.specs.Files.{File, both_files, domain_files}
 use Rattle.spiffe_doc.specs.Name.{IsName, is_name_byte}
 use Rattle.map_core.specs.Name.{Name}
-use Rattle.snapshots.specs.Names.{json_name, pem_name, map_name, IsFileName, IsShort}
+use Rattle.snapshots.specs.Names.{map_name, is_short, IsFileName}
 use Rattle.snapshots.specs.Laws.{StayInside, AreApart}
 
 passes : (p : ℕ → Bool) (xs : List ℕ) → AllByRecursion (λ x. p x ≡ true) xs → AllPass p xs
@@ -91,15 +92,30 @@ map_is_named = record {
   not_its_parent = longer [] map_name (codes "..") (omega arith);
 }
 
-domains_are_named : (items : Domains) → AreValid items → AllByRecursion (λ item. IsShort item.0) items → AllByRecursion IsNamed (flat_map domain_files items)
-domains_are_named [] valid short = tt
-domains_are_named (item ∷ items) valid short = (
-  file_name item.0 (codes ".json") valid.0.0 short.0 (omega arith) (omega arith) json_no_slash json_no_nul,
-  (file_name item.0 (codes ".pem") valid.0.0 short.0 (omega arith) (omega arith) pem_no_slash pem_no_nul, domains_are_named items valid.1 short.1),
-)
+short_enough : (name : List ℕ) → is_short name ≡ true → length name ≤ 250
+short_enough name short = grind arith
+
+-- the files of a domain whose name is short, or none
+domain_is_named : (item : Name × BundleValue) (short : Bool) → IsName item.0 → is_short item.0 ≡ short
+    → AllByRecursion IsNamed (if short then both_files item else [])
+domain_is_named item false is same = tt
+domain_is_named item true is same =
+    let fits = short_enough item.0 same in (
+      file_name item.0 (codes ".json") is fits (omega arith) (omega arith) json_no_slash json_no_nul,
+      (file_name item.0 (codes ".pem") is fits (omega arith) (omega arith) pem_no_slash pem_no_nul, tt),
+    )
+
+both_named : (files more : List File) → AllByRecursion IsNamed files → AllByRecursion IsNamed more → AllByRecursion IsNamed (files ++ more)
+both_named [] more first second = second
+both_named (file ∷ files) more first second = (first.0, both_named files more first.1 second)
+
+domains_are_named : (items : Domains) → AreValid items → AllByRecursion IsNamed (flat_map domain_files items)
+domains_are_named [] valid = tt
+domains_are_named (item ∷ items) valid =
+    both_named (domain_files item) (flat_map domain_files items) (domain_is_named item (is_short item.0) valid.0.0 refl) (domains_are_named items valid.1)
 
 pub files_stay_inside : StayInside
-files_stay_inside items valid short = (map_is_named, domains_are_named items valid (recursion_from_All (λ item. IsShort item.0) items short))
+files_stay_inside items valid = (map_is_named, domains_are_named items valid)
 
 pub files_are_apart : AreApart
 files_are_apart = record {

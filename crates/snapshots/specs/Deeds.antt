@@ -1,5 +1,5 @@
 -- What is done in the folder of snapshots.
-use Rattle.std.specs.Prelude.{◌≡◌, ℕ, List, [], ◌∷◌, ◌++◌, map, Option, option_map}
+use Rattle.std.specs.Prelude.{◌≡◌, List, [], ◌∷◌, ◌++◌, map, Option, option_map}
 use Rattle.frame_front.specs.Dump.{Domains}
 use Rattle.snapshots.specs.Files.{File, files_of}
 

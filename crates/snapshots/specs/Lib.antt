@@ -5,4 +5,3 @@ pub mod Seen
 pub mod Update
 pub mod Fetch
 pub mod Laws
-pub mod Private

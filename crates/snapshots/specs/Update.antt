@@ -1,10 +1,9 @@
 -- A folder of snapshots comes to show these domains.
-use Rattle.std.specs.Prelude.{◌≡◌, ℕ, List, ◌++◌, ◌∷◌, Bool, true, false, Option}
+use Rattle.std.specs.Prelude.{◌≡◌, List, ◌++◌, ◌∷◌, Bool, true, false, Option}
 use Rattle.std.specs.List.{AllByRecursion}
 use Rattle.frame_front.specs.Dump.{Domains}
-use Rattle.snapshots.specs.declared.error.SnapshotError.{SnapshotError}
-use Rattle.snapshots.specs.declared.error.SnapshotError.TheVariants.{LongName, Folder, Memory}
-use Rattle.snapshots.specs.Names.{HaveShortNames, IsFirstLong}
+use Rattle.snapshots.specs.declared.error.FolderError.{FolderError}
+use Rattle.snapshots.specs.declared.error.FolderError.TheVariants.{Unusable, Memory}
 use Rattle.snapshots.specs.Files.{File, files_of}
 use Rattle.snapshots.specs.Deeds.{Deed, deeds_of, then_done}
 
@@ -25,13 +24,11 @@ module _ {F : Type 0} (done_in : F → Option (List Deed)) (shows : F → File �
   -- Something was new: a file differs from the current snapshot's, and a new snapshot is written and shown. Or each file is as
   -- it was, and nothing is done.
   abbrev pub Updates : F → F → Domains → Bool → Type 0
-  Updates old new items true = HaveShortNames items × AreThere (shows old) (files_of items) false × (done_in new ≡ then_done (done_in old) (deeds_of items))
-  Updates old new items false = HaveShortNames items × AreThere (shows old) (files_of items) true × (new ≡ old)
+  Updates old new items true = AreThere (shows old) (files_of items) false × (done_in new ≡ then_done (done_in old) (deeds_of items))
+  Updates old new items false = AreThere (shows old) (files_of items) true × (new ≡ old)
 
 module _ {F : Type 0} (fails : F → Type 0) where
-  -- Why no snapshot is shown. A name that is too long is told before anything is done, and the folder is told as unusable only if
-  -- a call on it was answered so.
-  abbrev pub WhyNot : SnapshotError → Domains → F → F → Type 0
-  WhyNot (LongName place) items old new = IsFirstLong items place × (new ≡ old)
-  WhyNot Folder items old new = (at : F) × fails at
-  WhyNot Memory items old new = Unit {0}
+  -- Why no snapshot is shown: the folder is told as unusable only if a call on it was answered so.
+  abbrev pub WhyNot : FolderError → Type 0
+  WhyNot Unusable = (at : F) × fails at
+  WhyNot Memory = Unit {0}

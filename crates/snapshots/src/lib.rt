@@ -9,11 +9,13 @@ mod fetching;
 mod folder;
 mod host_folder;
 pub mod laws;
+mod listing;
 mod names;
 mod updating;
 
-pub use error::{FolderError, SnapshotError};
+pub use error::FolderError;
 pub use fetching::{FetchError, fetch};
 pub use folder::Folder;
-pub use host_folder::HostFolder;
+pub use host_folder::{HostFolder, Look};
+pub use names::has_files;
 pub use updating::update;

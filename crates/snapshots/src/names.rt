@@ -1,8 +1,8 @@
 //! The names of files and folders.
-ghost use Rattle.std.specs.Prelude.{◌≡◌, ◌≢◌, ℕ, ◌≤◌, ◌<◌, ◌^◌, decimal, IfOk, IfSome, IfNone, MatchOption, Some, string_bytes};
-ghost use Rattle.snapshots.specs.Names.{json_name as json_name_of, pem_name as pem_name_of, folder_name as folder_name_of, HaveShortNames, IsFirstLong};
+ghost use Rattle.std.specs.Prelude.{◌≡◌, ◌≢◌, ℕ, ◌<◌, ◌^◌, decimal, IfOk, MatchOption, Some, string_bytes};
+ghost use Rattle.snapshots.specs.Names.{json_name as json_name_of, pem_name as pem_name_of, folder_name as folder_name_of, is_short};
 
-use spiffe_doc::{Bundle, TrustDomain};
+use spiffe_doc::TrustDomain;
 use std::alloc::{AllocError, Global};
 
 /// The name of the file of all domains. No domain's file has it, as those end with `.json` or `.pem`.
@@ -13,6 +13,13 @@ const FRONT: &str = "snapshot-";
 
 /// The most bytes of a domain's name: with `.json` it has 255, which is what file systems take.
 const MAX_NAME: usize = 250;
+
+/// Whether the domain has files of its own in a snapshot. If its name is longer, it has not, and is in the map only.
+pub fn has_files(domain: &TrustDomain) -> bool
+    ensures { result ≡ is_short domain.now }
+{
+    domain.as_str().len() <= MAX_NAME
+}
 
 /// The name of the file of a domain's document.
 pub fn json_name(alloc: Global, domain: &TrustDomain) -> Result<String, AllocError>
@@ -68,17 +75,4 @@ pub fn folder_number(alloc: Global, name: &str) -> Result<Option<u64>, AllocErro
     } else {
         Ok(None)
     }
-}
-
-/// The place of the first domain whose name is too long for a file.
-pub fn first_long(domains: &[(TrustDomain, Bundle)]) -> Option<usize>
-    ensures some { IfSome result (IsFirstLong domains.now) }
-    ensures none { IfNone result (HaveShortNames domains.now) }
-{
-    for (place, item) in domains.iter().enumerate() {
-        if item.0.as_str().len() > MAX_NAME {
-            return Some(place);
-        }
-    }
-    None
 }

@@ -2,33 +2,30 @@
 ghost use Rattle.std.specs.Prelude.{◌≡◌, ◌∷◌, [], ◌++◌, map, flat_map, true, false, string_bytes, IfOk, IfErr, OnOk, OnErr};
 ghost use Rattle.spiffe_doc.specs.Text.{text_of};
 ghost use Rattle.snapshots.specs.Names.{map_name};
-ghost use Rattle.snapshots.specs.Files.{domain_files, files_of, map_file};
+ghost use Rattle.snapshots.specs.Files.{both_files, domain_files, files_of, map_file};
 ghost use Rattle.snapshots.specs.Deeds.{deeds_of, then_done, IsCutShort};
 ghost use Rattle.snapshots.specs.Deeds.Deed.{Put};
 ghost use Rattle.snapshots.specs.Update.{AreThere, Updates, WhyNot};
-ghost use Rattle.snapshots.specs.Private.Errors.{IsOfFolder};
 
-use crate::error::SnapshotError;
+use crate::error::FolderError;
 use crate::folder::Folder;
-use crate::names::{MAP, first_long, json_name, pem_name};
+use crate::names::{MAP, has_files, json_name, pem_name};
 use dump_views::{Profile, put_pem, write_map};
 use spiffe_doc::{Bundle, TrustDomain};
 use std::alloc::{AllocError, Global};
 
 /// Brings the folder to show these domains, and answers whether they are new there. If each file is as in the current
 /// snapshot, nothing is done. If not, a new snapshot is written, file by file, and then shown. After an error it is not shown.
+/// A domain without files of its own (`has_files`) is in the map, as the others are.
 pub fn update<F: Folder>(
     alloc: Global,
     folder: &mut F,
     domains: &[(TrustDomain, Bundle)],
-) -> Result<bool, SnapshotError>
+) -> Result<bool, FolderError>
     ensures ok { IfOk result (λ is_new. Updates F.done F.shows folder.old folder.new domains.now is_new) }
-    ensures why { IfErr result (λ why. WhyNot F.fails why domains.now folder.old folder.new) }
+    ensures why { IfErr result (WhyNot F.fails) }
     ensures err { OnErr result (IsCutShort (F.done folder.old) (F.done folder.new) (deeds_of domains.now)) }
 {
-    if let Some(place) = first_long(domains) {
-        return Err(SnapshotError::LongName(place));
-    }
     let map = map_bytes(alloc, domains)?;
     if is_current(alloc, folder, map.as_slice(), domains)? {
         return Ok(false);
@@ -54,13 +51,13 @@ struct DomainFiles {
     certificates: Vec<u8>,
 }
 
-/// The files of a domain.
+/// The two files of a domain.
 fn files_of_domain(
     alloc: Global,
     domain: &TrustDomain,
     bundle: &Bundle,
 ) -> Result<DomainFiles, AllocError>
-    ensures { IfOk result (λ files. domain_files (domain.now, bundle.now)
+    ensures { IfOk result (λ files. both_files (domain.now, bundle.now)
         ≡ (string_bytes files.json, text_of bundle.now) ∷ (string_bytes files.pem, files.certificates.items) ∷ []) }
 {
     let json = json_name(alloc, domain)?;
@@ -80,10 +77,10 @@ fn is_current<F: Folder>(
     folder: &F,
     map: &[u8],
     domains: &[(TrustDomain, Bundle)],
-) -> Result<bool, SnapshotError>
+) -> Result<bool, FolderError>
     requires { (map_name, map.now) ≡ map_file domains.now }
     ensures ok { IfOk result (λ same. AreThere (F.shows folder.now) (files_of domains.now) same) }
-    ensures err { IfErr result (IsOfFolder F.fails) }
+    ensures err { IfErr result (WhyNot F.fails) }
 {
     if !folder.holds(MAP, map)? {
         return Ok(false);
@@ -96,21 +93,37 @@ fn is_current<F: Folder>(
     Ok(true)
 }
 
-/// Whether the current snapshot has the two files of a domain.
+/// Whether the current snapshot has the files of a domain.
 fn has_domain<F: Folder>(
     alloc: Global,
     folder: &F,
     domain: &TrustDomain,
     bundle: &Bundle,
-) -> Result<bool, SnapshotError>
+) -> Result<bool, FolderError>
     ensures ok { IfOk result (λ same. AreThere (F.shows folder.now) (domain_files (domain.now, bundle.now)) same) }
-    ensures err { IfErr result (IsOfFolder F.fails) }
+    ensures err { IfErr result (WhyNot F.fails) }
+{
+    if !has_files(domain) {
+        return Ok(true);
+    }
+    has_both(alloc, folder, domain, bundle)
+}
+
+/// Whether the current snapshot has the two files of a domain.
+fn has_both<F: Folder>(
+    alloc: Global,
+    folder: &F,
+    domain: &TrustDomain,
+    bundle: &Bundle,
+) -> Result<bool, FolderError>
+    ensures ok { IfOk result (λ same. AreThere (F.shows folder.now) (both_files (domain.now, bundle.now)) same) }
+    ensures err { IfErr result (WhyNot F.fails) }
 {
     let files = files_of_domain(alloc, domain, bundle)?;
     if !folder.holds(files.json.as_str(), bundle.text())? {
         return Ok(false);
     }
-    Ok(folder.holds(files.pem.as_str(), files.certificates.as_slice())?)
+    folder.holds(files.pem.as_str(), files.certificates.as_slice())
 }
 
 /// Writes a snapshot, and then shows it.
@@ -119,11 +132,11 @@ fn write_snapshot<F: Folder>(
     folder: &mut F,
     map: &[u8],
     domains: &[(TrustDomain, Bundle)],
-) -> Result<(), SnapshotError>
+) -> Result<(), FolderError>
     requires { (map_name, map.now) ≡ map_file domains.now }
     ensures ok { OnOk result (F.done folder.new ≡ then_done (F.done folder.old) (deeds_of domains.now)) }
     ensures err { OnErr result (IsCutShort (F.done folder.old) (F.done folder.new) (deeds_of domains.now)) }
-    ensures why { IfErr result (IsOfFolder F.fails) }
+    ensures why { IfErr result (WhyNot F.fails) }
 {
     folder.begin()?;
     folder.put(MAP, map)?;
@@ -137,10 +150,10 @@ fn put_domains<F: Folder>(
     alloc: Global,
     folder: &mut F,
     domains: &[(TrustDomain, Bundle)],
-) -> Result<(), SnapshotError>
+) -> Result<(), FolderError>
     ensures ok { OnOk result (F.done folder.new ≡ then_done (F.done folder.old) (map Put (flat_map domain_files domains.now))) }
     ensures err { OnErr result (IsCutShort (F.done folder.old) (F.done folder.new) (map Put (flat_map domain_files domains.now))) }
-    ensures why { IfErr result (IsOfFolder F.fails) }
+    ensures why { IfErr result (WhyNot F.fails) }
 {
     for item in domains {
         put_domain(alloc, folder, &item.0, &item.1)?;
@@ -148,16 +161,33 @@ fn put_domains<F: Folder>(
     Ok(())
 }
 
-/// Writes the two files of a domain.
+/// Writes the files of a domain.
 fn put_domain<F: Folder>(
     alloc: Global,
     folder: &mut F,
     domain: &TrustDomain,
     bundle: &Bundle,
-) -> Result<(), SnapshotError>
+) -> Result<(), FolderError>
     ensures ok { OnOk result (F.done folder.new ≡ then_done (F.done folder.old) (map Put (domain_files (domain.now, bundle.now)))) }
     ensures err { OnErr result (IsCutShort (F.done folder.old) (F.done folder.new) (map Put (domain_files (domain.now, bundle.now)))) }
-    ensures why { IfErr result (IsOfFolder F.fails) }
+    ensures why { IfErr result (WhyNot F.fails) }
+{
+    if !has_files(domain) {
+        return Ok(());
+    }
+    put_both(alloc, folder, domain, bundle)
+}
+
+/// Writes the two files of a domain.
+fn put_both<F: Folder>(
+    alloc: Global,
+    folder: &mut F,
+    domain: &TrustDomain,
+    bundle: &Bundle,
+) -> Result<(), FolderError>
+    ensures ok { OnOk result (F.done folder.new ≡ then_done (F.done folder.old) (map Put (both_files (domain.now, bundle.now)))) }
+    ensures err { OnErr result (IsCutShort (F.done folder.old) (F.done folder.new) (map Put (both_files (domain.now, bundle.now)))) }
+    ensures why { IfErr result (WhyNot F.fails) }
 {
     let files = files_of_domain(alloc, domain, bundle)?;
     folder.put(files.json.as_str(), bundle.text())?;

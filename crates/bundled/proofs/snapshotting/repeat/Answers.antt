@@ -3,8 +3,8 @@ use Rattle.wire.specs.Output.{TellsUnlessFailed, end_of}
 use Rattle.wire.proofs.OutputLemmas.{tells_more}
 use Rattle.bundled.proofs.snapshotting.repeat.Goals as goal
 
-pub returns-in_err-pass_over : goal.returns-in_err-pass_over
-returns-in_err-pass_over g c =
+pub returns-in_err-pass_over-clause-tells : goal.returns-in_err-pass_over-clause-tells
+returns-in_err-pass_over-clause-tells g c =
     let start = end_of g.E.Write.contents c.args.err.now in
     let old = end_of g.E.Write.contents c.loop.err in
     let new = end_of g.E.Write.contents c.pass_over.new.err in

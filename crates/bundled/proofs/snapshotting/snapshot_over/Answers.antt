@@ -6,6 +6,7 @@ pub returns : goal.returns
 returns g c = λ input. record {
   reads = refl;
   ended = c.repeat-end.result;
-  ends = ends_after _ c.repeat-end.result c.ended_after.result c.repeat-end.ensures.0 _ _ _ _ c.faults-before.ensures c.requires.err_count c.repeat-end.ensures.1 c.ended_after.ensures.status
+  few = c.repeat-end.ensures.few;
+  ends = ends_after _ c.repeat-end.result c.ended_after.result c.repeat-end.ensures.tells.0 _ _ _ _ c.faults-before.ensures c.requires.err_count c.repeat-end.ensures.tells.1 c.ended_after.ensures.status
       c.ended_after.ensures.tells;
 }

@@ -1,4 +1,4 @@
-use Rattle.std.proofs.Common.{◌++◌, sym, take, drop, ◌+◌, [], ◌∷◌, true, false}
+use Rattle.std.proofs.Common.{◌++◌, sym, take, drop, ◌+◌, [], ◌∷◌, false}
 use Rattle.std.specs.Prelude.{flat_map}
 use Rattle.snapshots.specs.Files.{domain_files, map_file}
 use Rattle.snapshots.proofs.CompareLemmas.{head_differs, head_there, there_after, differs_before, differs_at}

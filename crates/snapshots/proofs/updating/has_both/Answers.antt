@@ -1,7 +1,7 @@
 use Rattle.std.proofs.Common.{refl, sym}
 use Rattle.snapshots.specs.Files.{File}
-use Rattle.snapshots.proofs.CompareLemmas.{head_differs, two_there}
-use Rattle.snapshots.proofs.updating.has_domain.Goals as goal
+use Rattle.snapshots.proofs.CompareLemmas.{head_differs, two_answered}
+use Rattle.snapshots.proofs.updating.has_both.Goals as goal
 
 pub returns-then-not-branch-clause-ok : goal.returns-then-not-branch-clause-ok
 returns-then-not-branch-clause-ok g c =
@@ -16,4 +16,4 @@ returns-clause-ok g c =
     let one : File = (c.as_str.result.now, c.text.result.now) in
     let two : File = (c.as_str-2.result.now, c.as_slice.result.now) in
     rw c.in_ok-files.ensures (rw (sym c.as_str.ensures.value, sym c.text.ensures, sym c.as_str-2.ensures.value, sym c.as_slice.ensures.value)
-    (two_there there one two one two c.in_ok-holds.field-0 c.in_ok-holds-2.field-0 refl refl c.if-not-branch.false c.in_ok-holds.ensures.ok c.in_ok-holds-2.ensures.ok))
+    (two_answered there one two one two c.in_ok-holds.field-0 c.holds-2.result refl refl c.if-not-branch.false c.in_ok-holds.ensures.ok c.holds-2.ensures.ok))

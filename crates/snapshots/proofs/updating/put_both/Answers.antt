@@ -1,6 +1,6 @@
 use Rattle.std.proofs.Common.{refl}
 use Rattle.snapshots.proofs.DeedLemmas.{on_err, cut_first}
-use Rattle.snapshots.proofs.updating.put_domain.Goals as goal
+use Rattle.snapshots.proofs.updating.put_both.Goals as goal
 
 pub returns-in_err-files-clause-err : goal.returns-in_err-files-clause-err
 returns-in_err-files-clause-err g c = on_err c.from_residual.result _ (cut_first _ _ _ _ refl)
