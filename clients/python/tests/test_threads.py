@@ -154,6 +154,20 @@ class DeadlinesTest(unittest.TestCase):
             with answered_by(STAYS) as store:
                 self.late(call, store, timeout=0.05)
 
+    def test_limits_that_are_too_long(self):
+        """For the system's clocks: they are none. One that is not a number
+        is refused."""
+        with answered_by(*[found(EMPTY)] * 3, timeout=1e300) as store:
+            for seconds in [None, 3e6, 1e12]:
+                self.assertEqual(store.get("a", timeout=seconds), EMPTY)
+            with self.assertRaises(ValueError):
+                store.get("a", timeout=math.nan)
+
+    def test_ports_that_are_none(self):
+        """The system would take the lower bits of their numbers."""
+        for port in [0, -1, 65536, 65537]:
+            self.assertRaises(ValueError, Client.connect, port)
+
     def test_retries(self):
         """If there is no time for the next, the last answer is given."""
         held = frame(b"\x2a\0\0\0\1" + bytes(8))
