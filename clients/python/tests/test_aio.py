@@ -236,11 +236,11 @@ class RedialTest(unittest.IsolatedAsyncioTestCase):
             self.assertEqual(server.asked, [[GET], [SET]])
 
     async def test_one_that_is_cancelled_anywhere(self):
-        """After 400 that were cancelled after so many turns of the loop each
+        """After 200 that were cancelled after so many turns of the loop each
         call is answered, and right."""
-        with naming(connections=2_000) as port:
+        with naming(connections=1_000) as port:
             async with await Client.connect(port) as store:
-                for number in range(400):
+                for number in range(200):
                     getting = asyncio.ensure_future(store.get(f"n{number}"))
                     for _ in range(number % 40):
                         await asyncio.sleep(0)

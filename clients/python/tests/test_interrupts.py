@@ -1,15 +1,18 @@
 # SPDX-License-Identifier: Apache-2.0
 """Exceptions that come from the handler of a signal, anywhere in a call."""
 import contextlib
+import gc
 import random
 import signal
+import sys
 import tempfile
 import threading
 import time
 import unittest
+import warnings
 
-from hopslintel import (Client, Found, HopslintelError, Request, Stored,
-                        TimedOutError, Unchanged)
+from hopslintel import (Client, Found, HopslintelError, Removed, Request,
+                        Stored, TimedOutError, Unchanged)
 from hopslintel.connection import Deadline
 from hopslintel.turns import Turns
 
@@ -34,6 +37,13 @@ class Alarms:
         self.kind, self.left = kind, 0
 
     def __enter__(self):
+        """One that comes as an object is destroyed is ignored; and sockets
+        that were being made are closed with what held them. Python would
+        tell both."""
+        self.warnings = warnings.catch_warnings()
+        self.warnings.__enter__()
+        warnings.simplefilter("ignore", ResourceWarning)
+        self.ignored, sys.unraisablehook = sys.unraisablehook, lambda _: None
         self.before = signal.signal(signal.SIGALRM, self.handle)
         return self
 
@@ -41,6 +51,9 @@ class Alarms:
         self.left = 0
         signal.setitimer(signal.ITIMER_REAL, 0)
         signal.signal(signal.SIGALRM, self.before)
+        gc.collect()
+        sys.unraisablehook = self.ignored
+        self.warnings.__exit__(None, None, None)
 
     def set(self, seconds, count=1):
         self.left = count
@@ -99,17 +112,21 @@ class Checked:
 
     def until_interrupted(self, alarms, count, levels):
         """Calls until no exception is left. The second may come where the
-        first is caught, so each has a level of its own. (One that comes as
-        an object is destroyed is ignored.)"""
+        first is caught, so each has a level of its own."""
         try:
             if levels > 1:
                 self.until_interrupted(alarms, count, levels - 1)
             else:
                 alarms.set(random.uniform(1e-6, 400e-6), count)
-            while alarms.left > 0:
-                self.call()
+            self.call_while(alarms)
         except Interrupt:
             pass
+
+    def call_while(self, alarms):
+        """A function of its own: a `try` of Python 3.13 leaves out the jump
+        that ends the turn of a loop in it."""
+        while alarms.left > 0:
+            self.call()
 
 
 @unittest.skipUnless(ALARMS, "the system has no such signals")
@@ -126,7 +143,7 @@ class InterruptsTest(unittest.TestCase):
         """10,000 times."""
         with filled() as path, Client.connect_unix(path) as store:
             self.interrupt(Checked(store), 10_000)
-            self.assertEqual(store.remove("a").__class__.__name__, "Removed")
+            self.assertEqual(store.remove("a"), Removed())
             self.assertEqual(store.set("a", numbered(1)), Stored())
 
     def test_also_where_one_is_dealt_with(self):
@@ -159,14 +176,17 @@ class InterruptsTest(unittest.TestCase):
                 store = Client.connect_unix(path)
                 with Alarms() as alarms:
                     try:
-                        alarms.set(random.uniform(1e-6, 2e-3))
-                        next(store.follow(1e-4))
-                        while alarms.left > 0:
-                            store.close()
+                        self.follow_and_close(store, alarms)
                     except Interrupt:
                         pass
                 store.close()
                 self.assertEqual([*store.follow(1)], [])
+
+    def follow_and_close(self, store, alarms):
+        alarms.set(random.uniform(1e-6, 2e-3))
+        next(store.follow(1e-4))
+        while alarms.left > 0:
+            store.close()
 
     def test_an_alarm_is_not_taken_for_a_fault(self):
         """A get would be asked again after a connection that failed."""
