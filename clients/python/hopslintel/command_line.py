@@ -106,18 +106,16 @@ def _version() -> str:
 
 
 def _port(word: str) -> int:
-    port = int(word)
-    if not 0 < port < 65536:
-        raise argparse.ArgumentTypeError(f"not from 1 to 65535: {word!r}")
-    return port
+    if not re.fullmatch("[0-9]{1,5}", word) or not 0 < int(word) < 65536:
+        raise argparse.ArgumentTypeError(f"not a port: {word!r}")
+    return int(word)
 
 
 def _seconds(word: str) -> float:
-    seconds = float(word)
-    if not 0 < seconds < math.inf:
-        raise argparse.ArgumentTypeError(f"not over 0, or without an end: "
-                                         f"{word!r}")
-    return seconds
+    with contextlib.suppress(ValueError):
+        if 0 < float(word) < math.inf:
+            return float(word)
+    raise argparse.ArgumentTypeError(f"not seconds over 0: {word!r}")
 
 
 def _connect(asked: argparse.Namespace) -> Client:

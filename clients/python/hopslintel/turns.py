@@ -128,8 +128,8 @@ class Turns:
         caller: Optional[FrameType] = frame
         while caller is not None and holder is not None:
             if caller is holder:
-                raise HopslintelError("nothing was asked, as it was to be "
-                                      "inside of another call of its thread")
+                raise HopslintelError("nothing was asked: the call is inside "
+                                      "of another call of the same client")
             caller = caller.f_back
 
 
