@@ -163,7 +163,7 @@ class InterruptsTest(unittest.TestCase):
             checked, others = Checked(store), Checked(store)
             with beside(ask, ask):
                 try:
-                    self.interrupt(checked, 1_000)
+                    self.interrupt(checked, 500)
                 finally:
                     done.set()
             others.get()
