@@ -78,9 +78,10 @@ class SocketConnection:
 
     def look(self, deadline: Deadline) -> bytes:
         """What came that was not asked for, before anything is sent."""
+        number = self._socket.fileno()
+        if number >= 0 and not is_ready(number):
+            return b""
         with _failing("the connection failed", deadline, NotSentError):
-            if not is_ready(self._socket.fileno()):
-                return b""
             self._socket.settimeout(deadline.left())
             return _some(self._socket.recv(_READ))
 
@@ -128,9 +129,9 @@ class StreamConnection:
     def look(self, deadline: Deadline) -> bytes:
         """What came that was not asked for, before anything is sent."""
         number = _number(self._reader)
+        if number is None or not is_ready(number):
+            return b""
         with _failing("the connection failed", deadline, NotSentError):
-            if number is None or not is_ready(number):
-                return b""
             if self._read1 is None:
                 return _some(self._reader.read(1))
             return _some(self._read1(_READ))
