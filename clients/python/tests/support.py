@@ -84,11 +84,11 @@ def served(*options):
 
 
 @contextlib.contextmanager
-def served_at(*options):
+def served_at(*options, **how):
     """The port or the path where `bundled serve` listens."""
     words = [PROGRAM, "serve", "--connections", "unlimited",
              "--workers", "3", "--until-eof", *options]
-    how = {"stdin": subprocess.PIPE, "stdout": subprocess.PIPE}
+    how = {"stdin": subprocess.PIPE, "stdout": subprocess.PIPE, **how}
     with subprocess.Popen(words, **how) as process:
         try:
             said, place = process.stdout.readline().decode().split()

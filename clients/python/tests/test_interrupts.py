@@ -4,6 +4,7 @@ import contextlib
 import gc
 import random
 import signal
+import subprocess
 import sys
 import tempfile
 import threading
@@ -72,7 +73,8 @@ def filled():
     """The path at which a store with the bundles listens."""
     with tempfile.TemporaryDirectory() as folder:
         path = f"{folder}/socket"
-        with served_at("--socket", path):
+        # (it tells a fault of each request that was cut)
+        with served_at("--socket", path, stderr=subprocess.DEVNULL):
             with Client.connect_unix(path) as store:
                 for name, text in BUNDLES.items():
                     store.set(name, text)
