@@ -21,6 +21,8 @@ from .errors import HopslintelError
 
 # Who waits looks again so often, in case that nobody rang for it.
 _SECONDS_BETWEEN_LOOKS = 0.05
+# Who was woken takes the turn in this time.
+_SECONDS_FOR_OTHERS = 0.0001
 
 
 class Bell:
@@ -79,6 +81,7 @@ class Turns:
     def __init__(self) -> None:
         self._known = _Turn(None)  # the last one, or one before it
         self._given_back = Bell()
+        self._is_awaited = False
 
     def take(self, deadline: Deadline) -> None:
         """Waits for the turn of the function that calls this."""
@@ -90,6 +93,7 @@ class Turns:
         while not self._follows(frame):
             left = deadline.left()
             looks = _SECONDS_BETWEEN_LOOKS
+            self._is_awaited = True
             self._given_back.wait(looks if left is None else min(left, looks))
 
     def take_if_free(self) -> bool:
@@ -103,6 +107,9 @@ class Turns:
         if last.frame is sys._getframe(1):
             last.frame = None
             self._given_back.ring()
+            if self._is_awaited:  # else this thread would be next, each time
+                self._is_awaited = False
+                time.sleep(_SECONDS_FOR_OTHERS)
 
     def _last(self) -> _Turn:
         turn = self._known
