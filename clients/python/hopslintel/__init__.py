@@ -22,21 +22,22 @@ from .changes import Changes, changes_between
 from .client import Client
 from .errors import (DisconnectedError, GivenUpError, HopslintelError,
                      NoDomainError, ProtocolError, RefusedError,
-                     TimedOutError)
-from .reply import (All, Appended, Bundles, Found, GivenUp, Held, Known,
-                    Moved, OutOfMemory, Refused, Removed, Reply, Same, Shut,
-                    Stored, Unchanged, Version, Worn)
+                     TimedOutError, TooLongError)
+from .reply import (All, Appended, Bundles, Counts, Found, GivenUp, Held,
+                    Known, Moved, OutOfMemory, Refused, Removed, Reply, Same,
+                    Shut, Stored, Unchanged, Version, Worn)
 from .request import Document, Expect, Expected, Request
-from .wire import MAX_PAYLOAD
+from .wire import MAX_BYTES, MAX_PAYLOAD
 
 __version__ = "1.2.0.dev0"  # that of the program it is released with
 
 __all__ = [
-    "All", "Appended", "Bundles", "Changes", "Client", "DisconnectedError",
-    "Document", "Expect", "Expected", "Found", "GivenUp", "GivenUpError",
-    "Held", "HopslintelError", "Known", "MAX_PAYLOAD", "Moved",
-    "NoDomainError", "OutOfMemory", "ProtocolError", "Refused",
-    "RefusedError", "Removed", "Reply", "Request", "Same", "Shut", "Stored",
-    "TimedOutError", "Unchanged", "Version", "Worn", "bundle_map",
-    "changes_between", "dump", "jwks", "pem", "x509_authorities",
+    "All", "Appended", "Bundles", "Changes", "Client", "Counts",
+    "DisconnectedError", "Document", "Expect", "Expected", "Found",
+    "GivenUp", "GivenUpError", "Held", "HopslintelError", "Known",
+    "MAX_BYTES", "MAX_PAYLOAD", "Moved", "NoDomainError", "OutOfMemory",
+    "ProtocolError", "Refused", "RefusedError", "Removed", "Reply",
+    "Request", "Same", "Shut", "Stored", "TimedOutError", "TooLongError",
+    "Unchanged", "Version", "Worn", "bundle_map", "changes_between",
+    "dump", "jwks", "pem", "x509_authorities",
 ]

@@ -15,29 +15,39 @@ from __future__ import annotations
 import asyncio
 import contextlib
 import json
+import warnings
 from types import TracebackType
 from typing import (Any, AsyncIterator, Awaitable, Callable, Coroutine, Dict,
-                    Iterable, List, NamedTuple, Optional, Sequence, Tuple,
-                    Type, Union, overload)
+                    Iterable, List, Optional, Sequence, Tuple, Type, Union,
+                    overload)
 
 from .changes import Changes, changes_between
-from .connection import Deadline
+from .connection import Deadline, check_port, is_ready
 from .errors import (DisconnectedError, GivenUpError, HopslintelError,
-                     TimedOutError, digest_of, done, fetched, is_unknown)
-from .reply import (IN_THE_WAY, Appended, Bundles, Found, Known, Removed,
-                    Reply, Stored, Unchanged, Version)
+                     NotSentError, TimedOutError, digest_of, done, fetched,
+                     is_unknown)
+from .reply import (IN_THE_WAY, Appended, Bundles, Counts, Found, Known,
+                    Removed, Reply, Stored, Unchanged, Version)
 from .request import Document, Expected, Request
-from .session import Session, batches, pauses
+from .session import Session, batches, check_interval, pauses
+from .wire import MAX_BYTES
 
 _READ = 65536
 _Streams = Tuple[asyncio.StreamReader, asyncio.StreamWriter]
 _Dial = Callable[[], Awaitable[_Streams]]
 
 
-class _Line(NamedTuple):
-    reader: asyncio.StreamReader
-    writer: asyncio.StreamWriter
-    session: Session
+class _Line:
+    """A connection and its session."""
+
+    def __init__(self, reader: asyncio.StreamReader,
+                 writer: asyncio.StreamWriter, session: Session) -> None:
+        self.reader = reader
+        self.writer = writer
+        self.session = session
+        # Inside an exchange. If it is so outside of one, that was cut, and
+        # nobody knows what will come.
+        self.is_inside = True
 
 
 class Client:
@@ -48,47 +58,57 @@ class Client:
     next call makes a new one.
     """
 
+    _line: Optional[_Line] = None
+
     def __init__(self, reader: asyncio.StreamReader,
                  writer: asyncio.StreamWriter, *,
-                 timeout: Optional[float] = 30.0, retries: int = 10) -> None:
+                 timeout: Optional[float] = 30.0, retries: int = 10,
+                 max_bytes: int = MAX_BYTES) -> None:
         """A session over two streams, such as those of a process `bundled
         run`; `close` closes the writer. It has no other connection."""
-        line = _Line(reader, writer, Session())
-        self._start(None, line, timeout, retries)
+        self._start(None, timeout, retries, max_bytes)
+        line = _Line(reader, writer, Session(max_bytes))
+        line.is_inside = False
+        self._line = line
 
     @classmethod
     async def connect(cls, port: int, host: str = "127.0.0.1", *,
-                      timeout: Optional[float] = 30.0,
-                      retries: int = 10) -> Client:
+                      timeout: Optional[float] = 30.0, retries: int = 10,
+                      max_bytes: int = MAX_BYTES) -> Client:
         """A session over TCP."""
-        return await cls._dialed(lambda: asyncio.open_connection(host, port),
-                                 timeout, retries)
-
-    @classmethod
-    async def connect_unix(cls, path: str, *, timeout: Optional[float] = 30.0,
-                           retries: int = 10) -> Client:
-        """A session over the Unix socket at which the store listens, or
-        behind which something hands on to its port."""
-        return await cls._dialed(lambda: asyncio.open_unix_connection(path),
-                                 timeout, retries)
-
-    @classmethod
-    async def _dialed(cls, dial: _Dial, timeout: Optional[float],
-                      retries: int) -> Client:
+        check_port(port)
         client = cls.__new__(cls)
-        client._start(dial, None, timeout, retries)
+        client._start(lambda: asyncio.open_connection(host, port),
+                      timeout, retries, max_bytes)
         await _within(client._dial_anew(), Deadline(timeout))
         return client
 
-    def _start(self, dial: Optional[_Dial], line: Optional[_Line],
-               timeout: Optional[float], retries: int) -> None:
+    @classmethod
+    async def connect_unix(cls, path: str, *, timeout: Optional[float] = 30.0,
+                           retries: int = 10,
+                           max_bytes: int = MAX_BYTES) -> Client:
+        """A session over the Unix socket at which the store listens, or
+        behind which something hands on to its port."""
+        client = cls.__new__(cls)
+        client._start(lambda: asyncio.open_unix_connection(path),
+                      timeout, retries, max_bytes)
+        await _within(client._dial_anew(), Deadline(timeout))
+        return client
+
+    def _start(self, dial: Optional[_Dial], timeout: Optional[float],
+               retries: int, max_bytes: int) -> None:
         self._dial = dial
-        self._line = line
         self._timeout = timeout
         self._retries = retries
+        self._max_bytes = max_bytes
         self._version = 1  # the one in which the next session begins
         self._lock = asyncio.Lock()  # one exchange at a time
         self._closing = asyncio.Event()
+
+    def __del__(self) -> None:
+        if self._line is not None:
+            warnings.warn(f"{self!r} was not closed", ResourceWarning,
+                          source=self)
 
     async def close(self) -> None:
         """Ends the session: also a call of another task, and `follow`.
@@ -150,29 +170,40 @@ class Client:
 
     @overload
     async def fetch_all(self, *, unless: None = None,
-                        timeout: Optional[float] = None) -> Bundles: ...
+                        timeout: Optional[float] = None,
+                        max_bytes: Optional[int] = None) -> Bundles: ...
 
     @overload
     async def fetch_all(self, *, unless: Known,
-                        timeout: Optional[float] = None
+                        timeout: Optional[float] = None,
+                        max_bytes: Optional[int] = None
                         ) -> Optional[Bundles]: ...
 
     async def fetch_all(self, *, unless: Optional[Known] = None,
-                        timeout: Optional[float] = None
+                        timeout: Optional[float] = None,
+                        max_bytes: Optional[int] = None
                         ) -> Optional[Bundles]:
         """All bundles as they stood at one moment, in order of names. With
         `unless`, which is a digest or what was fetched before: None if they
         still have that digest, as `hopslintel.Client` says."""
         deadline = self._deadline(timeout)
+        for_all = Request.fetch_all(max_bytes)
         if unless is None:
-            reply = await self._ask(Request.fetch_all(), deadline)
-            return fetched(reply, None)
+            return fetched(await self._ask(for_all, deadline), None)
         known = digest_of(unless)
-        request = Request.fetch_unless(known)
+        request = Request.fetch_unless(known, max_bytes)
         reply = await self._ask(request, deadline, version=3)
         if is_unknown(reply):
-            reply = await self._ask(Request.fetch_all(), deadline)
+            reply = await self._ask(for_all, deadline)
         return fetched(reply, known)
+
+    async def stats(self, *,
+                    timeout: Optional[float] = None) -> Dict[str, int]:
+        """What the server has counted since it began, as
+        `hopslintel.Client` gives it."""
+        deadline = self._deadline(timeout)
+        reply = await self._ask(Request.stats(), deadline, version=3)
+        return done(reply, Counts, Counts).counts
 
     async def version(self, number: int, *,
                       timeout: Optional[float] = None) -> Version:
@@ -186,28 +217,29 @@ class Client:
         return await self._ask(request, self._deadline(timeout))
 
     async def pipeline(self, requests: Iterable[Request], *,
-                       timeout: Optional[float] = None
-                       ) -> AsyncIterator[Reply]:
-        """The answers to many requests, as `hopslintel.Client` gives them."""
+                       timeout: Optional[float] = None) -> List[Reply]:
+        """Asks many requests, as `hopslintel.Client` does, and gives the
+        answers in their order."""
+        replies: List[Reply] = []
         for batch in batches(requests):
-            replies: List[Reply] = []
-            failure: Optional[HopslintelError] = None
             try:
                 await self._exchange(batch, self._deadline(timeout), replies)
             except HopslintelError as error:
-                failure = error
-            for reply in replies:  # also those that came before it failed
-                yield reply
-            if failure is not None:
-                raise failure
+                error.replies = replies
+                raise
+        return replies
 
-    async def follow(self, interval: float, *,
-                     on_error: Optional[Callable[[HopslintelError],
-                                                 None]] = None,
-                     timeout: Optional[float] = None
-                     ) -> AsyncIterator[Changes]:
+    def follow(self, interval: float, *,
+               on_error: Optional[Callable[[HopslintelError], None]] = None,
+               timeout: Optional[float] = None) -> AsyncIterator[Changes]:
         """What changed from one fetch-all to the next, until the client is
         closed, as `hopslintel.Client` gives it."""
+        check_interval(interval)
+        return self._follow(interval, on_error, timeout)
+
+    async def _follow(self, interval: float,
+                      on_error: Optional[Callable[[HopslintelError], None]],
+                      timeout: Optional[float]) -> AsyncIterator[Changes]:
         before: Optional[Bundles] = None
         while not self._closing.is_set():
             try:
@@ -257,6 +289,9 @@ class Client:
                          replies: List[Reply], version: int) -> None:
         async with self._lock:
             line = self._line
+            if line is not None and line.is_inside:
+                self._drop()
+                line = None
             is_new = line is None
             if line is None:
                 line = await self._dial_anew()
@@ -264,8 +299,9 @@ class Client:
             try:
                 await self._speak(line, requests, replies, version)
                 return
-            except DisconnectedError:
-                is_safe = all(request.is_read for request in requests)
+            except DisconnectedError as error:
+                is_read = all(request.is_read for request in requests)
+                is_safe = is_read or isinstance(error, NotSentError)
                 if is_new or not is_safe or not self._dial:
                     raise
             del replies[had:]
@@ -281,12 +317,13 @@ class Client:
             reader, writer = await self._dial()
         except OSError as error:
             raise DisconnectedError(f"no connection: {error}") from error
-        line = _Line(reader, writer, Session())
+        line = _Line(reader, writer, Session(self._max_bytes))
         self._line = line
         refusal = await self._put_into(line, self._version)
         if refusal is not None:
             self._drop()
             done(refusal, Version, Version)
+        line.is_inside = False
         return line
 
     async def _speak(self, line: _Line, requests: Sequence[Request],
@@ -326,15 +363,17 @@ class Client:
                    replies: List[Reply]) -> None:
         """Whatever fails in it, the next frame can't be found, so the
         connection is dropped."""
-        reader, writer, session = line
+        writer, session = line.writer, line.session
+        line.is_inside = True
         try:
             self._check_open()
+            session.feed(await _look(line))
             writer.write(session.ask(*requests))
             await writer.drain()
             while session.owed:
                 reply = session.take()
                 if reply is None:
-                    session.feed(await _some(reader))
+                    session.feed(await _some(line.reader))
                     continue
                 replies.append(reply)
         except HopslintelError:
@@ -347,6 +386,7 @@ class Client:
         except BaseException:
             self._drop()
             raise
+        line.is_inside = False
 
     def _check_open(self) -> None:
         if self._closing.is_set():
@@ -374,4 +414,28 @@ async def _some(reader: asyncio.StreamReader) -> bytes:
     data = await reader.read(_READ)
     if not data:
         raise DisconnectedError("the connection ended")
+    return data
+
+
+async def _look(line: _Line) -> bytes:
+    """What came that was not asked for, before anything is sent: it is in
+    the reader, or the loop has not read it yet."""
+    socket = line.writer.get_extra_info("socket")
+    number = -1 if socket is None else socket.fileno()
+    has_come = number >= 0 and is_ready(number)
+    reading = line.reader.read(_READ)
+    try:
+        if has_come:
+            data = await reading
+        else:
+            reading.send(None)
+            return b""  # it would wait
+    except StopIteration as end:
+        data = end.value
+    except OSError as error:
+        raise NotSentError(f"the connection failed: {error}") from error
+    finally:
+        reading.close()
+    if not data:
+        raise NotSentError("the connection ended")
     return data

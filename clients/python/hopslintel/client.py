@@ -2,32 +2,39 @@
 """The client that blocks."""
 from __future__ import annotations
 
-import contextlib
 import json
 import os
-import threading
 import time
 import weakref
 from types import TracebackType
 from typing import (IO, Any, Callable, Dict, Iterable, Iterator, List,
-                    NamedTuple, Optional, Sequence, Type, Union, overload)
+                    Optional, Sequence, Type, Union, overload)
 
 from .changes import Changes, changes_between
 from .connection import (Connection, Deadline, SocketConnection,
                          StreamConnection)
 from .errors import (DisconnectedError, GivenUpError, HopslintelError,
-                     digest_of, done, fetched, is_unknown)
-from .reply import (IN_THE_WAY, Appended, Bundles, Found, Known, Removed,
-                    Reply, Stored, Unchanged, Version)
+                     NotSentError, TimedOutError, digest_of, done, fetched,
+                     is_unknown)
+from .reply import (IN_THE_WAY, Appended, Bundles, Counts, Found, Known,
+                    Removed, Reply, Stored, Unchanged, Version)
 from .request import Document, Expected, Request
-from .session import Session, batches, pauses
+from .session import Session, batches, check_interval, pauses
+from .turns import Ending, Turns
+from .wire import MAX_BYTES
 
 _Dial = Callable[[Deadline], Connection]
 
 
-class _Line(NamedTuple):
-    connection: Connection
-    session: Session
+class _Line:
+    """A connection and its session."""
+
+    def __init__(self, connection: Connection, session: Session) -> None:
+        self.connection = connection
+        self.session = session
+        # Inside an exchange. If it is so outside of one, a signal has cut
+        # that, and nobody knows what will come.
+        self.is_inside = True
 
 
 class Client:
@@ -41,61 +48,72 @@ class Client:
     An answer that others were in the way (41, 42) is asked again, up to
     `retries` times, after pauses of some milliseconds.
 
-    If the connection is found closed, a get or a fetch-all is asked once
-    more, over a new one. A change never is, since it may have taken effect:
-    it is a `DisconnectedError`, and the next call makes a new connection.
+    If a connection is found closed before anything was sent over it, a new
+    one is made. If it fails later, a get or a fetch-all is asked once more,
+    over a new one. A change never is, since it may have taken effect: it is
+    a `DisconnectedError`, and the next call makes a new connection.
+
+    `max_bytes` is the most that a fetch-all may come to, 1 GiB: the bytes of
+    its names and texts, and 256 for each domain. More is a `TooLongError`.
+
+    The handler of a signal may raise an exception anywhere inside a call.
+    Later calls, also of other threads, are answered as if it had not.
     """
 
+    _line: Optional[_Line]
+
     def __init__(self, reader: IO[bytes], writer: IO[bytes], *,
-                 timeout: Optional[float] = 30.0, retries: int = 10) -> None:
+                 timeout: Optional[float] = 30.0, retries: int = 10,
+                 max_bytes: int = MAX_BYTES) -> None:
         """A session over two blocking streams, such as those of a process
         `bundled run`; `close` closes them. It has no other connection."""
-        line = _Line(StreamConnection(reader, writer), Session())
-        self._start(None, line, timeout, retries)
+        self._start(None, timeout, retries, max_bytes)
+        line = _Line(StreamConnection(reader, writer), Session(max_bytes))
+        line.is_inside = False
+        self._line = line
 
     @classmethod
     def connect(cls, port: int, host: str = "127.0.0.1", *,
-                timeout: Optional[float] = 30.0, retries: int = 10) -> Client:
+                timeout: Optional[float] = 30.0, retries: int = 10,
+                max_bytes: int = MAX_BYTES) -> Client:
         """A session over TCP."""
-        return cls._dialed(
+        client = cls.__new__(cls)
+        client._start(
             lambda deadline: SocketConnection.over_tcp(host, port, deadline),
-            timeout, retries)
+            timeout, retries, max_bytes)
+        client._dial_anew(Deadline(timeout))
+        return client
 
     @classmethod
     def connect_unix(cls, path: str, *, timeout: Optional[float] = 30.0,
-                     retries: int = 10) -> Client:
+                     retries: int = 10, max_bytes: int = MAX_BYTES) -> Client:
         """A session over the Unix socket at which the store listens, or
         behind which something hands on to its port."""
-        return cls._dialed(
-            lambda deadline: SocketConnection.over_unix(path, deadline),
-            timeout, retries)
-
-    @classmethod
-    def _dialed(cls, dial: _Dial, timeout: Optional[float],
-                retries: int) -> Client:
         client = cls.__new__(cls)
-        client._start(dial, None, timeout, retries)
-        with client._turn(Deadline(timeout)) as deadline:
-            client._dial_anew(deadline)
+        client._start(
+            lambda deadline: SocketConnection.over_unix(path, deadline),
+            timeout, retries, max_bytes)
+        client._dial_anew(Deadline(timeout))
         return client
 
-    def _start(self, dial: Optional[_Dial], line: Optional[_Line],
-               timeout: Optional[float], retries: int) -> None:
+    def _start(self, dial: Optional[_Dial], timeout: Optional[float],
+               retries: int, max_bytes: int) -> None:
         self._dial = dial
-        self._line = line
+        self._line = None
         self._timeout = timeout
         self._retries = retries
+        self._max_bytes = max_bytes
         self._version = 1  # the one in which the next session begins
         # One exchange at a time: a reply to a get has no name, so a thread
         # could not tell that it took another's.
-        self._lock = threading.Lock()
-        self._closing = threading.Event()
+        self._turns = Turns()
+        self._end = Ending()
         _clients.add(self)
 
     def close(self) -> None:
         """Ends the session: also a call of another thread, and `follow`.
         Closing again does nothing."""
-        self._closing.set()
+        self._end.come()
         line = self._line
         if line is not None:
             line.connection.shut()
@@ -149,14 +167,16 @@ class Client:
 
     @overload
     def fetch_all(self, *, unless: None = None,
-                  timeout: Optional[float] = None) -> Bundles: ...
+                  timeout: Optional[float] = None,
+                  max_bytes: Optional[int] = None) -> Bundles: ...
 
     @overload
-    def fetch_all(self, *, unless: Known,
-                  timeout: Optional[float] = None) -> Optional[Bundles]: ...
+    def fetch_all(self, *, unless: Known, timeout: Optional[float] = None,
+                  max_bytes: Optional[int] = None) -> Optional[Bundles]: ...
 
     def fetch_all(self, *, unless: Optional[Known] = None,
-                  timeout: Optional[float] = None) -> Optional[Bundles]:
+                  timeout: Optional[float] = None,
+                  max_bytes: Optional[int] = None) -> Optional[Bundles]:
         """All bundles as they stood at one moment, in order of names.
 
         With `unless`, which is a digest or what was fetched before: None if
@@ -167,13 +187,23 @@ class Client:
         here.
         """
         deadline = self._deadline(timeout)
+        for_all = Request.fetch_all(max_bytes)
         if unless is None:
-            return fetched(self._ask(Request.fetch_all(), deadline), None)
+            return fetched(self._ask(for_all, deadline), None)
         known = digest_of(unless)
-        reply = self._ask(Request.fetch_unless(known), deadline, version=3)
+        request = Request.fetch_unless(known, max_bytes)
+        reply = self._ask(request, deadline, version=3)
         if is_unknown(reply):
-            reply = self._ask(Request.fetch_all(), deadline)
+            reply = self._ask(for_all, deadline)
         return fetched(reply, known)
+
+    def stats(self, *, timeout: Optional[float] = None) -> Dict[str, int]:
+        """What the server has counted since it began, by the names of
+        docs/FORMATS.md. Puts the session into version 3, which a server of
+        before 1.2 refuses as 51."""
+        deadline = self._deadline(timeout)
+        reply = self._ask(Request.stats(), deadline, version=3)
+        return done(reply, Counts, Counts).counts
 
     def version(self, number: int, *,
                 timeout: Optional[float] = None) -> Version:
@@ -187,24 +217,23 @@ class Client:
         return self._ask(request, self._deadline(timeout))
 
     def pipeline(self, requests: Iterable[Request], *,
-                 timeout: Optional[float] = None) -> Iterator[Reply]:
-        """The answers to many requests, in their order, in few round trips.
-        Nothing is asked again because others were in the way.
+                 timeout: Optional[float] = None) -> List[Reply]:
+        """Asks many requests in few round trips, and gives the answers in
+        their order. Nothing is asked again because others were in the way.
 
-        Requests are sent as answers are taken, up to 64 of them and 4096
-        bytes at once, or one longer request. The timeout is for each such
-        batch. Between two of them others may ask the client something.
+        Up to 64 requests and 4096 bytes are sent at once, or one longer
+        request. The timeout is for each such batch. Between two of them
+        others may ask the client something. If one fails, the error has the
+        `replies` that came before.
         """
+        replies: List[Reply] = []
         for batch in batches(requests):
-            replies: List[Reply] = []
-            failure: Optional[HopslintelError] = None
             try:
                 self._exchange(batch, self._deadline(timeout), replies)
             except HopslintelError as error:
-                failure = error
-            yield from replies  # also those that came before it failed
-            if failure is not None:
-                raise failure
+                error.replies = replies
+                raise
+        return replies
 
     def follow(self, interval: float, *,
                on_error: Optional[Callable[[HopslintelError], None]] = None,
@@ -221,12 +250,18 @@ class Client:
         fetch-all comes after the interval: no connection, no answer in time,
         or an answer that gave up.
         """
+        check_interval(interval)
+        return self._follow(interval, on_error, timeout)
+
+    def _follow(self, interval: float,
+                on_error: Optional[Callable[[HopslintelError], None]],
+                timeout: Optional[float]) -> Iterator[Changes]:
         before: Optional[Bundles] = None
-        while not self._closing.is_set():
+        while not self._end.has_come:
             try:
                 bundles = self.fetch_all(unless=before, timeout=timeout)
             except (DisconnectedError, GivenUpError) as error:
-                if self._closing.is_set():
+                if self._end.has_come:
                     return
                 if on_error is None or not self._dial:
                     raise
@@ -235,7 +270,7 @@ class Client:
                 if bundles is not None:
                     yield changes_between(before or Bundles({}, b""), bundles)
                     before = bundles
-            self._closing.wait(interval)
+            self._end.wait(interval)
 
     # How it is asked
 
@@ -259,48 +294,51 @@ class Client:
     def _exchange(self, requests: Sequence[Request], deadline: Deadline,
                   replies: List[Reply], version: int = 1) -> None:
         """Adds the replies to the requests, as many as come."""
-        with self._turn(deadline):
-            line = self._line
-            is_new = line is None
-            if line is None:
-                line = self._dial_anew(deadline)
-            had = len(replies)
-            try:
-                self._speak(line, requests, deadline, replies, version)
-                return
-            except DisconnectedError:
-                is_safe = all(request.is_read for request in requests)
-                if is_new or not is_safe or not self._dial:
-                    raise
-            del replies[had:]
-            line = self._dial_anew(deadline)
-            self._speak(line, requests, deadline, replies, version)
-
-    @contextlib.contextmanager
-    def _turn(self, deadline: Deadline) -> Iterator[Deadline]:
-        """This thread's turn to use the connection."""
-        lock, left = self._lock, deadline.left()
-        if not lock.acquire(timeout=-1 if left is None else left):
-            raise deadline.missed()
         try:
-            yield deadline
+            self._turns.take(deadline)
+            self._ask_in_turn(requests, deadline, replies, version)
         finally:
-            lock.release()
-            if self._closing.is_set():
+            self._turns.give_back()
+            if self._end.has_come:
                 self._drop_if_free()
+
+    def _ask_in_turn(self, requests: Sequence[Request], deadline: Deadline,
+                     replies: List[Reply], version: int) -> None:
+        line = self._line
+        if line is not None and line.is_inside:
+            self._drop()
+            line = None
+        is_new = line is None
+        if line is None:
+            line = self._dial_anew(deadline)
+        had = len(replies)
+        try:
+            self._speak(line, requests, deadline, replies, version)
+            return
+        except TimedOutError:
+            raise
+        except DisconnectedError as error:
+            is_read = all(request.is_read for request in requests)
+            is_safe = is_read or isinstance(error, NotSentError)
+            if is_new or not is_safe or not self._dial:
+                raise
+        del replies[had:]
+        line = self._dial_anew(deadline)
+        self._speak(line, requests, deadline, replies, version)
 
     def _dial_anew(self, deadline: Deadline) -> _Line:
         """A new connection, with a session in its first version."""
         self._check_open()
         if self._dial is None:
             raise DisconnectedError("the session has ended")
-        line = _Line(self._dial(deadline), Session())
+        line = _Line(self._dial(deadline), Session(self._max_bytes))
         self._line = line
         self._check_open()  # it may have been closed in the meantime
         refusal = self._put_into(line, self._version, deadline)
         if refusal is not None:
             self._drop()
             done(refusal, Version, Version)
+        line.is_inside = False
         return line
 
     def _speak(self, line: _Line, requests: Sequence[Request],
@@ -341,9 +379,11 @@ class Client:
              deadline: Deadline, replies: List[Reply]) -> None:
         """Whatever fails in it, the next frame can't be found, so the
         connection is dropped."""
-        connection, session = line
+        connection, session = line.connection, line.session
+        line.is_inside = True
         try:
             self._check_open()
+            session.feed(connection.look(deadline))
             connection.send(session.ask(*requests), deadline)
             while session.owed:
                 reply = session.take()
@@ -355,9 +395,10 @@ class Client:
         except BaseException:
             self._drop()
             raise
+        line.is_inside = False
 
     def _check_open(self) -> None:
-        if self._closing.is_set():
+        if self._end.has_come:
             raise DisconnectedError("the client is closed")
 
     def _drop(self) -> None:
@@ -367,13 +408,15 @@ class Client:
 
     def _drop_if_free(self) -> None:
         """After `close`; a thread whose turn it is does so at its end."""
-        if self._lock.acquire(blocking=False):
-            self._drop()
-            self._lock.release()
+        try:
+            if self._turns.take_if_free():
+                self._drop()
+        finally:
+            self._turns.give_back()
 
     def _leave(self) -> None:
         """In a child process: the connection is its parent's."""
-        self._lock = threading.Lock()
+        self._turns = Turns()
         line, self._line = self._line, None
         if line is not None:
             line.connection.leave()

@@ -8,10 +8,13 @@ import math
 import select
 import socket
 import time
-from typing import IO, Callable, Iterator, Optional, Union
+from typing import IO, Callable, Iterator, Optional, Type, Union
 
-from .errors import DisconnectedError, TimedOutError
+from .errors import DisconnectedError, NotSentError, TimedOutError
 
+# A limit of more seconds, 23 days, is none: systems count their waits in
+# milliseconds of 31 bits.
+_MOST_SECONDS = 2_000_000
 _READ = 65536
 # A pipe that can be written to takes so many bytes at once (PIPE_BUF).
 _WRITE = 4096
@@ -21,8 +24,12 @@ class Deadline:
     """The time by which a call has to be done."""
 
     def __init__(self, seconds: Optional[float]) -> None:
-        self._seconds = math.inf if seconds is None else seconds
-        self._end = time.monotonic() + self._seconds
+        if seconds is None or seconds > _MOST_SECONDS:
+            seconds = math.inf
+        if math.isnan(seconds):
+            raise ValueError("a time limit that is not a number")
+        self._seconds = seconds
+        self._end = time.monotonic() + seconds
 
     def left(self) -> Optional[float]:
         """The seconds that are left; None if there is no limit."""
@@ -51,6 +58,7 @@ class SocketConnection:
     @classmethod
     def over_tcp(cls, host: str, port: int,
                  deadline: Deadline) -> SocketConnection:
+        check_port(port)
         with _failing(f"no connection to {host} port {port}", deadline):
             made = socket.create_connection((host, port), deadline.left())
             made.setsockopt(socket.IPPROTO_TCP, socket.TCP_NODELAY, 1)
@@ -67,6 +75,15 @@ class SocketConnection:
                 made.close()
                 raise
             return cls(made)
+
+    def look(self, deadline: Deadline) -> bytes:
+        """What came that was not asked for, before anything is sent."""
+        number = self._socket.fileno()
+        if number >= 0 and not is_ready(number):
+            return b""
+        with _failing("the connection failed", deadline, NotSentError):
+            self._socket.settimeout(deadline.left())
+            return _some(self._socket.recv(_READ))
 
     def send(self, data: bytes, deadline: Deadline) -> None:
         """Sends all of the bytes."""
@@ -109,6 +126,16 @@ class StreamConnection:
         self._read1: Optional[Callable[[int], bytes]] = getattr(
             reader, "read1", None)
 
+    def look(self, deadline: Deadline) -> bytes:
+        """What came that was not asked for, before anything is sent."""
+        number = _number(self._reader)
+        if number is None or not is_ready(number):
+            return b""
+        with _failing("the connection failed", deadline, NotSentError):
+            if self._read1 is None:
+                return _some(self._reader.read(1))
+            return _some(self._read1(_READ))
+
     def send(self, data: bytes, deadline: Deadline) -> None:
         """Sends all of the bytes."""
         rest = memoryview(data)
@@ -143,36 +170,68 @@ class StreamConnection:
         """Leaves to the parent what is its own."""
 
 
+def check_port(port: int) -> None:
+    """A number over 65535 is no port: the system would take its lower
+    bits."""
+    if not 0 < port < 65536:
+        raise ValueError(f"not a port: {port}")
+
+
 Connection = Union[SocketConnection, StreamConnection]
 
 
 @contextlib.contextmanager
-def _failing(what: str, deadline: Deadline) -> Iterator[None]:
+def _failing(what: str, deadline: Deadline,
+             kind: Type[DisconnectedError] = DisconnectedError
+             ) -> Iterator[None]:
     """Whatever fails is an error of this package."""
     try:
         yield
-    except DisconnectedError:
+    except TimedOutError:
         raise
-    except socket.timeout as error:
+    except _EndedError as error:
+        raise kind(str(error)) from None
+    except (socket.timeout, TimeoutError) as error:
+        if error.errno is not None:  # the system gave up
+            raise kind(f"{what}: {error}") from error
         raise deadline.missed() from error
     except (OSError, ValueError) as error:  # ValueError: it was closed
-        raise DisconnectedError(f"{what}: {error}") from error
+        raise kind(f"{what}: {error}") from error
+
+
+class _EndedError(Exception):
+    """No more comes."""
 
 
 def _some(data: bytes) -> bytes:
     if not data:
-        raise DisconnectedError("the connection ended")
+        raise _EndedError("the connection ended")
     return data
+
+
+def _number(stream: IO[bytes]) -> Optional[int]:
+    """The descriptor of a stream, if it can be waited for."""
+    if not hasattr(select, "poll"):
+        return None
+    try:
+        return stream.fileno()
+    except (io.UnsupportedOperation, ValueError):  # in memory, or closed
+        return None
+
+
+def is_ready(number: int) -> bool:
+    """Whether something came over a descriptor, or it has ended."""
+    if hasattr(select, "poll"):
+        looking = select.poll()
+        looking.register(number, select.POLLIN)
+        return bool(looking.poll(0))
+    return bool(select.select([number], [], [], 0)[0])
 
 
 def _wait_for(stream: IO[bytes], event: str, deadline: Deadline) -> None:
     """Waits until the stream can be read or written, if that can be asked."""
-    left = deadline.left()
-    if left is None or not hasattr(select, "poll"):
-        return
-    try:
-        number = stream.fileno()
-    except io.UnsupportedOperation:  # it is in memory
+    left, number = deadline.left(), _number(stream)
+    if left is None or number is None:
         return
     waiting = select.poll()
     waiting.register(number, getattr(select, event))

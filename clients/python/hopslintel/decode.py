@@ -7,12 +7,14 @@ import struct
 from typing import Callable, Dict, Tuple
 
 from .errors import ProtocolError
-from .reply import (GIVEN_UP, All, Appended, Found, Held, Moved, OutOfMemory,
-                    Refused, Removed, Reply, Same, Shut, Stored, Unchanged,
-                    Version, Worn)
+from .reply import (GIVEN_UP, All, Appended, Counts, Found, Held, Moved,
+                    OutOfMemory, Refused, Removed, Reply, Same, Shut, Stored,
+                    Unchanged, Version, Worn)
 from .request import Expect, Expected, Request
 
 _NAME = re.compile(rb"[a-z0-9._-]{1,255}")
+_COUNT = re.compile(rb"([a-z0-9_]+)=([0-9]{1,20})")
+_MOST_COUNTS_BYTES = 65_536
 
 # Those that tell that it was done, by the letter of the request.
 _DONE: Dict[int, Tuple[type, ...]] = {
@@ -24,6 +26,7 @@ _DONE: Dict[int, Tuple[type, ...]] = {
     ord("F"): (All,),
     ord("U"): (All, Same),
     ord("V"): (Version,),
+    ord("M"): (Counts,),
 }
 
 # Replies that have a fixed layout, by their code.
@@ -109,6 +112,8 @@ def check_kind(request: Request, reply: Reply) -> None:
 def _decode(code: int, rest: bytes) -> Reply:
     if code == ord("f"):
         return Found(rest)
+    if code == ord("m"):
+        return _counts(rest)
     if code == ord("p"):
         return Appended(None if rest == b"\x00" else _sequence(rest))
     if code == 36:
@@ -122,6 +127,20 @@ def _decode(code: int, rest: bytes) -> Reply:
     if code < _LEAST_LETTER:
         return Refused(code, "Unknown", rest or None)
     raise ProtocolError(f"a reply of code {code}")
+
+
+def _counts(line: bytes) -> Counts:
+    """What a line of words NAME=N tells."""
+    if len(line) > _MOST_COUNTS_BYTES:
+        raise ProtocolError(f"counts of {len(line)} bytes")
+    counts: Dict[str, int] = {}
+    for word in line.split(b" ") if line else []:
+        found = _COUNT.fullmatch(word)
+        name = found.group(1).decode() if found else ""
+        if not found or int(found.group(2)) >= 2 ** 64 or name in counts:
+            raise ProtocolError(f"not a count: {word[:40]!r}")
+        counts[name] = int(found.group(2))
+    return Counts(counts)
 
 
 def _expected(data: bytes) -> Expected:

@@ -2,7 +2,7 @@
 """What this package raises. All of it can be pickled."""
 from __future__ import annotations
 
-from typing import Optional, Type, TypeVar, Union
+from typing import Optional, Sequence, Type, TypeVar, Union
 
 from .reply import (GIVEN_UP, All, Bundles, GivenUp, Known, Refused, Reply,
                     Same)
@@ -13,6 +13,9 @@ _Other = TypeVar("_Other")
 
 class HopslintelError(Exception):
     """What this package raises, besides `ValueError` for what has no frame."""
+
+    replies: Sequence[Reply] = ()
+    """Those of a pipeline that came before it failed."""
 
 
 class RefusedError(HopslintelError):
@@ -48,6 +51,14 @@ class DisconnectedError(HopslintelError, ConnectionError):
 
 class TimedOutError(DisconnectedError, TimeoutError):
     """The time of the call was over."""
+
+
+class NotSentError(DisconnectedError):
+    """The connection was found closed before anything was sent over it."""
+
+
+class TooLongError(HopslintelError):
+    """All bundles come to more than `max_bytes`. The session has ended."""
 
 
 def done(reply: Reply, kind: Type[_Kind],

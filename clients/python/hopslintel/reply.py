@@ -51,6 +51,13 @@ class Same:
     """All bundles have the digest that is known."""
 
 
+@dataclass(frozen=True)
+class Counts:
+    """What the server has counted, by the names of docs/FORMATS.md."""
+
+    counts: Dict[str, int]
+
+
 class Bundles(Dict[str, bytes]):
     """All bundles as they stood at one moment, in order of their names: a
     dict of canonical texts, with the digest of what came.
@@ -152,8 +159,8 @@ class Shut:
 
 
 GivenUp = Union[OutOfMemory, Worn, Moved, Held, Shut]
-Reply = Union[Stored, Unchanged, Appended, Removed, Found, All, Same, Version,
-              Refused, GivenUp]
+Reply = Union[Stored, Unchanged, Appended, Removed, Found, All, Same, Counts,
+              Version, Refused, GivenUp]
 
 GIVEN_UP = (OutOfMemory, Worn, Moved, Held, Shut)
 """Those that tell that the store gave up."""

@@ -4,8 +4,8 @@ from __future__ import annotations
 
 import enum
 import json
-from dataclasses import dataclass
-from typing import Any, Mapping, Union
+from dataclasses import dataclass, field
+from typing import Any, Mapping, Optional, Union
 
 from .wire import DIGEST_BYTES, MAX_PAYLOAD, sized
 
@@ -39,6 +39,9 @@ class Request:
     """
 
     payload: bytes
+    max_bytes: Optional[int] = field(default=None, compare=False)
+    """The most that the reply to a fetch-all may come to, if not that of the
+    session."""
 
     def __post_init__(self) -> None:
         if not 1 <= len(self.payload) <= MAX_PAYLOAD:
@@ -73,28 +76,35 @@ class Request:
         return cls(b"G" + sized(name))
 
     @classmethod
-    def fetch_all(cls) -> Request:
+    def fetch_all(cls, max_bytes: Optional[int] = None) -> Request:
         """Fetches all bundles."""
-        return cls(b"F")
+        return cls(b"F", max_bytes)
 
     @classmethod
-    def fetch_unless(cls, digest: bytes) -> Request:
+    def fetch_unless(cls, digest: bytes,
+                     max_bytes: Optional[int] = None) -> Request:
         """Fetches all bundles, unless they have this digest. The session has
         to be in version 3."""
         if len(digest) != DIGEST_BYTES:
             raise ValueError(f"a digest of {len(digest)} bytes")
-        return cls(b"U" + digest)
+        return cls(b"U" + digest, max_bytes)
 
     @classmethod
     def version(cls, number: int) -> Request:
         """Sets the version of the session, 1 to 3."""
         return cls(b"V" + bytes([number]))
 
+    @classmethod
+    def stats(cls) -> Request:
+        """Asks what the server has counted. The session has to be in version
+        3."""
+        return cls(b"M")
+
     @property
     def is_read(self) -> bool:
-        """Whether it is a get or a fetch-all, which may be asked again even
-        if nobody knows what became of it."""
-        return self.payload[:1] in (b"G", b"F", b"U")
+        """Whether it changes nothing in the store, and may be asked again
+        even if nobody knows what became of it."""
+        return self.payload[:1] in (b"G", b"F", b"U", b"M")
 
 
 def _json(document: Document) -> bytes:

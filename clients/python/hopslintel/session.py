@@ -12,15 +12,16 @@ input and output.
 from __future__ import annotations
 
 import hashlib
+import math
 import random
 from collections import deque
 from typing import Deque, Dict, Iterable, Iterator, List, Optional
 
 from .decode import check_kind, decode, decode_bundle, decode_count
-from .errors import ProtocolError
+from .errors import ProtocolError, TooLongError
 from .reply import All, Refused, Reply, Version
 from .request import Request
-from .wire import MAX_PAYLOAD, frame
+from .wire import DOMAIN_BYTES, MAX_BYTES, MAX_PAYLOAD, frame
 
 # What is sent before any of it is answered: so many bytes, which a pipe or a
 # socket takes even if nobody reads, or one longer request. And so many
@@ -72,7 +73,8 @@ class Session:
     more use.
     """
 
-    def __init__(self) -> None:
+    def __init__(self, max_bytes: int = MAX_BYTES) -> None:
+        self._max_bytes = max_bytes
         self._frames = Frames()
         self._owed: Deque[Request] = deque()
         self._fetched: Optional[_Fetched] = None
@@ -135,8 +137,11 @@ class Session:
         if self._fetched is not None:
             self._fetched.add(payload)
         elif payload.startswith(b"a"):
-            check_kind(self._owed[0], All({}))
-            self._fetched = _Fetched(payload)
+            request = self._owed[0]
+            check_kind(request, All({}))
+            most = request.max_bytes
+            self._fetched = _Fetched(
+                payload, self._max_bytes if most is None else most)
         else:
             reply = decode(payload)
             check_kind(self._owed[0], reply)
@@ -147,13 +152,23 @@ class Session:
 class _Fetched:
     """As much of a fetch-all as has come, from its first payload on."""
 
-    def __init__(self, payload: bytes) -> None:
+    def __init__(self, payload: bytes, max_bytes: int) -> None:
         self._left = decode_count(payload)
+        self._max_bytes = max_bytes
+        self._bytes = self._left * DOMAIN_BYTES
+        self._take(0)
         self._last = ""
         self._bundles: Dict[str, bytes] = {}
         self._digest = hashlib.sha256(frame(payload))
 
+    def _take(self, size: int) -> None:
+        self._bytes += size
+        if self._bytes > self._max_bytes:
+            raise TooLongError(f"all bundles come to more than max_bytes, "
+                               f"which is {self._max_bytes}")
+
     def add(self, payload: bytes) -> None:
+        self._take(len(payload) - 2)
         self._digest.update(frame(payload))
         name, text = decode_bundle(payload)
         if name <= self._last:
@@ -184,6 +199,12 @@ def batches(requests: Iterable[Request]) -> Iterator[List[Request]]:
         size += added
     if batch:
         yield batch
+
+
+def check_interval(seconds: float) -> None:
+    """An interval is over nothing, and it ends."""
+    if not 0 < seconds < math.inf:
+        raise ValueError(f"not an interval: {seconds} seconds")
 
 
 def pauses(retries: int) -> Iterator[float]:

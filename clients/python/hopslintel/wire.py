@@ -5,6 +5,13 @@ from __future__ import annotations
 MAX_PAYLOAD = 1_049_000
 """The most bytes of a frame, without the four of its length."""
 
+MAX_BYTES = 1_073_741_824
+"""The most that a fetch-all may come to, unless another limit is said: the
+bytes of its names and texts, and `DOMAIN_BYTES` more for each domain."""
+
+DOMAIN_BYTES = 256
+"""What a domain takes in memory besides its name and its text."""
+
 DIGEST_BYTES = 32
 """The bytes of a digest, which is a SHA-256."""
 

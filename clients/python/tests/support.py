@@ -84,11 +84,11 @@ def served(*options):
 
 
 @contextlib.contextmanager
-def served_at(*options):
+def served_at(*options, **how):
     """The port or the path where `bundled serve` listens."""
     words = [PROGRAM, "serve", "--connections", "unlimited",
              "--workers", "3", "--until-eof", *options]
-    how = {"stdin": subprocess.PIPE, "stdout": subprocess.PIPE}
+    how = {"stdin": subprocess.PIPE, "stdout": subprocess.PIPE, **how}
     with subprocess.Popen(words, **how) as process:
         try:
             said, place = process.stdout.readline().decode().split()
@@ -136,11 +136,11 @@ class Server:
 
     Nobody listens any more as soon as the last one is taken: the port stays
     bound until the end, so that no other program gets it. `asked` has the
-    requests of each connection.
+    requests of each connection, and `closed` counts those that were closed.
     """
 
     def __init__(self, *sessions):
-        self.sessions, self.asked = sessions, []
+        self.sessions, self.asked, self.closed = sessions, [], 0
         self.kept = socket.socket()
         self.kept.setsockopt(socket.SOL_SOCKET, socket.SO_REUSEADDR, 1)
         self.kept.bind(("127.0.0.1", 0))
@@ -176,6 +176,7 @@ class Server:
             with stream, contextlib.suppress(OSError):
                 for reply in replies:
                     self._answer(stream, reply)
+            self.closed += 1
 
     def _answer(self, stream, reply):
         payload = take_payload(stream)

@@ -1,6 +1,8 @@
 # SPDX-License-Identifier: Apache-2.0
 """The client for asyncio."""
 import asyncio
+import contextlib
+import gc
 import inspect
 import math
 import tempfile
@@ -72,6 +74,7 @@ class OperationsTest(unittest.IsolatedAsyncioTestCase):
             self.assertIsNone(await store.fetch_all(unless=known))
         again = await store.fetch_all(unless=bytes(32))
         self.assertEqual((again, again.digest), (bundles, bundles.digest))
+        self.assertIsInstance(await store.stats(), dict)
         self.assertEqual(await store.version(1), Version(1))
         self.assertEqual(await store.ask(Request.get("b")),
                          Refused(30, "NoDomain"))
@@ -101,7 +104,7 @@ class OperationsTest(unittest.IsolatedAsyncioTestCase):
             async with await Client.connect(port) as store:
                 await store.set("a", text)
                 requests = (Request.get("a") for _ in range(1000))
-                replies = [it async for it in store.pipeline(requests)]
+                replies = await store.pipeline(requests)
         self.assertEqual(replies, [Found(text)] * 1000)
 
     async def test_a_unix_socket_without_a_server(self):
@@ -118,8 +121,8 @@ class TasksTest(unittest.IsolatedAsyncioTestCase):
             for _ in range(100):
                 self.assertEqual(await store.get(name), name.encode())
             requests = [Request.get(name)] * 130
-            replies = [it async for it in store.pipeline(requests)]
-            self.assertEqual(replies, [Found(name.encode())] * 130)
+            self.assertEqual(await store.pipeline(requests),
+                             [Found(name.encode())] * 130)
 
         with naming() as port:
             async with await Client.connect(port) as store:
@@ -217,6 +220,46 @@ class RedialTest(unittest.IsolatedAsyncioTestCase):
                 self.assertEqual(await store.set("a", EMPTY), Stored())
         self.assertEqual(server.asked, [[SET], [SET]])
 
+    async def test_a_change_after_the_server_has_closed(self):
+        """It is seen before anything is sent, whether the loop has seen it
+        yet or not."""
+        for pauses in [0, 5]:
+            with Server([found(EMPTY)], [frame(b"s")]) as server:
+                async with await Client.connect(server.port) as store:
+                    await store.get("a")
+                    until = time.monotonic() + 60
+                    while not server.closed and time.monotonic() < until:
+                        time.sleep(0.001)  # the loop does nothing
+                    for _ in range(pauses):
+                        await asyncio.sleep(0)
+                    self.assertEqual(await store.set("a", EMPTY), Stored())
+            self.assertEqual(server.asked, [[GET], [SET]])
+
+    async def test_one_that_is_cancelled_anywhere(self):
+        """After 200 that were cancelled after so many turns of the loop each
+        call is answered, and right."""
+        with naming(connections=1_000) as port:
+            async with await Client.connect(port) as store:
+                for number in range(200):
+                    getting = asyncio.ensure_future(store.get(f"n{number}"))
+                    for _ in range(number % 40):
+                        await asyncio.sleep(0)
+                    getting.cancel()
+                    with contextlib.suppress(asyncio.CancelledError):
+                        self.assertEqual(await getting, b"n%d" % number)
+                    self.assertEqual(await store.get(f"m{number}"),
+                                     b"m%d" % number)
+
+    async def test_one_that_was_not_closed(self):
+        with Server([STAYS]) as server:
+            store = await Client.connect(server.port)
+            transport = store._line.writer.transport
+            with self.assertWarns(ResourceWarning):
+                del store
+                gc.collect()
+            transport.abort()
+            await asyncio.sleep(0)
+
     async def test_the_version_stays(self):
         with Server([TWO], [TWO, found(EMPTY)]) as server:
             async with await Client.connect(server.port) as store:
@@ -274,18 +317,16 @@ class RedialTest(unittest.IsolatedAsyncioTestCase):
         """Asked again if they are reads only."""
         with Server([found(b"1")], [found(b"2"), found(b"3")]) as server:
             async with await Client.connect(server.port) as store:
-                replies = store.pipeline([Request.get("a")] * 2)
-                self.assertEqual([it async for it in replies],
-                                 [Found(b"2"), Found(b"3")])
+                replies = await store.pipeline([Request.get("a")] * 2)
+                self.assertEqual(replies, [Found(b"2"), Found(b"3")])
 
     async def test_a_pipeline_that_ends_early(self):
         """What came before its end is given."""
         with Server([frame(b"s"), frame(b"s")[:3]]) as server:
             async with await Client.connect(server.port) as store:
-                replies = store.pipeline([Request.set("a", EMPTY)] * 5)
-                self.assertEqual(await replies.__anext__(), Stored())
-                with self.assertRaises(DisconnectedError):
-                    await replies.__anext__()
+                with self.assertRaises(DisconnectedError) as caught:
+                    await store.pipeline([Request.set("a", EMPTY)] * 5)
+                self.assertIn(caught.exception.replies, [[Stored()], []])
 
 
 class FollowTest(unittest.IsolatedAsyncioTestCase):

@@ -5,6 +5,7 @@ import copy
 import hashlib
 import io
 import json
+import math
 import pickle
 import ssl
 import subprocess
@@ -150,6 +151,12 @@ class ChangesTest(unittest.TestCase):
 
 class FollowTest(unittest.TestCase):
     ONE, TWO = {"a": EMPTY}, {"a": numbered(2), "b": EMPTY}
+
+    def test_intervals_that_are_none(self):
+        """They are refused when it is called, and not later."""
+        with answered_by(STAYS) as store:
+            for seconds in [0, -1, math.nan, math.inf]:
+                self.assertRaises(ValueError, store.follow, seconds)
 
     def test_what_it_yields(self):
         """First what is there, even if it is nothing; then changes only. So

@@ -4,6 +4,7 @@ import contextlib
 import io
 import json
 import os
+import signal
 import subprocess
 import sys
 import tempfile
@@ -14,7 +15,7 @@ from hopslintel import dump
 from hopslintel.command_line import main
 
 from .support import (EMPTY, ENTRY, SAME, STAYS, THREE, Server, all_of,
-                      document, frame, nobody_listens, numbered, real, served,
+                      document, found, frame, nobody_listens, numbered, real, served,
                       served_at)
 
 FOLDER = os.path.dirname(hopslintel.__file__)
@@ -94,6 +95,25 @@ class CommandLineTest(unittest.TestCase):
                       ["--port", "1", "--socket", "x", "map"]]:
             self.assertEqual(run(*words)[0], 2)
 
+    def test_numbers_that_are_refused(self):
+        """Nothing is asked: 65537 would else be port 1."""
+        for words in [["--port", "0", "map"], ["--port", "65537", "map"],
+                      ["--port", "-1", "map"],
+                      *[["--port", "1", "--timeout", it, "map"]
+                        for it in ["0", "-1", "nan", "inf", "x"]],
+                      *[["--port", "1", "follow", "--interval", it]
+                        for it in ["0", "-1", "nan", "inf"]]]:
+            status, output = run(*words)
+            self.assertEqual(status, 2, words)
+            self.assertNotIn(b"Traceback", output)
+        with Server([all_of({})]) as server:
+            self.assertEqual(run("--port", str(server.port), "--timeout",
+                                 "1e12", "map")[0], 0)
+
+    def test_the_version(self):
+        self.assertEqual(run("--version"), (
+            0, f"hopslintel {hopslintel.__version__}\n".encode()))
+
     def test_a_unix_socket(self):
         with tempfile.TemporaryDirectory() as folder:
             path = f"{folder}/socket"
@@ -111,6 +131,57 @@ class CommandLineTest(unittest.TestCase):
                                      stderr=subprocess.PIPE, timeout=60)
         self.assertEqual(ran.returncode, 1)
         self.assertIn(b"No space left", ran.stderr)
+
+    def start(self, port, *words, **how):
+        return subprocess.Popen(
+            [sys.executable, FOLDER, "--port", str(port), *words],
+            stdin=subprocess.DEVNULL, stderr=subprocess.PIPE, **how)
+
+    def test_an_interrupt(self):
+        """As Ctrl-C makes it: no traceback."""
+        with Server([all_of({"a": EMPTY}), STAYS]) as server:
+            with self.start(server.port, "follow",
+                            stdout=subprocess.PIPE) as running:
+                self.assertEqual(running.stdout.readline(), b"+ a\n")
+                running.send_signal(signal.SIGINT)
+                output, said = running.communicate(timeout=60)
+        self.assertEqual((running.returncode, output, said), (130, b"", b""))
+
+    def test_an_output_that_is_closed(self):
+        """By the other end, or from the start."""
+        with Server([all_of({"a": EMPTY})]) as server:
+            reading, writing = os.pipe()
+            os.close(reading)
+            with self.start(server.port, "map", stdout=writing) as running:
+                os.close(writing)
+                said = running.communicate(timeout=60)[1]
+        self.assertEqual((running.returncode, said.count(b"\n")), (1, 1))
+        self.assertIn(b"Broken pipe", said)
+        for closed, wanted in [(">&-", b"hopslintel: standard output is "
+                                b"closed\n"), (">&- 2>&-", b"")]:
+            ran = subprocess.run(
+                ["sh", "-c", f'"$@" {closed}', "sh", sys.executable, FOLDER,
+                 "--port", "1", "map"], stderr=subprocess.PIPE, timeout=60)
+            self.assertEqual((ran.returncode, ran.stderr), (1, wanted))
+
+    def test_what_a_terminal_would_obey(self):
+        """It is escaped as JSON has it; a pipe gets the bytes."""
+        text = ('{"keys":[],"x":"\x1b]0;\x07 \x7f \x9b2J \u202e \u2066 '
+                'caf\u00e9 \t"}').encode() + b"\xff"
+        shown = (b'{"keys":[],"x":"\\u001b]0;\\u0007 \\u007f \\u009b2J '
+                 b'\\u202e \\u2066 caf\xc3\xa9 \\u0009"}\\xff\r\n')
+        with Server([found(text)], [found(text)]) as server:
+            with self.start(server.port, "get", "a",
+                            stdout=subprocess.PIPE) as running:
+                self.assertEqual(running.communicate(timeout=60),
+                                 (text + b"\n", b""))
+            terminal, its_end = os.openpty()
+            with self.start(server.port, "get", "a",
+                            stdout=its_end) as running:
+                running.communicate(timeout=60)
+            self.assertEqual(os.read(terminal, 4096), shown)
+            os.close(its_end)
+            os.close(terminal)
 
     def test_as_a_folder_and_as_a_module(self):
         env = {**os.environ, "PYTHONPATH": os.path.dirname(FOLDER),

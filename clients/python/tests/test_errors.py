@@ -119,7 +119,7 @@ class GivenUpTest(unittest.TestCase):
         with answered_by(frame(b"\x16"), frame(b"s")) as store:
             replies = store.pipeline([Request.get("a"),
                                       Request.set("a", EMPTY)])
-            self.assertEqual([*replies], [OutOfMemory(), Stored()])
+            self.assertEqual(replies, [OutOfMemory(), Stored()])
 
 
 class BrokenRepliesTest(unittest.TestCase):

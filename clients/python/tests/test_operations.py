@@ -10,9 +10,9 @@ from hopslintel import (MAX_PAYLOAD, All, Appended, Client, Expect, Found,
                         NoDomainError, Refused, RefusedError, Removed,
                         Request, Same, Stored, Unchanged, Version)
 
-from .support import (EMPTY, ENTRY, GREATEST, KEPT, OTHER, PROGRAM, all_of,
-                      document, numbered, over_a_pipe, real, served,
-                      served_at)
+from .support import (EMPTY, ENTRY, GREATEST, KEPT, OTHER, PROGRAM, THREE,
+                      UNKNOWN, all_of, answered_by, document, found, frame,
+                      numbered, over_a_pipe, real, served, served_at)
 
 
 class OperationsTest(unittest.TestCase):
@@ -81,6 +81,33 @@ class OperationsTest(unittest.TestCase):
                                  Stored())
             self.assertEqual(store.fetch_all(), texts)
             self.assertEqual([*store.fetch_all()], names)
+
+    def test_stats(self):
+        """What the program has counted; a session by itself counts
+        nothing."""
+        with served() as port, Client.connect(port) as store:
+            store.set("a", EMPTY)
+            for _ in range(3):
+                store.get("a")
+            counts = store.stats()
+            self.assertEqual(counts["domains"], 1)
+            self.assertEqual(counts["requests_get"], 3)
+            self.assertEqual(counts["refused_30"], 0)
+            self.assertTrue(all(type(it) is int for it in counts.values()))
+        with over_a_pipe() as store:
+            self.assertEqual(store.stats(), {})
+
+    def test_stats_by_hand(self):
+        line = b"m" + b"seconds=0 a_1=18446744073709551615"
+        with answered_by(THREE, frame(line), frame(b"m"), UNKNOWN) as store:
+            self.assertEqual(store.stats(),
+                             {"seconds": 0, "a_1": 18446744073709551615})
+            self.assertEqual(store.stats(), {})
+            self.assertRaises(RefusedError, store.stats)
+        with answered_by(UNKNOWN, found(EMPTY)) as store:
+            for _ in range(2):
+                self.assertRaises(RefusedError, store.stats)
+            self.assertEqual(store.get("a"), EMPTY)
 
     def test_a_fetch_all_unless(self):
         """By a result of before, or by a digest; `bundled digest` writes the

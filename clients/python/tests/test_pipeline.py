@@ -6,8 +6,8 @@ import threading
 import unittest
 
 from hopslintel import (All, Client, DisconnectedError, Expect, Found,
-                        Refused, RefusedError, Removed, Request, Stored,
-                        Version)
+                        ProtocolError, Refused, RefusedError, Removed,
+                        Request, Stored, Version)
 
 from .support import (EMPTY, answered_by, beside, document, frame, numbered,
                       over_a_pipe, real, run_together, served)
@@ -19,11 +19,7 @@ class PipelineTest(unittest.TestCase):
         text = real("many")
         store.set("many.example", text)
         requests = (Request.get("many.example") for _ in range(10_000))
-        count = 0
-        for reply in store.pipeline(requests):
-            self.assertEqual(reply, Found(text))
-            count += 1
-        self.assertEqual(count, 10_000)
+        self.assertEqual(store.pipeline(requests), [Found(text)] * 10_000)
 
     def test_large_replies_over_a_pipe(self):
         with over_a_pipe() as store:
@@ -43,7 +39,7 @@ class PipelineTest(unittest.TestCase):
             requests += [Request.set("a", text), *[Request.get("a")] * 5]
             wanted += [Stored(), *[Found(text)] * 5]
         with over_a_pipe() as store:
-            self.assertEqual([*store.pipeline(requests)], wanted)
+            self.assertEqual(store.pipeline(requests), wanted)
 
     def test_replies_come_in_order(self):
         requests, wanted = [Request.version(2)], [Version(2)]
@@ -55,7 +51,7 @@ class PipelineTest(unittest.TestCase):
             wanted += [Stored(), Found(numbered(number)),
                        Refused(30, "NoDomain"), Removed()]
         with over_a_pipe() as store:
-            self.assertEqual([*store.pipeline(requests)], wanted)
+            self.assertEqual(store.pipeline(requests), wanted)
             self.assertEqual(store.set_if("a", Expect.ABSENT, EMPTY),
                              Stored())
 
@@ -64,18 +60,16 @@ class PipelineTest(unittest.TestCase):
             replies = store.pipeline([
                 Request.set("a", EMPTY), Request.fetch_all(),
                 Request.remove("a"), Request.fetch_all()])
-            self.assertEqual([*replies], [Stored(), All({"a": EMPTY}),
-                                          Removed(), All({})])
+            self.assertEqual(replies, [Stored(), All({"a": EMPTY}),
+                                       Removed(), All({})])
 
-    def test_one_that_is_left(self):
-        """Nothing is owed, so the client goes on."""
+    def test_it_is_asked_when_it_is_called(self):
+        """Though nobody looks at the replies."""
         with over_a_pipe() as store:
-            store.set("a", EMPTY)
-            replies = store.pipeline([Request.get("a")] * 2000)
-            self.assertEqual(next(replies), Found(EMPTY))
-            self.assertEqual([*store.pipeline([])], [])
-            replies.close()
-            self.assertEqual(store.fetch_all(), {"a": EMPTY})
+            store.pipeline(Request.set(f"n{number}", numbered(number))
+                           for number in range(200))
+            self.assertEqual(store.pipeline([]), [])
+            self.assertEqual(len(store.fetch_all()), 200)
 
     def test_requests_that_fail(self):
         def requests():
@@ -83,16 +77,23 @@ class PipelineTest(unittest.TestCase):
             raise KeyError("no more")
 
         with over_a_pipe() as store:
-            self.assertRaises(KeyError, list, store.pipeline(requests()))
+            self.assertRaises(KeyError, store.pipeline, requests())
             self.assertEqual(store.set("a", EMPTY), Stored())
 
     def test_a_server_that_ends(self):
-        """What came before its end is given."""
+        """The error has what came before its end."""
         with answered_by(frame(b"s"), frame(b"s")[:3]) as store:
-            replies = store.pipeline([Request.set("a", EMPTY)] * 5)
-            self.assertEqual(next(replies), Stored())
-            self.assertRaises(DisconnectedError, next, replies)
+            with self.assertRaises(DisconnectedError) as caught:
+                store.pipeline([Request.set("a", EMPTY)] * 5)
+            self.assertEqual(caught.exception.replies, [Stored()])
             self.assertRaises(DisconnectedError, store.get, "a")
+
+    def test_a_batch_that_fails(self):
+        """Of 130 requests 64 are sent at once."""
+        with answered_by(*[frame(b"s")] * 64, frame(b"f")) as store:
+            with self.assertRaises(ProtocolError) as caught:
+                store.pipeline([Request.set("a", EMPTY)] * 130)
+            self.assertEqual(caught.exception.replies, [Stored()] * 64)
 
 
 class TogetherTest(unittest.TestCase):

@@ -1,15 +1,18 @@
 # SPDX-License-Identifier: Apache-2.0
 """New connections, and what is asked again over them."""
+import os
 import socket
 import tempfile
 import threading
 import unittest
 
 from hopslintel import (Client, DisconnectedError, Found, GivenUpError,
-                        Refused, Request, Stored, TimedOutError, Version)
+                        ProtocolError, Refused, Request, Stored,
+                        TimedOutError, Version)
 
 from .support import (ASKS_THREE, EMPTY, SAME, STAYS, THREE, UNKNOWN, Server,
-                      all_of, found, frame, take_payload, unless)
+                      all_of, found, frame, served_at, take_payload, unless,
+                      wait_until)
 
 GET, FETCH, SET = b"G\x01a", b"F", b"S\x01a" + EMPTY
 
@@ -57,6 +60,50 @@ class RedialTest(unittest.TestCase):
                 self.assertRaises(DisconnectedError, store.set, "a", EMPTY)
                 self.assertEqual(store.set("a", EMPTY), Stored())
         self.assertEqual(server.asked, [[SET], [SET]])
+
+    def test_a_change_after_the_server_has_closed(self):
+        """It is seen before anything is sent, so nothing is in doubt."""
+        for payload, call, reply in [
+                (SET, lambda it: it.set("a", EMPTY), frame(b"s")),
+                (b"A\x01a{}", lambda it: it.append("a", {}),
+                 frame(b"p\x00")),
+                (b"R\x01a", lambda it: it.remove("a"), frame(b"d")),
+                (SET, lambda it: it.pipeline([Request.set("a", EMPTY)]),
+                 frame(b"s"))]:
+            with Server([found(EMPTY)], [reply]) as server:
+                with Client.connect(server.port) as store:
+                    store.get("a")
+                    wait_until(lambda: server.closed == 1)
+                    call(store)
+            self.assertEqual(server.asked, [[GET], [payload]])
+
+    def test_a_change_after_a_restart(self):
+        """Of the program itself."""
+        with tempfile.TemporaryDirectory() as folder:
+            path = f"{folder}/socket"
+            with served_at("--socket", path):
+                store = Client.connect_unix(path)
+                store.set("a", EMPTY)
+            with store:
+                self.assertRaises(DisconnectedError, store.set, "a", EMPTY)
+                with served_at("--socket", path):
+                    self.assertEqual(store.set("a", EMPTY), Stored())
+                with served_at("--socket", path):
+                    self.assertEqual(store.set("a", EMPTY), Stored())
+                    store.close()
+
+    def test_over_streams_it_is_told(self):
+        """There is no other connection; and no request is sent."""
+        reading, answers = os.pipe()
+        requests, writing = os.pipe()
+        store = Client(os.fdopen(reading, "rb"), os.fdopen(writing, "wb"))
+        os.write(answers, found(EMPTY))
+        self.assertRaises(ProtocolError, store.get, "a")
+        os.close(answers)
+        self.assertRaises(DisconnectedError, store.set, "a", EMPTY)
+        store.close()
+        self.assertEqual(os.read(requests, 100), b"")
+        os.close(requests)
 
     def test_the_version_stays(self):
         """The new session is put into it before anything else."""
@@ -150,13 +197,13 @@ class RedialTest(unittest.TestCase):
         get, change = Request.get("a"), Request.set("a", EMPTY)
         with Server([found(b"1")], [found(b"2"), found(b"3")]) as server:
             with Client.connect(server.port) as store:
-                self.assertEqual([*store.pipeline([get, get])],
+                self.assertEqual(store.pipeline([get, get]),
                                  [Found(b"2"), Found(b"3")])
         with Server([found(b"1")], [found(b"2")]) as server:
             with Client.connect(server.port) as store:
-                replies = store.pipeline([get, change, get])
-                self.assertEqual(next(replies), Found(b"1"))
-                self.assertRaises(DisconnectedError, next, replies)
+                with self.assertRaises(DisconnectedError) as caught:
+                    store.pipeline([get, change, get])
+                self.assertIn(caught.exception.replies, [[Found(b"1")], []])
         self.assertEqual(server.asked[0][:1], [GET])
 
     def test_a_unix_socket(self):

@@ -36,7 +36,7 @@ class ThreadsTest(unittest.TestCase):
         def pipes(name):
             for _ in range(5):
                 replies = store.pipeline([Request.get(name)] * 130)
-                if [*replies] != [Found(name.encode())] * 130:
+                if replies != [Found(name.encode())] * 130:
                     wrong.append(name)
 
         with naming() as port, Client.connect(port) as store:
@@ -46,16 +46,17 @@ class ThreadsTest(unittest.TestCase):
         self.assertEqual(wrong, [])
 
     def test_others_may_ask_inside_a_pipeline(self):
+        """Between two batches, while the next requests are made."""
+        def requests():
+            for number in range(130):
+                if number == 65:  # the first batch was answered
+                    self.assertEqual(store.get("a"), b"a")
+                    run_together(lambda: self.assertEqual(store.get("b"),
+                                                          b"b"))
+                yield Request.get("p")
+
         with naming() as port, Client.connect(port) as store:
-            replies = store.pipeline([Request.get("p")] * 130)
-            self.assertEqual(next(replies), Found(b"p"))
-            self.assertEqual(store.get("a"), b"a")
-            run_together(lambda: self.assertEqual(store.get("b"), b"b"))
-            self.assertEqual([*replies], [Found(b"p")] * 129)
-            left = store.pipeline([Request.get("q")] * 130)
-            self.assertEqual(next(left), Found(b"q"))
-            left.close()
-            self.assertEqual(store.get("c"), b"c")
+            self.assertEqual(store.pipeline(requests()), [Found(b"p")] * 130)
 
     @unittest.skipUnless(hasattr(os, "fork"), "the system has no fork")
     def test_a_child_process_has_a_connection_of_its_own(self):
@@ -146,11 +147,26 @@ class DeadlinesTest(unittest.TestCase):
                      lambda it, **how: it.fetch_all(unless=bytes(32), **how),
                      lambda it, **how: it.version(2, **how),
                      lambda it, **how: it.ask(Request.get("a"), **how),
-                     lambda it, **how: [*it.pipeline([Request.get("a")],
-                                                     **how)],
+                     lambda it, **how: it.stats(**how),
+                     lambda it, **how: it.pipeline([Request.get("a")],
+                                                   **how),
                      lambda it, **how: [*it.follow(1, **how)]]:
             with answered_by(STAYS) as store:
                 self.late(call, store, timeout=0.05)
+
+    def test_limits_that_are_too_long(self):
+        """For the system's clocks: they are none. One that is not a number
+        is refused."""
+        with answered_by(*[found(EMPTY)] * 3, timeout=1e300) as store:
+            for seconds in [None, 3e6, 1e12]:
+                self.assertEqual(store.get("a", timeout=seconds), EMPTY)
+            with self.assertRaises(ValueError):
+                store.get("a", timeout=math.nan)
+
+    def test_ports_that_are_none(self):
+        """The system would take the lower bits of their numbers."""
+        for port in [0, -1, 65536, 65537]:
+            self.assertRaises(ValueError, Client.connect, port)
 
     def test_retries(self):
         """If there is no time for the next, the last answer is given."""
