@@ -161,7 +161,7 @@ class TasksTest(unittest.IsolatedAsyncioTestCase):
         for reply in [b"", frame(b"s")[:4], drops]:
             with Server([reply, STAYS]) as server:
                 async with await Client.connect(server.port,
-                                                timeout=0.2) as store:
+                                                timeout=2) as store:
                     begun = time.monotonic()
                     with self.assertRaises(TimedOutError):
                         await store.set("a", EMPTY)
@@ -173,7 +173,7 @@ class TasksTest(unittest.IsolatedAsyncioTestCase):
                 self.assertEqual(await store.get("a", timeout=math.inf),
                                  EMPTY)
                 with self.assertRaises(TimedOutError):
-                    await store.get("a", timeout=0.1)
+                    await store.get("a", timeout=1)
                 self.assertEqual(await store.get("b"), b"b")
 
     async def test_no_time_at_all(self):

@@ -189,7 +189,7 @@ class RedialTest(unittest.TestCase):
         with Server([b"", STAYS], [found(b"b")]) as server:
             with Client.connect(server.port) as store:
                 with self.assertRaises(TimedOutError):
-                    store.get("a", timeout=0.1)
+                    store.get("a", timeout=1)
                 self.assertEqual(store.get("b"), b"b")
 
     def test_batches_of_a_pipeline(self):

@@ -125,19 +125,19 @@ class DeadlinesTest(unittest.TestCase):
 
     def test_a_silent_server(self):
         for reply in [b"", frame(b"s")[:4]]:
-            with answered_by(reply, STAYS, timeout=0.2) as store:
+            with answered_by(reply, STAYS, timeout=2) as store:
                 self.late(store.set, "a", EMPTY)
 
     def test_a_reply_that_drips(self):
         """Each byte comes soon, and all of them would take 20 seconds."""
         drops = [bytes([byte]) for byte in found(b"x" * 1000)]
-        with answered_by(drops, timeout=0.3) as store:
+        with answered_by(drops, timeout=2) as store:
             self.late(store.get, "a")
 
     def test_one_call(self):
         with answered_by(found(EMPTY), b"", STAYS) as store:
             self.assertEqual(store.get("a", timeout=math.inf), EMPTY)
-            self.late(store.get, "a", timeout=0.1)
+            self.late(store.get, "a", timeout=1)
         for call in [lambda it, **how: it.set("a", EMPTY, **how),
                      lambda it, **how: it.set_if("a", 1, EMPTY, **how),
                      lambda it, **how: it.append("a", EMPTY, **how),
@@ -195,9 +195,9 @@ class DeadlinesTest(unittest.TestCase):
     def test_a_process(self):
         """One that is silent, and one that takes nothing."""
         with a_process("time.sleep(60)") as store:
-            self.late(store.get, "a", timeout=0.2)
+            self.late(store.get, "a", timeout=2)
         with a_process("time.sleep(60)") as store:
-            self.late(store.set, "a", b" " * 1_000_000, timeout=0.2)
+            self.late(store.set, "a", b" " * 1_000_000, timeout=2)
 
     def test_no_time_at_all(self):
         with answered_by(found(EMPTY)) as store:
