@@ -153,10 +153,11 @@ def it_is_installed():
             "lib/systemd/system/hopslintel.service", "lib/sysusers.d/hopslintel.conf", "share/hopslintel/systemd/private.conf",
             "share/hopslintel/cron/refresh"} <= names, names
     unit = bytes_of(f"{room.prefix}/lib/systemd/system/hopslintel.service").decode()
-    assert f"\nExecStart={room.prefix}/bin/bundled serve " in unit, unit
+    assert f"\nExecStart={room.prefix}/share/hopslintel/lasting dump " in unit and f"\nEnvironment=PATH={room.prefix}/bin:" in unit, unit
     named = [it for it in names if not it.startswith("share/doc/") and b"/opt/hopslintel" in bytes_of(f"{room.prefix}/{it}")]
     assert named == [], named
-    assert os.access(f"{room.prefix}/share/hopslintel/etcd/publish", os.X_OK)
+    scripts = ("lasting", "dump", "pem/act", "pem/trust", "etcd/publish")
+    assert all(os.access(f"{room.prefix}/share/hopslintel/{it}", os.X_OK) for it in scripts)
     room.install()
     assert room.names(room.prefix) == names
 
@@ -167,7 +168,7 @@ def it_is_installed_for_a_package():
     room.install("/usr/local/", DESTDIR=f"{room.path}/package")
     assert os.listdir(f"{room.path}/package") == ["usr"]
     unit = bytes_of(f"{room.path}/package/usr/local/lib/systemd/system/hopslintel-dump.service").decode()
-    assert "'/usr/local/bin/bundled ask " in unit, unit
+    assert "\nExecStart=/usr/local/share/hopslintel/dump dump " in unit, unit
 
 
 def install_refuses():
