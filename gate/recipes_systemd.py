@@ -8,7 +8,7 @@ import re
 import subprocess
 import time
 
-from checks import AFTERWARDS, ROOT, SECONDS, LeftOut, Room, canonical, wait_until
+from checks import AFTERWARDS, ROOT, SECONDS, SHOWN, LeftOut, Room, canonical, wait_until
 from recipe_rooms import BLOCKS
 from recipes_tls import DEBIAN_PYTHON
 from releases import made, tarball
@@ -70,6 +70,12 @@ class Systemd:
             self.started = subprocess.Popen(["sh", "-c", "\n".join(lines)], **how)
         AFTERWARDS.callback(self.end)
         self.wait_until_up()
+        AFTERWARDS.push(self.tell)
+
+    def tell(self, kind, _error, _trace):
+        """If the check fails, how the units stand."""
+        if kind:
+            print(self.run("systemctl list-units --all --no-pager 'hopslintel*'; systemctl list-jobs --no-pager; ls -l /run/*.sock", status=None)[:2 * SHOWN])
 
     def remove_groups(self):
         """Whether they are gone: one that has a process is not removed."""
@@ -117,6 +123,10 @@ class Systemd:
         who = ["setpriv", f"--reuid={USER}", f"--regid={USER}", groups]
         return self.run(f"exec {DEBIAN_PYTHON} -B python/hopslintel --socket /run/hopslintel-{socket}.sock {words}", status, who)
 
+    def says(self, socket, words, wanted, groups="--clear-groups"):
+        """The same, once the socket is there with its group: a start of the store is no promise of that."""
+        wait_until(lambda: self.over(socket, words, None, groups) == wanted, f"{words} by the socket to {socket}")
+
 
 def runs_under_systemd():
     """The page's commands, and then: who may write; that a crash brings back the last dump, and a stop and a start all."""
@@ -131,9 +141,10 @@ def runs_under_systemd():
     text = canonical("rotation").decode()
     assert systemd.run(inside) == f"all 1\nbundle a.example {text}\n"
     writers = f"--groups={systemd.run(f'getent group {GROUP}').split(':')[2]}"
-    assert systemd.over("read", "get a.example") == f"{text}\n"
+    systemd.says("read", "get a.example", f"{text}\n")
     assert "given up 56" in systemd.over("read", "remove a.example", status=3, groups=writers)
     assert "Permission denied" in systemd.over("write", "get a.example", status=1)
+    systemd.says("write", "get a.example", f"{text}\n", writers)
     assert systemd.over("write", "remove a.example", groups=writers) == "removed\n"
     survives_a_crash(systemd, writers)
     keeps_all_at_a_stop(systemd, writers)
@@ -143,11 +154,13 @@ def runs_under_systemd():
 
 def survives_a_crash(systemd, writers):
     """What was removed before the timer's dump stays removed, and the sockets work again."""
-    systemd.run("systemctl start hopslintel-dump.service")
+    # (the first may be one that the timer began before the removal)
+    systemd.run("systemctl start hopslintel-dump.service && systemctl start hopslintel-dump.service")
     systemd.run("kill -9 $(systemctl show --property MainPID --value hopslintel.service)")
     wait_until(lambda: systemd.over("read", "map", status=None) == '{"trust_domains":{}}\n', "it is up again")
     # (documents are read by whoever sets them)
     systemd.run("printf '{\"keys\":[],\"spiffe_sequence\":9}' > documents/b")
+    systemd.says("write", "map", '{"trust_domains":{}}\n', writers)
     assert systemd.over("write", "set b.example documents/b", groups=writers) == "stored\n"
 
 
@@ -158,7 +171,8 @@ def keeps_all_at_a_stop(systemd, writers):
     systemd.run("systemctl stop hopslintel.service")
     assert "no connection" in systemd.over("read", "map", status=1)
     systemd.run("systemctl start hopslintel.service")
-    assert systemd.over("read", "get b.example") == '{"keys":[],"spiffe_sequence":10}\n'
+    systemd.says("read", "get b.example", '{"keys":[],"spiffe_sequence":10}\n')
+    systemd.says("write", "get b.example", '{"keys":[],"spiffe_sequence":10}\n', writers)
     assert "hopslintel-dump.timer" in systemd.run("systemctl list-timers --no-pager")
 
 
@@ -188,7 +202,7 @@ def fails_and_is_told(systemd):
     wait_until(lambda: systemd.run("systemctl is-failed hopslintel.service", status=None) == "failed\n", "it is failed", 3 * SECONDS)
     wait_until(lambda: systemd.run("cat /run/told 2> /dev/null", status=None) == "hopslintel.service\n", "it is told")
     systemd.run(f"mv {folder}/kept {folder}/dump.1 && systemctl reset-failed hopslintel.service && systemctl start hopslintel.service")
-    assert systemd.over("read", "get b.example") == '{"keys":[],"spiffe_sequence":10}\n'
+    systemd.says("read", "get b.example", '{"keys":[],"spiffe_sequence":10}\n')
 
 
 CHECKS = {runs_under_systemd: [SYSTEMD, "git", "rt", "unshare", "nsenter", "setpriv", "ip", DEBIAN_PYTHON, f"{UNIFIED}/cgroup.procs",

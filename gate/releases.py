@@ -177,10 +177,11 @@ def it_is_installed():
             "lib/systemd/system/hopslintel.service", "lib/sysusers.d/hopslintel.conf", "share/hopslintel/systemd/private.conf",
             "share/hopslintel/cron/refresh"} <= names, names
     unit = bytes_of(f"{room.prefix}/lib/systemd/system/hopslintel.service").decode()
-    assert f"\nExecStart={room.prefix}/share/hopslintel/lasting dump " in unit and f"={room.prefix}/bin:" in unit, unit
+    assert f"\nExecStart={room.prefix}/share/hopslintel/lasting dump " in unit and f"\nEnvironment=PATH={room.prefix}/bin:" in unit, unit
     named = [it for it in names if not it.startswith("share/doc/") and b"/opt/hopslintel" in bytes_of(f"{room.prefix}/{it}")]
     assert named == [], named
-    assert os.access(f"{room.prefix}/share/hopslintel/etcd/publish", os.X_OK)
+    scripts = ("lasting", "dump", "pem/act", "pem/trust", "etcd/publish")
+    assert all(os.access(f"{room.prefix}/share/hopslintel/{it}", os.X_OK) for it in scripts)
     said = said_by([sys.executable, "-B", f"{room.prefix}/share/hopslintel/clients/python/hopslintel", "--help"])
     assert said.startswith("usage: "), said
     room.install()
