@@ -50,10 +50,10 @@ most_taken (Unlimited lasting) = 18446744073709551615
 abbrev pub most_turns : ℕ → ℕ
 most_turns turns = min turns 1000000000
 
--- after how many ticks without a turn a client is given up: a second has four
+-- after how many ticks a client is given up that does not get on: a second has four
 abbrev pub most_silent : Lasting → ℕ
 most_silent lasting = counted (lasting.idle * 4)
 
--- Each worker has served its clients beside each other, has made at most so many reads of each, and has given none up before.
+-- Each worker has served its clients beside each other, has made at most so many reads of each, and has given each up then, and none before.
 abbrev pub ServedBeside : Lasting → ℕ → StoreView → List PassView → List Worked → Type 0
 ServedBeside lasting turns store passes worked = AllServed always_open (most_silent lasting) turns store 0 passes worked

@@ -21,6 +21,8 @@ pub struct Incoming<'a, C> {
     shared: &'a Shared,
     worker: usize,
     ready: WorkerPoll,
+    /// Whether the others are told that the worker is busy with clients that it has.
+    is_busy: bool,
     /// How much may come still.
     left: u64,
     /// When the last tick was told.
@@ -42,6 +44,7 @@ impl<'a, C: Clock> Incoming<'a, C> {
             shared,
             worker,
             ready,
+            is_busy: false,
             left: u64::MAX,
             last_tick: None,
             has_failed: false,
@@ -66,7 +69,11 @@ impl<'a, C: Clock> Incoming<'a, C> {
 
     /// The next client that waits at a port, or nothing. It is known by the place from then on.
     fn accept(&self, ports: &Ports, place: usize) -> io::Result<Arrival<Stream<'a>>> {
-        let Some((stream, reads_only)) = ports.accept()? else {
+        let accepted = ports.accept();
+        if !matches!(accepted, Ok(Some(_))) {
+            self.shared.missed();
+        }
+        let Some((stream, reads_only)) = accepted? else {
             return Ok(Arrival::Nothing);
         };
         let end = Stream::new(stream, self.shared)?;
@@ -93,6 +100,42 @@ impl<'a, C: Clock> Incoming<'a, C> {
     }
 }
 
+impl<'a, C: Clock> Incoming<'a, C> {
+    /// Tells the others whether the worker is busy, if they are told otherwise.
+    fn set_busy(&mut self, is_busy: bool)
+        ensures { self.new.left ≡ self.old.left }
+    {
+        if self.is_busy != is_busy {
+            self.is_busy = is_busy;
+            self.shared.set_busy(self.worker, is_busy);
+        }
+    }
+
+    /// What is ready, or has become so since the last tick; or else waits for it, but not if `is_busy`.
+    fn ready_next(&mut self, free: usize, is_busy: bool) -> Arrival<Stream<'a>>
+        ensures { self.new.left ≡ self.old.left }
+    {
+        match self.ready.next() {
+            Some(PollEvent::Client { place, is_closing }) => Arrival::Ready { place, is_closing },
+            Some(PollEvent::Port) => self.take(free),
+            None if self.is_time_up() => {
+                // A port that failed may be well again, and a worker that had the turn may be gone, or busy.
+                self.shared.wake(self.worker);
+                Arrival::Tick
+            }
+            None => {
+                // What is ready then is told by the next calls.
+                if !is_busy {
+                    self.set_busy(false);
+                }
+                let most = if is_busy { 0 } else { TICK };
+                self.ready.wait(Duration::from_millis(most));
+                Arrival::Nothing
+            }
+        }
+    }
+}
+
 impl<'a, C: Clock> Arrivals for Incoming<'a, C> {
     type End = Stream<'a>;
 
@@ -107,21 +150,12 @@ impl<'a, C: Clock> Arrivals for Incoming<'a, C> {
             return Arrival::Stops;
         }
         self.left -= 1;
-        match self.ready.next() {
-            Some(PollEvent::Client { place, is_closing }) => Arrival::Ready { place, is_closing },
-            Some(PollEvent::Port) => self.take(free),
-            None if self.is_time_up() => {
-                // A port that failed may be well again, and a worker that had the turn may be gone.
-                self.shared.wake(self.worker);
-                Arrival::Tick
-            }
-            None => {
-                // What is ready then is told by the next calls.
-                let most = if is_busy { 0 } else { TICK };
-                self.ready.wait(Duration::from_millis(most));
-                Arrival::Nothing
-            }
+        let arrival = self.ready_next(free, is_busy);
+        // A client that is ready has a turn now, and so has a new one.
+        if !matches!(arrival, Arrival::Nothing) {
+            self.set_busy(true);
         }
+        arrival
     }
 }
 
@@ -132,6 +166,7 @@ impl<C> Drop for Incoming<'_, C> {
             shared,
             worker,
             ready: _,
+            is_busy: _,
             left: _,
             last_tick: _,
             has_failed: _,

@@ -26,7 +26,9 @@ pub enum PollEvent {
 pub struct WorkerPoll {
     poll: Poll,
     events: Events,
-    /// How many of the events have been told.
+    /// Whether an event of a port is among them that was not told.
+    has_port: bool,
+    /// How many of the others have been told or passed by.
     told: usize,
 }
 
@@ -37,6 +39,7 @@ impl WorkerPoll {
         Ok(WorkerPoll {
             poll,
             events,
+            has_port: false,
             told: 0,
         })
     }
@@ -53,19 +56,27 @@ impl WorkerPoll {
         self.told = 0;
         // (if a signal has ended the wait, nothing is ready)
         let _ = self.poll.poll(&mut self.events, Some(most));
+        self.has_port = self.events.iter().any(|event| event.token() == NOBODY);
     }
 
-    /// What is ready, and was not told yet.
+    /// What is ready, and was not told yet. A port comes first, so that no client at it waits for the turns of others.
     pub fn next(&mut self) -> Option<PollEvent> {
-        let event = self.events.iter().as_slice().get(self.told)?;
-        self.told = self.told.saturating_add(1);
-        let token = event.token();
-        if token == NOBODY {
+        if self.has_port {
+            self.has_port = false;
             return Some(PollEvent::Port);
         }
-        Some(PollEvent::Client {
-            place: usize::from(token),
-            is_closing: event.is_read_closed() || event.is_error(),
-        })
+        let count = self.events.iter().as_slice().len();
+        for at in self.told..count {
+            let event = self.events.iter().as_slice().get(at)?;
+            self.told = at.saturating_add(1);
+            let token = event.token();
+            if token != NOBODY {
+                return Some(PollEvent::Client {
+                    place: usize::from(token),
+                    is_closing: event.is_read_closed() || event.is_error(),
+                });
+            }
+        }
+        None
     }
 }

@@ -11,6 +11,8 @@ pub struct Seat {
     waker: Waker,
     /// Whether the worker takes clients.
     is_taken: AtomicBool,
+    /// Whether the worker is busy with clients that it has.
+    is_busy: AtomicBool,
 }
 
 impl Seat {
@@ -19,6 +21,7 @@ impl Seat {
         Seat {
             waker,
             is_taken: AtomicBool::new(false),
+            is_busy: AtomicBool::new(false),
         }
     }
 }
@@ -27,14 +30,15 @@ impl Seat {
 /// workers look at it, and each can be woken.
 ///
 /// Workers take clients in turn, so that none has all of them: a client that connects wakes each worker, and the one whose
-/// turn it is takes it.
+/// turn it is takes it. If that one is busy with clients that it has, another takes the turn from it: a long turn of a client
+/// keeps nobody from being taken. Who looked just before the other was busy looks again at its next tick.
 #[derive(Drop)]
 pub struct Shared {
     ports: Ports,
     seats: Vec<Seat>,
     /// The worker whose turn it is.
     turn: AtomicUsize,
-    /// How many clients are connected.
+    /// How many clients are connected, or may be in this moment.
     open: AtomicU64,
     /// How many clients may be connected.
     most_open: u64,
@@ -79,26 +83,48 @@ impl Shared {
         }
     }
 
-    /// A client has come.
-    pub fn come(&self) {
-        self.open.fetch_add(1, Ordering::SeqCst);
+    /// One more client may be connected: it is counted from now on.
+    fn come(&self) -> bool {
+        if self.open.fetch_add(1, Ordering::SeqCst) < self.most_open {
+            return true;
+        }
+        self.missed();
+        false
+    }
+
+    /// A client that was counted did not come.
+    pub fn missed(&self) {
+        self.open.fetch_sub(1, Ordering::SeqCst);
     }
 
     /// A client has been left. If there was no room for another one, there is now.
     pub fn leave(&self) {
         if self.open.fetch_sub(1, Ordering::SeqCst) >= self.most_open {
-            self.wake(self.turn.load(Ordering::SeqCst));
+            let turn = self.turn.load(Ordering::SeqCst);
+            let next = if self.is_free(turn) {
+                turn
+            } else {
+                self.next(turn)
+            };
+            self.wake(next);
         }
     }
 
-    /// The ports, if the worker may take a client now: it is its turn, and another one may be connected. The worker takes
-    /// clients from now on.
+    /// The ports, if the worker may take a client now: it is its turn, and another one may be connected, which is counted
+    /// already. The worker takes clients from now on.
     pub fn may_take(&self, worker: usize) -> Option<&Ports> {
         self.set_taken(worker, true);
-        if self.has_turn(worker) && self.open.load(Ordering::SeqCst) < self.most_open {
+        if self.has_turn(worker) && self.come() {
             return Some(&self.ports);
         }
         None
+    }
+
+    /// The worker is busy with clients that it has, or waits for something to do.
+    pub fn set_busy(&self, worker: usize, is_busy: bool) {
+        if let Some(seat) = self.seats.get(worker) {
+            seat.is_busy.store(is_busy, Ordering::SeqCst);
+        }
     }
 
     /// The worker takes no client any more.
@@ -109,27 +135,37 @@ impl Shared {
         }
     }
 
-    /// The turn goes from this worker to the next that takes clients, which looks whether another one waits.
+    /// The turn goes from this worker to the next, which looks whether another client waits.
     pub fn pass(&self, worker: usize) {
+        let next = self.next(worker);
+        self.turn.store(next, Ordering::SeqCst);
+        self.wake(next);
+    }
+
+    /// The next worker after this one that takes clients and is not busy, or if all are, the next that takes clients.
+    fn next(&self, worker: usize) -> usize {
         let count = self.seats.len();
         let mut next = worker;
+        let mut busy = None;
         for _ in 0..count {
             next = next.saturating_add(1);
             if next >= count {
                 next = 0;
             }
-            if self.is_taken(next) {
-                break;
+            if self.is_free(next) {
+                return next;
+            }
+            if busy.is_none() && self.is_taken(next) {
+                busy = Some(next);
             }
         }
-        self.turn.store(next, Ordering::SeqCst);
-        self.wake(next);
+        busy.unwrap_or(worker)
     }
 
-    /// Whether it is the worker's turn: it is, if it would be that of one that takes no client.
+    /// Whether it is the worker's turn: it is, if it would be that of one that takes no client, or is busy.
     fn has_turn(&self, worker: usize) -> bool {
         let turn = self.turn.load(Ordering::SeqCst);
-        if turn == worker || self.is_taken(turn) {
+        if turn == worker || self.is_free(turn) {
             return turn == worker;
         }
         let turns = &self.turn;
@@ -140,6 +176,16 @@ impl Shared {
     fn is_taken(&self, worker: usize) -> bool {
         match self.seats.get(worker) {
             Some(seat) => seat.is_taken.load(Ordering::SeqCst),
+            None => false,
+        }
+    }
+
+    /// Whether the worker takes clients, and is not busy.
+    fn is_free(&self, worker: usize) -> bool {
+        match self.seats.get(worker) {
+            Some(seat) => {
+                seat.is_taken.load(Ordering::SeqCst) && !seat.is_busy.load(Ordering::SeqCst)
+            }
             None => false,
         }
     }

@@ -34,9 +34,8 @@ pub struct Stream<'a> {
 }
 
 impl<'a> Stream<'a> {
-    /// The stream of a client that is counted from now on.
+    /// The stream of a client that is counted already.
     pub fn new(inner: ClientStream, shared: &'a Shared) -> io::Result<Stream<'a>> {
-        shared.come();
         let peer = inner.peer_port();
         let stream = Stream {
             inner,
