@@ -222,14 +222,14 @@ With a number of --connections each worker serves so many clients one after the 
 --read-socket, --until-eof and --idle belong to this form only.
 
 Each worker is a thread. All share one store, which is empty at the start, or holds what --load gives it: a dump of any
-length, judged whole and stored before anybody can connect. A connection carries the frames that `run` reads and writes; see
-bundled run --help. At the port of --read-port, or the socket of --read-socket, gets and fetch-alls are answered, and
-what would change a bundle is refused with 56.
+length, judged whole and stored before anybody can connect. A connection carries the frames that `run` reads and
+writes; see bundled run --help. At the port of --read-port, or the socket of --read-socket, gets and fetch-alls are
+answered, and what would change a bundle is refused with 56.
 
 With --socket the server listens at a Unix socket, a file that it makes: whoever may write to the file may connect, and
 the umask of the server says who may. A socket that a dead server has left is replaced. A path at which a server listens,
-or where some other file is, or of over 107 bytes, is `fault 57`. When the server ends, the file is removed, unless another
-one stands there by then.
+or where some other file is, or of over 107 bytes, is `fault 57`. When the server ends, the file is removed, unless
+another one stands there by then.
 
 On standard output come `listening PORT` before the first connection is taken, with `read-only PORT` on the same line if
 there is such a port, and at the end `served N`, how many connections were served, and `domains M`, how many domains
