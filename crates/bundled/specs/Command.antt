@@ -18,6 +18,7 @@ use Rattle.commands.specs.Migrate.{MigrationOf}
 use Rattle.dump_views.specs.declared.profile.Profile.{Profile}
 use Rattle.dump_views.specs.declared.profile.Profile.TheVariants.{Whole, X509}
 use Rattle.commands.specs.Reading.{Filters, Unread}
+use Rattle.commands.specs.declared.input.Extent.TheVariants.{Limited, Any}
 use Rattle.commands.specs.Check.{Checks}
 use Rattle.commands.specs.Map.{MapOf, NoMap}
 use Rattle.commands.specs.Import.{RequestsOf, NoRequests}
@@ -51,20 +52,20 @@ Does Encode status old new = Encodes of_files status old new
 Does Decode status old new = Decodes status old new
 Does (Explain text) status old new = Explains text.now status old new
 Does (Check files) status old new = Checks of_files (map (λ file. file.now) files.items) status old new
-Does (Map names x509) status old new = Filters (MapOf names.items (profile x509)) (NoMap names.items) status old new
-Does Import status old new = Filters RequestsOf NoRequests status old new
-Does (Pem name) status old new = Filters (PemOf name) (NoPem name) status old new
+Does (Map names x509) status old new = Filters Any (MapOf names.items (profile x509)) (NoMap names.items) status old new
+Does Import status old new = Filters Limited RequestsOf NoRequests status old new
+Does (Pem name) status old new = Filters Any (PemOf name) (NoPem name) status old new
 Does (Diff old_file new_file) status old new =
     (new.input ≡ old.input) × DiffFiles status old.output new.output old.error new.error
-Does Digest status old new = Filters DigestOf Unread status old new
-Does (Trace shards rounds picture) status old new = Filters (RunOf shards rounds picture) NoRun status old new
-Does Migrate status old new = Filters MigrationOf Unread status old new
+Does Digest status old new = Filters Any DigestOf (Unread Any) status old new
+Does (Trace shards rounds picture) status old new = Filters Limited (RunOf shards rounds picture) NoRun status old new
+Does Migrate status old new = Filters Limited MigrationOf (Unread Limited) status old new
 Does (Race seconds) status old new = RaceRun status old new
 Does (Refresh wanted) status old new = RefreshRun status old new
 Does (Snapshot wanted) status old new = SnapshotRun wanted.at_least status old new
 Does (Stats wanted) status old new = StatsRun status old new
 Does (Serve places load save log settings) status old new =
-    (stops_at_end settings.connections ≡ false → new.input ≡ old.input) × ServeCommand IsUnknown (ServedAs settings.connections settings.turns) load settings status old.output new.output old.error new.error
+    (stops_at_end settings.connections ≡ false → new.input ≡ old.input) × ServeCommand IsUnknown (ServedAs settings.connections settings.turns) load save settings status old.output new.output old.error new.error
 
 -- Help or the version is written to standard output, and nothing is read. Or memory ran out before that or a command.
 pub record Shows (status : ℕ) (old new : Streams) : Type 0 where

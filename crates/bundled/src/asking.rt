@@ -8,7 +8,7 @@ ghost use Rattle.commands.specs.Streams.{streams};
 use crate::refreshing::streams;
 use client::{Asking, Form, ServerStreams};
 use command_line::{Inquiry, ReplyStyle};
-use commands::{Fault, FileTexts, ServerFault, ask_over, ask_words_over, read_input};
+use commands::{Extent, Fault, FileTexts, ServerFault, ask_over, ask_words_over, read_input};
 use frame_front::read_dump;
 use sha2::{Digest, Sha256};
 use std::alloc::Global;
@@ -70,7 +70,7 @@ fn form_of(style: ReplyStyle) -> Form
     }
 }
 
-/// The digest of the dump that the file holds, in hexadecimal digits; none without a file.
+/// The digest of the dump that the file holds, which may have any length, in hexadecimal digits; none without a file.
 fn known_digest<H: Files>(
     alloc: Global,
     host: &H,
@@ -85,7 +85,7 @@ fn known_digest<H: Files>(
     let Ok(file) = File::open(host, path) else {
         return Err(Fault::Front(FrontError::ReadFault));
     };
-    let dump = read_input(alloc, &mut Counted::new(file))?;
+    let dump = read_input(alloc, Extent::Any, &mut Counted::new(file))?;
     let _domains = read_dump(alloc, dump.as_slice())?;
     Ok(Some(hex::encode(alloc, Sha256::digest(dump.as_slice()))?))
 }

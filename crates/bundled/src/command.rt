@@ -158,7 +158,6 @@ fn run_wanted<
                 alloc,
                 log: &log,
                 counts: &counts,
-                requests: &[],
             };
             let serving = Serving {
                 places: *places,

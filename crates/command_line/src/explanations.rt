@@ -337,8 +337,9 @@ What to do: See whether the port or the socket is that of a server of bundles.
         59,
         "\
 59 Unsaved
-The file of --save cannot be written, or not renamed: the last map of the server is not in it. What
-was in the file before is there still.
+The file of --save cannot be written, or not renamed: at the start, and then nothing is served; or
+at the end, and then the last map of the server is not in it. What was in the file before is there
+still.
 What to do: See its folder's permissions and the room on the disk. Take a dump before the next stop.
 ",
     ),
@@ -406,8 +407,9 @@ What to do: See the help of the command.
         71,
         "\
 71 InputTooLong
-The input has over 16777216 bytes.
-What to do: Split it.
+The input of migrate, import, trace or check, or the list of refresh, has over 16777216 bytes.
+What to do: Split it. A dump is read in any length by serve --load, digest, map, pem, diff and
+ask --unless.
 ",
     ),
     (

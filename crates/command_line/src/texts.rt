@@ -227,14 +227,15 @@ With a number of --connections each worker serves so many clients one after the 
 --connections unlimited it lasts, and each worker serves many clients beside each other: --max-open, --read-port,
 --read-socket, --until-eof and --idle belong to this form only.
 
-Each worker is a thread. All share one store, which is empty at the start, or holds what --load gives it: a dump, judged
-whole and stored before the port is listened at. A connection carries the frames that `run` reads and writes; see
-bundled run --help. At the port of --read-port, or the socket of --read-socket, gets and fetch-alls are answered, and
-what would change a bundle is refused with 56.
+Each worker is a thread. All share one store, which is empty at the start, or holds what --load gives it: a dump of any
+length, judged whole and stored before anybody can connect. A connection carries the frames that `run` reads and
+writes; see bundled run --help. At the port of --read-port, or the socket of --read-socket, gets and fetch-alls are
+answered, and what would change a bundle is refused with 56.
 
 With --socket the server listens at a Unix socket, a file that it makes: whoever may write to the file may connect, and
 the umask of the server says who may. A socket that a dead server has left is replaced. A path at which a server listens,
-or where some other file is, or of over 107 bytes, is `fault 57`. When the server ends, the file is removed.
+or where some other file is, or of over 107 bytes, is `fault 57`. When the server ends, the file is removed, unless
+another one stands there by then.
 
 On standard output come `listening PORT` before the first connection is taken, with `read-only PORT` on the same line if
 there is such a port, and at the end `served N`, how many connections were served, and `domains M`, how many domains
@@ -242,7 +243,8 @@ have a bundle. A socket is told by its path, in place of a port. Faults of conne
 order of the workers. The status is 1 after a fault of the server itself, such as a port that is taken, and 0 otherwise.
 
 With --save the map that is left at the end is written as a dump, which --load reads: to FILE.new, and that is renamed to
-FILE. If it cannot be written, that is `fault 59`, and FILE is as it was. With --until-eof a server that lasts has an end.
+FILE. FILE keeps its mode; what stands at FILE.new is removed before. It is tried at the start. If it cannot be written,
+that is `fault 59`, and FILE is as it was. With --until-eof a server that lasts has an end.
 
 With --log each change of a bundle is a line on standard error, with the sequence before and after it, and so is each one
 that was refused by 31, 36 or 56, and each end of a connection, with its client's port. The settings are told first:

@@ -13,6 +13,7 @@ use Rattle.wire.specs.Encoding.{Gives}
 use Rattle.commands.specs.declared.fault.Fault.{Fault}
 use Rattle.commands.specs.declared.fault.Fault.TheVariants.{Front, UnreadText}
 use Rattle.commands.specs.Input.{IsInput}
+use Rattle.commands.specs.declared.input.Extent.TheVariants.{Limited}
 use Rattle.commands.specs.declared.check.Findings.{Findings}
 use Rattle.commands.specs.Check.{Document, lines_of, lines_of_all, gives_no_bundle, gives_part, names_of, AreGiven, input_document}
 use Rattle.commands.specs.Private.Checking.{joined, findings_of, ChecksOne, ChecksInput, ChecksFiles, SoFar}
@@ -125,7 +126,7 @@ module _ (gives : Gives) (files : List (List ℕ)) (place : ℕ) (findings : Fin
 
 -- ---- the input
 
-pub judges_input : (result : Result Findings Fault) (text : List ℕ) (left_old left_new held new : Option (List ℕ)) → IsInput text left_old left_new
+pub judges_input : (result : Result Findings Fault) (text : List ℕ) (left_old left_new held new : Option (List ℕ)) → IsInput Limited text left_old left_new
     → ChecksOne result (input_document text) held new → ChecksInput result left_old left_new held new
 judges_input (Ok findings) text left_old left_new held new is one = record {
   judged = input_document text ∷ [];

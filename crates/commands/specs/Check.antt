@@ -11,6 +11,7 @@ use Rattle.doc_report.specs.Lines.{told_lines, fault_line}
 use Rattle.commands.specs.declared.fault.Fault.{Fault}
 use Rattle.commands.specs.declared.fault.Fault.TheVariants.{Front, UnreadText}
 use Rattle.commands.specs.Input.{IsInput, InputFault, ReadsInput}
+use Rattle.commands.specs.declared.input.Extent.TheVariants.{Limited}
 use Rattle.commands.specs.Streams.{Source, Streams, EndsWith}
 
 -- a document, and the name by which its lines speak of it
@@ -87,14 +88,14 @@ input_document text = record { name = codes "-"; text = text }
 
 abbrev pub JudgesInput : Result (Unit {0}) Fault → List Document → Option (List ℕ) → Option (List ℕ) → Type 0
 JudgesInput (Ok done) judged left_old left_new =
-    (text : List ℕ) × IsInput text left_old left_new × (judged ≡ input_document text ∷ [])
+    (text : List ℕ) × IsInput Limited text left_old left_new × (judged ≡ input_document text ∷ [])
 JudgesInput (Err (Front WriteFault)) judged left_old left_new =
-    (text : List ℕ) × IsInput text left_old left_new × (judged ≡ input_document text ∷ [])
-JudgesInput (Err fault) judged left_old left_new = InputFault fault left_old left_new × (judged ≡ [])
+    (text : List ℕ) × IsInput Limited text left_old left_new × (judged ≡ input_document text ∷ [])
+JudgesInput (Err fault) judged left_old left_new = InputFault Limited fault left_old left_new × (judged ≡ [])
 
 -- the input is not read where files are named
 abbrev pub Judges : Gives → List (List ℕ) → Result (Unit {0}) Fault → List Document → Source → Source → Type 0
-Judges gives [] ended judged old new = JudgesInput ended judged old.bytes new.bytes × ReadsInput ended old.reads new.reads
+Judges gives [] ended judged old new = JudgesInput ended judged old.bytes new.bytes × ReadsInput Limited ended old.reads new.reads
 Judges gives (file ∷ files) ended judged old new = JudgesFiles gives (file ∷ files) ended judged × (new ≡ old)
 
 -- ---- the whole command

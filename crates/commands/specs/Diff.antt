@@ -13,6 +13,7 @@ use Rattle.commands.specs.Streams.{Source, source_of, WritesText, Ends, three_if
 use Rattle.dump_views.specs.Changes.{Change, AreChanges}
 use Rattle.dump_views.specs.ChangeLines.{lines_of}
 use Rattle.commands.specs.Reading.{IsRead, Unread}
+use Rattle.commands.specs.declared.input.Extent.TheVariants.{Any}
 
 abbrev pub is_some_change : List (Name × Change) → Bool
 is_some_change [] = false
@@ -37,27 +38,27 @@ inputs left_of new_left_of old_before old_after new_before new_after = record {
 pub record Differ (inputs : Inputs) (changes : List (Name × Change)) : Type 0 where
   pub olds : Domains
   pub news : Domains
-  pub old_is_read : IsRead olds inputs.old_before.bytes inputs.old_after.bytes
-  pub new_is_read : IsRead news inputs.new_before.bytes inputs.new_after.bytes
+  pub old_is_read : IsRead Any olds inputs.old_before.bytes inputs.old_after.bytes
+  pub new_is_read : IsRead Any news inputs.new_before.bytes inputs.new_after.bytes
   pub changed : AreChanges olds news changes
 
 -- A reader gives no dump for this fault, which is 53 only if the reader failed in the meantime.
 pub record NoDump (fault : Fault) (before after : Source) : Type 0 where
-  pub unread : Unread fault before.bytes after.bytes
-  pub reads : ReadsInput {T = Unit {0}} (Err fault) before.reads after.reads
+  pub unread : Unread Any fault before.bytes after.bytes
+  pub reads : ReadsInput Any {T = Unit {0}} (Err fault) before.reads after.reads
   pub failed : fault ≡ Front ReadFault → after.faults ≡ next_count before.faults
 
 -- the old reader gives none, and the new one is not read; or the old one gives a dump, and the new one none
 abbrev pub NoDiff : Inputs → Fault → Type 0
 NoDiff inputs fault =
     (NoDump fault inputs.old_before inputs.old_after × (inputs.new_after ≡ inputs.new_before))
-    ⊎ ((olds : Domains) × IsRead olds inputs.old_before.bytes inputs.old_after.bytes × NoDump fault inputs.new_before inputs.new_after)
+    ⊎ ((olds : Domains) × IsRead Any olds inputs.old_before.bytes inputs.old_after.bytes × NoDump fault inputs.new_before inputs.new_after)
 
 -- each is read so often at most
 abbrev pub AreReadFew : Inputs → Type 0
 AreReadFew inputs =
-    (reads_since inputs.old_before.reads inputs.old_after.reads ≤ most_reads)
-    × (reads_since inputs.new_before.reads inputs.new_after.reads ≤ most_reads)
+    (reads_since inputs.old_before.reads inputs.old_after.reads ≤ most_reads Any)
+    × (reads_since inputs.new_before.reads inputs.new_after.reads ≤ most_reads Any)
 
 -- whether something did
 abbrev pub Says : Option Bool → List (Name × Change) → Type 0

@@ -11,6 +11,7 @@ use Rattle.trace_lines.specs.Picture.{picture_text}
 use Rattle.commands.specs.declared.fault.Fault.{Fault}
 use Rattle.commands.specs.declared.fault.Fault.TheVariants.{BadLine}
 use Rattle.commands.specs.Input.{IsInput, InputFault}
+use Rattle.commands.specs.declared.input.Extent.TheVariants.{Limited}
 
 -- the records of the run of these events over so many shards, a fetch-all in so many rounds, and the order that linearizes them
 pub record IsTraceOf (shards rounds : ℕ) (events : List Event) (records : List OpRecord) (order : List ℕ) : Type 0 where
@@ -21,7 +22,7 @@ pub record IsTraceOf (shards rounds : ℕ) (events : List Event) (records : List
 -- the input is read whole, its lines are those of these events, and these are the records and the order of their run
 abbrev pub RunsInput : ℕ → ℕ → List Event → List OpRecord → List ℕ → Option (List ℕ) → Option (List ℕ) → Type 0
 RunsInput shards rounds events records order left_old left_new =
-    (input : List ℕ) × IsInput input left_old left_new × AreEvents (lines_in input) events × IsTraceOf shards rounds events records order
+    (input : List ℕ) × IsInput Limited input left_old left_new × AreEvents (lines_in input) events × IsTraceOf shards rounds events records order
 
 -- what is printed of a run of so many events: its picture with its text below, or the text only
 abbrev pub printed : Bool → ℕ → List OpRecord → List ℕ → List ℕ
@@ -36,5 +37,5 @@ RunOf shards rounds picture text left_old left_new =
 
 -- this line is the first that is not an event's; or the input is not read
 abbrev pub NoRun : Fault → Option (List ℕ) → Option (List ℕ) → Type 0
-NoRun (BadLine line) left_old left_new = (input : List ℕ) × IsInput input left_old left_new × IsFirstBad line (lines_in input)
-NoRun fault left_old left_new = InputFault fault left_old left_new
+NoRun (BadLine line) left_old left_new = (input : List ℕ) × IsInput Limited input left_old left_new × IsFirstBad line (lines_in input)
+NoRun fault left_old left_new = InputFault Limited fault left_old left_new

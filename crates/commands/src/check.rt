@@ -1,5 +1,6 @@
 //! The command `check`: what documents would give as bundles.
 ghost use Rattle.std.specs.Prelude.{◌≡◌, ◌≢◌, map, Err, OnOk};
+ghost use Rattle.commands.specs.declared.input.Extent.TheVariants.{Limited};
 ghost use Rattle.commands.specs.Input.{ReadsInput};
 ghost use Rattle.commands.specs.Streams.{streams};
 ghost use Rattle.commands.specs.declared.fault.Fault.TheVariants.{Front};
@@ -8,7 +9,7 @@ ghost use Rattle.commands.specs.Private.Checking.{ChecksFiles, ChecksInput, Chec
 ghost use Rattle.wire.specs.Counted.{end_in, faults_in, next_count, reads_of};
 ghost use Rattle.wire.specs.declared.error.FrontError.TheVariants.{ReadFault, WriteFault};
 
-use crate::{Fault, Outcome, ended, read_input, write_flushed};
+use crate::{Extent, Fault, Outcome, ended, read_input, write_flushed};
 use doc_report::{DocFault, Report, put_report, report_on};
 use spiffe_doc::DocError;
 use std::alloc::Global;
@@ -85,11 +86,11 @@ fn check_input<R: Read, W: Write>(
 ) -> Result<Findings, Fault>
     ensures checks { ChecksInput result
         (R.remaining (end_in reader.old)) (R.remaining (end_in reader.new)) (W.contents (end_in out.old)) (W.contents (end_in out.new)) }
-    ensures reads { ReadsInput result (reads_of reader.old) (reads_of reader.new) }
+    ensures reads { ReadsInput Limited result (reads_of reader.old) (reads_of reader.new) }
     ensures read_fault { result ≡ Err (Front ReadFault) → faults_in reader.new ≡ next_count (faults_in reader.old) }
     ensures write_fault { result ≡ Err (Front WriteFault) → faults_in out.new ≡ next_count (faults_in out.old) }
 {
-    let input = match read_input(alloc, reader) {
+    let input = match read_input(alloc, Extent::Limited, reader) {
         Ok(input) => input,
         Err(fault) => return Err(fault),
     };

@@ -1,11 +1,12 @@
 //! The command `digest`: the SHA-256 of a dump.
 ghost use Rattle.std.specs.Prelude.{◌≡◌};
+ghost use Rattle.commands.specs.declared.input.Extent.TheVariants.{Any};
 ghost use Rattle.commands.specs.Streams.{source_of, streams};
 ghost use Rattle.commands.specs.Pem.{DigestOf};
 ghost use Rattle.commands.specs.Reading.{Filtered, Filters, Unread};
 ghost use Rattle.wire.specs.Output.{end_of};
 
-use crate::{Fault, ended, read_input, write_flushed};
+use crate::{Extent, Fault, ended, read_input, write_flushed};
 use dump_views::dump_digest_line;
 use std::alloc::Global;
 use std::io::{Read, Write};
@@ -18,7 +19,7 @@ pub fn digest_over<R: Read, W: Write, E: Write>(
     out: &mut Counted<W>,
     err: &mut Counted<E>,
 ) -> u8
-    ensures tells { Filters DigestOf Unread result
+    ensures tells { Filters Any DigestOf (Unread Any) result
         (streams R.remaining W.contents E.contents reader.old out.old err.old)
         (streams R.remaining W.contents E.contents reader.new out.new err.new) }
     ensures silent { result ≡ 0 → err.new ≡ err.old }
@@ -31,10 +32,10 @@ fn digest_input<R: Read, W: Write>(
     reader: &mut Counted<R>,
     out: &mut Counted<W>,
 ) -> Result<(), Fault>
-    ensures { Filtered DigestOf Unread result (source_of R.remaining reader.old) (source_of R.remaining reader.new)
+    ensures { Filtered Any DigestOf (Unread Any) result (source_of R.remaining reader.old) (source_of R.remaining reader.new)
         (end_of W.contents out.old) (end_of W.contents out.new) }
 {
-    let input = read_input(alloc, reader)?;
+    let input = read_input(alloc, Extent::Any, reader)?;
     let line = dump_digest_line(alloc, input.as_slice())?;
     write_flushed(out, &line)
 }

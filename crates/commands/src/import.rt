@@ -1,12 +1,13 @@
 //! The command `import`: a bundle map becomes requests.
 ghost use Rattle.std.specs.Prelude.{◌≡◌, Err};
+ghost use Rattle.commands.specs.declared.input.Extent.TheVariants.{Limited};
 ghost use Rattle.commands.specs.Streams.{source_of, streams};
 ghost use Rattle.commands.specs.declared.fault.Fault.TheVariants.{Front};
 ghost use Rattle.commands.specs.Import.{NoRequests, RequestsOf};
 ghost use Rattle.commands.specs.Reading.{Filtered, Filters};
 ghost use Rattle.wire.specs.Output.{end_of};
 
-use crate::{Fault, ended, read_input, write_flushed};
+use crate::{Extent, Fault, ended, read_input, write_flushed};
 use dump_views::{MapError, requests_of_map};
 use std::alloc::Global;
 use std::io::{Read, Write};
@@ -19,7 +20,7 @@ pub fn import_over<R: Read, W: Write, E: Write>(
     out: &mut Counted<W>,
     err: &mut Counted<E>,
 ) -> u8
-    ensures imports { Filters RequestsOf NoRequests result
+    ensures imports { Filters Limited RequestsOf NoRequests result
         (streams R.remaining W.contents E.contents reader.old out.old err.old)
         (streams R.remaining W.contents E.contents reader.new out.new err.new) }
     ensures silent { result ≡ 0 → err.new ≡ err.old }
@@ -32,10 +33,10 @@ fn import_input<R: Read, W: Write>(
     reader: &mut Counted<R>,
     out: &mut Counted<W>,
 ) -> Result<(), Fault>
-    ensures { Filtered RequestsOf NoRequests result (source_of R.remaining reader.old) (source_of R.remaining reader.new)
+    ensures { Filtered Limited RequestsOf NoRequests result (source_of R.remaining reader.old) (source_of R.remaining reader.new)
         (end_of W.contents out.old) (end_of W.contents out.new) }
 {
-    let input = read_input(alloc, reader)?;
+    let input = read_input(alloc, Extent::Limited, reader)?;
     let requests = match requests_of_map(alloc, input.as_slice()) {
         Ok(requests) => requests,
         Err(MapError::NotMap) => return Err(Fault::BadMap),

@@ -37,7 +37,7 @@ pub use explain::explain_over;
 pub use fault::{Fault, RefreshFault, ServerFault, SnapshotFault};
 pub use file_texts::FileTexts;
 pub use import::import_over;
-pub use input::read_input;
+pub use input::{Extent, read_input};
 pub use map::map_over;
 pub use migrate::migrate_over;
 pub use output::write_flushed;

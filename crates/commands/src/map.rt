@@ -1,5 +1,6 @@
 //! The command `map`: a dump becomes one bundle map.
 ghost use Rattle.std.specs.Prelude.{◌≡◌, ◌++◌, ◌∷◌, [], map, Err, IfOk, IfErr};
+ghost use Rattle.commands.specs.declared.input.Extent.TheVariants.{Any};
 ghost use Rattle.dump_views.specs.Choice.{AreThere};
 ghost use Rattle.dump_views.specs.Map.{map_text, shown};
 ghost use Rattle.commands.specs.Input.{ReadsInput};
@@ -30,7 +31,7 @@ pub fn map_over<R: Read, W: Write, E: Write>(
     out: &mut Counted<W>,
     err: &mut Counted<E>,
 ) -> u8
-    ensures maps { Filters (MapOf names.now profile) (NoMap names.now) result
+    ensures maps { Filters Any (MapOf names.now profile) (NoMap names.now) result
         (streams R.remaining W.contents E.contents reader.old out.old err.old)
         (streams R.remaining W.contents E.contents reader.new out.new err.new) }
     ensures silent { result ≡ 0 → err.new ≡ err.old }
@@ -45,7 +46,7 @@ fn map_input<R: Read, W: Write>(
     reader: &mut Counted<R>,
     out: &mut Counted<W>,
 ) -> Result<(), Fault>
-    ensures { Filtered (MapOf names.now profile) (NoMap names.now) result (source_of R.remaining reader.old) (source_of R.remaining reader.new)
+    ensures { Filtered Any (MapOf names.now profile) (NoMap names.now) result (source_of R.remaining reader.old) (source_of R.remaining reader.new)
         (end_of W.contents out.old) (end_of W.contents out.new) }
 {
     let text = map_of(alloc, names, profile, reader)?;
@@ -61,7 +62,7 @@ fn map_of<R: Read>(
 ) -> Result<Vec<u8>, Fault>
     ensures ok { IfOk result (λ text. MapOf names.now profile text.items (R.remaining (end_in reader.old)) (R.remaining (end_in reader.new))) }
     ensures err { IfErr result (λ fault. NoMap names.now fault (R.remaining (end_in reader.old)) (R.remaining (end_in reader.new))) }
-    ensures reads { ReadsInput result (reads_of reader.old) (reads_of reader.new) }
+    ensures reads { ReadsInput Any result (reads_of reader.old) (reads_of reader.new) }
     ensures read_fault { result ≡ Err (Front ReadFault) → faults_in reader.new ≡ next_count (faults_in reader.old) }
     ensures no_write_fault { result ≡ Err (Front WriteFault) → ⊥ }
 {

@@ -4,7 +4,7 @@ ghost use Rattle.wire.specs.Counted.{end_in};
 ghost use Rattle.commands.specs.Schedule.{list_fault, NoSchedule, Schedules};
 
 use crate::fault::{Fault, RefreshFault};
-use crate::input::read_input;
+use crate::input::{Extent, read_input};
 use refresh::{ListError, Schedule, read_list};
 use std::alloc::Global;
 use std::fs::{File, Files};
@@ -27,7 +27,7 @@ fn schedule_of<R: Read>(alloc: Global, reader: &mut Counted<R>) -> Result<Schedu
     ensures ok { IfOk result (λ schedule. Schedules schedule (R.remaining (end_in reader.old)) (R.remaining (end_in reader.new))) }
     ensures err { IfErr result (λ fault. NoSchedule fault (R.remaining (end_in reader.old)) (R.remaining (end_in reader.new))) }
 {
-    let list = read_input(alloc, reader)?;
+    let list = read_input(alloc, Extent::Limited, reader)?;
     let relationships = match read_list(alloc, list.as_slice()) {
         Ok(listed) => listed,
         Err(error) => return Err(fault_of(error)),

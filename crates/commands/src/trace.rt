@@ -1,5 +1,6 @@
 //! The command `trace`: a run of the machine over a list of events.
 ghost use Rattle.std.specs.Prelude.{◌≡◌, ◌<◌, List, ℕ, true, false, Err, length, OnOk, IfOk, IfErr};
+ghost use Rattle.commands.specs.declared.input.Extent.TheVariants.{Limited};
 ghost use Rattle.std.specs.Io.KnownBytes.{Appends};
 ghost use Rattle.wire.specs.Counted.{end_in, faults_in, next_count, reads_of};
 ghost use Rattle.wire.specs.Output.{WritesFront, end_of};
@@ -14,7 +15,7 @@ ghost use Rattle.commands.specs.declared.fault.Fault.TheVariants.{Front};
 
 use crate::ending::ended;
 use crate::fault::Fault;
-use crate::input::read_input;
+use crate::input::{Extent, read_input};
 use std::alloc::Global;
 use std::io::{Read, Write};
 use step_core::{Trace, run_events};
@@ -34,7 +35,7 @@ pub fn trace_over<R: Read, W: Write, E: Write>(
 ) -> u8
     requires shards { 0 < shards }
     requires rounds { 0 < rounds }
-    ensures traces { Filters (RunOf shards rounds false) NoRun result
+    ensures traces { Filters Limited (RunOf shards rounds false) NoRun result
         (streams R.remaining W.contents E.contents reader.old out.old err.old)
         (streams R.remaining W.contents E.contents reader.new out.new err.new) }
     ensures silent { result ≡ 0 → err.new ≡ err.old }
@@ -53,7 +54,7 @@ pub fn picture_over<R: Read, W: Write, E: Write>(
 ) -> u8
     requires shards { 0 < shards }
     requires rounds { 0 < rounds }
-    ensures traces { Filters (RunOf shards rounds true) NoRun result
+    ensures traces { Filters Limited (RunOf shards rounds true) NoRun result
         (streams R.remaining W.contents E.contents reader.old out.old err.old)
         (streams R.remaining W.contents E.contents reader.new out.new err.new) }
     ensures silent { result ≡ 0 → err.new ≡ err.old }
@@ -72,7 +73,7 @@ fn trace_input<R: Read, W: Write>(
 ) -> Result<(), Fault>
     requires shards { 0 < shards }
     requires rounds { 0 < rounds }
-    ensures { Filtered (RunOf shards rounds picture) NoRun result (source_of R.remaining reader.old) (source_of R.remaining reader.new)
+    ensures { Filtered Limited (RunOf shards rounds picture) NoRun result (source_of R.remaining reader.old) (source_of R.remaining reader.new)
         (end_of W.contents out.old) (end_of W.contents out.new) }
 {
     let (events, trace) = traced(alloc, reader, shards, rounds)?;
@@ -106,14 +107,14 @@ fn traced<R: Read>(
 ) -> Result<(usize, Trace), Fault>
     requires shards { 0 < shards }
     requires rounds { 0 < rounds }
-    ensures ok { IfOk result (λ traced. (input : List ℕ) × (events : List Event) × IsInput input (R.remaining (end_in reader.old)) (R.remaining (end_in reader.new))
+    ensures ok { IfOk result (λ traced. (input : List ℕ) × (events : List Event) × IsInput Limited input (R.remaining (end_in reader.old)) (R.remaining (end_in reader.new))
         × AreEvents (lines_in input) events × IsTraceOf shards rounds events traced.1.ops.items traced.1.order.items × (traced.0 ≡ length events)) }
     ensures err { IfErr result (λ fault. NoRun fault (R.remaining (end_in reader.old)) (R.remaining (end_in reader.new))) }
-    ensures reads { ReadsInput result (reads_of reader.old) (reads_of reader.new) }
+    ensures reads { ReadsInput Limited result (reads_of reader.old) (reads_of reader.new) }
     ensures read_fault { result ≡ Err (Front ReadFault) → faults_in reader.new ≡ next_count (faults_in reader.old) }
     ensures no_write_fault { result ≡ Err (Front WriteFault) → ⊥ }
 {
-    let input = read_input(alloc, reader)?;
+    let input = read_input(alloc, Extent::Limited, reader)?;
     let events = match read_events(alloc, input.as_slice()) {
         Ok(events) => events,
         Err(LinesError::BadLine(line)) => return Err(Fault::BadLine(line)),

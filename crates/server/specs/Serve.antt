@@ -24,10 +24,11 @@ use Rattle.workers.specs.declared.ended.SessionFault.TheVariants as session
 use Rattle.workers.specs.declared.ended.Worked.{Worked}
 use Rattle.commands.specs.Fault.{fault_line}
 use Rattle.commands.specs.Input.{InputFault}
+use Rattle.commands.specs.declared.input.Extent.TheVariants.{Any}
 use Rattle.command_line.specs.declared.settings.Settings.{Settings}
 use Rattle.workers.specs.Filling.{Fills, NotFills}
 use Rattle.workers.specs.declared.filling.FillError.TheVariants as fill
-use Rattle.server.specs.Saving.{KeepsDump}
+use Rattle.server.specs.Saving.{IsSaveFault, KeepsDump}
 use Rattle.workers.specs.Closing.{ranges_of, AreAll, ClosesAs}
 
 -- where it listens, and where for clients that only read, if there is such a place
@@ -121,7 +122,7 @@ IsLoad (Some file) requests = (dump : List ℕ) × (items : AllDomains) × IsDum
 -- why a file loads nothing: it is not read, since memory ran out or for a fault of an input, or what it holds is not a dump
 abbrev pub IsLoadFault : Fault → Type 0
 IsLoadFault fault =
-    ((left_old : Option (List ℕ)) × (left_new : Option (List ℕ)) × InputFault fault left_old left_new)
+    ((left_old : Option (List ℕ)) × (left_new : Option (List ℕ)) × InputFault Any fault left_old left_new)
     ⊎ ((dump : List ℕ) × (error : DumpError) × FaultOfDump error dump × (fault ≡ Dump error))
 
 -- The first pass has stored what the requests hold, if there are any, and has its numbers still.
@@ -161,10 +162,21 @@ NotSetUp requests error = (error ≡ Memory) ⊎ ((store : StoreView) × (fresh 
 abbrev pub EndsEarly : Fault → ℕ → End → End → End → End → Type 0
 EndsEarly fault status out_old out_new err_old err_new = (status ≡ 1) × (out_new ≡ out_old) × Tells err_old err_new (fault_line fault)
 
--- What is to fill the store is not a dump, or can't be read.
-abbrev pub LoadFails : {A : Type 0} → Option A → ℕ → End → End → End → End → Type 0
-LoadFails None status out_old out_new err_old err_new = ⊥
-LoadFails (Some file) status out_old out_new err_old err_new = (fault : Fault) × IsLoadFault fault × EndsEarly fault status out_old out_new err_old err_new
+-- what is to fill the store is not a dump, or can't be read
+abbrev pub IsNotLoaded : {A : Type 0} → Option A → Fault → Type 0
+IsNotLoaded None fault = ⊥
+IsNotLoaded (Some file) fault = IsLoadFault fault
+
+-- why there is no store that is set up: what is to fill it is not loaded; or memory ran out, or the store was not filled with it
+abbrev pub IsNotBegun : {A : Type 0} → Option A → Fault → Type 0
+IsNotBegun load fault =
+    IsNotLoaded load fault
+    ⊎ ((requests : List ℕ) × (error : FrontError) × IsLoad load requests × NotSetUp requests error × (fault ≡ Front error))
+
+-- the file in which the last map is to be kept can't be written
+abbrev pub IsNotKept : {A : Type 0} → Option A → Fault → Type 0
+IsNotKept None fault = ⊥
+IsNotKept (Some file) fault = IsSaveFault fault
 
 -- What it is that the dump of the last map is kept. And the form of a server says what it is that workers have served their
 -- clients, each over a pass of its own.
@@ -196,15 +208,15 @@ module _ (Kept : List ℕ → Type 0) (Served : StoreView → List PassView → 
       EndsEarly ListenFault status out_old out_new err_old err_new
       ⊎ ((all : Address) × Listens store passes all status out_old out_new err_old err_new)
 
-  -- The store is set up, and serves; or it is not, and why is told.
-  abbrev pub SetUpRun : Settings → List ℕ → ℕ → End → End → End → End → Type 0
-  SetUpRun settings requests status out_old out_new err_old err_new =
-      ((error : FrontError) × NotSetUp requests error × EndsEarly (Front error) status out_old out_new err_old err_new)
-      ⊎ ((store : StoreView) × (passes : List PassView) × IsSetUp settings requests store passes × ServeRun store passes status out_old out_new err_old err_new)
+  -- Over a store that is set up: memory runs out before anything is said, and that is told; or there is a listener, or not.
+  abbrev pub SetUpRun : StoreView → List PassView → ℕ → End → End → End → End → Type 0
+  SetUpRun store passes status out_old out_new err_old err_new =
+      EndsEarly (Front Memory) status out_old out_new err_old err_new ⊎ ServeRun store passes status out_old out_new err_old err_new
 
-  -- The whole command: what is to fill the store is judged first; then there is a port, or that is told; then the store is set up.
-  abbrev pub ServeCommand : {A : Type 0} → Option A → Settings → ℕ → End → End → End → End → Type 0
-  ServeCommand load settings status out_old out_new err_old err_new =
-      LoadFails load status out_old out_new err_old err_new
-      ⊎ (EndsEarly ListenFault status out_old out_new err_old err_new
-      ⊎ ((requests : List ℕ) × IsLoad load requests × SetUpRun settings requests status out_old out_new err_old err_new))
+  -- The whole command: the file in which the last map is to be kept is tried first, and then the store is set up; if one of
+  -- them can't be had, that is told. Only then there is a place where clients come.
+  abbrev pub ServeCommand : {A : Type 0} → Option A → Option A → Settings → ℕ → End → End → End → End → Type 0
+  ServeCommand load save settings status out_old out_new err_old err_new =
+      ((fault : Fault) × (IsNotKept save fault ⊎ IsNotBegun load fault) × EndsEarly fault status out_old out_new err_old err_new)
+      ⊎ ((requests : List ℕ) × (store : StoreView) × (passes : List PassView) × IsLoad load requests × IsSetUp settings requests store passes
+      × SetUpRun store passes status out_old out_new err_old err_new)

@@ -5,9 +5,11 @@
 mod address;
 mod counts;
 mod ending;
+mod file_id;
 mod lines;
 mod load;
 mod log;
+mod saved_file;
 mod saving;
 mod serving;
 mod set_up;
@@ -17,10 +19,12 @@ mod start;
 pub use address::Address;
 pub use counts::{Count, Counts};
 pub use ending::{Done, report};
+pub use file_id::FileId;
 pub use lines::{ServerLine, say};
-pub use load::requests_of;
+pub use load::set_up_of;
 pub use log::LineLog;
-pub use saving::{Keeper, SavedFile};
+pub use saved_file::SavedFile;
+pub use saving::Keeper;
 pub use serving::{
     Host, InTurn, Listener, NOBODY, Ports, Task, WorkerPolls, serve_at, serve_on, tell_early,
 };

@@ -1,18 +1,18 @@
 //! A server that lasts: each worker serves many clients beside each other.
-ghost use Rattle.std.specs.Prelude.{◌≡◌, false, ◌<◌, ◌-◌, ◌^◌, ◌⊎◌};
+ghost use Rattle.std.specs.Prelude.{◌≡◌, false, ◌<◌, ◌-◌, ◌^◌, vec_len};
+ghost use Rattle.std.specs.List.{All};
+ghost use Rattle.shard_store.specs.Pass.{IsOf};
+ghost use Rattle.workers.specs.Closing.{AreAll, ranges_of};
 ghost use Rattle.wire.specs.Counted.{faults_in};
 ghost use Rattle.wire.specs.Output.{end_of};
-ghost use Rattle.commands.specs.declared.fault.Fault.TheVariants.{Listen};
 ghost use Rattle.server.specs.Saving.{IsUnknown};
-ghost use Rattle.server.specs.Serve.{EndsEarly, SetUpRun};
+ghost use Rattle.server.specs.Serve.{SetUpRun};
 ghost use Rattle.server.specs.Serving.{ServedBeside};
 
 use crate::serving::ports::{BoundPorts, ports_or_told};
-use crate::serving::serve::saved_file;
 use crate::serving::waits::waits_of;
 use command_line::{Lasting, Places, Settings};
-use commands::Fault;
-use server::{Host, SetUp, Task, serve_at, tell_early};
+use server::{Host, SavedFile, SetUp, Task, serve_at, tell_early};
 use std::fs::Files;
 use std::io::{Read, Write};
 use std::net::{Net, TcpListener, TcpStream};
@@ -21,17 +21,19 @@ use std::time::Clock;
 use wire::Counted;
 use workers::Log;
 
-/// Where a server listens, how it serves, and in which file its last map is kept, if one is named.
-#[derive(Clone, Copy)]
-pub struct At<'a> {
+/// Where a server listens, how it serves and over which store, which is set up; and in which file its last map is kept, if one
+/// is named.
+#[derive(Drop)]
+pub struct At<'a, H> {
     pub places: Places<'a>,
     pub settings: Settings,
     pub lasting: Lasting,
-    pub save: Option<&'a str>,
+    pub set_up: SetUp,
+    pub keeper: Option<SavedFile<'a, H>>,
 }
 
-/// Serves many clients beside each other, over a store that the requests have filled; answers the exit status. A place that
-/// can't be had is a fault, and so it is if memory runs out.
+/// Serves many clients beside each other; answers the exit status. A place that can't be had is a fault, and so it is if memory
+/// runs out.
 pub fn serve_many<
     H: Files + Threads + Clock + Net<Listener = TcpListener, Stream = TcpStream> + Sync,
     I: Read,
@@ -40,14 +42,16 @@ pub fn serve_many<
     L: Log + Copy + Sync,
 >(
     host: &Host<'_, H, L>,
-    at: At<'_>,
+    at: At<'_, H>,
     input: &mut Counted<I>,
     out: &mut Counted<W>,
     err: &mut Counted<E>,
 ) -> u8
-    requires { faults_in err.old < 2 ^ 64 - 1 }
-    ensures run { EndsEarly Listen result (end_of W.contents out.old) (end_of W.contents out.new) (end_of E.contents err.old) (end_of E.contents err.new)
-        ⊎ SetUpRun IsUnknown (ServedBeside at.entry.lasting at.entry.settings.turns) at.entry.settings host.now.requests.now result
+    requires count { faults_in err.old < 2 ^ 64 - 1 }
+    requires workers { vec_len at.set_up.passes ≡ at.settings.workers }
+    requires own { All (λ pass. IsOf pass at.set_up.store) at.set_up.passes.items }
+    requires all { AreAll (ranges_of at.set_up.passes.items) }
+    ensures run { SetUpRun IsUnknown (ServedBeside at.entry.lasting at.entry.settings.turns) at.entry.set_up.store at.entry.set_up.passes.items result
         (end_of W.contents out.old) (end_of W.contents out.new) (end_of E.contents err.old) (end_of E.contents err.new) }
     ensures read { at.entry.lasting.until_eof ≡ false → input.new ≡ input.old }
 {
@@ -55,7 +59,8 @@ pub fn serve_many<
         places,
         settings,
         lasting,
-        save,
+        set_up,
+        keeper,
     } = at;
     let BoundPorts {
         ports,
@@ -64,11 +69,6 @@ pub fn serve_many<
         Ok(bound) => bound,
         Err(status) => return status,
     };
-    let set_up = match SetUp::new(host.alloc, settings, host.requests) {
-        Ok(set_up) => set_up,
-        Err(error) => return Fault::Front(error).tell(err),
-    };
-    set_up.count(host.counts);
     let waits = match waits_of(host.rt, host.alloc, &ports, settings.workers) {
         Ok(waits) => waits,
         Err(fault) => return tell_early(fault, err),
@@ -79,7 +79,7 @@ pub fn serve_many<
         settings,
         lasting,
         set_up,
-        keeper: saved_file(host.alloc, host.rt, save),
+        keeper,
     };
     serve_at(host, task, input, out, err)
 }

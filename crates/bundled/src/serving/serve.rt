@@ -1,19 +1,21 @@
 //! The command `serve`, in the form that its settings have.
-ghost use Rattle.std.specs.Prelude.{◌≡◌, ◌<◌, ◌-◌, ◌^◌, ◌⊎◌, false, IfErr, OnErr, OnOk, option_map};
+ghost use Rattle.std.specs.Prelude.{◌≡◌, ◌<◌, ◌-◌, ◌^◌, ◌⊎◌, false, IfErr, IfOk, option_map, vec_len};
+ghost use Rattle.std.specs.List.{All};
+ghost use Rattle.shard_store.specs.Pass.{IsOf};
+ghost use Rattle.workers.specs.Closing.{AreAll, ranges_of};
 ghost use Rattle.wire.specs.Counted.{faults_in};
 ghost use Rattle.command_line.specs.Serving.{stops_at_end};
-ghost use Rattle.commands.specs.Fault.{fault_line};
-ghost use Rattle.wire.specs.Output.{Tells, end_of};
-ghost use Rattle.commands.specs.declared.fault.Fault.TheVariants.{Listen};
+ghost use Rattle.wire.specs.Output.{end_of};
 ghost use Rattle.server.specs.Saving.{IsUnknown};
-ghost use Rattle.server.specs.Serve.{EndsEarly, ServeCommand, SetUpRun};
+ghost use Rattle.server.specs.Serve.{IsNotKept, ServeCommand, SetUpRun};
 ghost use Rattle.server.specs.Serving.{ServedInTurn, most_taken, most_turns};
 ghost use Rattle.bundled.specs.Serve.{ServedAs};
 
 use crate::serving::lasting::{At, serve_many};
 use crate::serving::ports::{Bound, listener_or_told};
 use command_line::{Connections, Places, Settings};
-use server::{Host, InTurn, SavedFile, requests_of, serve_on};
+use commands::Fault;
+use server::{Host, InTurn, Keeper, SavedFile, SetUp, serve_on, set_up_of};
 use std::alloc::Global;
 use std::fs::Files;
 use std::io::{Read, Write};
@@ -33,18 +35,33 @@ pub struct Serving<'a> {
     pub settings: Settings,
 }
 
-/// The file in which the last map is kept, if one is named.
-pub fn saved_file<'a, H: Files>(
+/// The file in which the last map is kept, if one is named. It is tried: one that can't be written is told before anything is
+/// served, and not when the map is lost.
+fn saved_file<'a, H: Files>(
     alloc: Global,
     files: &'a H,
     path: Option<&'a str>,
-) -> Option<SavedFile<'a, H>>
-    ensures { option_map (λ file. file.path) result ≡ path.entry }
+) -> Result<Option<SavedFile<'a, H>>, Fault>
+    ensures ok { IfOk result (λ file. option_map (λ file. file.path) file ≡ path.entry) }
+    ensures err { IfErr result (λ fault. IsNotKept path.entry fault) }
 {
-    match path {
-        Some(path) => Some(SavedFile { alloc, files, path }),
-        None => None,
+    let Some(path) = path else {
+        return Ok(None);
+    };
+    let file = SavedFile { alloc, files, path };
+    match file.begin() {
+        Ok(_draft) => Ok(Some(file)),
+        Err(fault) => Err(fault),
     }
+}
+
+/// What is asked for, and what a server has of it before there is a place where clients come: a store that is set up, and the
+/// file in which its last map is kept, if one is named.
+#[derive(Drop)]
+struct Begun<'a, H> {
+    serving: Serving<'a>,
+    set_up: SetUp,
+    keeper: Option<SavedFile<'a, H>>,
 }
 
 /// Serves at the place, each worker its clients one after the other.
@@ -53,28 +70,36 @@ fn serve_in_turn<
     W: Write,
     E: Write,
     L: Log + Copy + Send + Sync,
->(host: &Host<'_, H, L>, serving: Serving<'_>, out: &mut Counted<W>, err: &mut Counted<E>) -> u8
-    requires { faults_in err.old < 2 ^ 64 - 1 }
-    ensures { EndsEarly Listen result (end_of W.contents out.old) (end_of W.contents out.new) (end_of E.contents err.old) (end_of E.contents err.new)
-        ⊎ SetUpRun IsUnknown (ServedInTurn (most_taken serving.entry.settings.connections) (most_turns serving.entry.settings.turns)) serving.entry.settings host.now.requests.now result
+>(host: &Host<'_, H, L>, begun: Begun<'_, H>, out: &mut Counted<W>, err: &mut Counted<E>) -> u8
+    requires count { faults_in err.old < 2 ^ 64 - 1 }
+    requires workers { vec_len begun.set_up.passes ≡ begun.serving.settings.workers }
+    requires own { All (λ pass. IsOf pass begun.set_up.store) begun.set_up.passes.items }
+    requires all { AreAll (ranges_of begun.set_up.passes.items) }
+    ensures { SetUpRun IsUnknown (ServedInTurn (most_taken begun.entry.serving.settings.connections) (most_turns begun.entry.serving.settings.turns)) begun.entry.set_up.store begun.entry.set_up.passes.items result
         (end_of W.contents out.old) (end_of W.contents out.new) (end_of E.contents err.old) (end_of E.contents err.new) }
 {
     let Bound {
         listener,
         file: _file,
-    } = match listener_or_told(host.rt, serving.places.all, err) {
+    } = match listener_or_told(host.rt, begun.serving.places.all, err) {
         Ok(bound) => bound,
         Err(status) => return status,
     };
+    let Begun {
+        serving,
+        set_up,
+        keeper,
+    } = begun;
     let task = InTurn {
         listener: &listener,
         settings: serving.settings,
-        keeper: saved_file(host.alloc, host.rt, serving.save),
+        set_up,
+        keeper,
     };
     serve_on(host, task, out, err)
 }
 
-/// Serves over what the host has once the store is filled; answers the exit status.
+/// Serves in the form of the settings; answers the exit status.
 fn serve_as<
     H: Files + Threads + Clock + Net<Listener = TcpListener, Stream = TcpStream> + Sync,
     I: Read,
@@ -83,33 +108,41 @@ fn serve_as<
     L: Log + Copy + Send + Sync,
 >(
     host: &Host<'_, H, L>,
-    serving: Serving<'_>,
+    begun: Begun<'_, H>,
     input: &mut Counted<I>,
     out: &mut Counted<W>,
     err: &mut Counted<E>,
 ) -> u8
-    requires { faults_in err.old < 2 ^ 64 - 1 }
-    ensures run { EndsEarly Listen result (end_of W.contents out.old) (end_of W.contents out.new) (end_of E.contents err.old) (end_of E.contents err.new)
-        ⊎ SetUpRun IsUnknown (ServedAs serving.entry.settings.connections serving.entry.settings.turns) serving.entry.settings host.now.requests.now result
+    requires count { faults_in err.old < 2 ^ 64 - 1 }
+    requires workers { vec_len begun.set_up.passes ≡ begun.serving.settings.workers }
+    requires own { All (λ pass. IsOf pass begun.set_up.store) begun.set_up.passes.items }
+    requires all { AreAll (ranges_of begun.set_up.passes.items) }
+    ensures run { SetUpRun IsUnknown (ServedAs begun.entry.serving.settings.connections begun.entry.serving.settings.turns) begun.entry.set_up.store begun.entry.set_up.passes.items result
         (end_of W.contents out.old) (end_of W.contents out.new) (end_of E.contents err.old) (end_of E.contents err.new) }
-    ensures read { stops_at_end serving.entry.settings.connections ≡ false → input.new ≡ input.old }
+    ensures read { stops_at_end begun.entry.serving.settings.connections ≡ false → input.new ≡ input.old }
 {
-    match serving.settings.connections {
-        Connections::Each(_) => serve_in_turn(host, serving, out, err),
+    match begun.serving.settings.connections {
+        Connections::Each(_) => serve_in_turn(host, begun, out, err),
         Connections::Unlimited(lasting) => {
+            let Begun {
+                serving,
+                set_up,
+                keeper,
+            } = begun;
             let at = At {
                 places: serving.places,
                 settings: serving.settings,
                 lasting,
-                save: serving.save,
+                set_up,
+                keeper,
             };
             serve_many(host, at, input, out, err)
         }
     }
 }
 
-/// Serves as it is asked for; answers the exit status. What is to fill the store is judged before: a file that can't be read
-/// or is not a dump is a fault, and so is a place that can't be had.
+/// Serves as it is asked for; answers the exit status. The file in which the last map is kept is tried first, and then the
+/// store is filled: a file that can't be written, or that can't be read or is not a dump, is a fault before anybody can connect.
 pub fn serve_over<
     H: Files + Threads + Clock + Net<Listener = TcpListener, Stream = TcpStream> + Sync,
     I: Read,
@@ -124,20 +157,23 @@ pub fn serve_over<
     err: &mut Counted<E>,
 ) -> u8
     requires { faults_in err.old < 2 ^ 64 - 1 }
-    ensures run { ServeCommand IsUnknown (ServedAs serving.entry.settings.connections serving.entry.settings.turns) serving.entry.load serving.entry.settings result
+    ensures run { ServeCommand IsUnknown (ServedAs serving.entry.settings.connections serving.entry.settings.turns) serving.entry.load serving.entry.save serving.entry.settings result
         (end_of W.contents out.old) (end_of W.contents out.new) (end_of E.contents err.old) (end_of E.contents err.new) }
     ensures read { stops_at_end serving.entry.settings.connections ≡ false → input.new ≡ input.old }
 {
-    let requests = match requests_of(host.alloc, host.rt, serving.load) {
-        Ok(requests) => requests,
+    let keeper = match saved_file(host.alloc, host.rt, serving.save) {
+        Ok(keeper) => keeper,
         Err(fault) => return fault.tell(err),
     };
-    let filled = Host {
-        rt: host.rt,
-        alloc: host.alloc,
-        log: host.log,
-        counts: host.counts,
-        requests: requests.as_slice(),
+    let set_up = match set_up_of(host.alloc, host.rt, serving.load, serving.settings) {
+        Ok(set_up) => set_up,
+        Err(fault) => return fault.tell(err),
     };
-    serve_as(&filled, serving, input, out, err)
+    set_up.count(host.counts);
+    let begun = Begun {
+        serving,
+        set_up,
+        keeper,
+    };
+    serve_as(host, begun, input, out, err)
 }

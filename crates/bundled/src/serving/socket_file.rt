@@ -1,5 +1,6 @@
 //! The file of a Unix socket at which a server listens.
 use mio::net::UnixStream;
+use server::FileId;
 use std::fs::Files;
 use std::io::ErrorKind;
 use std::net::Net;
@@ -7,11 +8,13 @@ use std::os::unix::fs::FileTypeExt;
 use std::os::unix::net::UnixListener;
 use std::{fs, io};
 
-/// The file of a socket at which a server listens. When this is dropped the file is removed; until then the socket is open, so
-/// that no other server takes it for one that a dead server has left.
+/// The file of a socket at which a server listens. When this is dropped the file is removed, unless another file stands at its
+/// path by then; until then the socket is open, so that no other server takes it for one that a dead server has left.
 pub struct SocketFile<'a, H: Files> {
     files: &'a H,
     path: &'a str,
+    /// The file that was made when the socket was bound, if it was still there then.
+    id: Option<FileId>,
     open: UnixListener,
 }
 
@@ -27,6 +30,7 @@ impl<'a, H: Files + Net> SocketFile<'a, H> {
         let file = SocketFile {
             files: host,
             path,
+            id: FileId::at(host, path),
             open,
         };
         Ok((listener, file))
@@ -35,8 +39,15 @@ impl<'a, H: Files + Net> SocketFile<'a, H> {
 
 impl<H: Files> Drop for SocketFile<'_, H> {
     fn drop(self) {
-        let SocketFile { files, path, open } = self;
-        let _ = fs::remove_file(files, path);
+        let SocketFile {
+            files,
+            path,
+            id,
+            open,
+        } = self;
+        if id.is_some() && FileId::at(files, path) == id {
+            let _ = fs::remove_file(files, path);
+        }
         drop(open);
     }
 }

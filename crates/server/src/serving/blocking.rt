@@ -1,5 +1,5 @@
 //! The form of a server in which each worker serves its clients one after the other, and waits in each.
-ghost use Rattle.std.specs.Prelude.{◌≡◌, ◌<◌, ◌≤◌, ◌-◌, ◌^◌, List, map, IfOk, vec_len};
+ghost use Rattle.std.specs.Prelude.{◌≡◌, ◌<◌, ◌≤◌, ◌-◌, ◌^◌, ◌⊎◌, List, map, IfOk, vec_len};
 ghost use Rattle.std.specs.List.{All};
 ghost use Rattle.shard_store.specs.Pass.{IsOf};
 ghost use Rattle.wire.specs.Counted.{faults_in};
@@ -7,7 +7,10 @@ ghost use Rattle.workers.specs.Run.{AllWorked, kept};
 ghost use Rattle.workers.specs.declared.run.Finished.{Finished};
 ghost use Rattle.wire.specs.Output.{end_of};
 ghost use Rattle.server.specs.Saving.{Keeps};
-ghost use Rattle.server.specs.Serve.{SetUpRun, always_open};
+ghost use Rattle.server.specs.Serve.{EndsEarly, ServeRun, always_open};
+ghost use Rattle.workers.specs.Closing.{AreAll, ranges_of};
+ghost use Rattle.commands.specs.declared.fault.Fault.TheVariants.{Front};
+ghost use Rattle.wire.specs.declared.error.FrontError.TheVariants.{Memory};
 ghost use Rattle.server.specs.Serving.{ClientComes, EndsClient, MayTake, ServedInTurn, most_taken as taken_by, most_turns as turns_of, unknown};
 
 use crate::counts::{Count, Counts};
@@ -210,16 +213,17 @@ fn run_in_turn<R: Threads + Clock + Sync, L: Log + Copy + Send + Sync>(
     kept_all(host.alloc, finished)
 }
 
-/// Where clients come who are served one after the other, how they are served, and who keeps the last map, if somebody does.
+/// Where clients come who are served one after the other, how they are served and over which store, which is set up; and who
+/// keeps the last map, if somebody does.
 #[derive(Drop)]
 pub struct InTurn<'a, K> {
     pub listener: &'a Listener,
     pub settings: Settings,
+    pub set_up: SetUp,
     pub keeper: Option<K>,
 }
 
-/// Serves the clients of the listener over a store of these settings, each worker so many, one after the other; answers the
-/// exit status.
+/// Serves the clients of the listener over the store, each worker so many, one after the other; answers the exit status.
 ///
 /// `listening` goes to the output first, with the address; no client is taken if it is not taken. At the end come `served N`, how many
 /// sessions there were, and `domains M`, how many domains have a bundle then. The faults of sessions are told in between, in
@@ -231,22 +235,21 @@ pub fn serve_on<
     W: Write,
     E: Write,
 >(host: &Host<'_, R, L>, task: InTurn<'_, K>, out: &mut Counted<W>, err: &mut Counted<E>) -> u8
-    requires { faults_in err.old < 2 ^ 64 - 1 }
-    ensures { SetUpRun (Keeps K.keeps task.entry.keeper) (ServedInTurn (taken_by task.entry.settings.connections) (turns_of task.entry.settings.turns)) task.entry.settings host.now.requests.now result
+    requires count { faults_in err.old < 2 ^ 64 - 1 }
+    requires workers { vec_len task.set_up.passes ≡ task.settings.workers }
+    requires own { All (λ pass. IsOf pass task.set_up.store) task.set_up.passes.items }
+    requires all { AreAll (ranges_of task.set_up.passes.items) }
+    ensures { EndsEarly (Front Memory) result (end_of W.contents out.old) (end_of W.contents out.new) (end_of E.contents err.old) (end_of E.contents err.new)
+        ⊎ ServeRun (Keeps K.keeps task.entry.keeper) (ServedInTurn (taken_by task.entry.settings.connections) (turns_of task.entry.settings.turns)) task.entry.set_up.store task.entry.set_up.passes.items result
         (end_of W.contents out.old) (end_of W.contents out.new) (end_of E.contents err.old) (end_of E.contents err.new) }
 {
     let before = err.faults();
     let InTurn {
         listener,
         settings,
+        set_up: SetUp { store, passes },
         keeper,
     } = task;
-    let set_up = match SetUp::new(host.alloc, settings, host.requests) {
-        Ok(set_up) => set_up,
-        Err(error) => return Fault::Front(error).tell(err),
-    };
-    set_up.count(host.counts);
-    let SetUp { store, passes } = set_up;
     let Ok(clients) = clients_of(host.alloc, listener, host.counts, settings) else {
         return Fault::Front(FrontError::Memory).tell(err);
     };

@@ -2,13 +2,11 @@
 use crate::counts::Counts;
 use std::alloc::Global;
 
-/// The system and its memory, the log of the server and its counts, and the requests that fill its store before anything is
-/// accepted.
+/// The system and its memory, the log of the server and its counts.
 #[derive(Drop)]
 pub struct Host<'h, H, L> {
     pub rt: &'h H,
     pub alloc: Global,
     pub log: &'h L,
     pub counts: &'h Counts,
-    pub requests: &'h [u8],
 }

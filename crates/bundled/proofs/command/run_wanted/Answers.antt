@@ -19,12 +19,12 @@ pub returns-in-Map : goal.returns-in-Map
 returns-in-Map g c = rw c.in-Map.is (rw (sym c.as_slice-in-Map.ensures.value) (rw (sym c.profile_of.ensures) c.map_over.ensures.maps))
 
 -- there is no memory for what is counted, and that is told before anything is served
-no_counts : {A : Type 0} (Kept : List ℕ → Type 0) (Served : StoreView → List PassView → List Worked → Type 0) (load : Option A) (settings : Settings) (status : ℕ) (out_old out_new err_old err_new : End)
-    → EndsEarly (Front Memory) status out_old out_new err_old err_new → ServeCommand Kept Served load settings status out_old out_new err_old err_new
-no_counts Kept Served None settings status out_old out_new err_old err_new early = inr (inr ([], refl, inl (Memory, inl refl, early)))
-no_counts Kept Served (Some file) settings status out_old out_new err_old err_new early = inl (Front Memory, inl (None, None, tt), early)
+no_counts : {A : Type 0} (Kept : List ℕ → Type 0) (Served : StoreView → List PassView → List Worked → Type 0) (load save : Option A) (settings : Settings) (status : ℕ) (out_old out_new err_old err_new : End)
+    → EndsEarly (Front Memory) status out_old out_new err_old err_new → ServeCommand Kept Served load save settings status out_old out_new err_old err_new
+no_counts Kept Served None save settings status out_old out_new err_old err_new early = inl (Front Memory, inr (inr ([], Memory, refl, inl refl, refl)), early)
+no_counts Kept Served (Some file) save settings status out_old out_new err_old err_new early = inl (Front Memory, inr (inl (inl (None, None, tt))), early)
 
 pub returns-in_default : goal.returns-in_default
 returns-in_default g c =
     let settings = c.in-Serve.settings in
-    rw c.in-Serve.is ((λ e. refl), no_counts IsUnknown (ServedAs settings.connections settings.turns) c.in-Serve.load settings _ _ _ _ _ (c.tell.ensures.status, refl, c.tell.ensures.tells))
+    rw c.in-Serve.is ((λ e. refl), no_counts IsUnknown (ServedAs settings.connections settings.turns) c.in-Serve.load c.in-Serve.save settings _ _ _ _ _ (c.tell.ensures.status, refl, c.tell.ensures.tells))

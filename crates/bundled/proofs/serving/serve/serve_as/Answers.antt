@@ -1,11 +1,10 @@
-use Rattle.std.proofs.Common.{◌≡◌, ◌⊎◌, ℕ, List, subst, sym}
+use Rattle.std.proofs.Common.{◌≡◌, ℕ, List, subst, sym}
 use Rattle.command_line.specs.declared.settings.Connections.{Connections}
 use Rattle.command_line.specs.declared.settings.Connections.TheVariants.{Each, Unlimited}
 use Rattle.command_line.specs.declared.settings.Lasting.{Lasting}
 use Rattle.wire.specs.Output.{end_of}
-use Rattle.commands.specs.declared.fault.Fault.TheVariants.{Listen}
 use Rattle.server.specs.Saving.{IsUnknown}
-use Rattle.server.specs.Serve.{EndsEarly, SetUpRun}
+use Rattle.server.specs.Serve.{SetUpRun}
 use Rattle.shard_store.specs.Pass.{StoreView, PassView}
 use Rattle.workers.specs.declared.ended.Worked.{Worked}
 use Rattle.server.specs.Serving.{ServedBeside, ServedInTurn, most_taken, most_turns}
@@ -26,18 +25,18 @@ beside P connections turns lasting is =
 
 pub returns-in-Each-clause-run : goal.returns-in-Each-clause-run
 returns-in-Each-clause-run g c =
-    let settings = c.args.serving.settings in
+    let settings = c.args.begun.serving.settings in
+    let set_up = c.args.begun.set_up in
     let run : (StoreView → List PassView → List Worked → Type 0) → Type 0 = λ served.
-    EndsEarly Listen c.serve_in_turn.result (end_of g.W.Write.contents c.args.out.now) (end_of g.W.Write.contents c.serve_in_turn.new.out) (end_of g.E.Write.contents c.args.err.now) (end_of g.E.Write.contents c.serve_in_turn.new.err)
-    ⊎ SetUpRun IsUnknown served settings c.args.host.now.requests.now c.serve_in_turn.result (end_of g.W.Write.contents c.args.out.now) (end_of g.W.Write.contents c.serve_in_turn.new.out)
+    SetUpRun IsUnknown served set_up.store set_up.passes.items c.serve_in_turn.result (end_of g.W.Write.contents c.args.out.now) (end_of g.W.Write.contents c.serve_in_turn.new.out)
     (end_of g.E.Write.contents c.args.err.now) (end_of g.E.Write.contents c.serve_in_turn.new.err) in
     in_turn run settings.connections settings.turns c.in-Each.field-0 c.in-Each.is c.serve_in_turn.ensures
 
 pub returns-in-Unlimited-clause-run : goal.returns-in-Unlimited-clause-run
 returns-in-Unlimited-clause-run g c =
-    let settings = c.args.serving.settings in
+    let settings = c.args.begun.serving.settings in
+    let set_up = c.args.begun.set_up in
     let run : (StoreView → List PassView → List Worked → Type 0) → Type 0 = λ served.
-    EndsEarly Listen c.serve_many.result (end_of g.W.Write.contents c.args.out.now) (end_of g.W.Write.contents c.serve_many.new.out) (end_of g.E.Write.contents c.args.err.now) (end_of g.E.Write.contents c.serve_many.new.err)
-    ⊎ SetUpRun IsUnknown served settings c.args.host.now.requests.now c.serve_many.result (end_of g.W.Write.contents c.args.out.now) (end_of g.W.Write.contents c.serve_many.new.out)
+    SetUpRun IsUnknown served set_up.store set_up.passes.items c.serve_many.result (end_of g.W.Write.contents c.args.out.now) (end_of g.W.Write.contents c.serve_many.new.out)
     (end_of g.E.Write.contents c.args.err.now) (end_of g.E.Write.contents c.serve_many.new.err) in
     beside run settings.connections settings.turns c.in-Unlimited.lasting c.in-Unlimited.is c.serve_many.ensures.run

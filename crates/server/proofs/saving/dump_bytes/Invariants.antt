@@ -1,8 +1,0 @@
-use Rattle.std.proofs.Common.{◌≡◌, ◌++◌, take, length}
-use Rattle.std.specs.List.{flat_map}
-use Rattle.wire.specs.ReplyForm.{All}
-use Rattle.wire.specs.Answers.{item_frame, reply_frame}
-use Rattle.server.proofs.saving.dump_bytes.Given as goal
-
-abbrev pub invariant-loop-item : goal.invariant-loop-item
-invariant-loop-item l = l.dump.items ≡ reply_frame (All (length l.domains)) ++ flat_map item_frame (take l.item-index l.domains)
