@@ -280,13 +280,13 @@ def place_of(word):
 
 class Server:
     """The program behind a port that it has chosen, if neither another one nor the path of a Unix socket is given. If a check
-    fails, what it said on standard error is told."""
+    fails, what it said on standard error is told, unless that goes elsewhere."""
 
-    def __init__(self, *options, port=0, stdin=subprocess.DEVNULL, **how):
+    def __init__(self, *options, port=0, stdin=subprocess.DEVNULL, err=None, **how):
         option = "--port" if str(port).isdigit() else "--socket"
         words = [program(), "serve", option, str(port), *options]
         self.errors = AFTERWARDS.enter_context(tempfile.TemporaryFile())
-        self.started = subprocess.Popen(words, stdin=stdin, stdout=subprocess.PIPE, stderr=self.errors, **how)
+        self.started = subprocess.Popen(words, stdin=stdin, stdout=subprocess.PIPE, stderr=err or self.errors, **how)
         AFTERWARDS.push(self.end)
         self.line = line_of(self.started).decode()
         words = self.line.split()

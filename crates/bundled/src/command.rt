@@ -7,6 +7,7 @@ ghost use Rattle.wire.specs.Output.{Tells, end_of};
 ghost use Rattle.commands.specs.Streams.{Source, Streams, streams};
 
 use crate::asking::ask_server;
+use crate::notes::{Notes, NotesRoom};
 use crate::racing::race_over;
 use crate::refreshing::refresh_over;
 use crate::serving::{Host, Serving, serve_over};
@@ -152,7 +153,9 @@ fn run_wanted<
             let Ok(counts) = Counts::new(alloc, host, settings.workers) else {
                 return Fault::Front(FrontError::Memory).tell(err);
             };
-            let log = LineLog::new(&counts, host, Stamped::new(host, notes), *is_on);
+            let room = NotesRoom::new(host, alloc, *is_on);
+            let end = Stamped::new(host, Notes::new(host, &room, notes));
+            let log = LineLog::new(&counts, host, end, *is_on);
             let host = Host {
                 rt: host,
                 alloc,
@@ -165,7 +168,9 @@ fn run_wanted<
                 save: *save,
                 settings: *settings,
             };
-            serve_over(&host, serving, reader, out, err)
+            let status = serve_over(&host, serving, reader, out, err);
+            log.tell_left_out();
+            status
         }
     }
 }

@@ -4,6 +4,7 @@
 mod asking;
 mod command;
 mod exposition;
+mod notes;
 mod racing;
 mod refreshing;
 mod server_stream;

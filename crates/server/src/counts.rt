@@ -6,6 +6,7 @@ ghost use Rattle.server.specs.Counts.{is_change as changes};
 mod line;
 
 use crate::counts::line::line_of;
+use crate::limit::LogLimit;
 use shard_store::Tally;
 use spiffe_doc::Memory;
 use std::alloc::{AllocError, Global};
@@ -170,6 +171,8 @@ pub struct Counts {
     /// When the server began, if the system has a clock.
     begun: Option<Instant>,
     slots: Vec<Slot>,
+    /// What the workers share of the log.
+    limit: LogLimit,
 }
 
 impl Counts {
@@ -184,7 +187,13 @@ impl Counts {
         Ok(Counts {
             begun: Instant::now(clock).ok(),
             slots,
+            limit: LogLimit::new(),
         })
+    }
+
+    /// What the workers share of the log.
+    pub(crate) fn limit(&self) -> &LogLimit {
+        &self.limit
     }
 
     /// Where the worker counts it, if there is such a worker and it is counted.
@@ -238,7 +247,7 @@ impl Counts {
     }
 
     /// How many seconds have passed since the server began; none without a clock.
-    fn seconds<C: Clock>(&self, clock: &C) -> u64 {
+    pub(crate) fn seconds<C: Clock>(&self, clock: &C) -> u64 {
         match (self.begun, Instant::now(clock)) {
             (Some(begun), Ok(now)) => now.duration_since(begun).as_secs(),
             _ => 0,

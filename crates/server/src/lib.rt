@@ -6,6 +6,7 @@ mod address;
 mod counts;
 mod ending;
 mod file_id;
+mod limit;
 mod lines;
 mod load;
 mod log;

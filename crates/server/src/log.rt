@@ -24,7 +24,9 @@ const LINE_BYTES: usize = 384;
 type Line = ArrayVec<u8, LINE_BYTES>;
 
 /// Lines on an end that all workers share, such as standard error. Each line is one write, so that lines of two workers
-/// don't mix. A line that is not taken is left out: the log never stands in the way of a reply.
+/// don't mix. A line that is not taken is left out; over an end that never waits the log never stands in the way of a reply. So
+/// is a refusal or an end of a session if too many have come within a second. How many were left out is told by a line of its
+/// own, after the next one that is taken.
 ///
 /// What it is told is counted, too, whether it is on or not.
 pub struct LineLog<'c, C, N> {
@@ -51,6 +53,40 @@ impl<'c, C, N> LineLog<'c, C, N> {
             end,
             is_on,
             left_out: 0,
+        }
+    }
+}
+
+impl<C: Clock, N: Write + Copy + Drop> LineLog<'_, C, N> {
+    /// Tells how many lines were left out, if some were and that was not told.
+    pub fn tell_left_out(&self) {
+        let count = self.counts.limit().take_left_out();
+        if count == 0 {
+            return;
+        }
+        let mut all = self.end;
+        if !offer_left_out(&mut all, count) {
+            self.counts.limit().leave_out(count);
+        }
+    }
+
+    /// Whether a refusal or an end of a session may be told now. One that may not be counts as left out.
+    fn admits(&self) -> bool {
+        let second = self.counts.seconds(self.clock);
+        let admits = self.counts.limit().admits(second);
+        if !admits {
+            self.counts.limit().leave_out(1);
+        }
+        admits
+    }
+
+    /// Writes the line of a refusal or of an end of a session, and then how many lines were left out before.
+    fn tell(&self, line: &Line) {
+        let mut all = self.end;
+        if offer(&mut all, line) {
+            self.tell_left_out();
+        } else {
+            self.counts.limit().leave_out(1);
         }
     }
 }
@@ -217,6 +253,15 @@ fn offer<N: Write>(end: &mut N, line: &Line) -> bool
     }
 }
 
+/// Writes how many lines were left out, in one write. Answers whether all of it was taken.
+fn offer_left_out<N: Write>(end: &mut N, count: u64) -> bool {
+    let mut line = Line::new();
+    match writeln!(line, "log {count} lines left out") {
+        Ok(()) => offer(end, &line),
+        Err(_) => false,
+    }
+}
+
 /// Writes the line of a change, in one write. Answers whether all of it was taken.
 fn offer_change<N: Write>(end: &mut N, worker: u64, change: &Changed<'_>) -> bool
     ensures whole { OnTrue result (Appends (N.contents end.old) (N.contents end.new) (change_line worker (change_view change.now))) }
@@ -240,8 +285,11 @@ impl<C: Clock, N: Write + Copy + Drop> Log for LineLog<'_, C, N> {
     }
 
     fn changed(&mut self, worker: u64, change: &Changed<'_>) {
-        if !offer_change(&mut self.end, worker, change) {
+        if offer_change(&mut self.end, worker, change) {
+            self.tell_left_out();
+        } else {
             self.left_out = self.left_out.saturating_add(1);
+            self.counts.limit().leave_out(1);
         }
     }
 
@@ -255,22 +303,20 @@ impl<C: Clock, N: Write + Copy + Drop> Log for LineLog<'_, C, N> {
         if !matches!(end, Err(SessionFault::Listen)) {
             self.counts.take_one(worker, Count::ConnectionsOpen);
         }
-        if !self.is_on {
+        if !self.is_on || !self.admits() {
             return;
         }
         if let Some(line) = text_of_end(worker, end, peer) {
-            let mut all = self.end;
-            let _ = offer(&mut all, &line);
+            self.tell(&line);
         }
     }
 
     fn refused(&self, worker: u64, refused: &RefusedChange<'_>) {
-        if !self.is_on {
+        if !self.is_on || !self.admits() {
             return;
         }
         if let Some(line) = text_of_refused(worker, refused) {
-            let mut all = self.end;
-            let _ = offer(&mut all, &line);
+            self.tell(&line);
         }
     }
 
