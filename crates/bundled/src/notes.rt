@@ -1,4 +1,6 @@
 //! Standard error as an end that never waits.
+ghost use Rattle.std.specs.Prelude.{◌≤◌, length, IfOk};
+
 use mio::unix::SourceFd;
 use mio::{Events, Interest, Poll, Token};
 use std::alloc::{AllocError, Global};
@@ -125,7 +127,9 @@ fn turn_of<'m, C: Clock>(clock: &C, asking: &'m Mutex<Asking>) -> Option<MutexGu
 
 impl<C: Clock, N: Write> Notes<'_, C, N> {
     /// Writes the line, if it is this one's turn and there is room.
-    fn write_in_turn(&mut self, asking: &Mutex<Asking>, line: &[u8]) -> io::Result<usize> {
+    fn write_in_turn(&mut self, asking: &Mutex<Asking>, line: &[u8]) -> io::Result<usize>
+        ensures { IfOk result (λ count. count ≤ length line.now) }
+    {
         let Some(mut turn) = turn_of(self.clock, asking) else {
             return Err(ErrorKind::WouldBlock.into());
         };

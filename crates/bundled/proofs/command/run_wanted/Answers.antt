@@ -13,7 +13,7 @@ use Rattle.bundled.specs.Serve.{ServedAs}
 use Rattle.bundled.proofs.command.run_wanted.Goals as goal
 
 pub returns-in-Ok : goal.returns-in-Ok
-returns-in-Ok g c = rw c.in-Serve.is ((λ e. ap (source_of g.R.Read.remaining) (c.serve_over.ensures.read e)), c.serve_over.ensures.run)
+returns-in-Ok g c = rw c.in-Serve.is ((λ e. ap (source_of g.R.Read.remaining) (c.serve_over-status.ensures.read e)), c.serve_over-status.ensures.run)
 
 pub returns-in-Map : goal.returns-in-Map
 returns-in-Map g c = rw c.in-Map.is (rw (sym c.as_slice-in-Map.ensures.value) (rw (sym c.profile_of.ensures) c.map_over.ensures.maps))
