@@ -9,10 +9,10 @@ returns-in-Err-set_up_of-clause-run g c =
     let tell = c.tell-in-Err-set_up_of.ensures in inl (c.in-Err-set_up_of.fault, inr c.in-Err-set_up_of.ensures.err, (tell.status, refl, tell.tells))
 
 pub serve_as-requires-clause-workers : goal.serve_as-requires-clause-workers
-serve_as-requires-clause-workers g c = c.in-Ok-set_up_of.ensures.set_up.2.workers
+serve_as-requires-clause-workers g c = λ lifetimes outlive. c.in-Ok-set_up_of.ensures.set_up.2.workers
 
 pub serve_as-requires-clause-all : goal.serve_as-requires-clause-all
-serve_as-requires-clause-all g c = c.in-Ok-set_up_of.ensures.set_up.2.all
+serve_as-requires-clause-all g c = λ lifetimes outlive. c.in-Ok-set_up_of.ensures.set_up.2.all
 
 pub returns-clause-run : goal.returns-clause-run
 returns-clause-run g c =
