@@ -258,7 +258,7 @@ REFUSED = [
     ("snapshot --out a", "--port PORT or --socket PATH has to be given"),
     ("snapshot --port 1 --socket a --out a", "--port and --socket exclude each other"),
     ("snapshot --port 1 --out a --every 86401", "86401 is not in 1..=86400"),
-    ("snapshot --port 1 --out a --at-least 0", "0 is not in 1..=18446744073709551615"),
+    ("snapshot --port 1 --out a --at-least 0", "0 is not in 1..18446744073709551615"),
     ("serve", "--port PORT or --socket PATH has to be given"),
     ("serve --port 0 --socket a", "--port and --socket exclude each other"),
     ("serve --port 0 --connections unlimited --read-port 0 --read-socket a", "--read-port and --read-socket exclude each other"),

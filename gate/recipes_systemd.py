@@ -201,6 +201,8 @@ def fails_and_is_told(systemd):
     systemd.run("systemctl start hopslintel.service", status=None)
     wait_until(lambda: systemd.run("systemctl is-failed hopslintel.service", status=None) == "failed\n", "it is failed", 3 * SECONDS)
     wait_until(lambda: systemd.run("cat /run/told 2> /dev/null", status=None) == "hopslintel.service\n", "it is told")
+    # (a client that comes meanwhile is let go, and does its socket no harm)
+    systemd.run("exec python3 -B python/hopslintel --socket /run/hopslintel-read.sock map", status=1)
     systemd.run(f"mv {folder}/kept {folder}/dump.1 && systemctl reset-failed hopslintel.service && systemctl start hopslintel.service")
     systemd.says("read", "get b.example", '{"keys":[],"spiffe_sequence":10}\n')
 

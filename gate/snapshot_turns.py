@@ -21,7 +21,7 @@ def faults_that_pass():
     one, two = dump_of({"a": EMPTY}), dump_of({"a": EMPTY, "b": EMPTY})
     moved_on = MOVED[:-1] + b"\x09"
     refused = [frame(b"\x16"), frame(b"\x16")]
-    later = [SAME, one[:-1], b"", frame(b"s"), MOVED, moved_on, bytes(4), frame(b"\x38"), SAME, frame(b"\x28" + bytes(4)), two]
+    later = [SAME, one[:-1], b"", frame(b"s"), frame(MOVED), frame(moved_on), bytes(4), frame(b"\x38"), SAME, frame(b"\x28" + bytes(4)), two]
     replies = [*((it,) for it in (*refused, one)), *((VERSION, it) for it in later), (VERSION, SAME)]
     room = Place()
     turns = Turns(FakeServer(in_turn(replies)).port, room.folder)

@@ -46,6 +46,8 @@ pub struct Kept {
     left_out: String,
     /// Whether a line told which snapshot is current.
     has_told: bool,
+    /// The snapshot that is shown, and how many domains it has, as long as no line told that.
+    untold: Option<(u64, usize)>,
 }
 
 /// What a turn came to that no fault ended.
@@ -66,6 +68,7 @@ impl Kept {
             trouble: None,
             left_out: String::new(alloc),
             has_told: false,
+            untold: None,
         }
     }
 
@@ -88,6 +91,7 @@ pub fn take_turn<H: Files + Net, W: Write>(
     ensures { IfOk result (λ taken. taken.is_few ≡ true → 0 < job.now.wanted.at_least) }
 {
     tell_current(job, out, kept)?;
+    tell_shown(job, out, kept)?;
     let domains = fetched(job, kept)?;
     let mut folder = opened(job)?;
     if (domains.len() as u64) < job.wanted.at_least {
@@ -99,13 +103,14 @@ pub fn take_turn<H: Files + Net, W: Write>(
     } else {
         kept.look = None;
         bring(job, out, &mut folder, &domains, kept)?;
+        let look = looked(&folder)?;
         let left_out = left_out_of(job.alloc, &domains)?;
         let mut text = over(job, kept)?;
         if left_out != kept.left_out {
             text.push_str(left_out.as_str())?;
             kept.left_out = left_out;
         }
-        kept.look = looked(&folder)?;
+        kept.look = look;
         text
     };
     kept.trouble = None;
@@ -133,6 +138,21 @@ fn tell_current<H: Files, W: Write>(
         let number = folder.number();
         let line = format!(in job.alloc; "current snapshot-{number} domains {count}\n")?;
         write_flushed(out, line.as_bytes())?;
+        kept.has_told = true;
+    }
+    Ok(())
+}
+
+/// Tells which snapshot is shown, if no line told that yet: memory may have run out as it was to be told.
+fn tell_shown<H, W: Write>(
+    job: &Job<'_, H>,
+    out: &mut Counted<W>,
+    kept: &mut Kept,
+) -> Result<(), Fault> {
+    if let Some((number, count)) = kept.untold {
+        let line = format!(in job.alloc; "shown snapshot-{number} domains {count}\n")?;
+        write_flushed(out, line.as_bytes())?;
+        kept.untold = None;
         kept.has_told = true;
     }
     Ok(())
@@ -198,10 +218,8 @@ fn bring<H: Files, W: Write>(
     match update(job.alloc, folder, domains.pairs()) {
         Ok(false) => {}
         Ok(true) => {
-            let (number, count) = (folder.number(), domains.len());
-            let line = format!(in job.alloc; "shown snapshot-{number} domains {count}\n")?;
-            write_flushed(out, line.as_bytes())?;
-            kept.has_told = true;
+            kept.untold = Some((folder.number(), domains.len()));
+            tell_shown(job, out, kept)?;
         }
         Err(error) => {
             // What was written takes no room until the next turn, which a full disk may need.

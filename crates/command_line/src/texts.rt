@@ -8,7 +8,7 @@ The exit status:
      bundle; `race` saw a fetch-all of a state that the store was never in
   2  the command line is refused
   3  there is something to look at: a reply to `ask` is a refusal, `refresh` could not set every bundle, `check` found
-     something that is ignored, or `diff` a change
+     something that is ignored, `diff` a change, or `snapshot` fewer domains than --at-least
 
 A fault is a line `fault NUMBER` on standard error, with what it tells behind the number: `bundled explain NUMBER` says
 what it means. The frames that `run` and `serve` answer are in bundled run --help.";

@@ -426,7 +426,7 @@ static SNAPSHOTS: [Line; 7] = [
     ),
     (
         "snapshot --port=1 --out=a --at-least=0",
-        "error: invalid value '0' for '--at-least <DOMAINS>': 0 is not in 1..=18446744073709551615\n\nFor more information, try '--help'.\n",
+        "error: invalid value '0' for '--at-least <DOMAINS>': 0 is not in 1..18446744073709551615\n\nFor more information, try '--help'.\n",
     ),
     (
         "snapshot --port=0 --out=a",
