@@ -5,6 +5,9 @@ from checks import BUNDLES, EMPTY, ENTRY, ROOT, bytes_of, canonical, frame, name
 from refusals import Ended, Run, run_once
 
 OUT_OF_MEMORY = Ended(1, b"", b"fault 22\n")
+# What fills no store; without memory for the words the line of the fault stands by itself.
+NO_DUMP = f"{ROOT}/gate/bundles/relationships"
+BAD_DUMP, BAD_DUMP_WORDS = b"fault 63 0\n", f'the dump "{NO_DUMP}" is empty, or not a dump\n'.encode()
 NO_MEMORY = b"\0\0\0\1\x16"
 
 
@@ -123,8 +126,8 @@ def program_runs():
     yield command(["digest"], b"".join(map(frame, dump)), lambda it: it.status == 0 and it.out and not it.err)
     yield command(["explain", "31"], b"", lambda it: it.status == 0 and it.out and not it.err)
     yield refresh()
-    no_dump = ["serve", "--port", "0", "--load", f"{ROOT}/gate/bundles/relationships"]
-    yield command(no_dump, b"", lambda it: it == Ended(1, b"", b"fault 63 0\n"))
+    ends = [Ended(1, b"", BAD_DUMP), Ended(1, b"", BAD_DUMP + BAD_DUMP_WORDS)]
+    yield command(["serve", "--port", "0", "--load", NO_DUMP], b"", lambda it: it in ends)
     for words in (["--help"], *([it, "--help"] for it in ("run", "trace", "migrate", "refresh")), ["--version"]):
         yield command(words, b"", lambda it: it.status == 0 and it.out and not it.err)
     for words in (["run", "--shards", "0"], ["frames"], []):

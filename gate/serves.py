@@ -128,7 +128,8 @@ def filled_stores():
     room.write("empty", b"")
     for bad, line in [("torn", f"fault 63 {len(DUE)}\n"), ("empty", "fault 63 0\n"), ("nowhere", "fault 53\n")]:
         server = Server("--load", f"{room.path}/{bad}")
-        assert (server.line, server.ended()) == ("", (1, "", line)), server.line
+        status, out, err = server.ended()
+        assert (server.line, status, out) == ("", 1, "") and err.startswith(line), (server.line, status, out, err)
 
 
 def clients_that_fail():

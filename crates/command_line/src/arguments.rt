@@ -203,7 +203,7 @@ pub const MAX_OPEN: Argument = Argument {
 pub const IDLE: Argument = Argument {
     name: "idle",
     kind: Kind::Number("SECONDS", ranges::IDLE),
-    help: "If connections are unlimited: how long a client may be silent inside a request, or take nothing of a reply",
+    help: "If connections are unlimited: how long a client may take to send a request, or take nothing of a reply",
 };
 
 pub const LOAD: Argument = Argument {

@@ -284,8 +284,8 @@ get the bundle.
         53,
         "\
 53 ReadFault
-The input, the list or the dump could not be read; or a client was silent inside a request for
---idle seconds.
+The input, the list or the dump could not be read; or a client had not sent the whole of a
+request --idle seconds after it began it.
 What to do: See whether the file is there and may be read.
 ",
     ),

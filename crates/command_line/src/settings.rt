@@ -38,7 +38,7 @@ pub struct Lasting {
     pub most_open: u64,
     /// Whether the server stops at the end of its input.
     pub until_eof: bool,
-    /// For how many seconds a client may be silent inside a frame, and a write may make no progress: at least one.
+    /// For how many seconds a client may send one frame, and take nothing of the replies that wait: at least one.
     pub idle: u64,
     pub ghost some: { (0 < most_open) × (0 < idle) },
 }

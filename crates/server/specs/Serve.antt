@@ -1,5 +1,5 @@
 -- What the command `serve` says, and how it ends.
-use Rattle.std.specs.Prelude.{◌≡◌, ◌⊎◌, ℕ, ◌+◌, ◌&&◌, min, if◌then◌else◌, List, [], ◌∷◌, ◌++◌, length, codes, decimal, Bool, true, false, Option, Some, None, option_map, Result, Ok, Err}
+use Rattle.std.specs.Prelude.{◌≡◌, ◌⊎◌, ℕ, ◌≤◌, ◌+◌, ◌&&◌, min, if◌then◌else◌, List, [], ◌∷◌, ◌++◌, length, codes, decimal, Bool, true, false, Option, Some, None, option_map, Result, Ok, Err}
 use Rattle.std.specs.List.{All, flat_map}
 use Rattle.std.specs.Io.KnownBytes.{Appends}
 use Rattle.wire.specs.Counted.{next_count}
@@ -158,9 +158,17 @@ pub record IsSetUp (settings : Settings) (requests : List ℕ) (store : StoreVie
 abbrev pub NotSetUp : List ℕ → FrontError → Type 0
 NotSetUp requests error = (error ≡ Memory) ⊎ ((store : StoreView) × (fresh : Seen) × IsFresh fresh × NotFilled requests store fresh error)
 
+-- a line of words: no byte of its text is one that ends a line, or that a terminal obeys
+abbrev pub IsWords : List ℕ → Type 0
+IsWords line = (text : List ℕ) × All (λ byte. 32 ≤ byte) text × (line ≡ text ++ 10 ∷ [])
+
+-- The line of a fault is told; and it may be that a line of words comes behind it.
+abbrev pub TellsFault : Fault → End → End → Type 0
+TellsFault fault old new = Tells old new (fault_line fault) ⊎ ((words : List ℕ) × IsWords words × Tells old new (fault_line fault ++ words))
+
 -- It ends before anything is said, and why is told.
 abbrev pub EndsEarly : Fault → ℕ → End → End → End → End → Type 0
-EndsEarly fault status out_old out_new err_old err_new = (status ≡ 1) × (out_new ≡ out_old) × Tells err_old err_new (fault_line fault)
+EndsEarly fault status out_old out_new err_old err_new = (status ≡ 1) × (out_new ≡ out_old) × TellsFault fault err_old err_new
 
 -- what is to fill the store is not a dump, or can't be read
 abbrev pub IsNotLoaded : {A : Type 0} → Option A → Fault → Type 0

@@ -16,6 +16,7 @@ mod serving;
 mod set_up;
 mod stamped;
 mod start;
+mod told;
 
 pub use address::Address;
 pub use counts::{Count, Counts};
@@ -24,7 +25,7 @@ pub use file_id::FileId;
 pub use lines::{ServerLine, say};
 pub use load::set_up_of;
 pub use log::LineLog;
-pub use saved_file::SavedFile;
+pub use saved_file::{SavedFile, save_fault};
 pub use saving::Keeper;
 pub use serving::{
     Host, InTurn, Listener, NOBODY, Ports, Task, WorkerPolls, serve_at, serve_on, tell_early,
@@ -32,3 +33,4 @@ pub use serving::{
 pub use set_up::SetUp;
 pub use stamped::Stamped;
 pub use start::tell_start;
+pub use told::tell_in_words;

@@ -145,10 +145,16 @@ impl<'a, F: Files> SavedFile<'a, F> {
         }
         Ok(draft)
     }
+
+    /// Tries whether a dump can be written beside the file; nothing is left there.
+    pub fn trial(&self) -> io::Result<()> {
+        let _draft = self.draft()?;
+        Ok(())
+    }
 }
 
-/// Why a dump is not kept.
-fn save_fault(error: io::Error) -> Fault
+/// The fault of a dump that is not kept for this error.
+pub fn save_fault(error: &io::Error) -> Fault
     ensures { IsSaveFault result }
 {
     if error.kind() == ErrorKind::OutOfMemory {
@@ -166,14 +172,16 @@ impl<'a, F: Files> Keeper for SavedFile<'a, F> {
     ghost keeps = { λ file dump. Unit {0} };
 
     fn begin(&self) -> Result<Draft<'a, F>, Fault> {
-        self.draft().map_err(save_fault)
+        self.draft().map_err(|error| save_fault(&error))
     }
 
     fn put(&self, draft: &mut Draft<'a, F>, piece: &[u8]) -> Result<(), Fault> {
-        draft.put(piece).map_err(save_fault)
+        draft.put(piece).map_err(|error| save_fault(&error))
     }
 
     fn keep(&self, mut draft: Draft<'a, F>) -> Result<(), Fault> {
-        draft.take_place(self.path).map_err(save_fault)
+        draft
+            .take_place(self.path)
+            .map_err(|error| save_fault(&error))
     }
 }

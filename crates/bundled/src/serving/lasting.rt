@@ -65,7 +65,7 @@ pub fn serve_many<
     let BoundPorts {
         ports,
         files: _files,
-    } = match ports_or_told(host.rt, places, err) {
+    } = match ports_or_told(host.rt, host.alloc, places, err) {
         Ok(bound) => bound,
         Err(status) => return status,
     };

@@ -1,14 +1,16 @@
 //! Where a server listens: ports of this machine, and Unix sockets.
-ghost use Rattle.std.specs.Prelude.{◌≡◌, IfErr, OnOk, OnErr};
+ghost use Rattle.std.specs.Prelude.{◌≡◌, ◌<◌, ◌-◌, ◌^◌, IfErr, OnOk, OnErr};
 ghost use Rattle.wire.specs.Counted.{faults_in};
-ghost use Rattle.commands.specs.Fault.{fault_line};
-ghost use Rattle.wire.specs.Output.{Tells, end_of};
+ghost use Rattle.server.specs.Serve.{TellsFault};
+ghost use Rattle.wire.specs.Output.{end_of};
 ghost use Rattle.commands.specs.declared.fault.Fault.TheVariants.{Listen};
 
+use crate::serving::reasons::NotBound;
 use crate::serving::socket_file::SocketFile;
 use command_line::{Place, Places};
 use commands::Fault;
-use server::{Listener, Ports};
+use server::{Listener, Ports, tell_in_words};
+use std::alloc::Global;
 use std::fs::Files;
 use std::io;
 use std::io::Write;
@@ -49,55 +51,82 @@ fn bind<'a, H: Files + Net<Listener = TcpListener, Stream = TcpStream>>(
     }
 }
 
+/// Listens at the place; or tells the place with the error.
+fn bind_place<'a, H: Files + Net<Listener = TcpListener, Stream = TcpStream>>(
+    host: &'a H,
+    place: Place<'a>,
+) -> Result<Bound<'a, H>, NotBound<'a>> {
+    match bind(host, place) {
+        Ok(bound) => Ok(bound),
+        Err(error) => Err(NotBound { place, error }),
+    }
+}
+
 /// Listens at the places.
 fn bind_all<'a, H: Files + Net<Listener = TcpListener, Stream = TcpStream>>(
     host: &'a H,
     places: Places<'a>,
-) -> io::Result<BoundPorts<'a, H>> {
-    let all = bind(host, places.all)?;
-    match places.reads {
+) -> Result<BoundPorts<'a, H>, NotBound<'a>> {
+    let all = bind_place(host, places.all)?;
+    let (reads, file) = match places.reads {
         Some(place) => {
-            let reads = bind(host, place)?;
-            Ok(BoundPorts {
-                ports: Ports::new(all.listener, Some(reads.listener))?,
-                files: [all.file, reads.file],
-            })
+            let bound = bind_place(host, place)?;
+            (Some(bound.listener), bound.file)
         }
-        None => Ok(BoundPorts {
-            ports: Ports::new(all.listener, None)?,
-            files: [all.file, None],
+        None => (None, None),
+    };
+    match Ports::new(all.listener, reads) {
+        Ok(ports) => Ok(BoundPorts {
+            ports,
+            files: [all.file, file],
+        }),
+        Err(error) => Err(NotBound {
+            place: places.all,
+            error,
         }),
     }
 }
 
-/// Listens at the place; or it can't be had, which is told, and the answer is the exit status.
+/// Listens at the place; or it can't be had, which is told, and the answer is the exit status. Of a port the line of the fault
+/// says enough: it is the only place that there is.
 pub fn listener_or_told<'a, H: Files + Net<Listener = TcpListener, Stream = TcpStream>, E: Write>(
     host: &'a H,
+    alloc: Global,
     place: Place<'a>,
     err: &mut Counted<E>,
 ) -> Result<Bound<'a, H>, u8>
+    requires { faults_in err.old < 2 ^ 64 - 1 }
     ensures ok { OnOk result (err.new ≡ err.old) }
     ensures status { IfErr result (λ status. status ≡ 1) }
-    ensures tells { OnErr result (Tells (end_of E.contents err.old) (end_of E.contents err.new) (fault_line Listen)) }
+    ensures tells { OnErr result (TellsFault Listen (end_of E.contents err.old) (end_of E.contents err.new)) }
 {
-    match bind(host, place) {
-        Ok(bound) => Ok(bound),
-        Err(_) => Err(Fault::Listen.tell(err)),
-    }
+    let why = match bind_place(host, place) {
+        Ok(bound) => return Ok(bound),
+        Err(why) => why,
+    };
+    let words = match place {
+        Place::Port(_) => None,
+        Place::Socket(_) => why.words(alloc, host),
+    };
+    Err(tell_in_words(alloc, Fault::Listen, words.as_deref(), err))
 }
 
-/// Listens at the places; or one of them can't be had, which is told, and the answer is the exit status.
+/// Listens at the places; or one of them can't be had, which is told in words as well, and the answer is the exit status.
 pub fn ports_or_told<'a, H: Files + Net<Listener = TcpListener, Stream = TcpStream>, E: Write>(
     host: &'a H,
+    alloc: Global,
     places: Places<'a>,
     err: &mut Counted<E>,
 ) -> Result<BoundPorts<'a, H>, u8>
+    requires { faults_in err.old < 2 ^ 64 - 1 }
     ensures ok { OnOk result (err.new ≡ err.old) }
     ensures status { IfErr result (λ status. status ≡ 1) }
-    ensures tells { OnErr result (Tells (end_of E.contents err.old) (end_of E.contents err.new) (fault_line Listen)) }
+    ensures tells { OnErr result (TellsFault Listen (end_of E.contents err.old) (end_of E.contents err.new)) }
 {
-    let Ok(bound) = bind_all(host, places) else {
-        return Err(Fault::Listen.tell(err));
+    let why = match bind_all(host, places) {
+        Ok(bound) => return Ok(bound),
+        Err(why) => why,
     };
-    Ok(bound)
+    let words = why.words(alloc, host);
+    Err(tell_in_words(alloc, Fault::Listen, words.as_deref(), err))
 }

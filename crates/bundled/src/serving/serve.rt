@@ -1,5 +1,5 @@
 //! The command `serve`, in the form that its settings have.
-ghost use Rattle.std.specs.Prelude.{◌≡◌, ◌<◌, ◌-◌, ◌^◌, ◌⊎◌, false, IfErr, IfOk, option_map, vec_len};
+ghost use Rattle.std.specs.Prelude.{◌≡◌, ◌<◌, ◌-◌, ◌^◌, ◌⊎◌, ℕ, List, false, IfErr, IfOk, option_map, vec_len};
 ghost use Rattle.std.specs.List.{All};
 ghost use Rattle.shard_store.specs.Pass.{IsOf};
 ghost use Rattle.workers.specs.Closing.{AreAll, ranges_of};
@@ -7,15 +7,16 @@ ghost use Rattle.wire.specs.Counted.{faults_in};
 ghost use Rattle.command_line.specs.Serving.{stops_at_end};
 ghost use Rattle.wire.specs.Output.{end_of};
 ghost use Rattle.server.specs.Saving.{IsUnknown};
-ghost use Rattle.server.specs.Serve.{IsNotKept, ServeCommand, SetUpRun};
+ghost use Rattle.server.specs.Serve.{IsLoad, IsNotBegun, IsNotKept, IsSetUp, ServeCommand, SetUpRun, TellsFault};
 ghost use Rattle.server.specs.Serving.{ServedInTurn, most_taken, most_turns};
 ghost use Rattle.bundled.specs.Serve.{ServedAs};
 
 use crate::serving::lasting::{At, serve_many};
 use crate::serving::ports::{Bound, listener_or_told};
+use crate::serving::reasons::{not_loaded, not_written};
 use command_line::{Connections, Places, Settings};
 use commands::Fault;
-use server::{Host, InTurn, Keeper, SavedFile, SetUp, serve_on, set_up_of};
+use server::{Host, InTurn, SavedFile, SetUp, save_fault, serve_on, set_up_of, tell_in_words};
 use std::alloc::Global;
 use std::fs::Files;
 use std::io::{Read, Write};
@@ -35,23 +36,62 @@ pub struct Serving<'a> {
     pub settings: Settings,
 }
 
+/// Why a server does not begin; and in words, if there are any.
+#[derive(Drop)]
+struct NotBegun {
+    fault: Fault,
+    words: Option<String>,
+}
+
+impl NotBegun {
+    /// Tells it; answers the exit status.
+    fn tell<E: Write>(&self, alloc: Global, err: &mut Counted<E>) -> u8
+        requires { faults_in err.old < 2 ^ 64 - 1 }
+        ensures status { result ≡ 1 }
+        ensures tells { TellsFault self.now.fault (end_of E.contents err.old) (end_of E.contents err.new) }
+    {
+        tell_in_words(alloc, self.fault, self.words.as_deref(), err)
+    }
+}
+
 /// The file in which the last map is kept, if one is named. It is tried: one that can't be written is told before anything is
 /// served, and not when the map is lost.
 fn saved_file<'a, H: Files>(
     alloc: Global,
     files: &'a H,
     path: Option<&'a str>,
-) -> Result<Option<SavedFile<'a, H>>, Fault>
+) -> Result<Option<SavedFile<'a, H>>, NotBegun>
     ensures ok { IfOk result (λ file. option_map (λ file. file.path) file ≡ path.entry) }
-    ensures err { IfErr result (λ fault. IsNotKept path.entry fault) }
+    ensures err { IfErr result (λ why. IsNotKept path.entry why.fault) }
 {
     let Some(path) = path else {
         return Ok(None);
     };
     let file = SavedFile { alloc, files, path };
-    match file.begin() {
-        Ok(_draft) => Ok(Some(file)),
-        Err(fault) => Err(fault),
+    match file.trial() {
+        Ok(()) => Ok(Some(file)),
+        Err(error) => Err(NotBegun {
+            fault: save_fault(&error),
+            words: not_written(alloc, path, &error),
+        }),
+    }
+}
+
+/// A store that is set up, and filled if a file is named.
+fn filled_store<H: Files>(alloc: Global, host: &H, serving: Serving<'_>) -> Result<SetUp, NotBegun>
+    ensures set_up { IfOk result (λ made. (requests : List ℕ) × IsLoad serving.entry.load requests × IsSetUp serving.entry.settings requests made.store made.passes.items) }
+    ensures own { IfOk result (λ made. All (λ pass. IsOf pass made.store) made.passes.items) }
+    ensures err { IfErr result (λ why. IsNotBegun serving.entry.load why.fault) }
+{
+    match set_up_of(alloc, host, serving.load, serving.settings) {
+        Ok(made) => Ok(made),
+        Err(fault) => {
+            let words = match serving.load {
+                Some(path) => not_loaded(alloc, host, path, fault),
+                None => None,
+            };
+            Err(NotBegun { fault, words })
+        }
     }
 }
 
@@ -81,7 +121,7 @@ fn serve_in_turn<
     let Bound {
         listener,
         file: _file,
-    } = match listener_or_told(host.rt, begun.serving.places.all, err) {
+    } = match listener_or_told(host.rt, host.alloc, begun.serving.places.all, err) {
         Ok(bound) => bound,
         Err(status) => return status,
     };
@@ -163,11 +203,11 @@ pub fn serve_over<
 {
     let keeper = match saved_file(host.alloc, host.rt, serving.save) {
         Ok(keeper) => keeper,
-        Err(fault) => return fault.tell(err),
+        Err(why) => return why.tell(host.alloc, err),
     };
-    let set_up = match set_up_of(host.alloc, host.rt, serving.load, serving.settings) {
+    let set_up = match filled_store(host.alloc, host.rt, serving) {
         Ok(set_up) => set_up,
-        Err(fault) => return fault.tell(err),
+        Err(why) => return why.tell(host.alloc, err),
     };
     set_up.count(host.counts);
     let begun = Begun {

@@ -61,6 +61,17 @@ fn is_left<H: Files + Net>(host: &H, path: &str) -> bool {
     }
 }
 
+/// Why the path of a socket is taken.
+pub fn why_taken<H: Files + Net>(host: &H, path: &str) -> &'static str {
+    match fs::symlink_metadata(host, path) {
+        Ok(found) if found.file_type().is_socket() => match UnixStream::connect(host, path) {
+            Err(error) if error.kind() == ErrorKind::PermissionDenied => "permission denied",
+            _ => "a server listens there",
+        },
+        _ => "what stands there is not a socket",
+    }
+}
+
 /// Whether nobody listens at the socket. One with no room for another client is that of a server that is busy.
 fn refuses<N: Net>(net: &N, path: &str) -> bool {
     match UnixStream::connect(net, path) {

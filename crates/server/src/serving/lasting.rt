@@ -4,9 +4,8 @@ ghost use Rattle.std.specs.List.{All};
 ghost use Rattle.shard_store.specs.Pass.{IsOf};
 ghost use Rattle.workers.specs.Closing.{AreAll, ranges_of};
 ghost use Rattle.server.specs.Saving.{Keeps};
-ghost use Rattle.server.specs.Serve.{EndsEarly, ServeRun};
-ghost use Rattle.commands.specs.Fault.{fault_line};
-ghost use Rattle.wire.specs.Output.{Tells, end_of};
+ghost use Rattle.server.specs.Serve.{EndsEarly, ServeRun, TellsFault};
+ghost use Rattle.wire.specs.Output.{end_of};
 ghost use Rattle.commands.specs.declared.fault.Fault.TheVariants.{Front, Listen};
 ghost use Rattle.wire.specs.Counted.{faults_in};
 ghost use Rattle.wire.specs.declared.error.FrontError.TheVariants.{Memory};
@@ -21,6 +20,7 @@ use crate::serving::ports::Ports;
 use crate::serving::ready::WorkerPoll;
 use crate::serving::shared::{Seat, Shared, Watch};
 use crate::set_up::SetUp;
+use crate::told::tell_in_words;
 use command_line::{Lasting, Settings};
 use commands::Fault;
 use mio::{Poll, Waker};
@@ -32,6 +32,9 @@ use std::thread::Threads;
 use std::time::Clock;
 use wire::{Counted, FrontError};
 use workers::{Limits, Log, Open, SharedByWorkers, Worked, run_arrivals};
+
+/// Why a server that is to stop at the end of the input does not begin.
+const NO_THREAD: &str = "no thread can be made that waits for the end of the input";
 
 /// A server that listens, and whose store is set up; and who keeps the last map, if somebody does.
 #[derive(Drop)]
@@ -163,10 +166,23 @@ fn run_all<H: Threads + Clock + Sync, I: Read, L: Log + Copy + Sync>(
     run_until_end(work, passes, incoming, &mut Watch { input, shared })
 }
 
+/// Whether a thread can be made now: the end of the input is waited for beside the workers, and without a thread it would be
+/// waited for before them, while nobody is served.
+fn can_make_thread<R: Threads>(rt: &R) -> bool {
+    match thread::spawn(rt, || ()) {
+        Ok(made) => {
+            made.join(rt);
+            true
+        }
+        Err(_) => false,
+    }
+}
+
 /// Serves at the ports, until the end of the input if the server is to stop then; answers the exit status.
 ///
 /// `listening` goes to the output first, with the address, and if there is one for reads only, `read-only` and that behind it
-/// on the same line; no connection is taken if it is not taken. At the end come `served N`, how many sessions were begun, and
+/// on the same line; no connection is taken if it is not taken. If the server is to stop at the end of the input and no thread
+/// can be made to wait for that, it is a fault, and nothing is said. At the end come `served N`, how many sessions were begun, and
 /// `domains M`, how many domains have a bundle then. The faults of sessions are told in between, in order of the workers;
 /// they don't change the status, except that a listener that failed does. The log is told of changes and of the ends of
 /// sessions while it serves.
@@ -207,6 +223,9 @@ pub fn serve_at<
     let Ok(incoming) = incoming_of(host.alloc, host.rt, &shared, polls) else {
         return Fault::Front(FrontError::Memory).tell(err);
     };
+    if lasting.until_eof && !can_make_thread(host.rt) {
+        return tell_in_words(host.alloc, Fault::Listen, Some(NO_THREAD), err);
+    }
     let (all, reads) = shared.ports().addresses();
     if !say(out, err, before, ServerLine::Listening(all, reads)) {
         return 1;
@@ -238,8 +257,8 @@ pub fn serve_at<
 /// Tells why there is no listener: memory ran out, or the system has none.
 pub fn tell_early<E: Write>(fault: Fault, err: &mut Counted<E>) -> u8
     ensures status { result ≡ 1 }
-    ensures tells { Tells (end_of E.contents err.old) (end_of E.contents err.new) (fault_line Listen)
-        ⊎ Tells (end_of E.contents err.old) (end_of E.contents err.new) (fault_line (Front Memory)) }
+    ensures tells { TellsFault Listen (end_of E.contents err.old) (end_of E.contents err.new)
+        ⊎ TellsFault (Front Memory) (end_of E.contents err.old) (end_of E.contents err.new) }
 {
     match fault {
         Fault::Front(FrontError::Memory) => Fault::Front(FrontError::Memory).tell(err),

@@ -27,4 +27,4 @@ no_counts Kept Served (Some file) save settings status out_old out_new err_old e
 pub returns-in_default : goal.returns-in_default
 returns-in_default g c =
     let settings = c.in-Serve.settings in
-    rw c.in-Serve.is ((λ e. refl), no_counts IsUnknown (ServedAs settings.connections settings.turns) c.in-Serve.load c.in-Serve.save settings _ _ _ _ _ (c.tell.ensures.status, refl, c.tell.ensures.tells))
+    rw c.in-Serve.is ((λ e. refl), no_counts IsUnknown (ServedAs settings.connections settings.turns) c.in-Serve.load c.in-Serve.save settings _ _ _ _ _ (c.tell.ensures.status, refl, inl c.tell.ensures.tells))

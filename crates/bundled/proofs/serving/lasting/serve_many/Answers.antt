@@ -1,12 +1,11 @@
 use Rattle.std.proofs.Common.{◌≡◌, ℕ, List, inl, inr, refl, ap, subst}
 use Rattle.std.specs.Prelude.{◌⊎◌}
-use Rattle.commands.specs.Fault.{fault_line}
-use Rattle.wire.specs.Output.{End, Tells, end_of}
+use Rattle.wire.specs.Output.{End, end_of}
 use Rattle.commands.specs.declared.fault.Fault.TheVariants.{Front, Listen}
 use Rattle.wire.specs.declared.error.FrontError.TheVariants.{Memory}
 use Rattle.shard_store.specs.Pass.{StoreView, PassView}
 use Rattle.server.specs.Saving.{IsUnknown}
-use Rattle.server.specs.Serve.{SetUpRun}
+use Rattle.server.specs.Serve.{SetUpRun, TellsFault}
 use Rattle.server.proofs.Keeping.{unknown_kept}
 use Rattle.workers.specs.declared.ended.Worked.{Worked}
 use Rattle.server.specs.Serving.{ServedBeside}
@@ -14,7 +13,7 @@ use Rattle.bundled.proofs.serving.lasting.serve_many.Goals as goal
 
 -- what the workers wait with can't be had, which is told
 unwatched : (Served : StoreView → List PassView → List Worked → Type 0) (store : StoreView) (passes : List PassView) (status : ℕ) (out err_old err_new : End)
-    → status ≡ 1 → Tells err_old err_new (fault_line Listen) ⊎ Tells err_old err_new (fault_line (Front Memory))
+    → status ≡ 1 → TellsFault Listen err_old err_new ⊎ TellsFault (Front Memory) err_old err_new
     → SetUpRun IsUnknown Served store passes status out out err_old err_new
 unwatched Served store passes status out err_old err_new one (inl listen) = inr (inl (one, refl, listen))
 unwatched Served store passes status out err_old err_new one (inr memory) = inl (one, refl, memory)

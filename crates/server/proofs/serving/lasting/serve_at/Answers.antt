@@ -62,3 +62,9 @@ returns-in-Err-clause-run g c =
         );
       },
     ))
+
+pub returns-in_default-clause-run : goal.returns-in_default-clause-run
+returns-in_default-clause-run g c = inl (c.tell.ensures.status, refl, inl c.tell.ensures.tells)
+
+pub returns-then-not-can_make_thread-clause-run : goal.returns-then-not-can_make_thread-clause-run
+returns-then-not-can_make_thread-clause-run g c = inr (inl (c.tell_in_words.ensures.status, refl, c.tell_in_words.ensures.tells))
