@@ -1,4 +1,4 @@
-use Rattle.std.proofs.Common.{refl, inl, inr}
+use Rattle.std.proofs.Common.{refl, inl, inr, arith}
 use Rattle.bundled.proofs.serving.serve.serve_over.Goals as goal
 
 pub returns-in-Err-clause-run : goal.returns-in-Err-clause-run
@@ -9,7 +9,7 @@ returns-in-Err-filled_store-clause-run g c =
     let tell = c.tell-in-Err-filled_store.ensures in inl (c.in-Err-filled_store.why.fault, inr c.in-Err-filled_store.ensures.err, (tell.status, refl, tell.tells))
 
 pub serve_as-requires-clause-workers : goal.serve_as-requires-clause-workers
-serve_as-requires-clause-workers g c = λ lifetimes outlive. c.in-Ok-filled_store.ensures.set_up.2.workers
+serve_as-requires-clause-workers g c = λ lifetimes outlive. omega (arith, c.in-Ok-filled_store.ensures.set_up.2.workers, c.in-Ok-filled_store.set_up.passes.ok)
 
 pub serve_as-requires-clause-all : goal.serve_as-requires-clause-all
 serve_as-requires-clause-all g c = λ lifetimes outlive. c.in-Ok-filled_store.ensures.set_up.2.all
