@@ -14,7 +14,7 @@ sys.dont_write_bytecode = True
 
 from checks import ROOT, run_checks  # noqa: E402
 
-MODULES = ["breaks_units", "breaks_loops", "breaks_etcd"]
+MODULES = ["breaks_units", "breaks_loops", "breaks_etcd", "breaks_clock"]
 
 
 def main(names):

@@ -9,7 +9,6 @@ what is well again once the cause is over. With names only the checks of these n
 import os
 import subprocess
 import sys
-import time
 
 sys.dont_write_bytecode = True
 
@@ -246,11 +245,11 @@ def a_file_that_is_damaged():
     assert room.run(f"{FOLLOW} --max-age 600 dump") == ""
     # With etcd away nothing is well any more, which only the age says.
     it.judge.etcd.end()
-    for ago in (-3600, 3600):
-        at = time.time() - ago
-        os.utime(f"{room.path}/dump.done", (at, at))
+    digest, boot, second = room.read("dump.done").decode().split()
+    for when, at, why in ((boot, int(second) + 3600, "seconds ago"), ("another", second, "before this machine has started")):
+        room.write("dump.done", f"{digest} {when} {at}\n".encode())
         said = room.run(f"{FOLLOW} --max-age 600 dump", status=1)
-        assert said.startswith("follow: dump was what is published "), said
+        assert said.startswith("follow: dump was what is published ") and said.endswith(f"{why}\n"), said
     assert room.read("dump") == it.dump()
     it.judge.etcd.start()
     wait_until(lambda: room.run(f"{FOLLOW} --max-age 600 dump", status=None) == "", "it goes on")

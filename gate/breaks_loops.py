@@ -9,7 +9,7 @@ import subprocess
 import threading
 import time
 
-from breaks_units import Store, fill, run_script, small_disk
+from breaks_units import Store, environment, fill, run_script, small_disk
 from checks import AFTERWARDS, ROOT, SECONDS, Room, bytes_of, canonical, named, part, pem_of, program, wait_until
 
 PEM = f"{ROOT}/examples/pem"
@@ -276,15 +276,23 @@ def trust_never_leaves_a_file_that_is_refused():
 
 
 def a_state_is_judged():
-    """By a monitor: what is old, of after now, torn or not there."""
+    """By a monitor: what is of after now, of another start of the machine, torn or not there. What is old is judged with the clock."""
     room = Room()
     state = f"{room.path}/state"
-    look = lambda status: run_script(f"{PEM}/act", "--max-age", "60", state, status=status)
+    boot = bytes_of("/proc/sys/kernel/random/boot_id").decode().strip().replace("-", "")
+    other = {**environment(), "BOOT_ID": 32 * "0"}
+    look = lambda status, **how: run_script(f"{PEM}/act", "--max-age", "60", state, status=status, **how)
     assert "tells of no success" in look(1)
-    now = int(time.time())
-    for text, status in ((f"snapshot-1 {now}\n", 0), (f"snapshot-1 {now - 3600}\n", 1), (f"snapshot-1 {now + 3600}\n", 1), ("", 1), ("snapshot-1\n", 1), ("snapshot-1 x\n", 1)):
-        room.write("state", text.encode())
-        look(status)
+    now, up = int(time.time()), int(bytes_of("/proc/uptime").split(b".")[0])
+    for text, why in ((f"snapshot-1 {now} {boot} {up + 3600}\n", "seconds old"), (f"snapshot-1 {now} {32 * '0'} {up}\n", "has started"),
+                      (f"snapshot-1 {now}\n", "no success"), (f"snapshot-1 {now} {boot}\n", "no success"), (f"snapshot-1 {now} {boot} x\n", "no success"),
+                      (f"snapshot-1 {now} {boot} {str(up)[:-1]}", "no success"), ("", "no success"), ("snapshot-1\n", "no success")):
+        with part(text=text):
+            room.write("state", text.encode())
+            assert why in look(1), look(1)
+    room.write("state", f"snapshot-1 {now} {boot} {up}\n".encode())
+    look(0)
+    assert "has started" in look(1, env=other)
 
 
 CHECKS = [withdrawal_passes_each_kill, a_folder_that_was_behind, a_command_that_fails_is_run_again, a_store_that_is_away, a_full_disk_for_a_moment,
