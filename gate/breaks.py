@@ -8,6 +8,7 @@ The scripts are those of the repository, over the real program. With names only 
 """
 import importlib
 import os
+import signal
 import sys
 
 sys.dont_write_bytecode = True
@@ -18,6 +19,8 @@ MODULES = ["breaks_units", "breaks_loops", "breaks_etcd", "breaks_clock"]
 
 
 def main(names):
+    # A script that was started in the background ignores it, and so would the scripts that are started here.
+    signal.signal(signal.SIGINT, signal.default_int_handler)
     found = [importlib.import_module(it) for it in MODULES if os.path.exists(f"{ROOT}/gate/{it}.py")]
     checks = [it for module in found for it in module.CHECKS]
     needs = {}
