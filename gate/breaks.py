@@ -1,6 +1,6 @@
 #!/usr/bin/env python3
-"""Breaks on purpose what runs around the program: kills each part at each step, fills disks, cuts dumps. Each time a dump has to be
-whole, and what was withdrawn has to reach who trusts it.
+"""Breaks on purpose what runs around the program: kills each part at each step, fills disks, cuts dumps, sets the clock, carries a large
+store to another machine. Each time a dump has to be whole, and what was withdrawn has to reach who trusts it.
 
 usage: gate/breaks.py [NAME..]   (over the program that rt ci or rt run has built in crates/bundled/out/)
 
@@ -15,7 +15,7 @@ sys.dont_write_bytecode = True
 
 from checks import ROOT, run_checks  # noqa: E402
 
-MODULES = ["breaks_units", "breaks_loops", "breaks_etcd", "breaks_clock"]
+MODULES = ["breaks_units", "breaks_loops", "breaks_etcd", "breaks_scale", "breaks_clock"]
 
 
 def main(names):
