@@ -97,6 +97,23 @@ def an_empty_judge():
     judge.shows({})
 
 
+def counts_that_come_late():
+    """A store whose counts take seconds to come, on a busy machine, is not taken for one that has started since."""
+    judge = Judge(BOTH)
+    judge.shows(BOTH)
+    # (so that it is seen to be up before it is asked, and not yet to have been at the last publish)
+    time.sleep(5)
+    room = judge.room
+    real = room.run("command -v bundled").strip()
+    late = f'[ "$1" = stats ] && mv {room.path}/late {room.path}/was-late 2> /dev/null && sleep 3'
+    room.write_program("bundled", f'#!/bin/sh\n{real} "$@"\nstatus=$?\n{late}\nexit $status\n')
+    room.write("late", b"")
+    judge.remove("b.example")
+    wanted = digest_of(dump_of({"a.example": A}))
+    assert room.run(f"PATH={room.path}/bin:$PATH {EXAMPLES}/etcd/publish 8443") == f"published {wanted}\n"
+    assert os.path.exists(f"{room.path}/was-late")
+
+
 def a_removed_domain_that_comes_back():
     """Whatever its sequence is, and after whatever was published in between; a domain that is new goes on."""
     judge = Judge(BOTH)
@@ -246,11 +263,11 @@ def a_file_that_is_damaged():
     assert room.run(f"{FOLLOW} --max-age 600 dump") == ""
     # With etcd away nothing is well any more, which only the age says.
     it.judge.etcd.end()
-    for ago in (-3600, 3600):
-        at = time.time() - ago
-        os.utime(f"{room.path}/dump.done", (at, at))
+    digest, boot, second = room.read("dump.done").decode().split()
+    for when, at, why in ((boot, int(second) + 3600, "seconds ago"), ("another", second, "before this machine has started")):
+        room.write("dump.done", f"{digest} {when} {at}\n".encode())
         said = room.run(f"{FOLLOW} --max-age 600 dump", status=1)
-        assert said.startswith("follow: dump was what is published "), said
+        assert said.startswith("follow: dump was what is published ") and said.endswith(f"{why}\n"), said
     assert room.read("dump") == it.dump()
     it.judge.etcd.start()
     wait_until(lambda: room.run(f"{FOLLOW} --max-age 600 dump", status=None) == "", "it goes on")
@@ -377,7 +394,7 @@ def says_what_is_missing():
 
 
 NEEDS = {it: ["etcd", "etcdctl", "curl", "flock"] for it in (
-    a_judge_that_comes_back_old, an_empty_judge, a_removed_domain_that_comes_back, too_few_domains, publish_is_killed, follow_is_killed,
+    a_judge_that_comes_back_old, an_empty_judge, counts_that_come_late, a_removed_domain_that_comes_back, too_few_domains, publish_is_killed, follow_is_killed,
     a_file_that_is_damaged, an_older_moment, many_pieces, pieces_that_are_lost, recipes_by_hand, over_a_socket, says_what_is_missing)}
 NEEDS |= breaks_cron.NEEDS
 CHECKS = list(NEEDS)

@@ -9,8 +9,8 @@ import subprocess
 import threading
 import time
 
-from breaks_units import Store, fill, run_script, small_disk
-from checks import AFTERWARDS, ROOT, SECONDS, Room, bytes_of, canonical, named, part, pem_of, program, wait_until
+from breaks_units import Store, environment, fill, run_script, small_disk
+from checks import AFTERWARDS, ROOT, SECONDS, Room, bytes_of, canonical, part, pem_of, program, wait_until
 
 PEM = f"{ROOT}/examples/pem"
 # A document with two authorities, and one without any. (Without a sequence each replaces the other.)
@@ -51,19 +51,20 @@ step after-the-reload
 OPENSSL = """step within-trust
 exec %(openssl)s "$@"
 """
-ACT = 'echo $$ > act.pid; exec %(pem)s/act --port %(port)s --out %(out)s --every 1 state sh -c "echo \\$\\$ > trust.pid; exec %(pem)s/trust %(out)s a.example %(file)s nginx"'
+ACT = 'echo $$ > act.pid; exec %(pem)s/act --port %(port)s --out %(out)s --every 1 %(options)s state sh -c "echo \\$\\$ > trust.pid; exec %(pem)s/trust %(out)s a.example %(file)s nginx"'
 
 
 class Follower(Room):
     """A store, and a loop that follows it, which is started again whenever it ends, as a unit does. A turn takes a tenth of a second."""
 
-    def __init__(self, *, out=None):
+    def __init__(self, *, out=None, options=""):
         super().__init__()
         os.mkdir(f"{self.path}/bin")
         os.mkdir(f"{self.path}/store")
         folder = out or self.path
         find = lambda name: subprocess.run(["which", name], stdout=subprocess.PIPE, text=True, check=True).stdout.strip()
-        self.words = {"room": self.path, "program": program(), "openssl": find("openssl"), "pem": PEM, "out": f"{folder}/bundles", "file": f"{folder}/a.pem"}
+        self.words = {"room": self.path, "program": program(), "openssl": find("openssl"), "pem": PEM, "out": f"{folder}/bundles", "file": f"{folder}/a.pem",
+                      "options": options}
         for name, text in (("bundled", BUNDLED), ("nginx", NGINX), ("openssl", OPENSSL)):
             os.chmod(self.write(f"bin/{name}", ((STEPS + text) % self.words).encode()), 0o755)
         os.chmod(self.write("bin/sleep", f"#!/bin/sh\nexec {find('sleep')} 0.1\n".encode()), 0o755)
@@ -100,6 +101,15 @@ class Follower(Room):
             os.remove(f"{self.path}/holding")
         self.write("hold", b"")
         wait_until(lambda: os.path.exists(f"{self.path}/holding"), "the loop holds")
+
+    def crash(self):
+        os.kill(self.store.program_pid(), signal.SIGKILL)
+        self.store.started.wait(SECONDS)
+
+    def comes_back(self):
+        """It was never dumped, so it is empty; and it is at another port, of which the loop hears when it is started anew."""
+        self.store = Store(f"{self.path}/store")
+        self.follower.kill()
 
     def set(self, document):
         self.store.set({"a.example": document})
@@ -212,16 +222,38 @@ def a_store_that_is_away():
     follower.start()
     follower.is_trusted()
     wait_until(lambda: not is_failure(follower, SECONDS), "it is done")
-    os.kill(follower.store.program_pid(), signal.SIGKILL)
-    follower.store.started.wait(SECONDS)
+    follower.crash()
     wait_until(lambda: is_failure(follower), "the last success is too old")
     assert follower.seen() == AUTHORITIES and "act: no snapshot: fault 78" in follower.said()
     assert "seconds old" in follower.look(1, status=1)
     # It was never dumped: it is empty, and nobody is trusted.
-    follower.store = Store(f"{follower.path}/store")
-    # (at another port, of which the loop hears when it is started anew)
-    follower.follower.kill()
+    follower.comes_back()
     follower.is_refused("the store came back empty")
+
+
+def a_guard_against_an_empty_store():
+    """With --at-least a store that comes back empty changes nothing in what was made of the folder. That is told once, and the last
+    success gets old. Once there is enough again it is followed."""
+    follower = Follower(options="--at-least 2")
+    follower.store.set({"b.example": TRUSTED})
+    follower.start()
+    follower.is_trusted()
+    pem = follower.read("a.pem")
+    told = lambda domains: follower.said().count(f"act: no snapshot: fewer than 2 domains: {domains}; kept snapshot-")
+    follower.crash()
+    follower.comes_back()
+    for domains in range(2):
+        if domains:
+            follower.set(WITHDRAWN)
+        wait_until(lambda: told(domains) == 1, "it is told")
+        for _ in range(3):
+            follower.hold()
+            os.remove(f"{follower.path}/hold")
+        assert (told(domains), follower.seen(), follower.read("a.pem")) == (1, AUTHORITIES, pem)
+        wait_until(lambda: is_failure(follower), "the last success is too old")
+    follower.store.set({"b.example": TRUSTED})
+    follower.is_refused("there is enough again")
+    wait_until(lambda: follower.said().endswith("act: all is well again\n"), "that it is well is told")
 
 
 def a_full_disk_for_a_moment():
@@ -276,17 +308,26 @@ def trust_never_leaves_a_file_that_is_refused():
 
 
 def a_state_is_judged():
-    """By a monitor: what is old, of after now, torn or not there."""
+    """By a monitor: what is of after now, of another start of the machine, torn or not there. What is old is judged with the clock."""
     room = Room()
     state = f"{room.path}/state"
-    look = lambda status: run_script(f"{PEM}/act", "--max-age", "60", state, status=status)
+    boot = bytes_of("/proc/sys/kernel/random/boot_id").decode().strip().replace("-", "")
+    other = {**environment(), "BOOT_ID": 32 * "0"}
+    look = lambda status, **how: run_script(f"{PEM}/act", "--max-age", "60", state, status=status, **how)
     assert "tells of no success" in look(1)
-    now = int(time.time())
-    for text, status in ((f"snapshot-1 {now}\n", 0), (f"snapshot-1 {now - 3600}\n", 1), (f"snapshot-1 {now + 3600}\n", 1), ("", 1), ("snapshot-1\n", 1), ("snapshot-1 x\n", 1)):
-        room.write("state", text.encode())
-        look(status)
+    now, up = int(time.time()), int(bytes_of("/proc/uptime").split(b".")[0])
+    for text, why in ((f"snapshot-1 {now} {boot} {up + 3600}\n", "seconds old"), (f"snapshot-1 {now} {32 * '0'} {up}\n", "has started"),
+                      (f"snapshot-1 {now}\n", "no success"), (f"snapshot-1 {now} {boot}\n", "no success"), (f"snapshot-1 {now} {boot} x\n", "no success"),
+                      (f"snapshot-1 {now} {boot} {str(up)[:-1]}", "no success"), ("", "no success"), ("snapshot-1\n", "no success")):
+        with part(text=text):
+            room.write("state", text.encode())
+            assert why in look(1), look(1)
+    room.write("state", f"snapshot-1 {now} {boot} {up}\n".encode())
+    look(0)
+    assert "has started" in look(1, env=other)
 
 
-CHECKS = [withdrawal_passes_each_kill, a_folder_that_was_behind, a_command_that_fails_is_run_again, a_store_that_is_away, a_full_disk_for_a_moment,
-          many_certificates, trust_never_leaves_a_file_that_is_refused, a_state_is_judged]
+CHECKS = [withdrawal_passes_each_kill, a_folder_that_was_behind, a_command_that_fails_is_run_again, a_store_that_is_away,
+          a_guard_against_an_empty_store, a_full_disk_for_a_moment, many_certificates, trust_never_leaves_a_file_that_is_refused,
+          a_state_is_judged]
 NEEDS = {it: ["openssl", "flock"] for it in CHECKS} | {a_full_disk_for_a_moment: ["openssl", "flock", "mount", *([] if os.geteuid() == 0 else ["rights of root"])]}

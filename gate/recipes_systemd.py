@@ -190,6 +190,9 @@ def tells_another_service(systemd, writers):
     systemd.run(f"kill -9 $(systemctl show --property MainPID --value {unit})")
     assert set_to('{"keys":[]}') == "stored\n"
     wait_until(lambda: seen() == 1, "it has only that of nobody", 2 * SECONDS)
+    # A monitor outside of the unit knows the start of the machine by /proc, which is hidden from the unit.
+    look = "/usr/local/share/hopslintel/pem/act --max-age 60 /var/lib/hopslintel-trust/a.example.done"
+    wait_until(lambda: systemd.run(look, status=None).startswith("snapshot-"), "its last success is new", 2 * SECONDS)
 
 
 def fails_and_is_told(systemd):

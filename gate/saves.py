@@ -3,6 +3,7 @@
 
 usage: gate/saves.py            (over the program that rt ci or rt run has built in crates/bundled/out/)
        gate/saves.py MEBIBYTES  a dump of so many, in place of 20: no part of the gate
+       gate/saves.py --domains N   a store of so many small bundles, which is saved and loaded: neither (it needs a C compiler)
 """
 import errno
 import os
@@ -17,6 +18,7 @@ sys.dont_write_bytecode = True
 
 from checks import AFTERWARDS, EMPTY, SECONDS, Lasting, LeftOut, Room, Server, bytes_of, canonical, dump_of  # noqa: E402
 from checks import frame, named, numbered, part, pem_of, rest_of, run_checks, run_words, start, unused_port  # noqa: E402
+from loads import compiled  # noqa: E402
 
 STORED = frame(b"s")
 MEBIBYTES = 20
@@ -291,7 +293,58 @@ def measured(mebibytes):
     assert bytes_of(f"{room.path}/saved") == bytes_of(path)
 
 
+def a_store(*options):
+    """A server with one worker, which has nothing to wait for but the end of its input."""
+    words = ["serve", "--port", "0", "--connections", "unlimited", "--until-eof", "--workers", "1", "--shards", "16", *options]
+    return start(*words, stdin=subprocess.PIPE, stdout=subprocess.PIPE, stderr=subprocess.DEVNULL)
+
+
+def processor(server):
+    return worked(server) / os.sysconf("SC_CLK_TCK")
+
+
+def most_of(server):
+    """The most mebibytes that it had until now."""
+    with open(f"/proc/{server.pid}/status", encoding="ascii") as it:
+        return next(int(line.split()[1]) / 1024 for line in it if line.startswith("VmHWM:"))
+
+
+def ended_at(server, begun):
+    """Ends its input, and answers the seconds until it has ended, and all that it had: the processor's seconds, and mebibytes."""
+    server.stdin.close()
+    _, status, used = os.wait4(server.pid, 0)
+    server.returncode = os.waitstatus_to_exitcode(status)
+    assert server.returncode == 0, server.returncode
+    return time.monotonic() - begun, used.ru_utime + used.ru_stime, used.ru_maxrss / 1024
+
+
+def small_bundles(count):
+    """Tells how long a store of so many small bundles takes to be saved, and to be loaded, and how much memory."""
+    room = Room()
+    saved, again = f"{room.path}/saved", f"{room.path}/again"
+    server = a_store("--save", saved)
+    port = server.stdout.readline().split()[1].decode()
+    fills = [compiled(room.path), "frames", port, "1", str(count // 100), "100", "1", str(count), "1", "p"]
+    subprocess.run(fills, check=True, stdout=subprocess.DEVNULL)
+    print(f"{count} domains, of 16 shards; the machine's load is {os.getloadavg()[0]:.1f}", flush=True)
+    before, had = processor(server), most_of(server)
+    seconds, work, most = ended_at(server, time.monotonic())
+    print(f"saved: {seconds:.2f} s ({work - before:.2f} s of a processor), at most {most:.0f} MiB, {had:.0f} before; {os.path.getsize(saved)} bytes", flush=True)
+    assert server.stdout.read() == b"served 1\ndomains %d\n" % count
+    begun = time.monotonic()
+    server = a_store("--load", saved, "--save", again)
+    assert server.stdout.readline().startswith(b"listening"), "it has not loaded"
+    seconds, work, most = time.monotonic() - begun, processor(server), most_of(server)
+    print(f"loaded: {seconds:.2f} s ({work:.2f} s of a processor), at most {most:.0f} MiB", flush=True)
+    seconds, all_work, most = ended_at(server, time.monotonic())
+    print(f"saved again: {seconds:.2f} s ({all_work - work:.2f} s of a processor), at most {most:.0f} MiB", flush=True)
+    assert server.stdout.read() == b"served 0\ndomains %d\n" % count
+    assert bytes_of(again) == bytes_of(saved), "another store was loaded"
+
+
 if __name__ == "__main__":
-    if sys.argv[1:]:
+    if sys.argv[1:2] == ["--domains"]:
+        CHECKS = {"small_bundles": lambda: small_bundles(int(sys.argv[2]))}
+    elif sys.argv[1:]:
         CHECKS = {"measured": lambda: measured(int(sys.argv[1]))}
     sys.exit(run_checks(CHECKS))
