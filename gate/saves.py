@@ -7,6 +7,7 @@ usage: gate/saves.py            (over the program that rt ci or rt run has built
 """
 import errno
 import os
+import re
 import select
 import socket
 import stat
@@ -252,11 +253,21 @@ def memory_of_a_save():
     fill(server, items)
     before = int(server.of_system("VmHWM"))
     server.stop()
-    _, status, used = os.wait4(server.started.pid, 0)
-    server.started.returncode = os.waitstatus_to_exitcode(status)
-    assert server.started.returncode == 0, server.said()
+    after = most_until_it_ends(server, before)
+    assert server.started.wait(SECONDS) == 0, server.said()
     assert os.path.getsize(f"{room.path}/saved") == len(dump_of(items))
-    assert used.ru_maxrss < before + MOST_MORE, f"it had {before} kB, and then {used.ru_maxrss}"
+    assert after < before + MOST_MORE, f"it had {before} kB, and then {after}"
+    return f"; it had {before} kB, and then {after}"
+
+
+def most_until_it_ends(server, most):
+    """The most kilobytes that a server which ends has had: what the system says of it last. (What it says of a process that has
+    ended begins with what this script had.)"""
+    until = time.monotonic() + SECONDS
+    while found := re.search(r"^VmHWM:\s*(\d+)", bytes_of(f"/proc/{server.started.pid}/status").decode(), re.M):
+        assert time.monotonic() < until, "the server does not end"
+        most = int(found[1])
+    return most
 
 
 def sockets_of_others():

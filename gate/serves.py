@@ -256,27 +256,29 @@ def client_that_reads_slowly():
 
 
 def others_are_taken_beside_long_turns():
-    """A worker that is busy with one client keeps no other from being taken: the other worker takes almost all that come."""
-    server, is_over = Lasting("--workers", "2", "--log"), threading.Event()
+    """A worker that is busy with one client keeps no other from being taken: the other worker takes most that come."""
+    server, is_over, sent = Lasting("--workers", "2", "--log"), threading.Event(), []
     document = 500_000 * b"[" + 500_000 * b"]"
-    busy = Beside("the client of long turns", send_again_and_again, server, named(b"S", "a", document), is_over)
-    wait_until(lambda: int(server.of_system("VmRSS")) > 8_000, "a document is read")
+    busy = Beside("the client of long turns", send_again_and_again, server, named(b"S", "a", document), is_over, sent)
+    # (so many do not fit into the sockets)
+    wait_until(lambda: len(sent) >= 10, "documents are read")
     took = [seconds_of(lambda: server.ask(GET_A), NO_DOMAIN) for _ in range(30)]
     is_over.set()
     busy.join()
     wait_until(lambda: server.said().count("session ended after 1 replies") == len(took), "each end is told")
     by_worker = [len(re.findall(f"worker {worker} session ended after 1 replies", server.said())) for worker in range(2)]
-    assert max(by_worker) >= 25, by_worker
+    assert max(by_worker) >= 20, by_worker
     assert server.ended()[1] == "served 31\ndomains 0\n", "ended otherwise"
     return f"; {max(by_worker)} of {len(took)} by one worker, {answered_soon(took)}"
 
 
-def send_again_and_again(server, request, is_over):
-    """Sends a request without pause until it is over, and reads the replies beside that."""
+def send_again_and_again(server, request, is_over, sent):
+    """Sends a request without pause until it is over, adds to what was sent, and reads the replies beside that."""
     with server.connect() as stream:
         reader = Beside("the reader of long turns", read_all, stream)
         while not is_over.is_set():
             stream.sendall(request)
+            sent.append(len(request))
         stream.shutdown(socket.SHUT_WR)
         reader.join()
 
