@@ -14,3 +14,4 @@ pub mod LiveLemmas
 pub mod LiveTables
 pub mod ShownLemmas
 pub mod SessionLines
+pub mod ChangeLetters

@@ -1,3 +1,4 @@
+pub mod Terms
 pub mod Session
 pub mod Transcript
 pub mod Live

@@ -15,11 +15,13 @@ mod pending;
 mod replies;
 mod reply;
 mod session;
+mod terms;
 
 pub use answered::{Answered, Wants};
 pub use dump::{DumpError, migrate, read_dump};
 pub use live::LiveSession;
 pub use session::serve;
+pub use terms::Terms;
 pub use wire::{
     Counted, Decoder, FaultyReader, FaultyWriter, FrontError, Judged, Refusal, Version,
     read_request,
