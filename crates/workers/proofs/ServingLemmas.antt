@@ -205,10 +205,10 @@ module _ {S : Type 0} (answers : S → Op → Result Reply AskError → S → Ty
 
   -- a free place is taken
   pub take_serves : (place : ℕ) (may : StreamLimits) (left held : Option (List ℕ)) (reads_only : Bool) (old new : Work) (s : S) → old.places place ≡ None
-      → new.places place ≡ Some (record { connection = opened limits.turns may left held; reads_only = reads_only; silent = 0 }) → OthersStay place old.places new.places
-      → new.waiting ≡ old.waiting ++ place ∷ [] → new.kept ≡ old.kept → Serves answers limits (Follows (NewClient place (opened limits.turns may left held) reads_only)) old new s s
+      → new.places place ≡ Some (record { connection = opened reads_only limits.turns may left held; reads_only = reads_only; silent = 0 }) → OthersStay place old.places new.places
+      → new.waiting ≡ old.waiting ++ place ∷ [] → new.kept ≡ old.kept → Serves answers limits (Follows (NewClient place (opened reads_only limits.turns may left held) reads_only)) old new s s
   take_serves place may left held reads_only old new s free taken others waits kept =
-      let start = opened limits.turns may left held in
+      let start = opened reads_only limits.turns may left held in
       serves_quietly answers limits (Follows (NewClient place start reads_only)) (Opens place start reads_only) old new s s refl (free, taken, others, refl) waits refl kept (may, left, held, refl)
 
   pub by_news : (h k : News) (old new : Work) (s t : S) → k ≡ h → Serves answers limits (Follows h) old new s t → Serves answers limits (Follows k) old new s t

@@ -1,6 +1,6 @@
 -- Lists of passes and of what workers gave back.
 use Rattle.std.proofs.Common.{◌≡◌, ℕ, zero, suc, ◌+◌, ◌<◌, List, [], ◌∷◌, ◌++◌, Bool, length, get_or, map, All, subst, arith, sym, ap, ◌∙◌, refl}
-use Rattle.std.specs.Prelude.{Result, Ok, Err, IfOk}
+use Rattle.std.specs.Prelude.{Bool, Result, Ok, Err, IfOk}
 use Rattle.std.specs.List.{flat_map}
 use Rattle.workers.specs.Closing.{ranges_of}
 use Rattle.std.proofs.lemmas.List.{get_or-map, length-map, map_push}
@@ -59,7 +59,7 @@ module _ (opens : ℕ → ℕ → Bool → Type 0) (most_silent turns : ℕ) (st
   )
 
   -- what was given in each place was worked for the pass in that place, under that number, and follows what came there
-  pub followed_in_place : {E V F : Type 0} (start : E → ConnectionView) (comes : V → ℕ → Arrival E → V → Type 0) (workers : List (Task V)) (passes : List PassView) (arrivals : List V)
+  pub followed_in_place : {E V F : Type 0} (start : Bool → E → ConnectionView) (comes : V → ℕ → Arrival E → V → Type 0) (workers : List (Task V)) (passes : List PassView) (arrivals : List V)
       (given : List (Result Worked F)) (all : List Worked)
       → map (λ (w : Task V). w.pass) workers ≡ passes → map (λ (w : Task V). w.arrivals) workers ≡ arrivals → AreNumbered 0 (map (λ (w : Task V). w.number) workers)
       → map Ok all ≡ given → length given ≡ length workers
@@ -90,7 +90,7 @@ module _ (opens : ℕ → ℕ → Bool → Type 0) (most_silent turns : ℕ) (st
       (subst (λ (r : Result Worked F). IfOk r (λ x. HasFollowed opens most_silent turns start comes store e.0.number e.0.pass e.0.arrivals x)) gave_is e.2)))
 
   -- who has followed all has served
-  pub served_in_place : {E V : Type 0} (start : E → ConnectionView) (comes : V → ℕ → Arrival E → V → Type 0) (passes : List PassView) (arrivals : List V) (all : List Worked)
+  pub served_in_place : {E V : Type 0} (start : Bool → E → ConnectionView) (comes : V → ℕ → Arrival E → V → Type 0) (passes : List PassView) (arrivals : List V) (all : List Worked)
       → length all ≡ length passes → ((i : ℕ) → Worked → i < length passes → V) → AllFollowed opens most_silent turns start comes store passes arrivals all → AllServed opens most_silent turns store 0 passes all
   served_in_place start comes passes arrivals all long some each =
       all_from_places 0 passes all long (λ i p w l. subst (λ (n : ℕ). HasServed opens most_silent turns store n (get_or passes i p) (get_or all i w)) (omega arith) (each i p (some i w l) w l).0)

@@ -24,7 +24,7 @@ module _ (opens : ℕ → ℕ → Bool → Type 0) (most_silent turns : ℕ) whe
   AllServed store first [] (worked ∷ all) = ⊥
   AllServed store first (pass ∷ passes) [] = ⊥
 
-  module _ {E V : Type 0} (start : E → ConnectionView) (comes : V → ℕ → Arrival E → V → Type 0) where
+  module _ {E V : Type 0} (start : Bool → E → ConnectionView) (comes : V → ℕ → Arrival E → V → Type 0) where
     -- a worker has served, and followed all that came to it, up to a stop
     abbrev pub HasFollowed : StoreView → ℕ → PassView → V → Worked → Type 0
     HasFollowed store worker pass arrivals worked = (served : HasServed store worker pass worked) × ((end : V) × Brings start comes (served.served.news ++ IsToStop ∷ []) arrivals end)

@@ -51,10 +51,11 @@ pub data Step : Type 0 where
   Ends : (place : ℕ) → (result : Result ℕ FrontError) → Step
   Fails : Step
 
--- how far a step may go with a client: a new connection has done nothing yet and may make so many reads; a client is given up only
+-- how far a step may go with a client: a new connection has done nothing yet, may only read if its place is for that,
+-- and may make so many reads; a client is given up only
 -- after so many ticks, and spared only before
 abbrev pub GoesSoFar : (most_silent turns : ℕ) → Step → Type 0
-GoesSoFar most_silent turns (Opens place start reads_only) = (may : StreamLimits) × (left : Option (List ℕ)) × (held : Option (List ℕ)) × (start ≡ opened turns may left held)
+GoesSoFar most_silent turns (Opens place start reads_only) = (may : StreamLimits) × (left : Option (List ℕ)) × (held : Option (List ℕ)) × (start ≡ opened reads_only turns may left held)
 GoesSoFar most_silent turns (GivesUp place ticks error) = most_silent ≤ ticks
 GoesSoFar most_silent turns (Spares place most) = most ≡ most_silent
 GoesSoFar most_silent turns step = ⊤

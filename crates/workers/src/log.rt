@@ -70,6 +70,10 @@ pub trait Log: Drop {
     /// The worker was asked for a change that was refused so.
     fn refused(&self, _worker: u64, _refused: &RefusedChange<'_>) {}
 
+    /// Sessions of the worker at a port for reads only have turned so many changes more away (56), by their letter: nobody has read
+    /// of which names.
+    fn turned_away(&self, _worker: u64, _count: u64) {}
+
     /// A session of the worker has read so many bytes more. (Workers that wait in each client do not tell it.)
     fn read(&self, _worker: u64, _bytes: usize) {}
 

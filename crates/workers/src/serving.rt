@@ -72,7 +72,9 @@ impl<E: Stream + Drop> OpenConnection<E> {
         let connection = &mut self.connection;
         let (had_replies, had_begun) = (connection.has_replies(), connection.has_begun());
         let (answered, written) = (connection.answered(), connection.written());
+        let turned_away = connection.turned_away();
         let after = connection.turn(documents, room, ask, is_closing);
+        ask.tell_turned_away(turned_away, connection.turned_away());
         let has_got_on = if had_replies {
             connection.written() != written
         } else {
@@ -116,14 +118,14 @@ impl<E: Stream + Drop> Served<E> {
         worker: &Worker<'_, L>,
     ) -> Result<(), AllocError>
         ensures free { OnOk result (get self.old.open self.old.open.vacant_key ≡ None) }
-        ensures taken { OnOk result (get self.new.open self.old.open.vacant_key ≡ Some (record { connection = opened worker.now.limits.turns (E.may end) (E.left end) (E.held end); reads_only = reads_only; silent = 0 })) }
+        ensures taken { OnOk result (get self.new.open self.old.open.vacant_key ≡ Some (record { connection = opened reads_only worker.now.limits.turns (E.may end) (E.left end) (E.held end); reads_only = reads_only; silent = 0 })) }
         ensures others { OnOk result (OthersStay self.old.open.vacant_key (get self.old.open) (get self.new.open)) }
         ensures waits { OnOk result (self.new.waiting.items ≡ self.old.waiting.items ++ self.old.open.vacant_key ∷ []) }
         ensures ends { self.new.ends ≡ self.old.ends }
     {
         let peer = end.peer();
         let placed = OpenConnection {
-            connection: Connection::new(worker.alloc, end, worker.limits.turns)?,
+            connection: Connection::new(worker.alloc, end, reads_only, worker.limits.turns)?,
             reads_only,
             silent: 0,
             peer,
@@ -316,7 +318,9 @@ impl<E: Stream + Drop> Served<E> {
         };
         ask.reads_only = placed.reads_only;
         let connection = &mut placed.connection;
+        let turned_away = connection.turned_away();
         let end = connection.last_turn(&mut self.documents, &mut self.room, ask);
+        ask.tell_turned_away(turned_away, connection.turned_away());
         self.close(place, end, worker)
     }
 
@@ -381,7 +385,7 @@ pub fn serve_arrivals<V: Arrivals, A: BehindPort, L: Log>(
     ask: &mut AtPort<A>,
 ) -> Result<SessionEnds, AllocError>
     ensures { IfOk result (λ ends. (served : ServedAll A.answers worker.now.limits.most_silent worker.now.limits.turns ends ask.old.ask ask.new.ask)
-        × Brings (λ end. opened worker.now.limits.turns (V.End.may end) (V.End.left end) (V.End.held end)) V.comes (served.news ++ IsToStop ∷ []) arrivals.old arrivals.new) }
+        × Brings (λ reads_only end. opened reads_only worker.now.limits.turns (V.End.may end) (V.End.left end) (V.End.held end)) V.comes (served.news ++ IsToStop ∷ []) arrivals.old arrivals.new) }
 {
     let mut served = Served::new(worker.alloc);
     loop {
