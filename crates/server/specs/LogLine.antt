@@ -1,5 +1,5 @@
--- The lines of the log of a server: one for each change of a bundle, for each that was refused by 31 or 36, or at a port for
--- reads only, and for each end of a session.
+-- The lines of the log of a server: one for each change of a bundle, for each that was refused by 31 or 36, for those that a session
+-- at a port for reads only refused in a turn, and for each end of a session.
 use Rattle.std.specs.Prelude.{ℕ, List, [], ◌∷◌, ◌++◌, codes, decimal, Option, None, Some, Result, Ok, Err}
 use Rattle.map_core.specs.declared.op.Expect.{Expect}
 use Rattle.map_core.specs.declared.op.Expect.TheVariants.{Absent, Unnumbered, Sequence}
@@ -46,6 +46,10 @@ refusal_words ReadOnly = codes "56"
 abbrev pub refusal_line : ℕ → List ℕ → ChangeRefusal → List ℕ
 refusal_line worker domain refusal =
     codes "worker " ++ decimal worker ++ codes " refused " ++ domain ++ codes " " ++ refusal_words refusal ++ 10 ∷ []
+
+-- such as `worker 3 refused 12 changes 56`: a session for reads only turned so many away, of names that nobody has read
+abbrev pub turned_away_line : ℕ → ℕ → List ℕ
+turned_away_line worker count = codes "worker " ++ decimal worker ++ codes " refused " ++ decimal count ++ codes " changes 56" ++ 10 ∷ []
 
 -- such as `worker 3 session ended after 12 replies`, or `worker 3 session fault 53`
 abbrev pub end_words : ℕ → Result ℕ SessionFault → List ℕ

@@ -1,10 +1,10 @@
-//! The log of a server: a line for each change of a bundle, for each that was refused by 31 or 36, or at a port for reads only,
-//! and for each end of a session. It also counts what it is told.
+//! The log of a server: a line for each change of a bundle, for each that was refused by 31 or 36, for those that a session at a
+//! port for reads only refused in a turn, and for each end of a session. It also counts what it is told.
 ghost use Rattle.std.specs.Prelude.{◌≡◌, IfSome, OnOk};
 ghost use Rattle.std.specs.Bool.{OnTrue};
 ghost use Rattle.std.specs.Io.KnownBytes.{Appends};
 ghost use Rattle.wire.specs.Output.{WritesFront};
-ghost use Rattle.server.specs.LogLine.{before_word, change_line, end_line, end_words, how_word, peer_words, refusal_line, refusal_words, state_word};
+ghost use Rattle.server.specs.LogLine.{before_word, change_line, end_line, end_words, how_word, peer_words, refusal_line, refusal_words, state_word, turned_away_line};
 ghost use Rattle.workers.specs.Log.{change_view};
 
 use crate::counts::{Count, Counts};
@@ -242,6 +242,24 @@ fn text_of_end(worker: u64, end: &Result<u64, SessionFault>, peer: Option<u16>) 
     }
 }
 
+fn write_turned_away<W: Write>(line: &mut W, worker: u64, count: u64) -> io::Result<()>
+    ensures { OnOk result (Appends (W.contents line.old) (W.contents line.new) (turned_away_line worker count)) }
+{
+    write!(line, "worker {worker} refused {count} changes 56")?;
+    writeln!(line)
+}
+
+/// The line of changes that were turned away, if it has room.
+fn text_of_turned_away(worker: u64, count: u64) -> Option<Line>
+    ensures { IfSome result (λ line. line.items ≡ turned_away_line worker count) }
+{
+    let mut line = Line::new();
+    match write_turned_away(&mut line, worker, count) {
+        Ok(()) => Some(line),
+        Err(_) => None,
+    }
+}
+
 /// Writes a line, in one write. Answers whether all of it was taken.
 fn offer<N: Write>(end: &mut N, line: &Line) -> bool
     ensures whole { OnTrue result (Appends (N.contents end.old) (N.contents end.new) line.now.items) }
@@ -316,6 +334,15 @@ impl<C: Clock, N: Write + Copy + Drop> Log for LineLog<'_, C, N> {
             return;
         }
         if let Some(line) = text_of_refused(worker, refused) {
+            self.tell(&line);
+        }
+    }
+
+    fn turned_away(&self, worker: u64, count: u64) {
+        if !self.is_on || !self.admits() {
+            return;
+        }
+        if let Some(line) = text_of_turned_away(worker, count) {
             self.tell(&line);
         }
     }
