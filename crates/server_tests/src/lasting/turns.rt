@@ -191,7 +191,9 @@ fn a_turn_ends_after_its_bytes(rt: HostRuntime) -> Result<(), Fail> {
     let mut output = Vec::new(rt.alloc());
     let found = turn_of(rt.alloc(), input.as_slice(), &mut output, true)?;
     is_equal(&rt, &found, &(TurnEnd::Again, 4));
-    let replies = STORED.len().saturating_add(FOUND.len().saturating_mul(8_085));
+    let replies = STORED
+        .len()
+        .saturating_add(FOUND.len().saturating_mul(8_085));
     is_equal(&rt, &output.len(), &replies);
     Ok(())
 }
