@@ -18,12 +18,25 @@ use Rattle.frame_front.specs.Private.Steps.{AnswersFrame}
 use Rattle.wire.proofs.FrameLemmas.{longer_by_frame}
 use Rattle.frame_front.proofs.SessionLemmas.{Serves-none, Serves-one, Serves-then, concat-one}
 
+nil_if-length : (bytes : List ℕ) → length bytes ≡ 0 → bytes ≡ []
+nil_if-length [] none = refl
+nil_if-length (byte ∷ bytes) none = absurd (omega (arith, none))
+
 -- if not all domains are stored, some bytes are left
 pub items_left-some : (items : List (Name × BundleValue)) (stored : ℕ) → stored < length items → items_left items stored ≢ []
 items_left-some [] stored few = absurd (omega (arith, few))
 items_left-some (item ∷ items) zero few = λ none.
     omega (arith, ap length none, longer_by_frame (105 ∷ length item.0 ∷ item.0 ++ text_of item.1) (flat_map item_frame items))
 items_left-some (item ∷ items) (suc stored) few = items_left-some items stored (omega (arith, few))
+
+-- behind any bytes
+pub front_and_items-some : (head : List ℕ) (items : List (Name × BundleValue)) (stored : ℕ) → stored < length items → head ++ items_left items stored ≢ []
+front_and_items-some head items stored few = λ none.
+    items_left-some items stored few (nil_if-length (items_left items stored) (omega (arith, ap length none, length-append head (items_left items stored))))
+
+-- with some bytes in front, something is left
+pub front-some : (head body : List ℕ) → 0 < length head → head ++ body ≢ []
+front-some head body some = λ none. omega (arith, some, ap length none, length-append head body)
 
 pub items_left-err : {A E : Type 0} (result : Result A E) (items : List (Name × BundleValue)) (stored : ℕ)
     → OnErr result (stored < length items) → OnErr result (items_left items stored ≢ [])

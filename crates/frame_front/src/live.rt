@@ -1,5 +1,5 @@
 //! Sessions without ends: bytes come in, bytes go out, and whoever has the ends says when.
-ghost use Rattle.std.specs.Prelude.{◌≡◌, ◌≢◌, ◌≤◌, ◌++◌, [], length, take, drop, min, IfOk, IfErr, OnOk, OnErr};
+ghost use Rattle.std.specs.Prelude.{◌≡◌, ◌≢◌, ◌≤◌, ◌++◌, [], length, take, drop, min, true, false, IfOk, IfErr, OnOk, OnErr};
 ghost use Rattle.std.specs.Io.KnownBytes.{Appends};
 ghost use Rattle.wire.specs.Counted.{end_in, faults_in, next_count};
 ghost use Rattle.frame_front.specs.Live.{LiveAnswers, FinishesAt, Feeds, Sends, live_start, most_frames, most_kept, most_ready, room_of, live_view, waiting};
@@ -165,6 +165,15 @@ impl LiveSession {
         ensures few { length result.now ≤ most_ready }
     {
         self.replies.ready.bytes.as_slice()
+    }
+
+    /// Whether a part of the last reply is not stored yet. As long as one is, the bundles of that reply are held: of a fetch-all
+    /// all of one moment.
+    pub fn has_more(&self) -> bool
+        ensures some { result ≡ true → self.now.later ≢ [] }
+        ensures none { result ≡ false → self.now.later ≡ [] }
+    {
+        self.replies.pending.has_more()
     }
 
     /// So many bytes of the replies are sent.
