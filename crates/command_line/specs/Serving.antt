@@ -12,6 +12,7 @@ abbrev pub AreConnections : Connections → Type 0
 AreConnections (Each count) = (0 < count) × (count ≤ 1000)
 AreConnections (Unlimited lasting) =
     (0 < lasting.most_open) × (lasting.most_open ≤ 1000000) × (0 < lasting.idle) × (lasting.idle ≤ 86400)
+    × (0 < lasting.reply_seconds) × (lasting.reply_seconds ≤ 86400) × (0 < lasting.moments) × (lasting.moments ≤ 1000)
 
 -- stands for no limit of reads, since no session makes so many
 abbrev pub no_limit : ℕ
@@ -24,7 +25,7 @@ IsLimit (Unlimited lasting) turns = ((0 < turns) × (turns ≤ 1000000000)) ⊎ 
 
 -- the options of a server that lasts
 abbrev pub lasting_options : List (List ℕ)
-lasting_options = codes "max-open" ∷ codes "read-port" ∷ codes "read-socket" ∷ codes "until-eof" ∷ codes "idle" ∷ []
+lasting_options = codes "max-open" ∷ codes "read-port" ∷ codes "read-socket" ∷ codes "until-eof" ∷ codes "idle" ∷ codes "reply-seconds" ∷ codes "moments" ∷ []
 
 -- if the server does not last, none of these is given
 abbrev pub FitsForm : ArgMatches → Connections → Type 0

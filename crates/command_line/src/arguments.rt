@@ -206,6 +206,18 @@ pub const IDLE: Argument = Argument {
     help: "If connections are unlimited: how long a client may take to send a request, or take nothing of a reply",
 };
 
+pub const REPLY_SECONDS: Argument = Argument {
+    name: "reply-seconds",
+    kind: Kind::Number("SECONDS", ranges::REPLY_SECONDS),
+    help: "If connections are unlimited: how long a client may take to read a long reply",
+};
+
+pub const MOMENTS: Argument = Argument {
+    name: "moments",
+    kind: Kind::Number("COUNT", ranges::MOMENTS),
+    help: "If connections are unlimited: of how many moments each worker keeps the bundles for clients that read them",
+};
+
 pub const LOAD: Argument = Argument {
     name: "load",
     kind: Kind::Optional("FILE", ValueParser::String),

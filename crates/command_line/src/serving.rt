@@ -18,8 +18,8 @@ use std::alloc::Global;
 const NO_COUNT: &str = "--connections takes a number in 1..=1000, or `unlimited`";
 
 const OTHER_FORM: &str =
-    "--max-open, --read-port, --read-socket, --until-eof and --idle belong to --connections unlimited: \
-with a number of connections each worker serves one client after the other";
+    "--max-open, --read-port, --read-socket, --until-eof, --idle, --reply-seconds and --moments belong \
+to --connections unlimited: with a number of connections each worker serves one client after the other";
 
 /// A server, by the answers of `serve`.
 pub fn serving_of<'a>(
@@ -87,15 +87,19 @@ fn asks_to_last(answers: &ArgMatches<'_>) -> bool
         || is_given(answers, "read-socket")
         || is_given(answers, "until-eof")
         || is_given(answers, "idle")
+        || is_given(answers, "reply-seconds")
+        || is_given(answers, "moments")
 }
 
 fn lasting_of(answers: &ArgMatches<'_>) -> Lasting
-    ensures { (result.most_open ≤ 1000000) × (result.idle ≤ 86400) }
+    ensures { (result.most_open ≤ 1000000) × (result.idle ≤ 86400) × (result.reply_seconds ≤ 86400) × (result.moments ≤ 1000) }
 {
     Lasting {
         most_open: ranges::MAX_OPEN.of(answers, "max-open"),
         until_eof: answers.get_flag("until-eof"),
         idle: ranges::IDLE.of(answers, "idle"),
+        reply_seconds: ranges::REPLY_SECONDS.of(answers, "reply-seconds"),
+        moments: ranges::MOMENTS.of(answers, "moments"),
     }
 }
 

@@ -225,7 +225,7 @@ a time may write to a folder.";
 pub const SERVING: &str = "\
 With a number of --connections each worker serves so many clients one after the other, and then the server ends. With
 --connections unlimited it lasts, and each worker serves many clients beside each other: --max-open, --read-port,
---read-socket, --until-eof and --idle belong to this form only.
+--read-socket, --until-eof, --idle, --reply-seconds and --moments belong to this form only.
 
 Each worker is a thread. All share one store, which is empty at the start, or holds what --load gives it: a dump of any
 length, judged whole and stored before anybody can connect. A connection carries the frames that `run` reads and

@@ -107,6 +107,8 @@ fn push_form(numbers: &mut Vec<Option<u64>>, connections: Connections) -> Result
             numbers.push(Some(lasting.most_open))?;
             numbers.push(Some(u64::from(lasting.until_eof)))?;
             numbers.push(Some(lasting.idle))?;
+            numbers.push(Some(lasting.reply_seconds))?;
+            numbers.push(Some(lasting.moments))?;
         }
     }
     Ok(())
@@ -282,7 +284,7 @@ const NO_COUNT: &str =
     "error: --connections takes a number in 1..=1000, or `unlimited`\n\nUsage: serve [OPTIONS]\n\nFor more information, try '--help'.\n";
 
 const OTHER_FORM: &str =
-    "error: --max-open, --read-port, --read-socket, --until-eof and --idle belong to --connections unlimited: with a number of connections each worker serves one client after the other\n\nUsage: serve [OPTIONS]\n\nFor more information, try '--help'.\n";
+    "error: --max-open, --read-port, --read-socket, --until-eof, --idle, --reply-seconds and --moments belong to --connections unlimited: with a number of connections each worker serves one client after the other\n\nUsage: serve [OPTIONS]\n\nFor more information, try '--help'.\n";
 
 /// Where a server listens: at a port or at a Unix socket, and the same for reads.
 static PLACES: [Line; 15] = [
@@ -292,15 +294,15 @@ static PLACES: [Line; 15] = [
     ),
     (
         "serve --socket=run/a --read-socket=-b --connections unlimited",
-        "serve unlimited|-|-|run/a|-b|0|2|18446744073709551615|4|3|1000|1000|1000|0|60",
+        "serve unlimited|-|-|run/a|-b|0|2|18446744073709551615|4|3|1000|1000|1000|0|60|60|8",
     ),
     (
         "serve --port=0 --read-socket b --connections unlimited",
-        "serve unlimited|-|-|0|b|0|2|18446744073709551615|4|3|1000|1000|1000|0|60",
+        "serve unlimited|-|-|0|b|0|2|18446744073709551615|4|3|1000|1000|1000|0|60|60|8",
     ),
     (
         "serve --socket a --read-port 0 --connections unlimited",
-        "serve unlimited|-|-|a|0|0|2|18446744073709551615|4|3|1000|1000|1000|0|60",
+        "serve unlimited|-|-|a|0|0|2|18446744073709551615|4|3|1000|1000|1000|0|60|60|8",
     ),
     ("ask --socket a fetch", "ask|fetch|a|100|0"),
     ("snapshot --socket a --out b", "snapshot|b|a|-|0"),
@@ -360,15 +362,15 @@ static SERVERS: [Line; 17] = [
     ),
     (
         "serve --port=1 --connections=unlimited",
-        "serve unlimited|-|-|1|-|0|2|18446744073709551615|4|3|1000|1000|1000|0|60",
+        "serve unlimited|-|-|1|-|0|2|18446744073709551615|4|3|1000|1000|1000|0|60|60|8",
     ),
     (
-        "serve --port=1 --connections unlimited --max-open=1000000 --read-port=8444 --until-eof --idle=86400 --turns=1000000 --log --load=a",
-        "serve unlimited|a|-|1|8444|1|2|1000000|4|3|1000|1000|1000000|1|86400",
+        "serve --port=1 --connections unlimited --max-open=1000000 --read-port=8444 --until-eof --idle=86400 --reply-seconds=1 --moments=1000 --turns=1000000 --log --load=a",
+        "serve unlimited|a|-|1|8444|1|2|1000000|4|3|1000|1000|1000000|1|86400|1|1000",
     ),
     (
         "serve --port=1 --connections unlimited --max-open=1 --read-port=0 --idle=1 --save=dumps/b",
-        "serve unlimited|-|dumps/b|1|0|0|2|18446744073709551615|4|3|1000|1000|1|0|1",
+        "serve unlimited|-|dumps/b|1|0|0|2|18446744073709551615|4|3|1000|1000|1|0|1|60|8",
     ),
     ("serve --port 1 --connections 0", NO_COUNT),
     ("serve --port 1 --connections 1001", NO_COUNT),

@@ -17,7 +17,8 @@ use Rattle.map_core.specs.Op.{is_read}
 use Rattle.workers.specs.AtPort.{PortAnswer}
 use Rattle.workers.specs.Connection.{ConnectionView, Turn, turn_rounds, last_rounds}
 use Rattle.workers.specs.declared.turn_end.TurnEnd.{TurnEnd}
-use Rattle.workers.specs.Places.{Places, Step, Opens, Turns, Misses, Ticks, Skips, Spares, Closes, GivesUp, Ends, Fails, Takes, TakesAll, ServedAll, nobody}
+use Rattle.workers.specs.declared.limits.Patience.{Patience}
+use Rattle.workers.specs.Places.{Places, Step, Opens, Turns, Misses, Ticks, Skips, Spares, Closes, GivesUp, Expires, Ends, Fails, Takes, TakesAll, ServedAll, nobody}
 
 module _ {S T : Type 0} (answers : S → Op → Result Reply AskError → S → Type 0) (answers_seen : T → Op → Result Reply AskError → T → Type 0)
     (seen : S → T) (Stays : S → Type 0)
@@ -127,13 +128,14 @@ module _ {S T : Type 0} (answers : S → Op → Result Reply AskError → S → 
   step_seen (Opens place start reads_only) old new stays a = (subst Stays (sym a.3) stays, (a.0, a.1, a.2, ap seen a.3))
   step_seen (Turns place ready after) old new stays a =
       let t = port_turn_seen turn_rounds a.0.reads_only after _ a.1.connection old.1 new.1 stays a.4 in
-      (t.0, (a.0, a.1, a.2, a.3, t.1, a.5, a.6, a.7))
+      (t.0, (a.0, a.1, a.2, a.3, t.1, a.5, a.6, a.7, a.8))
   step_seen (Misses place is_closing) old new stays a = (subst Stays (sym a.2) stays, (a.0, a.1, ap seen a.2))
-  step_seen (Ticks places) old new stays a = (subst Stays (sym a.2) stays, (a.0, a.1, ap seen a.2))
+  step_seen (Ticks places moments most oldest) old new stays a = (subst Stays (sym a.3) stays, (a.0, a.1, a.2, ap seen a.3))
   step_seen (Skips place) old new stays a = (subst Stays (sym a.2) stays, (a.0, a.1, ap seen a.2))
-  step_seen (Spares place most) old new stays a = (subst Stays (sym a.2) stays, (a.0, a.1, ap seen a.2))
+  step_seen (Spares place most oldest) old new stays a = (subst Stays (sym a.2) stays, (a.0, a.1, ap seen a.2))
   step_seen (Closes place result) old new stays a = (subst Stays (sym a.5) stays, (a.0, a.1, a.2, a.3, a.4, ap seen a.5))
   step_seen (GivesUp place ticks error) old new stays a = (subst Stays (sym a.6) stays, (a.0, a.1, a.2, a.3, a.4, a.5, ap seen a.6))
+  step_seen (Expires place age) old new stays a = (subst Stays (sym a.3) stays, (a.0, a.1, a.2, ap seen a.3))
   step_seen (Ends place result) old new stays a =
       let t = port_turn_seen last_rounds a.0.reads_only a.3.0 _ a.1 old.1 new.1 stays a.3.1 in
       (t.0, (a.0, a.1, a.2, (a.3.0, t.1, a.3.2), a.4, a.5))
@@ -148,8 +150,8 @@ module _ {S T : Type 0} (answers : S → Op → Result Reply AskError → S → 
       (rest.0, ((a.0.0, seen a.0.1), one.1, rest.1))
 
   -- sessions over one state are sessions over what is seen of it, by the same steps
-  pub sessions_seen : (most_silent turns : ℕ) (kept : EndsView) (old new : S) → Stays old → (a : ServedAll answers most_silent turns kept old new)
-      → Stays new × ((b : ServedAll answers_seen most_silent turns kept (seen old) (seen new)) × (b.news ≡ a.news))
-  sessions_seen most_silent turns kept old new stays a =
+  pub sessions_seen : (patience : Patience) (turns : ℕ) (kept : EndsView) (old new : S) → Stays old → (a : ServedAll answers patience turns kept old new)
+      → Stays new × ((b : ServedAll answers_seen patience turns kept (seen old) (seen new)) × (b.news ≡ a.news))
+  sessions_seen patience turns kept old new stays a =
       let all = steps_seen (a.before ++ a.last) (nobody, old) (nobody, new) stays a.takes in
       (all.0, (record { news = a.news; before = a.before; last = a.last; follows = a.follows; ending = a.ending; takes = all.1; ends = a.ends; limited = a.limited }, refl))

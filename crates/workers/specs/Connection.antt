@@ -145,6 +145,10 @@ got_on old new = if has_bytes old.live.ready then not (new.written == old.writte
 abbrev pub silent_after : (old new : ConnectionView) → ℕ → ℕ
 silent_after old new silent = if got_on old new then 0 else silent
 
+-- How old the last reply of a client is after a turn: how many ticks have passed since a frame of it was answered last.
+abbrev pub age_after : (old new : ConnectionView) → ℕ → ℕ
+age_after old new age = if new.answered == old.answered then age else 0
+
 -- bytes are lost only if some were read that reached no session
 abbrev pub LosesOnly : List ℕ → ConnectionView → ConnectionView → Type 0
 LosesOnly lost old new = new.has_lost ≡ true → (old.has_lost ≡ true) ⊎ (0 < length lost)

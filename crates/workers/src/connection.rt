@@ -1,5 +1,5 @@
 //! A stream that never waits, and the session that it carries.
-ghost use Rattle.std.specs.Prelude.{◌≡◌, ◌<◌, [], true, IfOk};
+ghost use Rattle.std.specs.Prelude.{◌≡◌, ◌≢◌, ◌<◌, [], true, false, IfOk};
 ghost use Rattle.wire.specs.Frame.{IsUnfinished};
 ghost use Rattle.frame_front.specs.Live.{waiting};
 ghost use Rattle.workers.specs.Connection.{IsLost, LastTurn, Owes, has_bytes, StopsFor, Turn, ended, opened, told, turn_rounds};
@@ -91,6 +91,14 @@ impl<E: Stream + Drop> Connection<E> {
         ensures { result ≡ has_bytes self.now.live.ready }
     {
         !self.live.replies().is_empty()
+    }
+
+    /// Whether a part of the last reply is not stored yet: what the reply is made of is held until then.
+    pub(crate) fn has_more(&self) -> bool
+        ensures some { result ≡ true → self.now.live.later ≢ [] }
+        ensures none { result ≡ false → self.now.live.later ≡ [] }
+    {
+        self.live.has_more()
     }
 
     /// Whether the client has begun a frame that is not answered.

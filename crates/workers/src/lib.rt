@@ -47,7 +47,7 @@ pub use gate::{Gate, Open};
 pub use gated::Gated;
 pub use lasting::run_arrivals;
 pub use limited::ROOM_BYTES;
-pub use limits::Limits;
+pub use limits::{Limits, Patience};
 pub use log::{ChangeRefusal, Changed, How, Log, Quiet, RefusedChange};
 pub use logged::Logged;
 pub use passes::passes_of;

@@ -9,7 +9,7 @@ ghost use Rattle.wire.specs.Output.{end_of};
 ghost use Rattle.commands.specs.declared.fault.Fault.TheVariants.{Front, Listen};
 ghost use Rattle.wire.specs.Counted.{faults_in};
 ghost use Rattle.wire.specs.declared.error.FrontError.TheVariants.{Memory};
-ghost use Rattle.server.specs.Serving.{ServedBeside};
+ghost use Rattle.server.specs.Serving.{ServedBeside, patience, ticks};
 
 use crate::ending::{Done, report};
 use crate::lines::{ServerLine, say};
@@ -31,7 +31,7 @@ use std::thread;
 use std::thread::Threads;
 use std::time::Clock;
 use wire::{Counted, FrontError};
-use workers::{Limits, Log, Open, SharedByWorkers, Worked, run_arrivals};
+use workers::{Limits, Log, Open, Patience, SharedByWorkers, Worked, run_arrivals};
 
 /// Why a server that is to stop at the end of the input does not begin.
 const NO_THREAD: &str = "no thread can be made that waits for the end of the input";
@@ -103,6 +103,24 @@ fn incoming_of<'a, C: Clock>(
     Ok(all)
 }
 
+/// A number of seconds in ticks.
+fn ticks_of(seconds: u64) -> u64
+    ensures { result ≡ ticks seconds }
+{
+    seconds.saturating_mul(TICKS_A_SECOND)
+}
+
+/// How long the workers wait for their clients.
+fn patience_of(lasting: Lasting) -> Patience
+    ensures { result ≡ patience lasting }
+{
+    Patience {
+        most_silent: ticks_of(lasting.idle),
+        reply_ticks: ticks_of(lasting.reply_seconds),
+        moments: lasting.moments,
+    }
+}
+
 /// Runs the workers.
 fn run<H: Threads + Clock + Sync, L: Log + Copy + Sync>(
     work: &Work<'_, '_, '_, '_, H, L>,
@@ -120,7 +138,7 @@ fn run<H: Threads + Clock + Sync, L: Log + Copy + Sync>(
         log: host.log,
         limits: Limits {
             retries: settings.retries,
-            most_silent: work.lasting.idle.saturating_mul(TICKS_A_SECOND),
+            patience: patience_of(work.lasting),
             turns: settings.turns,
         },
     };

@@ -50,7 +50,7 @@ returns g c =
     let end : at_work ends_at.store ends_at.seen done.calls ≡ at_work store c.into_pass.result.seen done.calls =
     ap (λ x. at_work x ends_at.seen done.calls) store_is ∙ ap (λ x. at_work store x done.calls) (sym c.into_pass.ensures.seen) in
     let news = c.in_ok-ends.ensures.0.news in
-    let all : AtWork → AtWork → Type 0 = λ x y. (b : ServedAll (WorkerAnswer opens number) limits.most_silent limits.turns c.in_ok-ends.ends x y) × (b.news ≡ news) in
+    let all : AtWork → AtWork → Type 0 = λ x y. (b : ServedAll (WorkerAnswer opens number) limits.patience limits.turns c.in_ok-ends.ends x y) × (b.news ≡ news) in
     let both : all (at_work store c.args.task.pass.seen 0) (at_work store c.into_pass.result.seen done.calls) =
     subst (λ s. all s (at_work store c.into_pass.result.seen done.calls)) start (subst (λ s. all (begins_at, begun.calls) s) end served) in
     let begins : g.row.V-End.Denot → ConnectionView = λ end. opened limits.turns (g.V.End.Stream.may end) (g.V.End.Stream.left end) (g.V.End.Stream.held end) in

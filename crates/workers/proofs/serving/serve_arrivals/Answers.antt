@@ -38,7 +38,7 @@ loop-end-preserved g c =
       | in-Opens+in_ok-take-in-Opens w ↦
           let end = w.in-Opens.end in
           let taken = w.in_ok-take-in-Opens.ensures in
-          let stands = subst (λ (e : g.row.V-End.Denot). get w.take.new.self.open free ≡ Some (record { connection = opened limits.turns (g.V.End.Stream.may e) (g.V.End.Stream.left e) (g.V.End.Stream.held e); reads_only = w.in-Opens.reads_only; silent = 0 }))
+          let stands = subst (λ (e : g.row.V-End.Denot). get w.take.new.self.open free ≡ Some (record { connection = opened limits.turns (g.V.End.Stream.may e) (g.V.End.Stream.left e) (g.V.End.Stream.held e); reads_only = w.in-Opens.reads_only; silent = 0; age = 0 }))
           w.new-metered.ensures taken.taken in
           rw (w.served-is, w.ask-is) (by_news answers limits _ _ _ _ _ _ (ap news w.in-Opens.is)
           (take_serves answers limits free (g.V.End.Stream.may end) (g.V.End.Stream.left end) (g.V.End.Stream.held end) w.in-Opens.reads_only (work_of old) (work_of w.take.new.self) asked
