@@ -9,6 +9,7 @@ import errno
 import os
 import re
 import select
+import signal
 import socket
 import stat
 import subprocess
@@ -18,8 +19,9 @@ import time
 sys.dont_write_bytecode = True
 
 from checks import AFTERWARDS, EMPTY, SECONDS, Lasting, LeftOut, Room, Server, bytes_of, canonical, dump_of  # noqa: E402
-from checks import frame, named, numbered, part, pem_of, rest_of, run_checks, run_words, start, unused_port  # noqa: E402
+from checks import frame, named, numbered, part, pem_of, rest_of, run_checks, run_words, start, unused_port, wait_until  # noqa: E402
 from loads import compiled  # noqa: E402
+from refusals import build_shim  # noqa: E402
 
 STORED = frame(b"s")
 MEBIBYTES = 20
@@ -283,8 +285,44 @@ def sockets_of_others():
     assert os.listdir(room.path) == [], os.listdir(room.path)
 
 
+def about_to_keep(server):
+    """The server ends, and has written its map beside the file; it stops there until it is to go on."""
+    server.stop()
+    wait_until(lambda: server.of_system("State") == "T", "a server is about to keep its map")
+
+
+def two_of_one_file():
+    """Two servers share a file. One that starts, or ends, while the other writes takes away what that has written: the other ends with
+    fault 59, and leaves the file, and what stands beside it by then, as they are."""
+    room = Room()
+    saved, before = f"{room.path}/saved", dump_of({"before": EMPTY})
+    how = {"env": {"LD_PRELOAD": build_shim(room.path), "STOP_AT_SYNC": "1"}}
+    room.write("saved", before)
+    first = Lasting("--workers", "1", "--save", saved, **how)
+    assert first.ask(named(b"S", "a", EMPTY)) == STORED
+    about_to_keep(first)
+    assert bytes_of(f"{saved}.new") == dump_of({"a": EMPTY})
+    starts = Lasting("--workers", "1", "--save", saved)
+    assert not os.path.exists(f"{saved}.new")
+    first.started.send_signal(signal.SIGCONT)
+    assert first.ended() == (1, "served 1\ndomains 1\n", "fault 59\n"), "ended otherwise"
+    assert bytes_of(saved) == before
+    assert starts.ended() == (0, "served 0\ndomains 0\n", ""), "ended otherwise"
+    assert bytes_of(saved) == dump_of({})
+    first, second = (Lasting("--workers", "1", "--save", saved, **how) for _ in range(2))
+    assert [server.ask(named(b"S", name, EMPTY)) for server, name in ((first, "a"), (second, "b"))] == [STORED, STORED]
+    about_to_keep(first)
+    about_to_keep(second)
+    first.started.send_signal(signal.SIGCONT)
+    assert first.ended() == (1, "served 1\ndomains 1\n", "fault 59\n"), "ended otherwise"
+    assert (bytes_of(saved), bytes_of(f"{saved}.new")) == (dump_of({}), dump_of({"b": EMPTY}))
+    second.started.send_signal(signal.SIGCONT)
+    assert second.ended() == (0, "served 1\ndomains 1\n", ""), "ended otherwise"
+    assert bytes_of(saved) == dump_of({"b": EMPTY})
+
+
 CHECKS = [large_dumps, limits_that_stay, cut_dumps, nobody_before_the_load, told_at_the_start, links_beside_it, modes, full_disk,
-          memory_of_a_save, sockets_of_others]
+          memory_of_a_save, two_of_one_file, sockets_of_others]
 
 
 def measured(mebibytes):
