@@ -278,11 +278,19 @@ def place_of(word):
     return int(word) if word.isdigit() else word
 
 
-class Server:
-    """The program behind a port that it has chosen, if neither another one nor the path of a Unix socket is given. If a check
-    fails, what it said on standard error is told, unless that goes elsewhere."""
+def untimed(told):
+    """What a server tells on standard error, without the time before a line."""
+    return re.sub(r"^\d{4}-\d\d-\d\dT\d\d:\d\d:\d\dZ (?=worker |settings |max-open |serving |no more )", "", told, flags=re.M)
 
-    def __init__(self, *options, port=0, stdin=subprocess.DEVNULL, err=None, **how):
+
+class Server:
+    """The program behind a port that it has chosen, if neither another one nor the path of a Unix socket is given. It is told how
+    many clients each worker serves: one, unless the options say it, or it is to be `bare`. If a check fails, what it said on
+    standard error is told, unless that goes elsewhere."""
+
+    def __init__(self, *options, port=0, bare=False, stdin=subprocess.DEVNULL, err=None, **how):
+        if not bare and "--connections" not in options:
+            options = ("--connections", "1", *options)
         option = "--port" if str(port).isdigit() else "--socket"
         words = [program(), "serve", option, str(port), *options]
         self.errors = AFTERWARDS.enter_context(tempfile.TemporaryFile())

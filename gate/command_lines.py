@@ -197,7 +197,7 @@ SHOWN = [
     ("refresh --help", "1000 a.example sent due 1300"),
     ("snapshot --help", "shown snapshot-7 domains 2"),
     ("explain 73", "over 250 bytes"),
-    ("serve --help", "worker 0 set a.example absent to 7"),
+    ("serve --help", "worker 0 client 1 set a.example absent to 7"),
     ("serve --help", "each worker serves many clients beside each other"),
     ("serve --help", "--turns <READS>"),
     ("serve --help", "--save <FILE>"),

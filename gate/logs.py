@@ -19,9 +19,9 @@ TOGETHER, TIMES = 100, 20
 A_SECOND = 100
 TIME = r"\d{4}-\d\d-\d\dT\d\d:\d\d:\d\dZ "
 LEFT_OUT = re.compile(TIME + r"log (\d+) lines left out")
-CHANGE = re.compile(TIME + r"worker \d (?:set [a-z]+ absent to unnumbered|removed [a-z]+ unnumbered to absent)")
-REFUSAL = re.compile(TIME + r"worker \d refused [a-z]+ 56")
-END = re.compile(TIME + r"worker \d session ended after \d+ replies from \d+")
+CHANGE = re.compile(TIME + r"worker \d client \d+ (?:set [a-z]+ absent to unnumbered|removed [a-z]+ unnumbered to absent)")
+REFUSAL = re.compile(TIME + r"worker \d client \d+ refused [a-z]+ 56")
+END = re.compile(TIME + r"worker \d client \d+ session ended after \d+ replies from \d+")
 SETTINGS = re.compile(TIME + r"settings workers \d shards \d+ max-open \d+")
 
 

@@ -1,5 +1,6 @@
 #!/usr/bin/env python3
-"""What the command `serve` says in words on standard error: behind the line of a fault comes what could not be had, where and why.
+"""What the command `serve` says in words on standard error: behind the line of a fault comes what could not be had, where and why;
+and how many clients it serves if nobody has said that.
 
 usage: gate/told.py   (over the program that rt ci or rt run has built in crates/bundled/out/)
 
@@ -11,7 +12,7 @@ import sys
 
 sys.dont_write_bytecode = True
 
-from checks import EMPTY, Lasting, LeftOut, Room, Server, dump_of, named, part, frame, run_checks  # noqa: E402
+from checks import EMPTY, Lasting, LeftOut, Room, Server, dump_of, named, part, frame, run_checks, untimed  # noqa: E402
 from refusals import build_shim  # noqa: E402
 
 FOREVER = ("--connections", "unlimited")
@@ -106,8 +107,23 @@ def the_required_form():
     """With a port and a number of clients the line of a fault stands by itself."""
     with socket.create_server(("127.0.0.1", 0)) as taken:
         for form in ((), ("--connections", "2")):
-            server = Server(*form, port=taken.getsockname()[1])
+            server = Server(*form, port=taken.getsockname()[1], bare=True)
             assert (server.line, server.ended()) == ("", (1, "", "fault 57\n")), server.line
+
+
+def numbers_that_nobody_said():
+    """Without --connections a server that listens tells how many clients it serves; and serves so many. With a number it says nothing
+    of the kind."""
+    for workers, said in (((), "2 clients"), (("--workers", "1"), "1 client"), (("--workers", "3"), "3 clients")):
+        with part(workers=workers):
+            server, count = Server(*workers, bare=True), int(said.split()[0])
+            for _ in range(count):
+                assert server.ask(named(b"G", "a")) == frame(b"\x1e")
+            status, out, err = server.ended()
+            assert (status, out, untimed(err)) == (0, f"served {count}\ndomains 0\n", f"serving {said}, then it ends; --connections unlimited stays\n"), (out, err)
+    server = Server("--workers", "1", "--connections", "1")
+    assert server.ask(named(b"G", "a")) == frame(b"\x1e")
+    assert server.ended() == (0, "served 1\ndomains 0\n", "")
 
 
 def no_thread_for_the_end():
@@ -123,7 +139,7 @@ def no_thread_for_the_end():
 
 
 CHECKS = [ports_that_are_taken, sockets_that_are_not_had, rights_that_are_missing, files_that_are_not_written, dumps_that_are_not_read,
-          names_that_terminals_obey, the_required_form, no_thread_for_the_end]
+          names_that_terminals_obey, the_required_form, numbers_that_nobody_said, no_thread_for_the_end]
 
 if __name__ == "__main__":
     sys.exit(run_checks(CHECKS))

@@ -64,7 +64,7 @@ Does (Race seconds) status old new = RaceRun status old new
 Does (Refresh wanted) status old new = RefreshRun status old new
 Does (Snapshot wanted) status old new = SnapshotRun wanted.at_least status old new
 Does (Stats wanted) status old new = StatsRun status old new
-Does (Serve places load save log settings) status old new =
+Does (Serve places load save log says_connections settings) status old new =
     (stops_at_end settings.connections ≡ false → new.input ≡ old.input) × ServeCommand IsUnknown (ServedAs settings.connections settings.turns) load save settings status old.output new.output old.error new.error
 
 -- Help or the version is written to standard output, and nothing is read. Or memory ran out before that or a command.

@@ -146,16 +146,17 @@ fn run_wanted<
             places,
             load,
             save,
-            log: is_on,
+            log: scope,
+            says_connections,
             settings,
         } => {
-            tell_start(host, settings, *is_on, notes);
+            tell_start(host, settings, scope.has_changes(), notes);
             let Ok(counts) = Counts::new(alloc, host, settings.workers) else {
                 return Fault::Front(FrontError::Memory).tell(err);
             };
-            let room = NotesRoom::new(host, alloc, *is_on);
+            let room = NotesRoom::new(host, alloc);
             let end = Stamped::new(host, Notes::new(host, &room, notes));
-            let log = LineLog::new(&counts, host, end, *is_on);
+            let log = LineLog::new(&counts, host, end, *scope);
             let host = Host {
                 rt: host,
                 alloc,
@@ -166,6 +167,7 @@ fn run_wanted<
                 places: *places,
                 load: *load,
                 save: *save,
+                says_connections: *says_connections,
                 settings: *settings,
             };
             let status = serve_over(&host, serving, reader, out, err);

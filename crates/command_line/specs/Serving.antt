@@ -1,10 +1,12 @@
 -- The two forms of the command `serve`, and what belongs to each.
-use Rattle.std.specs.Prelude.{◌≡◌, ◌⊎◌, ℕ, ◌<◌, ◌≤◌, List, [], ◌∷◌, Bool, false, codes, None}
+use Rattle.std.specs.Prelude.{◌≡◌, ◌⊎◌, ℕ, ◌<◌, ◌≤◌, List, [], ◌∷◌, Bool, true, false, codes, None}
 use Rattle.std.specs.List.{list_any}
 use Rattle.clap.specs.declared.parser.matches.ArgMatches.{ArgMatches}
 use Rattle.command_line.specs.Answers.{is_given}
 use Rattle.command_line.specs.declared.settings.Connections.{Connections}
 use Rattle.command_line.specs.declared.settings.Connections.TheVariants.{Each, Unlimited}
+use Rattle.command_line.specs.declared.wanted.LogScope.{LogScope}
+use Rattle.command_line.specs.declared.wanted.LogScope.TheVariants.{Nothing, Changes, All}
 use Rattle.command_line.specs.declared.wanted.Places.{Places}
 
 -- numbers within their ranges
@@ -30,6 +32,12 @@ lasting_options = codes "max-open" ∷ codes "read-port" ∷ codes "read-socket"
 abbrev pub FitsForm : ArgMatches → Connections → Type 0
 FitsForm answers (Each count) = list_any (is_given answers) lasting_options ≡ false
 FitsForm answers (Unlimited lasting) = Unit {0}
+
+-- whether the log tells changes
+abbrev pub has_changes : LogScope → Bool
+has_changes Nothing = false
+has_changes Changes = true
+has_changes All = true
 
 -- only a server that lasts has a place for reads only
 abbrev pub FitPlaces : Connections → Places → Type 0

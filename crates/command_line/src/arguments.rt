@@ -154,8 +154,8 @@ pub const UNTIL_EOF: Argument = Argument {
 
 pub const LOG: Argument = Argument {
     name: "log",
-    kind: Kind::Switch,
-    help: "Tell of each change, of each that 31, 36 or 56 refuses, and of each end of a connection on standard error",
+    kind: Kind::Choice("WHAT", &["all", "changes"]),
+    help: "Tell of each change, of each that 31, 36 or 56 refuses, and unless only changes are wanted, of each end of a connection on standard error",
 };
 
 pub const LISTENED_PORT: Argument = Argument {

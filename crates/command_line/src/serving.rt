@@ -11,7 +11,7 @@ use crate::places::places_of;
 use crate::ranges;
 use crate::refusal::refusal;
 use crate::settings::{Connections, Lasting, Settings};
-use crate::wanted::Wanted;
+use crate::wanted::{LogScope, Wanted};
 use clap::{ArgMatches, Error};
 use std::alloc::Global;
 
@@ -45,9 +45,19 @@ fn server_of<'a>(answers: &ArgMatches<'a>) -> Result<Wanted<'a>, &'static str>
         places,
         load: answers.get_str("load"),
         save: answers.get_str("save"),
-        log: answers.get_flag("log"),
+        log: scope_of(answers.get_str("log")),
+        says_connections: is_given(answers, "connections"),
         settings: settings_of(answers, connections),
     })
+}
+
+/// What the log tells, by the word of its option, if that stands on the line.
+fn scope_of(word: Option<&str>) -> LogScope {
+    match word {
+        None => LogScope::Nothing,
+        Some("changes") => LogScope::Changes,
+        Some(_) => LogScope::All,
+    }
 }
 
 /// Which connections each worker takes; or why the answers are refused.

@@ -223,9 +223,10 @@ that whoever acts on each line acts on it. Only if a line cannot be printed the 
 a time may write to a folder.";
 
 pub const SERVING: &str = "\
-With a number of --connections each worker serves so many clients one after the other, and then the server ends. With
---connections unlimited it lasts, and each worker serves many clients beside each other: --max-open, --read-port,
---read-socket, --until-eof and --idle belong to this form only.
+With a number of --connections each worker serves so many clients one after the other, and then the server ends. Without
+--connections the number is 1, and standard error is told how many clients that makes. With --connections unlimited it
+lasts, and each worker serves many clients beside each other: --max-open, --read-port, --read-socket, --until-eof and
+--idle belong to this form only.
 
 Each worker is a thread. All share one store, which is empty at the start, or holds what --load gives it: a dump of any
 length, judged whole and stored before anybody can connect. A connection carries the frames that `run` reads and
@@ -247,13 +248,14 @@ FILE. FILE keeps its mode; what stands at FILE.new is removed before. It is trie
 that is `fault 59`, and FILE is as it was. With --until-eof a server that lasts has an end.
 
 With --log each change of a bundle is a line on standard error, with the sequence before and after it, and so is each one
-that was refused by 31, 36 or 56, and each end of a connection, with its client's port. The settings are told first:
+that was refused by 31, 36 or 56, and each end of a connection, with its client's port. Each line has the number of the
+client, from 1 on. With --log changes the ends of connections are left out. The settings are told first:
 
   2026-11-30T05:23:30Z settings workers 2 shards 4 connections 1
-  2026-11-30T05:23:33Z worker 0 set a.example absent to 7
-  2026-11-30T05:23:33Z worker 1 appended a.example 7 to 8
-  2026-11-30T05:23:34Z worker 0 refused a.example 31 8
-  2026-11-30T05:23:35Z worker 1 session ended after 3 replies from 40312
+  2026-11-30T05:23:33Z worker 0 client 1 set a.example absent to 7
+  2026-11-30T05:23:33Z worker 1 client 2 appended a.example 7 to 8
+  2026-11-30T05:23:34Z worker 0 client 1 refused a.example 31 8
+  2026-11-30T05:23:35Z worker 1 client 2 session ended after 3 replies from 40312
 
   bundled serve --port 8443 --read-port 8444 --connections unlimited
   bundled serve --socket /run/bundles/all --read-socket /run/bundles/reads --connections unlimited

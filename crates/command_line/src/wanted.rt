@@ -52,14 +52,39 @@ pub enum Wanted<'a> {
     /// What a server has counted.
     Stats(Counting<'a>),
     /// A server that listens at these places. Its store is filled with the dump in a file, if one is named, and at the end
-    /// its map is kept as a dump in a file, if one is named.
+    /// its map is kept as a dump in a file, if one is named. `says_connections` is whether the line says which connections are
+    /// served, in place of the default.
     Serve {
         places: Places<'a>,
         load: Option<&'a str>,
         save: Option<&'a str>,
-        log: bool,
+        log: LogScope,
+        says_connections: bool,
         settings: Settings,
     },
+}
+
+/// What the log of a server tells.
+#[derive(Clone, Copy, Debug, PartialEq, Eq)]
+pub enum LogScope {
+    /// Nothing: there is no log.
+    Nothing,
+    /// The changes, and those that were refused.
+    Changes,
+    /// These, and the ends of connections.
+    All,
+}
+
+impl LogScope {
+    ghost use Rattle.std.specs.Prelude.{◌≡◌};
+    ghost use Rattle.command_line.specs.Serving.{has_changes};
+
+    /// Whether changes are told.
+    pub fn has_changes(self) -> bool
+        ensures { result ≡ has_changes self }
+    {
+        self != LogScope::Nothing
+    }
 }
 
 /// A place on this machine where a server listens.

@@ -1,5 +1,5 @@
 //! Command lines: which command they want, with which settings.
-use command_line::{Connections, Place, Places, ReplyStyle, Settings, Wanted, wanted_by};
+use command_line::{Connections, LogScope, Place, Places, ReplyStyle, Settings, Wanted, wanted_by};
 use spiffe_doc::TrustDomain;
 use std::alloc::{AllocError, Global};
 use std::process::Abort;
@@ -61,16 +61,18 @@ fn told_map(alloc: Global, names: &[TrustDomain], x509: bool) -> Result<String, 
     told(alloc, "map", texts.as_slice(), &[Some(u64::from(x509))])
 }
 
-/// Those of a server end with its form: how many connections each worker takes, or the numbers of one that lasts.
+/// Those of a server begin with what its log tells and whether the line says which connections are served, and end with its form: how many connections each worker takes, or the numbers of one that lasts.
 fn told_server(
     alloc: Global,
     places: &Places<'_>,
     files: [Option<&str>; 2],
-    log: bool,
+    first: [u64; 2],
     settings: &Settings,
 ) -> Result<String, AllocError> {
+    let [log, says_connections] = first;
     let numbers = [
-        u64::from(log),
+        log,
+        says_connections,
         settings.workers,
         settings.turns,
         settings.shards as u64,
@@ -110,6 +112,14 @@ fn push_form(numbers: &mut Vec<Option<u64>>, connections: Connections) -> Result
         }
     }
     Ok(())
+}
+
+fn number_of_scope(scope: LogScope) -> u64 {
+    match scope {
+        LogScope::Nothing => 0,
+        LogScope::Changes => 1,
+        LogScope::All => 2,
+    }
 }
 
 fn number_of_style(style: ReplyStyle) -> u64 {
@@ -179,8 +189,12 @@ fn told_wanted(alloc: Global, wanted: &Wanted<'_>) -> Result<String, AllocError>
             load,
             save,
             log,
+            says_connections,
             settings,
-        } => told_server(alloc, places, [*load, *save], *log, settings),
+        } => {
+            let first = [number_of_scope(*log), u64::from(*says_connections)];
+            told_server(alloc, places, [*load, *save], first, settings)
+        }
     }
 }
 
@@ -288,19 +302,19 @@ const OTHER_FORM: &str =
 static PLACES: [Line; 15] = [
     (
         "serve --socket run/a",
-        "serve each|-|-|run/a|-|0|2|1000000|4|3|1000|1000|1",
+        "serve each|-|-|run/a|-|0|0|2|1000000|4|3|1000|1000|1",
     ),
     (
         "serve --socket=run/a --read-socket=-b --connections unlimited",
-        "serve unlimited|-|-|run/a|-b|0|2|18446744073709551615|4|3|1000|1000|1000|0|60",
+        "serve unlimited|-|-|run/a|-b|0|1|2|18446744073709551615|4|3|1000|1000|1000|0|60",
     ),
     (
         "serve --port=0 --read-socket b --connections unlimited",
-        "serve unlimited|-|-|0|b|0|2|18446744073709551615|4|3|1000|1000|1000|0|60",
+        "serve unlimited|-|-|0|b|0|1|2|18446744073709551615|4|3|1000|1000|1000|0|60",
     ),
     (
         "serve --socket a --read-port 0 --connections unlimited",
-        "serve unlimited|-|-|a|0|0|2|18446744073709551615|4|3|1000|1000|1000|0|60",
+        "serve unlimited|-|-|a|0|0|1|2|18446744073709551615|4|3|1000|1000|1000|0|60",
     ),
     ("ask --socket a fetch", "ask|fetch|a|100|0"),
     ("snapshot --socket a --out b", "snapshot|b|a|-|0"),
@@ -345,30 +359,42 @@ fn reads_where_a_server_listens(rt: HostRuntime) -> Result<(), AllocError> {
 }
 
 /// The two forms of a server. What belongs to the one that lasts is refused in the other, also if it is the default.
-static SERVERS: [Line; 17] = [
+static SERVERS: [Line; 20] = [
     (
         "serve --port 0",
-        "serve each|-|-|0|-|0|2|1000000|4|3|1000|1000|1",
+        "serve each|-|-|0|-|0|0|2|1000000|4|3|1000|1000|1",
     ),
     (
         "serve --port=65535 --workers=64 --connections=1000 --turns=1000000000 --shards=256 --rounds=16 --tries=1000000 --retries=1000000 --load=dumps/a --log",
-        "serve each|dumps/a|-|65535|-|1|64|1000000000|256|16|1000000|1000000|1000",
+        "serve each|dumps/a|-|65535|-|2|1|64|1000000000|256|16|1000000|1000000|1000",
     ),
     (
         "serve --port 1 --turns 1",
-        "serve each|-|-|1|-|0|2|1|4|3|1000|1000|1",
+        "serve each|-|-|1|-|0|0|2|1|4|3|1000|1000|1",
     ),
     (
         "serve --port=1 --connections=unlimited",
-        "serve unlimited|-|-|1|-|0|2|18446744073709551615|4|3|1000|1000|1000|0|60",
+        "serve unlimited|-|-|1|-|0|1|2|18446744073709551615|4|3|1000|1000|1000|0|60",
     ),
     (
         "serve --port=1 --connections unlimited --max-open=1000000 --read-port=8444 --until-eof --idle=86400 --turns=1000000 --log --load=a",
-        "serve unlimited|a|-|1|8444|1|2|1000000|4|3|1000|1000|1000000|1|86400",
+        "serve unlimited|a|-|1|8444|2|1|2|1000000|4|3|1000|1000|1000000|1|86400",
     ),
     (
         "serve --port=1 --connections unlimited --max-open=1 --read-port=0 --idle=1 --save=dumps/b",
-        "serve unlimited|-|dumps/b|1|0|0|2|18446744073709551615|4|3|1000|1000|1|0|1",
+        "serve unlimited|-|dumps/b|1|0|0|1|2|18446744073709551615|4|3|1000|1000|1|0|1",
+    ),
+    (
+        "serve --port 1 --log changes --workers 1",
+        "serve each|-|-|1|-|1|0|1|1000000|4|3|1000|1000|1",
+    ),
+    (
+        "serve --port 1 --log=all --connections 1",
+        "serve each|-|-|1|-|2|1|2|1000000|4|3|1000|1000|1",
+    ),
+    (
+        "serve --port 1 --log some",
+        "error: invalid value 'some' for '--log [<WHAT>]'\n  [possible values: all, changes]\n\nFor more information, try '--help'.\n",
     ),
     ("serve --port 1 --connections 0", NO_COUNT),
     ("serve --port 1 --connections 1001", NO_COUNT),

@@ -10,8 +10,10 @@ mod limit;
 mod lines;
 mod load;
 mod log;
+mod numbering;
 mod saved_file;
 mod saving;
+mod server_log;
 mod serving;
 mod set_up;
 mod stamped;
@@ -27,6 +29,7 @@ pub use load::set_up_of;
 pub use log::LineLog;
 pub use saved_file::{SavedFile, save_fault};
 pub use saving::Keeper;
+pub use server_log::ServerLog;
 pub use serving::{
     Host, InTurn, Listener, NOBODY, Ports, Task, WorkerPolls, serve_at, serve_on, tell_early,
 };

@@ -48,7 +48,7 @@ pub use gated::Gated;
 pub use lasting::run_arrivals;
 pub use limited::ROOM_BYTES;
 pub use limits::Limits;
-pub use log::{ChangeRefusal, Changed, How, Log, Quiet, RefusedChange};
+pub use log::{ChangeRefusal, Changed, Client, How, Log, Quiet, RefusedChange};
 pub use logged::Logged;
 pub use passes::passes_of;
 pub use retrying::Retrying;

@@ -13,7 +13,7 @@ use crate::arrivals::{Arrival, Arrivals};
 use crate::at_port::{AtPort, BehindPort};
 use crate::metered::Metered;
 use crate::worker::Worker;
-use crate::{Connection, Log, ROOM_BYTES, SessionEnds, SessionFault, Stream, TurnEnd};
+use crate::{Client, Connection, Log, ROOM_BYTES, SessionEnds, SessionFault, Stream, TurnEnd};
 use slab::Slab;
 use spiffe_doc::DocumentReader;
 use std::alloc::{AllocError, Global};
@@ -28,8 +28,8 @@ struct OpenConnection<E: Stream + Drop> {
     reads_only: bool,
     /// How many ticks have passed since its client got on last.
     silent: u64,
-    /// The port of its client, if it has one.
-    peer: Option<u16>,
+    /// Its client, as the log knows it.
+    client: Client,
 }
 
 /// The connections of a worker, and what they share.
@@ -121,16 +121,18 @@ impl<E: Stream + Drop> Served<E> {
         ensures waits { OnOk result (self.new.waiting.items ≡ self.old.waiting.items ++ self.old.open.vacant_key ∷ []) }
         ensures ends { self.new.ends ≡ self.old.ends }
     {
-        let peer = end.peer();
+        let client = Client {
+            number: worker.log.began(worker.number),
+            peer: end.peer(),
+        };
         let placed = OpenConnection {
             connection: Connection::new(worker.alloc, end, worker.limits.turns)?,
             reads_only,
             silent: 0,
-            peer,
+            client,
         };
         let place = self.open.insert(placed)?;
         self.waiting.push_back(place)?;
-        worker.log.began(worker.number);
         Ok(())
     }
 
@@ -145,9 +147,9 @@ impl<E: Stream + Drop> Served<E> {
         wait_no_more(&mut self.waiting, place);
     }
 
-    /// The port of the client at a place, if it has one.
-    fn peer(&self, place: usize) -> Option<u16> {
-        self.open.get(place)?.peer
+    /// The client at a place, if one is there.
+    fn client(&self, place: usize) -> Option<Client> {
+        Some(self.open.get(place)?.client)
     }
 
     /// Leaves the connection at a place, and notes how its session ended.
@@ -166,8 +168,8 @@ impl<E: Stream + Drop> Served<E> {
             Ok(count) => Ok(count),
             Err(error) => Err(SessionFault::Front(error)),
         };
-        let peer = self.peer(place);
-        worker.log.ended(worker.number, &ended, peer);
+        let client = self.client(place);
+        worker.log.ended(worker.number, &ended, client);
         self.remove(place);
         self.ends.note(&ended)?;
         Ok(())
@@ -187,6 +189,7 @@ impl<E: Stream + Drop> Served<E> {
         let Some(placed) = self.open.get_mut(place) else {
             return Ok(());
         };
+        worker.log.serves(worker.number, placed.client);
         let after = placed.turn(&mut self.documents, &mut self.room, ask, is_closing);
         wait_no_more(&mut self.waiting, place);
         match after {
@@ -314,6 +317,7 @@ impl<E: Stream + Drop> Served<E> {
         let Some(placed) = self.open.get_mut(place) else {
             return Ok(());
         };
+        worker.log.serves(worker.number, placed.client);
         ask.reads_only = placed.reads_only;
         let connection = &mut placed.connection;
         let end = connection.last_turn(&mut self.documents, &mut self.room, ask);
