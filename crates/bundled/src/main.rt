@@ -5,6 +5,7 @@ mod asking;
 mod command;
 mod exposition;
 mod notes;
+mod patience;
 mod racing;
 mod refreshing;
 mod server_stream;

@@ -68,6 +68,12 @@ pub const RETRY: Argument = Argument {
     help: "How often a request is asked again that others were in the way of",
 };
 
+pub const TIMEOUT: Argument = Argument {
+    name: "timeout",
+    kind: Kind::Number("SECONDS", ranges::TIMEOUT),
+    help: "How long to wait for the server: to connect, and for each request with its whole reply",
+};
+
 pub const RAW: Argument = Argument {
     name: "raw",
     kind: Kind::Switch,

@@ -47,6 +47,8 @@ pub const IDLE: Number = number!(1..=86400, 60);
 
 pub const RETRY: Number = number!(0..=1000000, 100);
 
+pub const TIMEOUT: Number = number!(1..=86400, 30);
+
 pub const SECONDS: Number = number!(1..=60, 5);
 
 impl Number {

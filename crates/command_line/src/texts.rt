@@ -11,7 +11,7 @@ The exit status:
      something that is ignored, `diff` a change, or `snapshot` fewer domains than --at-least
 
 A fault is a line `fault NUMBER` on standard error, with what it tells behind the number: `bundled explain NUMBER` says
-what it means. The frames that `run` and `serve` answer are in bundled run --help.";
+what it means. Most commands say in a second line what they could not have, and why. The frames that `run` and `serve` answer are in bundled run --help.";
 
 pub const FRAMES: &str = "\
 A frame is a length of 4 bytes, big-endian, and a payload of that many bytes. Each request is
@@ -103,8 +103,11 @@ dump.
 Version 3 of the session is set first. Each reply is written before the next request is sent. A request that is answered
 `memory`, `moved` or `held` has changed nothing, and is asked again, up to COUNT times.
 
+If standard output is a terminal, all but printable ASCII is written escaped, except with --raw.
+
 The status is 0 if each request was done, 3 if some reply is a refusal, and 1 after a fault: `fault 78` if no server
-listens, 50, 52, 53, 54 or 58 if the exchange with it failed: whether its request took effect is not known. A word with
+listens, 50, 52, 53, 54 or 58 if the exchange with it failed or took longer than --timeout: whether its request took
+effect is not known. `fault 58` is also a reply that the request cannot have. A word with
 a line feed is `fault 70 1`, and nothing is asked: give such a document as @FILE.";
 
 pub const COUNTS: &str = "\

@@ -85,6 +85,8 @@ pub struct Places<'a> {
 pub struct Snapshotting<'a> {
     /// Where the server listens.
     pub place: Place<'a>,
+    /// How many seconds the server is waited for: to connect, and for each request with its whole reply.
+    pub timeout: u64,
     /// The folder of the snapshots.
     pub folder: &'a str,
     /// In how many seconds another one is made; without it, there is one.
@@ -98,6 +100,8 @@ pub struct Snapshotting<'a> {
 pub struct Counting<'a> {
     /// Where the server listens.
     pub place: Place<'a>,
+    /// How many seconds the server is waited for: to connect, and for each request with its whole reply.
+    pub timeout: u64,
     /// Whether they are written as Prometheus reads them.
     pub prometheus: bool,
 }
@@ -107,6 +111,8 @@ pub struct Counting<'a> {
 pub struct Inquiry<'a> {
     /// Where the server listens.
     pub place: Place<'a>,
+    /// How many seconds the server is waited for: to connect, and for each request with its whole reply.
+    pub timeout: u64,
     /// How often a request is asked again that others were in the way of.
     pub retries: u32,
     /// How the replies are written.
@@ -141,4 +147,6 @@ pub struct Refreshing<'a> {
     pub at_least: u64,
     /// Where the server listens. Without it, requests go to standard output.
     pub place: Option<Place<'a>>,
+    /// How many seconds the server is waited for: to connect, and for each request with its whole reply.
+    pub timeout: u64,
 }

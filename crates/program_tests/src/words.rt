@@ -150,7 +150,8 @@ fn told_wanted(alloc: Global, wanted: &Wanted<'_>) -> Result<String, AllocError>
             )
         }
         Wanted::Ask(it) => {
-            let numbers = [Some(u64::from(it.retries)), Some(number_of_style(it.style))];
+            let (retries, style) = (u64::from(it.retries), number_of_style(it.style));
+            let numbers = [Some(retries), Some(style), Some(it.timeout)];
             match it.unless {
                 Some(dump) => told_at(alloc, "ask unless", &[dump], it.place, &numbers),
                 None => told_at(alloc, "ask", it.words.as_slice(), it.place, &numbers),
@@ -159,10 +160,15 @@ fn told_wanted(alloc: Global, wanted: &Wanted<'_>) -> Result<String, AllocError>
         Wanted::Refresh(it) => {
             let place = told_place(alloc, it.place)?;
             let texts = [it.list, it.folder, place.as_str()];
-            told(alloc, "refresh", &texts, &[it.now, Some(it.at_least)])
+            told(
+                alloc,
+                "refresh",
+                &texts,
+                &[it.now, Some(it.at_least), Some(it.timeout)],
+            )
         }
         Wanted::Snapshot(it) => {
-            let numbers = [it.every, Some(it.at_least)];
+            let numbers = [it.every, Some(it.at_least), Some(it.timeout)];
             told_at(alloc, "snapshot", &[it.folder], it.place, &numbers)
         }
         Wanted::Stats(it) => {
@@ -171,7 +177,7 @@ fn told_wanted(alloc: Global, wanted: &Wanted<'_>) -> Result<String, AllocError>
                 "stats",
                 &[],
                 it.place,
-                &[Some(u64::from(it.prometheus))],
+                &[Some(u64::from(it.prometheus)), Some(it.timeout)],
             )
         }
         Wanted::Serve {
@@ -254,11 +260,11 @@ static NUMBERS: [Line; 14] = [
     ("run --shards 256", "run|256|1000000"),
     (
         "refresh --relationships l --documents f",
-        "refresh|l|f|-|-|60",
+        "refresh|l|f|-|-|60|30",
     ),
     (
         "refresh --documents=f/g --relationships=-l --now=18446744073709551615 --at-least=0 --port=65535",
-        "refresh|-l|f/g|65535|18446744073709551615|0",
+        "refresh|-l|f/g|65535|18446744073709551615|0|30",
     ),
     ("trace", "trace|4|3|0"),
     ("trace --shards=1 --rounds=16", "trace|1|16|0"),
@@ -302,11 +308,11 @@ static PLACES: [Line; 15] = [
         "serve --socket a --read-port 0 --connections unlimited",
         "serve unlimited|-|-|a|0|0|2|18446744073709551615|4|3|1000|1000|1000|0|60",
     ),
-    ("ask --socket a fetch", "ask|fetch|a|100|0"),
-    ("snapshot --socket a --out b", "snapshot|b|a|-|0"),
+    ("ask --socket a fetch", "ask|fetch|a|100|0|30"),
+    ("snapshot --socket a --out b", "snapshot|b|a|-|0|30"),
     (
         "refresh --relationships=l --documents=f --socket=a",
-        "refresh|l|f|a|-|60",
+        "refresh|l|f|a|-|60|30",
     ),
     (
         "serve",
@@ -399,9 +405,9 @@ fn reads_both_forms_of_a_server(rt: HostRuntime) -> Result<(), AllocError> {
 
 /// Which counts are wanted.
 static COUNTS: [Line; 4] = [
-    ("stats --port 1", "stats|1|0"),
-    ("stats --prometheus --port=65535", "stats|65535|1"),
-    ("stats --socket a/b", "stats|a/b|0"),
+    ("stats --port 1", "stats|1|0|30"),
+    ("stats --prometheus --port=65535", "stats|65535|1|30"),
+    ("stats --socket a/b", "stats|a/b|0|30"),
     (
         "stats --port 1 --prometheus=1",
         "error: unexpected value '1' for '--prometheus' found; no more were expected\n\nUsage: bundled stats --prometheus\n\nFor more information, try '--help'.\n",
@@ -415,14 +421,14 @@ fn reads_which_counts_are_wanted(rt: HostRuntime) -> Result<(), AllocError> {
 
 /// Which snapshots are wanted.
 static SNAPSHOTS: [Line; 7] = [
-    ("snapshot --port 1 --out a/b", "snapshot|a/b|1|-|0"),
+    ("snapshot --port 1 --out a/b", "snapshot|a/b|1|-|0|30"),
     (
-        "snapshot --port=65535 --every=86400 --out=-",
-        "snapshot|-|65535|86400|0",
+        "snapshot --port=65535 --every=86400 --timeout=1 --out=-",
+        "snapshot|-|65535|86400|0|1",
     ),
     (
         "snapshot --port=1 --out=a --at-least=18446744073709551615",
-        "snapshot|a|1|-|18446744073709551615",
+        "snapshot|a|1|-|18446744073709551615|30",
     ),
     (
         "snapshot --port=1 --out=a --at-least=0",
@@ -448,18 +454,18 @@ fn reads_which_snapshots_are_wanted(rt: HostRuntime) -> Result<(), AllocError> {
 }
 
 /// What is asked of a server. The words have `|` between, since a document may have spaces.
-static INQUIRIES: [Line; 11] = [
-    ("ask|--port|1", "ask|1|100|0"),
-    ("ask|--port=65535|--retry=0|get|a", "ask|get|a|65535|0|0"),
-    ("ask|--port=1|--raw|fetch", "ask|fetch|1|100|1"),
-    ("ask|--text|--port=1|get|a", "ask|get|a|1|100|2"),
+static INQUIRIES: [Line; 12] = [
+    ("ask|--port|1", "ask|1|100|0|30"),
+    ("ask|--port=65535|--retry=0|get|a", "ask|get|a|65535|0|0|30"),
+    ("ask|--port=1|--raw|fetch", "ask|fetch|1|100|1|30"),
+    ("ask|--text|--port=1|get|a", "ask|get|a|1|100|2|30"),
     (
         "ask|--port=1|--text|--raw|get|a",
         "error: --raw and --text exclude each other\n\nUsage: ask [OPTIONS] [REQUEST]...\n\nFor more information, try '--help'.\n",
     ),
     (
         "ask|--port=1|--unless=all.dump|fetch",
-        "ask unless|all.dump|1|100|0",
+        "ask unless|all.dump|1|100|0|30",
     ),
     (
         "ask|--port=1|--unless=all.dump|get|a",
@@ -471,11 +477,15 @@ static INQUIRIES: [Line; 11] = [
     ),
     (
         "ask|--port=1|set|a|{\"keys\": []}",
-        "ask|set|a|{\"keys\": []}|1|100|0",
+        "ask|set|a|{\"keys\": []}|1|100|0|30",
     ),
     (
         "ask|--port=0|fetch",
         "error: invalid value '0' for '--port <PORT>': 0 is not in 1..=65535\n\nFor more information, try '--help'.\n",
+    ),
+    (
+        "ask|--port=1|--timeout=86401",
+        "error: invalid value '86401' for '--timeout <SECONDS>': 86401 is not in 1..=86400\n\nFor more information, try '--help'.\n",
     ),
     (
         "ask|--port=1|--retry=1000001",
