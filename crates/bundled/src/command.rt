@@ -1,18 +1,21 @@
 //! The program, from its arguments to its exit status.
 ghost use Rattle.std.specs.Prelude.{◌≡◌, ◌<◌, ◌-◌, ◌^◌, ◌⊎◌};
 ghost use Rattle.wire.specs.Counted.{faults_in};
-ghost use Rattle.bundled.specs.Command.{Commands, DiffFiles, Does, Refuses, Shows, profile};
+ghost use Rattle.bundled.specs.Command.{Commands, DiffFiles, Does, DoesInWords, Refuses, Shows, has_words as speaks, profile};
+ghost use Rattle.server.specs.Serve.{AddsWords};
 ghost use Rattle.command_line.specs.Settings.{AreSettings};
 ghost use Rattle.wire.specs.Output.{Tells, end_of};
 ghost use Rattle.commands.specs.Streams.{Source, Streams, streams};
 
 use crate::asking::ask_server;
+use crate::heard::Hears;
 use crate::notes::{Notes, NotesRoom};
 use crate::racing::race_over;
 use crate::refreshing::refresh_over;
 use crate::serving::{Host, Serving, serve_over};
 use crate::snapshotting::snapshot_over;
 use crate::stats::stats_over;
+use crate::why::{Ended, words_of};
 use clap::error::ErrorKind;
 use command_line::{Wanted, wanted_by};
 use commands::{
@@ -21,7 +24,7 @@ use commands::{
     trace_over, write_flushed,
 };
 use dump_views::Profile;
-use server::{Counts, LineLog, Stamped, tell_start};
+use server::{Counts, LineLog, Stamped, tell_start, tell_words};
 use std::alloc::{AllocError, Global};
 use std::env::{Args, Env};
 use std::fs::{File, Files};
@@ -41,7 +44,7 @@ pub fn command_over<
     H: Files + Clock + Threads + Net<Listener = TcpListener, Stream = TcpStream> + Sync,
     R: Read,
     W: Write,
-    E: Write,
+    E: Write + Hears,
     N: Write + Copy + Send + Sync,
 >(
     alloc: Global,
@@ -67,7 +70,7 @@ pub fn command_over<
         return Fault::Front(FrontError::Memory).tell(err);
     };
     match wanted_by(alloc, words.as_slice()) {
-        Ok(wanted) => run_wanted(alloc, host, &wanted, reader, out, err, notes),
+        Ok(wanted) => run_in_words(alloc, host, &wanted, reader, out, err, notes),
         Err(error) => show(alloc, &error, out, err),
     }
 }
@@ -79,6 +82,84 @@ fn gather(alloc: Global, arguments: Args) -> Result<Vec<String>, AllocError> {
         words.push(word)?;
     }
     Ok(words)
+}
+
+/// Runs the command that is wanted, and answers the exit status. If a fault ended it, it is said in words why, of the commands that
+/// say so.
+fn run_in_words<
+    H: Files + Clock + Threads + Net<Listener = TcpListener, Stream = TcpStream> + Sync,
+    R: Read,
+    W: Write,
+    E: Write + Hears,
+    N: Write + Copy + Send + Sync,
+>(
+    alloc: Global,
+    host: &H,
+    wanted: &Wanted<'_>,
+    reader: &mut Counted<R>,
+    out: &mut Counted<W>,
+    err: &mut Counted<E>,
+    notes: N,
+) -> u8
+    requires settings { AreSettings wanted.now }
+    requires out_count { faults_in out.old < 2 ^ 64 - 1 }
+    requires err_count { faults_in err.old < 2 ^ 64 - 1 }
+    ensures { DoesInWords wanted.now result
+        (streams R.remaining W.contents E.contents reader.old out.old err.old)
+        (streams R.remaining W.contents E.contents reader.new out.new err.new) }
+{
+    let (input_faults, output_faults, error_faults) = (reader.faults(), out.faults(), err.faults());
+    let status = run_wanted(alloc, host, wanted, reader, out, err, notes);
+    if status != 1 || !has_words(wanted) || err.faults() != error_faults {
+        return status;
+    }
+    let why = match err.end().last_fault() {
+        Some(fault) => Some(Ended {
+            fault,
+            input_failed: reader.faults() != input_faults,
+            output_failed: out.faults() != output_faults,
+        }),
+        None => None,
+    };
+    say_why(alloc, host, wanted, why, err);
+    status
+}
+
+/// Whether the command says in words why a fault ended it.
+fn has_words(wanted: &Wanted<'_>) -> bool
+    ensures { result ≡ speaks wanted.now }
+{
+    matches!(
+        wanted,
+        Wanted::Ask(_)
+            | Wanted::Check(_)
+            | Wanted::Map { .. }
+            | Wanted::Import
+            | Wanted::Pem(_)
+            | Wanted::Diff(_, _)
+            | Wanted::Digest
+            | Wanted::Refresh(_)
+            | Wanted::Snapshot(_)
+            | Wanted::Stats(_)
+    )
+}
+
+/// Says in words why the command ended, if there are any.
+fn say_why<H: Files + Net, E: Write>(
+    alloc: Global,
+    host: &H,
+    wanted: &Wanted<'_>,
+    why: Option<Ended>,
+    err: &mut Counted<E>,
+)
+    ensures { AddsWords (end_of E.contents err.old) (end_of E.contents err.new) }
+{
+    let Some(why) = why else {
+        return;
+    };
+    if let Some(words) = words_of(alloc, host, wanted, why) {
+        tell_words(alloc, words.as_str(), err);
+    }
 }
 
 /// Runs the command that is wanted, and answers the exit status.

@@ -162,6 +162,10 @@ NotSetUp requests error = (error ≡ Memory) ⊎ ((store : StoreView) × (fresh 
 abbrev pub IsWords : List ℕ → Type 0
 IsWords line = (text : List ℕ) × All (λ byte. 32 ≤ byte) text × (line ≡ text ++ 10 ∷ [])
 
+-- it may be that a line of words is written
+abbrev pub AddsWords : End → End → Type 0
+AddsWords old new = (new ≡ old) ⊎ ((line : List ℕ) × IsWords line × Tells old new line)
+
 -- The line of a fault is told; and it may be that a line of words comes behind it.
 abbrev pub TellsFault : Fault → End → End → Type 0
 TellsFault fault old new = Tells old new (fault_line fault) ⊎ ((words : List ℕ) × IsWords words × Tells old new (fault_line fault ++ words))

@@ -33,4 +33,4 @@ pub use serving::{
 pub use set_up::SetUp;
 pub use stamped::Stamped;
 pub use start::tell_start;
-pub use told::tell_in_words;
+pub use told::{tell_in_words, tell_words};
