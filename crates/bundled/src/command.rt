@@ -12,12 +12,13 @@ use crate::heard::Hears;
 use crate::notes::{Notes, NotesRoom};
 use crate::racing::race_over;
 use crate::refreshing::refresh_over;
+use crate::screen::Shows;
 use crate::serving::{Host, Serving, serve_over};
 use crate::snapshotting::snapshot_over;
 use crate::stats::stats_over;
 use crate::why::{Ended, words_of};
 use clap::error::ErrorKind;
-use command_line::{Wanted, wanted_by};
+use command_line::{ReplyStyle, Wanted, wanted_by};
 use commands::{
     Fault, FileTexts, check_over, decode_over, diff_over, digest_over, encode_over, ended,
     explain_over, import_over, map_over, migrate_over, pem_over, picture_over, run_over,
@@ -43,7 +44,7 @@ pub fn command_over<
     V: Env,
     H: Files + Clock + Threads + Net<Listener = TcpListener, Stream = TcpStream> + Sync,
     R: Read,
-    W: Write,
+    W: Write + Shows,
     E: Write + Hears,
     N: Write + Copy + Send + Sync,
 >(
@@ -89,7 +90,7 @@ fn gather(alloc: Global, arguments: Args) -> Result<Vec<String>, AllocError> {
 fn run_in_words<
     H: Files + Clock + Threads + Net<Listener = TcpListener, Stream = TcpStream> + Sync,
     R: Read,
-    W: Write,
+    W: Write + Shows,
     E: Write + Hears,
     N: Write + Copy + Send + Sync,
 >(
@@ -108,6 +109,9 @@ fn run_in_words<
         (streams R.remaining W.contents E.contents reader.old out.old err.old)
         (streams R.remaining W.contents E.contents reader.new out.new err.new) }
 {
+    if is_text(wanted) {
+        out.end().show_text();
+    }
     let (input_faults, output_faults, error_faults) = (reader.faults(), out.faults(), err.faults());
     let status = run_wanted(alloc, host, wanted, reader, out, err, notes);
     if status != 1 || !has_words(wanted) || err.faults() != error_faults {
@@ -123,6 +127,15 @@ fn run_in_words<
     };
     say_why(alloc, host, wanted, why, err);
     status
+}
+
+/// Whether the command writes text that others have written, with no byte of it escaped.
+fn is_text(wanted: &Wanted<'_>) -> bool {
+    match wanted {
+        Wanted::Decode | Wanted::Map { .. } => true,
+        Wanted::Ask(inquiry) => inquiry.style != ReplyStyle::Raw,
+        _ => false,
+    }
 }
 
 /// Whether the command says in words why a fault ended it.
