@@ -22,7 +22,7 @@ import time
 
 sys.dont_write_bytecode = True
 
-from checks import BUNDLES, DUE, EMPTY, ENTRY, SECONDS, Beside, Lasting, Room, Server, bytes_of, canonical, dump_of, dump_of_real  # noqa: E402
+from checks import BUNDLES, DUE, EMPTY, ENTRY, SECONDS, Beside, Lasting, LeftOut, Room, Server, bytes_of, canonical, dump_of, dump_of_real  # noqa: E402
 from checks import frame, frame_of, named, numbered, part, received, rest_of, run_checks, run_words, wait_until  # noqa: E402
 from refusals import build_shim  # noqa: E402
 
@@ -611,11 +611,25 @@ def set_until_it_ends(server, number, stored, is_over):
         assert is_over.is_set(), "the connection is lost"
 
 
+def clients_before_they_are_taken():
+    """As many clients as the system allows are connected before a server that is stopped takes one, in either form."""
+    most = int(bytes_of("/proc/sys/net/core/somaxconn"))
+    if most < 300:
+        raise LeftOut("the system lets fewer clients wait")
+    for form in (("--connections", "300", "--workers", "1"), ("--connections", "unlimited")):
+        server = Server(*form)
+        os.kill(server.started.pid, signal.SIGSTOP)
+        with contextlib.ExitStack() as clients:
+            for _ in range(300):
+                clients.enter_context(socket.create_connection(("127.0.0.1", server.port), timeout=SECONDS))
+            os.kill(server.started.pid, signal.SIGCONT)
+
+
 CHECKS = [two_workers, one_after_the_other, workers_without_threads, reads_that_are_counted, side_by_side, real_bundles,
           filled_stores, clients_that_fail, many_workers, ports_and_outputs, silent_clients, client_that_never_reads,
           client_that_sends_and_never_reads, client_that_begins_a_frame, client_that_reads_slowly, others_are_taken_beside_long_turns,
           replies_before_a_bad_length, stops_at_the_end_of_input, keeps_the_last_map, cannot_keep_the_last_map, told_changes, told_refusals_of_a_port, more_clients_than_descriptors, a_thousand_connections, connections_in_wait,
-          read_only_port, one_client_that_asks_steadily, flood_beside_others, stops_while_clients_write]
+          clients_before_they_are_taken, read_only_port, one_client_that_asks_steadily, flood_beside_others, stops_while_clients_write]
 
 
 if __name__ == "__main__":
