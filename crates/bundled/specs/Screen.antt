@@ -5,9 +5,6 @@ use Rattle.std.specs.Prelude.{◌≡◌, ◌≤◌, ◌⊎◌, ℕ, List, Bool, 
 abbrev pub IsShown : ℕ → Type 0
 IsShown byte = ((32 ≤ byte) × (byte ≤ 126)) ⊎ (byte ≡ 10)
 
-abbrev pub IsHexDigit : ℕ → Type 0
-IsHexDigit byte = ((48 ≤ byte) × (byte ≤ 57)) ⊎ ((97 ≤ byte) × (byte ≤ 102))
-
 -- What an end holds of the bytes that were written: a terminal is given others in their place.
 abbrev pub held_by : {W : Type 0} → (W → Option (List ℕ)) → Bool → W → Option (List ℕ)
 held_by held_of true end = None

@@ -170,9 +170,10 @@ fn say_why<H: Files + Net, E: Write>(
     let Some(why) = why else {
         return;
     };
-    if let Some(words) = words_of(alloc, host, wanted, why) {
-        tell_words(alloc, words.as_str(), err);
-    }
+    let Some(words) = words_of(alloc, host, wanted, why) else {
+        return;
+    };
+    tell_words(alloc, words.as_str(), err);
 }
 
 /// Runs the command that is wanted, and answers the exit status.

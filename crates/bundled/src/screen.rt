@@ -1,7 +1,7 @@
 //! Standard output that is a terminal: what it would obey is written escaped.
 ghost use Rattle.std.specs.Prelude.{◌≡◌, ◌≤◌};
 ghost use Rattle.std.specs.List.{All};
-ghost use Rattle.bundled.specs.Screen.{IsShown, IsHexDigit, held_by};
+ghost use Rattle.bundled.specs.Screen.{IsShown, held_by};
 
 use arrayvec::ArrayVec;
 use std::cell::Cell;
@@ -107,7 +107,7 @@ fn take_byte(begun: &mut ArrayVec<u8, CHAR_BYTES>, byte: u8, text: &mut Text)
     let _fits = begun.try_push(byte);
     match str::from_utf8(begun.as_slice()) {
         Ok(whole) => {
-            for c in whole.chars() {
+            if let Some(c) = whole.chars().next() {
                 put_escape(text, u32::from(c));
             }
             begun.clear();
@@ -127,7 +127,7 @@ fn put_ascii(text: &mut Text, byte: u8)
     ensures { All IsShown text.new.items }
 {
     if byte == b'\n' || (32 <= byte && byte <= 126) {
-        let _fits = text.try_push(byte);
+        put(text, byte);
     } else {
         put_unit(text, u32::from(byte));
     }
@@ -152,21 +152,26 @@ fn put_unit(text: &mut Text, unit: u32)
     requires { All IsShown text.old.items }
     ensures { All IsShown text.new.items }
 {
-    for byte in [
-        b'\\',
-        b'u',
-        hex_digit(unit / 0x1000),
-        hex_digit(unit / 0x100),
-        hex_digit(unit / 0x10),
-        hex_digit(unit),
-    ] {
-        let _fits = text.try_push(byte);
-    }
+    put(text, b'\\');
+    put(text, b'u');
+    put(text, hex_digit(unit / 0x1000));
+    put(text, hex_digit(unit / 0x100));
+    put(text, hex_digit(unit / 0x10));
+    put(text, hex_digit(unit));
+}
+
+/// Puts a byte. There is room for it: a piece is short enough.
+fn put(text: &mut Text, byte: u8)
+    requires byte { IsShown byte }
+    requires text { All IsShown text.old.items }
+    ensures { All IsShown text.new.items }
+{
+    let _fits = text.try_push(byte);
 }
 
 /// The last digit of the number, in hexadecimal.
 fn hex_digit(number: u32) -> u8
-    ensures { IsHexDigit result }
+    ensures { IsShown result }
 {
     let digit = (number % 16) as u8;
     if digit < 10 {

@@ -41,9 +41,10 @@ fn tell_line<E: Write>(err: &mut Counted<E>, before: u64, line: &[u8])
 pub fn tell_words<E: Write>(alloc: Global, text: &str, err: &mut Counted<E>)
     ensures { AddsWords (end_of E.contents err.old) (end_of E.contents err.new) }
 {
-    if let Some(line) = words_line(alloc, text) {
-        tell(err, line.as_slice());
-    }
+    let Some(line) = words_line(alloc, text) else {
+        return;
+    };
+    tell(err, line.as_slice());
 }
 
 /// Writes the line of the fault, and behind it the text, if there is one, as a line of words. Answers the exit status that goes
