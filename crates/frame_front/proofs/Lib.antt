@@ -8,6 +8,7 @@ pub mod PlainLemmas
 pub mod DomainLists
 pub mod DumpLemmas
 pub mod DumpPlaces
+pub mod DecoderLemmas
 pub mod DumpTexts
 pub mod MigrationLemmas
 pub mod LiveLemmas

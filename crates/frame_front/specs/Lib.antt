@@ -4,4 +4,5 @@ pub mod Live
 pub mod LiveCalls
 pub mod PlainSession
 pub mod Dump
+pub mod DumpDecoder
 pub mod Private
