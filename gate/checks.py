@@ -249,11 +249,18 @@ def version():
     return re.search(r'\.version\("(.+?)"\)', bytes_of(f"{ROOT}/crates/command_line/src/building.rt").decode())[1]
 
 
-def run_words(*words, given=None, out=subprocess.PIPE, err=subprocess.PIPE, seconds=SECONDS):
-    """The status of the program over these words and this input, and what it writes on both outputs."""
+def run_words(*words, given=None, out=subprocess.PIPE, err=subprocess.PIPE, seconds=SECONDS, is_whole=False):
+    """The status of the program over these words and this input, and what it writes on both outputs; of the words behind the
+    line of a fault nothing, unless all is wanted: gate/told.py looks at them."""
     how = {"stdin": subprocess.DEVNULL} if given is None else {"input": given}
     ended = subprocess.run([program(), *words], stdout=out, stderr=err, timeout=seconds, **how)
-    return ended.returncode, ended.stdout, ended.stderr
+    return ended.returncode, ended.stdout, ended.stderr if is_whole else without_words(ended.stderr)
+
+
+def without_words(told):
+    """What is told on standard error, without the line of words that may stand behind that of a fault."""
+    lines = (told or b"").splitlines(keepends=True)
+    return b"".join(lines[:-1]) if len(lines) > 1 and lines[-2].startswith(b"fault ") and not lines[-1].startswith(b"fault ") else told
 
 
 def start(*words, **how):
@@ -278,11 +285,19 @@ def place_of(word):
     return int(word) if word.isdigit() else word
 
 
-class Server:
-    """The program behind a port that it has chosen, if neither another one nor the path of a Unix socket is given. If a check
-    fails, what it said on standard error is told, unless that goes elsewhere."""
+def untimed(told):
+    """What a server tells on standard error, without the time before a line."""
+    return re.sub(r"^\d{4}-\d\d-\d\dT\d\d:\d\d:\d\dZ (?=worker |settings |max-open |serving |no more )", "", told, flags=re.M)
 
-    def __init__(self, *options, port=0, stdin=subprocess.DEVNULL, err=None, **how):
+
+class Server:
+    """The program behind a port that it has chosen, if neither another one nor the path of a Unix socket is given. It is told how
+    many clients each worker serves: one, unless the options say it, or it is to be `bare`. If a check fails, what it said on
+    standard error is told, unless that goes elsewhere."""
+
+    def __init__(self, *options, port=0, bare=False, stdin=subprocess.DEVNULL, err=None, **how):
+        if not bare and "--connections" not in options:
+            options = ("--connections", "1", *options)
         option = "--port" if str(port).isdigit() else "--socket"
         words = [program(), "serve", option, str(port), *options]
         self.errors = AFTERWARDS.enter_context(tempfile.TemporaryFile())

@@ -19,9 +19,9 @@ TOGETHER, TIMES = 100, 20
 A_SECOND = 100
 TIME = r"\d{4}-\d\d-\d\dT\d\d:\d\d:\d\dZ "
 LEFT_OUT = re.compile(TIME + r"log (\d+) lines left out")
-CHANGE = re.compile(TIME + r"worker \d (?:set [a-z]+ absent to unnumbered|removed [a-z]+ unnumbered to absent)")
-REFUSAL = re.compile(TIME + r"worker \d refused [a-z]+ 56")
-END = re.compile(TIME + r"worker \d session ended after \d+ replies from \d+")
+CHANGE = re.compile(TIME + r"worker \d client \d+ (?:set [a-z]+ absent to unnumbered|removed [a-z]+ unnumbered to absent)")
+REFUSAL = re.compile(TIME + r"worker \d client \d+ refused 1 changes 56")
+END = re.compile(TIME + r"worker \d client \d+ session ended after \d+ replies from \d+")
 SETTINGS = re.compile(TIME + r"settings workers \d shards \d+ max-open \d+")
 
 
@@ -75,7 +75,8 @@ def nobody_reads():
     server = piped.server
     with server.connect() as writer, server.connect(server.read_port) as reader:
         asked(writer, changes_of(long_name), CHANGED)
-        asked(reader, named(b"R", "a"), READ_ONLY)
+        # (each alone, so that each is a turn, and has a line)
+        asked(reader, named(b"R", "a"), READ_ONLY, TIMES * TOGETHER, 1)
         for stream in server.connections(4):
             stream.sendall(named(b"G", "b"))
             assert received(stream, len(NO_DOMAIN)) == NO_DOMAIN
@@ -108,7 +109,7 @@ def many_refusals():
     sent = changes = 0
     with server.connect() as writer, server.connect(server.read_port) as reader:
         while time.monotonic() < begun + 4:
-            asked(reader, named(b"R", "a"), READ_ONLY, 5)
+            asked(reader, named(b"R", "a"), READ_ONLY, 5 * TOGETHER, 1)
             sent += 5 * TOGETHER
             asked(writer, changes_of("c"), CHANGED, 1, 1)
             changes += 2

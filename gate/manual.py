@@ -21,7 +21,7 @@ from checks import ROOT, SECONDS, bytes_of, run_checks, run_words  # noqa: E402
 PAGE, COMPLETION = f"{ROOT}/share/bundled.1", f"{ROOT}/share/bundled.bash-completion"
 
 # A row of a list in a help: an option, an argument or a command, and what is said of it, which may begin in the next line.
-ROW = re.compile(r"(?:  |  -\w, |      )(--[\w-]+(?: <\w+>)?|<\w+>|\[\w+\](?:\.\.\.)?|\w+)(?:  +(\S.*))?")
+ROW = re.compile(r"(?:  |  -\w, |      )(--[\w-]+(?: <\w+>| \[<\w+>\])?|<\w+>|\[\w+\](?:\.\.\.)?|\w+)(?:  +(\S.*))?")
 # Those that each command has.
 OF_ALL = ("--help", "--version")
 
@@ -189,15 +189,22 @@ def kind_of(value):
     return f"kinds=({kind})" if kind else ""
 
 
+def words_of(value, said, others):
+    """What bash is told to offer for a value that is one of some words: these, and the other options too if none need stand there."""
+    found = re.search(r"\[possible values: ([\w, -]+)\]", said)
+    return f'words="{" ".join([*found[1].split(", "), *(others if value.startswith("[") else [])])}"' if found else ""
+
+
 def cases_of(name, command):
     """The lines of the completion for a command: what comes after an option that takes a value, and what elsewhere."""
     options, taking = [option.partition(" ") for option, _ in command.rows["Options"]], {}
-    for option, _, value in options:
+    every = [*(option for option, _, _ in options), "--help"]
+    for (option, _, value), (_, said) in zip(options, command.rows["Options"]):
         if value:
-            taking.setdefault(kind_of(value) or "return", []).append(f'"0 {name} {option}"')
+            taking.setdefault(kind_of(value) or words_of(value, said, every) or "return", []).append(f'"0 {name} {option}"')
     lines = [f"{' | '.join(them)}) {kind} ;;" for kind, them in taking.items()]
     kind = "".join({kind_of(value): None for value, _ in command.rows["Arguments"]})
-    words = f'words="{" ".join([*(option for option, _, _ in options), "--help"])}"'
+    words = f'words="{" ".join(every)}"'
     return [*lines, f'"0 {name} "*) {f"{kind} {words}".strip()} ;;']
 
 

@@ -271,13 +271,15 @@ def is_due(room, domain):
 
 def server_that_is_away(room, recipe):
     """That there is no server is told once, too."""
-    away = recipe.replace("8443", str(unused_port()))
+    port = unused_port()
+    away = recipe.replace("8443", str(port))
+    told = f"refresh: fault 78\nrefresh: nobody listens at port {port}\n"
     is_due(room, "a.example")
-    assert room.run(away) == "refresh: fault 78\n"
+    assert room.run(away) == told
     assert room.run(away) == ""
     assert room.run(recipe) == ""
     is_due(room, "a.example")
-    assert room.run(away) == "refresh: fault 78\n"
+    assert room.run(away) == told
 
 
 def cron_refreshes():

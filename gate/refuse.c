@@ -1,6 +1,7 @@
 /* Refuses memory to a program that it is preloaded into (LD_PRELOAD): of the program's growths, which are the calls
    of malloc and realloc counted from 1, those from REFUSE_FROM to REFUSE_TO fail. A realloc to no more than the block has
-   gives memory back, and is none. If REFUSE_THREADS is not 0, no thread can be made. To the descriptor REFUSE_REPORT it writes a '+' as it starts and a '-' for each growth that it refuses.
+   gives memory back, and is none. If REFUSE_THREADS is not 0, no thread can be made. If STOP_AT_SYNC is not 0, the program stops, as by
+   SIGSTOP, before it first asks that a file be written to the disk. To the descriptor REFUSE_REPORT it writes a '+' as it starts and a '-' for each growth that it refuses.
 
    Names are declared here, since the compiler of the Rattle kit, which compiles this file, comes without headers. */
 
@@ -11,18 +12,22 @@ size_t malloc_usable_size(void *block);
 char *getenv(const char *name);
 unsigned long strtoul(const char *text, char **end, int base);
 long write(int descriptor, const void *bytes, size_t count);
+int raise(int signal);
 int *__errno_location(void);
 
 #define NEXT_LIBRARY ((void *)-1L)
+#define STOP 19
 #define TRY_AGAIN 11
 #define OUT_OF_MEMORY 12
 
 static void *(*next_malloc)(size_t);
 static void *(*next_realloc)(void *, size_t);
 static int (*next_thread)(void *, const void *, void *(*)(void *), void *);
+static int (*next_sync)(int);
 static unsigned long first, last, growths;
 static int report;
 static int refuses_threads;
+static int stops_at_sync;
 
 static unsigned long number(const char *name) {
     const char *text = getenv(name);
@@ -35,6 +40,8 @@ __attribute__((constructor)) static void start(void) {
     next_realloc = dlsym(NEXT_LIBRARY, "realloc");
     next_malloc = dlsym(NEXT_LIBRARY, "malloc");
     next_thread = dlsym(NEXT_LIBRARY, "pthread_create");
+    next_sync = dlsym(NEXT_LIBRARY, "fsync");
+    stops_at_sync = number("STOP_AT_SYNC") != 0;
     refuses_threads = number("REFUSE_THREADS") != 0;
     first = number("REFUSE_FROM");
     last = number("REFUSE_TO");
@@ -64,4 +71,12 @@ void *realloc(void *old, size_t size) {
 
 int pthread_create(void *thread, const void *how, void *(*body)(void *), void *given) {
     return refuses_threads ? TRY_AGAIN : next_thread(thread, how, body, given);
+}
+
+int fsync(int descriptor) {
+    int stops = stops_at_sync;
+    stops_at_sync = 0;
+    if (stops)
+        raise(STOP);
+    return next_sync(descriptor);
 }

@@ -246,6 +246,7 @@ def bash_completes_the_installed_program():
     os.mkdir(f"{room.path}/folder")
     rows = [("bundled se", "serve"), ("bundled serve --lo", "--load --log"), ("bundled serve --load du", "dump"),
             ("bundled serve --load=du", "dump"), ("bundled serve --workers ", ""), ("bundled serve --log --unt", "--until-eof"),
+            ("bundled serve --log ch", "changes"), ("bundled serve --log=ch", "changes"),
             ("bundled snapshot --out fo", "folder"), ("bundled refresh --documents du", ""), ("bundled check du", "dump"),
             ("bundled diff dump du", "dump"), ("bundled explain --", "--help"), ("bundled help sn", "snapshot")]
     for line, wanted in rows:

@@ -6,20 +6,25 @@ usage: gate/saves.py            (over the program that rt ci or rt run has built
        gate/saves.py --domains N   a store of so many small bundles, which is saved and loaded: neither (it needs a C compiler)
 """
 import errno
+import fcntl
 import os
 import re
 import select
+import signal
 import socket
 import stat
+import struct
 import subprocess
 import sys
+import termios
 import time
 
 sys.dont_write_bytecode = True
 
 from checks import AFTERWARDS, EMPTY, SECONDS, Lasting, LeftOut, Room, Server, bytes_of, canonical, dump_of  # noqa: E402
-from checks import frame, named, numbered, part, pem_of, rest_of, run_checks, run_words, start, unused_port  # noqa: E402
+from checks import frame, named, numbered, part, pem_of, rest_of, run_checks, run_words, start, unused_port, wait_until  # noqa: E402
 from loads import compiled  # noqa: E402
+from refusals import build_shim  # noqa: E402
 
 STORED = frame(b"s")
 MEBIBYTES = 20
@@ -27,6 +32,9 @@ MEBIBYTES = 20
 MOST_BYTES = 16_777_216
 # The kilobytes that a server may take while it ends, beside its store: less than half of the dump that is kept then.
 MOST_MORE = 10_000
+# The kilobytes that a command which keeps a frame may take more for a long dump than for a short one; and those that a server
+# which has loaded a dump may take, beside its store and the requests of the dump, more than one that was filled by a client.
+MOST_OF_A_FRAME = 8_192
 # So many domains take a while to load.
 MANY = 150_000
 
@@ -253,21 +261,67 @@ def memory_of_a_save():
     fill(server, items)
     before = int(server.of_system("VmHWM"))
     server.stop()
-    after = most_until_it_ends(server, before)
+    after = most_until_it_ends(server.started, before)
     assert server.started.wait(SECONDS) == 0, server.said()
     assert os.path.getsize(f"{room.path}/saved") == len(dump_of(items))
     assert after < before + MOST_MORE, f"it had {before} kB, and then {after}"
     return f"; it had {before} kB, and then {after}"
 
 
-def most_until_it_ends(server, most):
-    """The most kilobytes that a server which ends has had: what the system says of it last. (What it says of a process that has
+def most_until_it_ends(started, most):
+    """The most kilobytes that a process which ends has had: what the system says of it last. (What it says of a process that has
     ended begins with what this script had.)"""
     until = time.monotonic() + SECONDS
-    while found := re.search(r"^VmHWM:\s*(\d+)", bytes_of(f"/proc/{server.started.pid}/status").decode(), re.M):
-        assert time.monotonic() < until, "the server does not end"
+    while found := re.search(r"^VmHWM:\s*(\d+)", bytes_of(f"/proc/{started.pid}/status").decode(), re.M):
+        assert time.monotonic() < until, "it does not end"
         most = int(found[1])
     return most
+
+
+def most_of_a_reader(words, dump):
+    """The most kilobytes that a command has which reads this dump."""
+    reader = start(*words, stdin=subprocess.PIPE, stdout=subprocess.PIPE)
+    reader.stdin.write(dump)
+    reader.stdin.flush()
+    until = time.monotonic() + SECONDS
+    # It has begun, and waits for more, once nothing is left in the pipe.
+    while struct.unpack("i", fcntl.ioctl(reader.stdin, termios.FIONREAD, bytes(4)))[0]:
+        assert time.monotonic() < until, "it does not read"
+        time.sleep(0.001)
+    most = int(re.search(r"^VmHWM:\s*(\d+)", bytes_of(f"/proc/{reader.pid}/status").decode(), re.M)[1])
+    reader.stdin.close()
+    most = most_until_it_ends(reader, most)
+    assert reader.wait(SECONDS) == 0, reader.returncode
+    return most
+
+
+def memory_of_readers():
+    """`digest` and `pem` keep a frame of a dump: for one of 20 MiB they take no more than for one of a domain, but for little."""
+    items = large(MEBIBYTES)
+    name = min(items)
+    said = []
+    for words in (["digest"], ["pem", name]):
+        with part(words=words):
+            little = most_of_a_reader(words, dump_of({name: items[name]}))
+            most = most_of_a_reader(words, dump_of(items))
+            assert most < little + MOST_OF_A_FRAME, f"of a domain it had {little} kB, and of {len(items)} {most}"
+            said.append(f"{words[0]} had {little} kB, and then {most}")
+    return f"; {', '.join(said)}"
+
+
+def memory_of_a_load():
+    """A server that loads a dump has its store and the requests that the dump becomes, which are no longer than the dump."""
+    room, items = Room(), large(MEBIBYTES)
+    dump = dump_of(items)
+    server = Lasting("--workers", "1")
+    fill(server, items)
+    filled = int(server.of_system("VmHWM"))
+    assert server.ended() == (0, f"served 1\ndomains {len(items)}\n", ""), "ended otherwise"
+    server = Lasting("--workers", "1", "--load", room.write("dump", dump))
+    loaded = int(server.of_system("VmHWM"))
+    assert server.ended() == (0, f"served 0\ndomains {len(items)}\n", ""), "ended otherwise"
+    assert loaded < filled + len(dump) // 1024 + MOST_OF_A_FRAME, f"filled by a client it had {filled} kB, and loaded {loaded}"
+    return f"; filled by a client it had {filled} kB, and loaded {loaded}"
 
 
 def sockets_of_others():
@@ -283,8 +337,44 @@ def sockets_of_others():
     assert os.listdir(room.path) == [], os.listdir(room.path)
 
 
+def about_to_keep(server):
+    """The server ends, and has written its map beside the file; it stops there until it is to go on."""
+    server.stop()
+    wait_until(lambda: server.of_system("State") == "T", "a server is about to keep its map")
+
+
+def two_of_one_file():
+    """Two servers share a file. One that starts, or ends, while the other writes takes away what that has written: the other ends with
+    fault 59, and leaves the file, and what stands beside it by then, as they are."""
+    room = Room()
+    saved, before = f"{room.path}/saved", dump_of({"before": EMPTY})
+    how = {"env": {"LD_PRELOAD": build_shim(room.path), "STOP_AT_SYNC": "1"}}
+    room.write("saved", before)
+    first = Lasting("--workers", "1", "--save", saved, **how)
+    assert first.ask(named(b"S", "a", EMPTY)) == STORED
+    about_to_keep(first)
+    assert bytes_of(f"{saved}.new") == dump_of({"a": EMPTY})
+    starts = Lasting("--workers", "1", "--save", saved)
+    assert not os.path.exists(f"{saved}.new")
+    first.started.send_signal(signal.SIGCONT)
+    assert first.ended() == (1, "served 1\ndomains 1\n", "fault 59\n"), "ended otherwise"
+    assert bytes_of(saved) == before
+    assert starts.ended() == (0, "served 0\ndomains 0\n", ""), "ended otherwise"
+    assert bytes_of(saved) == dump_of({})
+    first, second = (Lasting("--workers", "1", "--save", saved, **how) for _ in range(2))
+    assert [server.ask(named(b"S", name, EMPTY)) for server, name in ((first, "a"), (second, "b"))] == [STORED, STORED]
+    about_to_keep(first)
+    about_to_keep(second)
+    first.started.send_signal(signal.SIGCONT)
+    assert first.ended() == (1, "served 1\ndomains 1\n", "fault 59\n"), "ended otherwise"
+    assert (bytes_of(saved), bytes_of(f"{saved}.new")) == (dump_of({}), dump_of({"b": EMPTY}))
+    second.started.send_signal(signal.SIGCONT)
+    assert second.ended() == (0, "served 1\ndomains 1\n", ""), "ended otherwise"
+    assert bytes_of(saved) == dump_of({"b": EMPTY})
+
+
 CHECKS = [large_dumps, limits_that_stay, cut_dumps, nobody_before_the_load, told_at_the_start, links_beside_it, modes, full_disk,
-          memory_of_a_save, sockets_of_others]
+          memory_of_a_save, memory_of_readers, memory_of_a_load, two_of_one_file, sockets_of_others]
 
 
 def measured(mebibytes):

@@ -22,8 +22,8 @@ import time
 
 sys.dont_write_bytecode = True
 
-from checks import BUNDLES, DUE, EMPTY, ENTRY, SECONDS, Beside, Lasting, Room, Server, bytes_of, canonical, dump_of, dump_of_real  # noqa: E402
-from checks import frame, frame_of, named, numbered, part, received, rest_of, run_checks, run_words, wait_until  # noqa: E402
+from checks import BUNDLES, DUE, EMPTY, ENTRY, SECONDS, Beside, Lasting, LeftOut, Room, Server, bytes_of, canonical, dump_of, dump_of_real  # noqa: E402
+from checks import frame, frame_of, named, numbered, part, received, rest_of, run_checks, run_words, untimed, wait_until  # noqa: E402
 from refusals import build_shim  # noqa: E402
 
 SET_A, GET_A = named(b"S", "a", EMPTY), named(b"G", "a")
@@ -192,8 +192,8 @@ def silent_clients():
                 assert rest_of(silent) == b""
         patient.sendall(GET_A)
         assert received(patient, len(FOUND)) == FOUND
-    told = ["set a absent to unnumbered", *2 * ["session fault 53"], "session ended after 4 replies"]
-    wanted = "settings workers 1 shards 4 max-open 1000\n" + "".join(f"worker 0 {line}\n" for line in told)
+    told = ["1 set a absent to unnumbered", "2 session fault 53", "3 session fault 53", "1 session ended after 4 replies"]
+    wanted = "settings workers 1 shards 4 max-open 1000\n" + "".join(f"worker 0 client {line}\n" for line in told)
     wait_until(lambda: placeless(server.said()) == wanted, "each end is told")
 
 
@@ -204,7 +204,7 @@ def client_that_never_reads():
         stream.sendall(named(b"S", "a", bytes_of(REAL)) + TOO_MANY * GET_A)
         wait_until_it_writes(stream)
         assert server.ask(GET_A) == frame(b"f" + canonical("many"))
-        told = f"worker 0 session fault 54 from {stream.getsockname()[1]}\n"
+        told = f"worker 0 client 1 session fault 54 from {stream.getsockname()[1]}\n"
         wait_until(lambda: server.said().endswith(told), "the client is given up")
         status, out, err = server.ended()
         assert (status, out) == (0, "served 2\ndomains 1\n") and err.endswith(f"{told}fault 54\n"), (status, out, err)
@@ -216,7 +216,7 @@ def client_that_sends_and_never_reads():
     with server.connect() as stream:
         stream.sendall(named(b"S", "a", bytes_of(REAL)) + TOO_MANY * GET_A)
         wait_until_it_writes(stream)
-        told = f"worker 0 session fault 54 from {stream.getsockname()[1]}\n"
+        told = f"worker 0 client 1 session fault 54 from {stream.getsockname()[1]}\n"
         wait_until(lambda: told in server.said() or send_one_byte(stream), "the client that sends is given up")
 
 
@@ -231,7 +231,7 @@ def client_that_begins_a_frame():
     server = Lasting("--workers", "1", "--idle", "2", "--log")
     with server.connect() as stream:
         stream.sendall(b"\0\0\xff\xff")
-        told = f"worker 0 session fault 53 from {stream.getsockname()[1]}\n"
+        told = f"worker 0 client 1 session fault 53 from {stream.getsockname()[1]}\n"
         wait_until(lambda: told in server.said() or send_one_byte(stream), "the client that sends is given up")
 
 
@@ -266,7 +266,7 @@ def others_are_taken_beside_long_turns():
     is_over.set()
     busy.join()
     wait_until(lambda: server.said().count("session ended after 1 replies") == len(took), "each end is told")
-    by_worker = [len(re.findall(f"worker {worker} session ended after 1 replies", server.said())) for worker in range(2)]
+    by_worker = [len(re.findall(rf"worker {worker} client \d+ session ended after 1 replies", server.said())) for worker in range(2)]
     assert max(by_worker) >= 20, by_worker
     assert server.ended()[1] == "served 31\ndomains 0\n", "ended otherwise"
     return f"; {max(by_worker)} of {len(took)} by one worker, {answered_soon(took)}"
@@ -352,14 +352,9 @@ def cannot_keep_the_last_map():
     assert bytes_of(saved) == b"what stood there before"
 
 
-def untimed(told):
-    """What is told, without the time before each line of a log."""
-    return re.sub(r"^\d{4}-\d\d-\d\dT\d\d:\d\d:\d\dZ (?=worker |settings |max-open )", "", told, flags=re.M)
-
-
 def placeless(told):
     """What is told, without the times, and without the ports of clients, which the system chooses."""
-    return re.sub(r"^(worker \d+ session .*) from \d+$", r"\1", untimed(told), flags=re.M)
+    return re.sub(r"^(worker \d+ client \d+ session .*) from \d+$", r"\1", untimed(told), flags=re.M)
 
 
 def asked_from(server, request, port=None):
@@ -371,8 +366,8 @@ def asked_from(server, request, port=None):
 
 
 def told_changes():
-    """With --log each change is a line on standard error, and so is each one that was refused by 31, 36 or 56, and
-    each end of a connection, with the port of its client; nothing else is. The time stands before each."""
+    """With --log each change is a line on standard error, and so is each one that was refused by 31 or 36, and
+    each end of a connection, with the number of its client and its port; nothing else is. The time stands before each."""
     begun = int(time.time())
     server = Server("--workers", "1", "--connections", "2", "--log")
     turns = [
@@ -392,9 +387,9 @@ def told_changes():
     assert replies == b"".join(frame(reply) for _, reply in turns)
     second, nothing = asked_from(server, GET_A[:-1])
     assert nothing == b""
-    told = ["set a absent to 7", "refused a 31 7", "refused a 36 7", "refused b 36 absent", "appended a 7 to 8", "set b absent to unnumbered", "removed b unnumbered to absent",
-            f"session ended after 11 replies from {first}", f"session fault 52 from {second}"]
-    log = "settings workers 1 shards 4 connections 2\n" + "".join(f"worker 0 {line}\n" for line in told)
+    told = ["1 set a absent to 7", "1 refused a 31 7", "1 refused a 36 7", "1 refused b 36 absent", "1 appended a 7 to 8", "1 set b absent to unnumbered",
+            "1 removed b unnumbered to absent", f"1 session ended after 11 replies from {first}", f"2 session fault 52 from {second}"]
+    log = "settings workers 1 shards 4 connections 2\n" + "".join(f"worker 0 client {line}\n" for line in told)
     status, out, err = server.ended()
     assert (status, out, untimed(err)) == (0, "served 2\ndomains 1\n", f"{log}fault 52\n"), "ended otherwise"
     times = [calendar.timegm(time.strptime(line.split()[0], "%Y-%m-%dT%H:%M:%SZ")) for line in err.splitlines()[:-1]]
@@ -402,15 +397,78 @@ def told_changes():
 
 
 def told_refusals_of_a_port():
-    """With --log each change that comes to the port for reads only is told to be refused by 56, and none that can't be read."""
+    """With --log it is told how many changes that came to the port for reads only were refused by 56."""
     server = Lasting("--workers", "1", "--read-port", "0", "--log")
     tried = [SET_A, named(b"A", "a", ENTRY), named(b"R", "b"), frame(b"V\2"), frame(b"C\x01c\0" + EMPTY), GET_A, frame(b"F"), named(b"S", "A", EMPTY)]
     port, replies = asked_from(server, b"".join(tried), server.read_port)
-    assert replies.startswith(3 * frame(b"\x38") + frame(b"v\2") + frame(b"\x38") + NO_DOMAIN), replies
-    told = [*(f"refused {name} 56" for name in "aabc"), f"session ended after 8 replies from {port}"]
-    log = "settings workers 1 shards 4 max-open 1000\n" + "".join(f"worker 0 {line}\n" for line in told)
+    assert replies.startswith(3 * frame(b"\x38") + frame(b"v\2") + frame(b"\x38") + NO_DOMAIN) and replies.endswith(frame(b"\x38")), replies
+    told = ["refused 5 changes 56", f"session ended after 8 replies from {port}"]
+    log = "settings workers 1 shards 4 max-open 1000\n" + "".join(f"worker 0 client 1 {line}\n" for line in told)
     status, out, err = server.ended()
     assert (status, out, untimed(err)) == (0, "served 1\ndomains 0\n", log), (status, out, err)
+
+
+def steps_of(name):
+    """A set, one of a lower sequence, and a removal; the reply of each, and what is told of it."""
+    return [(named(b"S", name, numbered(7)), STORED, f"set {name} absent to 7"),
+            (named(b"S", name, numbered(6)), frame(b"\x1f" + (7).to_bytes(8, "big")), f"refused {name} 31 7"),
+            (named(b"R", name), frame(b"d"), f"removed {name} 7 to absent")]
+
+
+def told_of(server):
+    """By client, what is told of it by a server that has ended."""
+    lines = [re.fullmatch(r"worker \d+ client (\d+) (.*)", it) for it in untimed(server.ended()[2]).splitlines() if it.startswith("worker")]
+    assert all(lines), server.said()
+    return {number: [it[2] for it in lines if it[1] == number] for number in sorted({it[1] for it in lines}, key=int)}
+
+
+def asked_in_turn(streams):
+    """Each client asks its first step, and then each its second."""
+    for steps in zip(*(steps_of(name) for name in "abc")):
+        for stream, (request, reply, _) in zip(streams, steps):
+            stream.sendall(request)
+            assert received(stream, len(reply)) == reply
+
+
+def asked_one_by_one(streams):
+    """Each client asks all its steps, and leaves before the next is served."""
+    for stream, name in zip(streams, "abc"):
+        for request, reply, _ in steps_of(name):
+            stream.sendall(request)
+            assert received(stream, len(reply)) == reply
+        stream.close()
+
+
+def told_clients():
+    """With --log each change and each refusal has the number of its client, which is that of the end of its session, where its port
+    stands. So it is of clients that a worker has beside each other, too; and over all workers no two clients have the same number."""
+    path = f"{Room().path}/socket"
+    for server, ask in ((Server("--workers", "1", "--connections", "3", "--log"), asked_one_by_one), (Lasting("--workers", "1", "--log"), asked_in_turn),
+                        (Lasting("--workers", "3", "--log"), asked_in_turn), (Lasting("--workers", "1", "--log", port=path), asked_in_turn)):
+        with part(server=server.line, ask=ask.__name__):
+            streams = server.connections(3)
+            ports = [None if server.port == path else stream.getsockname()[1] for stream in streams]
+            ask(streams)
+            for stream in streams:
+                stream.close()
+            told = told_of(server)
+            assert list(told) == ["1", "2", "3"], told
+            wanted = [[*(said for *_, said in steps_of(name)), "session ended after 3 replies" + (f" from {port}" if port else "")] for name, port in zip("abc", ports)]
+            assert sorted(told.values()) == wanted, told
+
+
+def told_changes_only():
+    """With --log changes the ends of sessions are not told, in either form; all else is."""
+    for server in (Server("--workers", "1", "--log", "changes"), Lasting("--workers", "1", "--log=changes"), Lasting("--log", "changes", "--workers", "1")):
+        with part(server=server.line):
+            assert server.ask(b"".join(request for request, *_ in steps_of("a"))) == b"".join(reply for _, reply, _ in steps_of("a"))
+            told = told_of(server)
+            assert told == {"1": [said for *_, said in steps_of("a")]}, told
+    for words in (("--log", "all"), ("--log=all",), ("--log",)):
+        with part(words=words):
+            server = Server("--workers", "1", *words)
+            assert server.ask(GET_A) == NO_DOMAIN
+            assert [it.partition(" from ")[0] for it in told_of(server)["1"]] == ["session ended after 1 replies"]
 
 
 def more_clients_than_descriptors():
@@ -422,6 +480,28 @@ def more_clients_than_descriptors():
             assert server.ask(GET_A) == NO_DOMAIN
             told = f"max-open {most} is over the limit of 64 descriptors\n" if most else ""
             assert [it for it in untimed(server.ended()[2]).splitlines(True) if it.startswith("max-open")] == [told] * bool(most)
+
+
+def descriptors_that_are_used_up():
+    """Standard error is told at once, with a log and without one, that no client can be taken since the program may have no more
+    files open; once, also if clients wait for a while. Those that are connected are served, and one that waits is once others have gone."""
+    few = lambda: resource.setrlimit(resource.RLIMIT_NOFILE, (64, 64))
+    for log in ((), ("--log",)):
+        with part(log=log):
+            begun, server = time.monotonic(), Lasting("--workers", "2", *log, preexec_fn=few)
+            told = lambda: re.findall(r"^no more connections: the limit of open files \(ulimit -n\) is reached; (\d+) are open$", untimed(server.said()), re.M)
+            streams = server.connections(80)
+            wait_until(told, "it is told that no client can be taken")
+            assert 32 <= int(told()[0]) < 64, told()
+            for stream in streams[:32]:
+                stream.sendall(GET_A)
+                assert received(stream, len(NO_DOMAIN)) == NO_DOMAIN
+            time.sleep(1)
+            for stream in streams[:32]:
+                stream.close()
+            streams[-1].sendall(GET_A)
+            assert received(streams[-1], len(NO_DOMAIN)) == NO_DOMAIN
+            assert len(told()) <= 1 + (time.monotonic() - begun) // 60, server.said()
 
 
 def set_of(number):
@@ -611,11 +691,25 @@ def set_until_it_ends(server, number, stored, is_over):
         assert is_over.is_set(), "the connection is lost"
 
 
+def clients_before_they_are_taken():
+    """As many clients as the system allows are connected before a server that is stopped takes one, in either form."""
+    most = int(bytes_of("/proc/sys/net/core/somaxconn"))
+    if most < 300:
+        raise LeftOut("the system lets fewer clients wait")
+    for form in (("--connections", "300", "--workers", "1"), ("--connections", "unlimited")):
+        server = Server(*form)
+        os.kill(server.started.pid, signal.SIGSTOP)
+        with contextlib.ExitStack() as clients:
+            for _ in range(300):
+                clients.enter_context(socket.create_connection(("127.0.0.1", server.port), timeout=SECONDS))
+            os.kill(server.started.pid, signal.SIGCONT)
+
+
 CHECKS = [two_workers, one_after_the_other, workers_without_threads, reads_that_are_counted, side_by_side, real_bundles,
           filled_stores, clients_that_fail, many_workers, ports_and_outputs, silent_clients, client_that_never_reads,
           client_that_sends_and_never_reads, client_that_begins_a_frame, client_that_reads_slowly, others_are_taken_beside_long_turns,
-          replies_before_a_bad_length, stops_at_the_end_of_input, keeps_the_last_map, cannot_keep_the_last_map, told_changes, told_refusals_of_a_port, more_clients_than_descriptors, a_thousand_connections, connections_in_wait,
-          read_only_port, one_client_that_asks_steadily, flood_beside_others, stops_while_clients_write]
+          replies_before_a_bad_length, stops_at_the_end_of_input, keeps_the_last_map, cannot_keep_the_last_map, told_changes, told_refusals_of_a_port, told_clients, told_changes_only, more_clients_than_descriptors, descriptors_that_are_used_up, a_thousand_connections, connections_in_wait,
+          clients_before_they_are_taken, read_only_port, one_client_that_asks_steadily, flood_beside_others, stops_while_clients_write]
 
 
 if __name__ == "__main__":

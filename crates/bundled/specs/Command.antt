@@ -31,7 +31,7 @@ use Rattle.bundled.specs.Stats.{StatsRun}
 use Rattle.bundled.specs.Race.{RaceRun}
 use Rattle.bundled.specs.Serve.{ServedAs}
 use Rattle.server.specs.Saving.{IsUnknown}
-use Rattle.server.specs.Serve.{ServeCommand}
+use Rattle.server.specs.Serve.{AddsWords, ServeCommand}
 
 -- what a map shows of a bundle: its X.509 authorities, or all
 abbrev pub profile : Bool → Profile
@@ -64,8 +64,28 @@ Does (Race seconds) status old new = RaceRun status old new
 Does (Refresh wanted) status old new = RefreshRun status old new
 Does (Snapshot wanted) status old new = SnapshotRun wanted.at_least status old new
 Does (Stats wanted) status old new = StatsRun status old new
-Does (Serve places load save log settings) status old new =
+Does (Serve places load save log says_connections settings) status old new =
     (stops_at_end settings.connections ≡ false → new.input ≡ old.input) × ServeCommand IsUnknown (ServedAs settings.connections settings.turns) load save settings status old.output new.output old.error new.error
+
+-- whether the command says in words why a fault ended it
+abbrev pub has_words : Wanted → Bool
+has_words (Ask inquiry) = true
+has_words (Check files) = true
+has_words (Map names x509) = true
+has_words Import = true
+has_words (Pem name) = true
+has_words (Diff old_file new_file) = true
+has_words Digest = true
+has_words (Refresh wanted) = true
+has_words (Snapshot wanted) = true
+has_words (Stats wanted) = true
+has_words wanted = false
+
+-- Behind all that, such a command may write a line of words to standard error if its status is 1.
+pub record DoesInWords (wanted : Wanted) (status : ℕ) (old new : Streams) : Type 0 where
+  pub before_words : End
+  pub does : Does wanted status old (record { input = new.input; output = new.output; error = before_words })
+  pub words : (new.error ≡ before_words) ⊎ ((status ≡ 1) × (has_words wanted ≡ true) × AddsWords before_words new.error)
 
 -- Help or the version is written to standard output, and nothing is read. Or memory ran out before that or a command.
 pub record Shows (status : ℕ) (old new : Streams) : Type 0 where
@@ -85,4 +105,4 @@ pub record Refuses (status : ℕ) (old new : Streams) : Type 0 where
 -- The whole program.
 abbrev pub Commands : ℕ → Streams → Streams → Type 0
 Commands status old new =
-    ((wanted : Wanted) × AreSettings wanted × Does wanted status old new) ⊎ (Shows status old new ⊎ Refuses status old new)
+    ((wanted : Wanted) × AreSettings wanted × DoesInWords wanted status old new) ⊎ (Shows status old new ⊎ Refuses status old new)

@@ -4,4 +4,5 @@ pub mod Snapshot
 pub mod Stats
 pub mod Race
 pub mod Serve
+pub mod Screen
 pub mod Command

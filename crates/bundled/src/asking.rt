@@ -5,7 +5,8 @@ ghost use Rattle.bundled.specs.Ask.{AskRun, IsKnown, form};
 ghost use Rattle.server.specs.Serve.{IsLoadFault};
 ghost use Rattle.commands.specs.Streams.{streams};
 
-use crate::refreshing::streams;
+use crate::patience::Patience;
+use crate::server_stream::connect;
 use client::{Asking, Form, ServerStreams};
 use command_line::{Inquiry, ReplyStyle};
 use commands::{Extent, Fault, FileTexts, ServerFault, ask_over, ask_words_over, read_input};
@@ -15,11 +16,12 @@ use std::alloc::Global;
 use std::fs::{File, Files};
 use std::io::{Read, Write};
 use std::net::Net;
+use std::time::Clock;
 use wire::{Counted, FrontError};
 
 /// Asks the server at a place of this machine, and answers the exit status: 0 if each request was done, 3 if some reply is a
 /// refusal, 1 after a fault.
-pub fn ask_server<H: Files + Net, R: Read, W: Write, E: Write>(
+pub fn ask_server<H: Files + Net + Clock, R: Read, W: Write, E: Write>(
     alloc: Global,
     host: &H,
     reader: &mut Counted<R>,
@@ -35,7 +37,8 @@ pub fn ask_server<H: Files + Net, R: Read, W: Write, E: Write>(
         Ok(known) => known,
         Err(fault) => return fault.tell(err),
     };
-    let Ok((from, to)) = streams(host, wanted.place) else {
+    let patience = Patience::new(host, wanted.timeout);
+    let Ok((from, to)) = connect(host, wanted.place, &patience) else {
         return Fault::Server(ServerFault::NoConnection).tell(err);
     };
     let mut link = ServerStreams {

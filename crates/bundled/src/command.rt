@@ -1,27 +1,31 @@
 //! The program, from its arguments to its exit status.
 ghost use Rattle.std.specs.Prelude.{◌≡◌, ◌<◌, ◌-◌, ◌^◌, ◌⊎◌};
 ghost use Rattle.wire.specs.Counted.{faults_in};
-ghost use Rattle.bundled.specs.Command.{Commands, DiffFiles, Does, Refuses, Shows, profile};
+ghost use Rattle.bundled.specs.Command.{Commands, DiffFiles, Does, DoesInWords, Refuses, Shows, has_words as speaks, profile};
+ghost use Rattle.server.specs.Serve.{AddsWords};
 ghost use Rattle.command_line.specs.Settings.{AreSettings};
 ghost use Rattle.wire.specs.Output.{Tells, end_of};
 ghost use Rattle.commands.specs.Streams.{Source, Streams, streams};
 
 use crate::asking::ask_server;
+use crate::heard::Hears;
 use crate::notes::{Notes, NotesRoom};
 use crate::racing::race_over;
 use crate::refreshing::refresh_over;
+use crate::screen::Shows;
 use crate::serving::{Host, Serving, serve_over};
 use crate::snapshotting::snapshot_over;
 use crate::stats::stats_over;
+use crate::why::{Ended, words_of};
 use clap::error::ErrorKind;
-use command_line::{Wanted, wanted_by};
+use command_line::{ReplyStyle, Wanted, wanted_by};
 use commands::{
     Fault, FileTexts, check_over, decode_over, diff_over, digest_over, encode_over, ended,
     explain_over, import_over, map_over, migrate_over, pem_over, picture_over, run_over,
     trace_over, write_flushed,
 };
 use dump_views::Profile;
-use server::{Counts, LineLog, Stamped, tell_start};
+use server::{Counts, LineLog, Stamped, tell_start, tell_words};
 use std::alloc::{AllocError, Global};
 use std::env::{Args, Env};
 use std::fs::{File, Files};
@@ -40,8 +44,8 @@ pub fn command_over<
     V: Env,
     H: Files + Clock + Threads + Net<Listener = TcpListener, Stream = TcpStream> + Sync,
     R: Read,
-    W: Write,
-    E: Write,
+    W: Write + Shows,
+    E: Write + Hears,
     N: Write + Copy + Send + Sync,
 >(
     alloc: Global,
@@ -67,7 +71,7 @@ pub fn command_over<
         return Fault::Front(FrontError::Memory).tell(err);
     };
     match wanted_by(alloc, words.as_slice()) {
-        Ok(wanted) => run_wanted(alloc, host, &wanted, reader, out, err, notes),
+        Ok(wanted) => run_in_words(alloc, host, &wanted, reader, out, err, notes),
         Err(error) => show(alloc, &error, out, err),
     }
 }
@@ -79,6 +83,97 @@ fn gather(alloc: Global, arguments: Args) -> Result<Vec<String>, AllocError> {
         words.push(word)?;
     }
     Ok(words)
+}
+
+/// Runs the command that is wanted, and answers the exit status. If a fault ended it, it is said in words why, of the commands that
+/// say so.
+fn run_in_words<
+    H: Files + Clock + Threads + Net<Listener = TcpListener, Stream = TcpStream> + Sync,
+    R: Read,
+    W: Write + Shows,
+    E: Write + Hears,
+    N: Write + Copy + Send + Sync,
+>(
+    alloc: Global,
+    host: &H,
+    wanted: &Wanted<'_>,
+    reader: &mut Counted<R>,
+    out: &mut Counted<W>,
+    err: &mut Counted<E>,
+    notes: N,
+) -> u8
+    requires settings { AreSettings wanted.now }
+    requires out_count { faults_in out.old < 2 ^ 64 - 1 }
+    requires err_count { faults_in err.old < 2 ^ 64 - 1 }
+    ensures { DoesInWords wanted.now result
+        (streams R.remaining W.contents E.contents reader.old out.old err.old)
+        (streams R.remaining W.contents E.contents reader.new out.new err.new) }
+{
+    if is_text(wanted) {
+        out.end().show_text();
+    }
+    let (input_faults, output_faults, error_faults) = (reader.faults(), out.faults(), err.faults());
+    let status = run_wanted(alloc, host, wanted, reader, out, err, notes);
+    if status != 1 || !has_words(wanted) || err.faults() != error_faults {
+        return status;
+    }
+    let why = match err.end().last_fault() {
+        Some(fault) => Some(Ended {
+            fault,
+            input_failed: reader.faults() != input_faults,
+            output_failed: out.faults() != output_faults,
+        }),
+        None => None,
+    };
+    say_why(alloc, host, wanted, why, err);
+    status
+}
+
+/// Whether the command writes text that others have written, with no byte of it escaped.
+fn is_text(wanted: &Wanted<'_>) -> bool {
+    match wanted {
+        Wanted::Decode | Wanted::Map { .. } => true,
+        Wanted::Ask(inquiry) => inquiry.style != ReplyStyle::Raw,
+        _ => false,
+    }
+}
+
+/// Whether the command says in words why a fault ended it.
+fn has_words(wanted: &Wanted<'_>) -> bool
+    ensures { result ≡ speaks wanted.now }
+{
+    matches!(
+        wanted,
+        Wanted::Ask(_)
+            | Wanted::Check(_)
+            | Wanted::Map { .. }
+            | Wanted::Import
+            | Wanted::Pem(_)
+            | Wanted::Diff(_, _)
+            | Wanted::Digest
+            | Wanted::Refresh(_)
+            | Wanted::Snapshot(_)
+            | Wanted::Stats(_)
+    )
+}
+
+/// Says in words why the command ended, if there are any.
+fn say_why<H: Files + Net, E: Write>(
+    alloc: Global,
+    host: &H,
+    wanted: &Wanted<'_>,
+    why: Option<Ended>,
+    err: &mut Counted<E>,
+)
+    ensures { AddsWords (end_of E.contents err.old) (end_of E.contents err.new) }
+{
+    let Some(why) = why else {
+        return;
+    };
+    let Some(words) = words_of(alloc, host, wanted, why) else {
+        return;
+    };
+    tell_words(alloc, words.as_str(), err);
 }
 
 /// Runs the command that is wanted, and answers the exit status.
@@ -146,16 +241,17 @@ fn run_wanted<
             places,
             load,
             save,
-            log: is_on,
+            log: scope,
+            says_connections,
             settings,
         } => {
-            tell_start(host, settings, *is_on, notes);
+            tell_start(host, settings, scope.has_changes(), notes);
             let Ok(counts) = Counts::new(alloc, host, settings.workers) else {
                 return Fault::Front(FrontError::Memory).tell(err);
             };
-            let room = NotesRoom::new(host, alloc, *is_on);
+            let room = NotesRoom::new(host, alloc);
             let end = Stamped::new(host, Notes::new(host, &room, notes));
-            let log = LineLog::new(&counts, host, end, *is_on);
+            let log = LineLog::new(&counts, host, end, *scope);
             let host = Host {
                 rt: host,
                 alloc,
@@ -166,6 +262,7 @@ fn run_wanted<
                 places: *places,
                 load: *load,
                 save: *save,
+                says_connections: *says_connections,
                 settings: *settings,
             };
             let status = serve_over(&host, serving, reader, out, err);

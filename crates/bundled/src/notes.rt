@@ -58,11 +58,8 @@ pub enum NotesRoom {
 }
 
 impl NotesRoom {
-    /// Nothing is asked for a log that is not on.
-    pub fn new<H: Net>(net: &H, alloc: Global, is_on: bool) -> NotesRoom {
-        if !is_on {
-            return NotesRoom::Unknown;
-        }
+    /// What the system says of standard error.
+    pub fn new<H: Net>(net: &H, alloc: Global) -> NotesRoom {
         let Ok(poll) = Poll::new(net) else {
             return NotesRoom::Unknown;
         };

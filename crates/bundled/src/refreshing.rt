@@ -5,22 +5,18 @@ ghost use Rattle.bundled.specs.Refresh.{RefreshRun};
 ghost use Rattle.wire.specs.Output.{Tells, end_of};
 ghost use Rattle.commands.specs.Streams.{Source};
 
-use crate::server_stream::ServerStream;
+use crate::patience::Patience;
+use crate::server_stream::{ServerStream, connect};
 use client::Client;
 use command_line::{Place, Refreshing};
 use commands::{Fault, RefreshFault, ServerFault, ended_after, read_schedule};
 use refresh::{Folder, Sender, Server, Times, refresh_each};
 use std::alloc::Global;
 use std::fs::Files;
-use std::io;
 use std::io::Write;
-use std::net::{Ipv4Addr, Net, OpenStream, SocketAddr};
-use std::os::unix::net::UnixStream;
-use std::time::{Clock, Duration};
+use std::net::Net;
+use std::time::Clock;
 use wire::{Counted, FrontError};
-
-/// How long one read or write of a server's stream may wait, in seconds.
-const PATIENCE: u64 = 30;
 
 /// Refreshes each relationship of the list once, and answers the exit status: 0 if each bundle was stored, unchanged or
 /// sent, 3 if not, 1 after a fault. A list that is refused is a fault, and then nothing is asked. A line for each
@@ -63,7 +59,8 @@ fn refresh_list<H: Files + Clock + Net, W: Write, E: Write>(
     let mut folder = Folder::new(alloc, host, wanted.folder);
     match wanted.place {
         Some(place) => {
-            let mut server = connect(alloc, host, place)?;
+            let patience = Patience::new(host, wanted.timeout);
+            let mut server = server_at(alloc, host, place, &patience)?;
             Ok(!refresh_each(
                 alloc,
                 &mut folder,
@@ -99,56 +96,18 @@ fn time_of<H: Clock>(host: &H, wanted: &Refreshing<'_>) -> Result<u64, Fault> {
     }
 }
 
-/// Connects to the server that listens at the place.
-fn connect<H: Net>(
+/// The server that listens at the place.
+fn server_at<'a, H: Net + Clock>(
     alloc: Global,
-    host: &H,
+    host: &'a H,
     place: Place<'_>,
-) -> Result<Server<ServerStream<H::Stream>, ServerStream<H::Stream>>, Fault> {
-    match streams(host, place) {
-        Ok((stream, other)) => {
-            let client = Client::new(alloc, Counted::new(stream), Counted::new(other));
+    patience: &'a Patience<'a, H>,
+) -> Result<Server<ServerStream<'a, H, H::Stream>, ServerStream<'a, H, H::Stream>>, Fault> {
+    match connect(host, place, patience) {
+        Ok((from, to)) => {
+            let client = Client::new(alloc, Counted::new(from), Counted::new(to));
             Ok(Server::new(client))
         }
         Err(_) => Err(Fault::Server(ServerFault::NoConnection)),
     }
-}
-
-/// A stream to the server that listens at the place, to read from and to write to.
-pub fn streams<H: Net>(
-    host: &H,
-    place: Place<'_>,
-) -> io::Result<(ServerStream<H::Stream>, ServerStream<H::Stream>)> {
-    match place {
-        Place::Port(port) => {
-            let (from, to) = port_streams(host, port)?;
-            Ok((ServerStream::Port(from), ServerStream::Port(to)))
-        }
-        Place::Socket(path) => {
-            let (from, to) = socket_streams(host, path)?;
-            Ok((ServerStream::Socket(from), ServerStream::Socket(to)))
-        }
-    }
-}
-
-/// A stream to a port of 127.0.0.1.
-fn port_streams<H: Net>(host: &H, port: u16) -> io::Result<(H::Stream, H::Stream)> {
-    let stream = host.connect(SocketAddr::from((Ipv4Addr::LOCALHOST, port)))?;
-    let patience = Some(Duration::from_secs(PATIENCE));
-    stream.set_read_timeout(patience)?;
-    stream.set_write_timeout(patience)?;
-    // A request is written in two calls, and the second would wait for an answer to the first.
-    stream.set_nodelay(true)?;
-    let other = stream.try_clone()?;
-    Ok((stream, other))
-}
-
-/// A stream to the Unix socket at the path.
-fn socket_streams<H: Net>(host: &H, path: &str) -> io::Result<(UnixStream, UnixStream)> {
-    let stream = UnixStream::connect(host, path)?;
-    let patience = Some(Duration::from_secs(PATIENCE));
-    stream.set_read_timeout(patience)?;
-    stream.set_write_timeout(patience)?;
-    let other = stream.try_clone()?;
-    Ok((stream, other))
 }

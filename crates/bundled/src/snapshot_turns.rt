@@ -1,9 +1,10 @@
 //! One turn of the command `snapshot`.
 ghost use Rattle.std.specs.Prelude.{◌≡◌, ◌<◌, IfOk, true};
 
-use crate::refreshing::streams;
+use crate::patience::Patience;
+use crate::server_stream::connect;
 use client::{Client, ClientError};
-use command_line::{Place, Snapshotting};
+use command_line::Snapshotting;
 use commands::{Fault, ServerFault, SnapshotFault, write_flushed};
 use map_core::Snapshot;
 use snapshots::{FetchError, FolderError, HostFolder, Look, fetch, has_files, update};
@@ -11,6 +12,7 @@ use std::alloc::{AllocError, Global};
 use std::fs::Files;
 use std::io::Write;
 use std::net::Net;
+use std::time::Clock;
 use wire::{Counted, FrontError};
 
 /// How many names of domains without files are told at most, so that nobody fills a log by them.
@@ -83,7 +85,7 @@ impl Kept {
 
 /// Brings the folder to show what the server holds, and tells if that is new. What was fetched last is not fetched again while
 /// the server has the same, and files are not compared again while the current snapshot looks the same.
-pub fn take_turn<H: Files + Net, W: Write>(
+pub fn take_turn<H: Files + Net + Clock, W: Write>(
     job: &Job<'_, H>,
     out: &mut Counted<W>,
     kept: &mut Kept,
@@ -159,8 +161,8 @@ fn tell_shown<H, W: Write>(
 }
 
 /// All domains of the server; those that were fetched last, if it has the same.
-fn fetched<H: Net>(job: &Job<'_, H>, kept: &mut Kept) -> Result<Snapshot, Fault> {
-    if let Some(domains) = fetch_from(job.alloc, job.host, job.wanted.place, &kept.fetched)? {
+fn fetched<H: Net + Clock>(job: &Job<'_, H>, kept: &mut Kept) -> Result<Snapshot, Fault> {
+    if let Some(domains) = fetch_from(job, &kept.fetched)? {
         kept.fetched = Some(domains);
         kept.look = None;
     }
@@ -174,17 +176,16 @@ fn fetched<H: Net>(job: &Job<'_, H>, kept: &mut Kept) -> Result<Snapshot, Fault>
     }
 }
 
-/// All domains of the server that listens at the place; none if they are those that were fetched last.
-fn fetch_from<H: Net>(
-    alloc: Global,
-    host: &H,
-    place: Place<'_>,
+/// All domains of the server; none if they are those that were fetched last.
+fn fetch_from<H: Net + Clock>(
+    job: &Job<'_, H>,
     last: &Option<Snapshot>,
 ) -> Result<Option<Snapshot>, Fault> {
-    let Ok((stream, other)) = streams(host, place) else {
+    let patience = Patience::new(job.host, job.wanted.timeout);
+    let Ok((from, to)) = connect(job.host, job.wanted.place, &patience) else {
         return Err(Fault::Server(ServerFault::NoConnection));
     };
-    let mut client = Client::new(alloc, Counted::new(stream), Counted::new(other));
+    let mut client = Client::new(job.alloc, Counted::new(from), Counted::new(to));
     match fetch(&mut client, last.as_ref().map(Snapshot::digest)) {
         Ok(fetched) => Ok(fetched),
         Err(FetchError::Refused(why)) => Err(Fault::Snapshot(SnapshotFault::Refused(why))),

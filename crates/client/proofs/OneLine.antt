@@ -9,10 +9,11 @@ use Rattle.wire.specs.declared.error.FrontError.TheVariants as front
 use Rattle.client.specs.declared.client_error.ClientError.{ClientError}
 use Rattle.client.specs.declared.client_error.ClientError.TheVariants as client
 use Rattle.wire.specs.ReplyForm.{Reply, Stored, Unchanged, Removed, Appended, Found, All, Bundle, Speaks, Refused, Moved, Held, Worn, Memory, Same, Counts, Shut, payload_of}
-use Rattle.client.specs.Asking.{AreBegun, IsUnanswered, BreaksOff, HidesLast, IsNoReply}
+use Rattle.client.specs.Asking.{letter_of, AreBegun, IsUnanswered, BreaksOff, HidesLast, IsNoReply}
 use Rattle.client.specs.Replies.{IsTold, is_bundle, is_refusal, reply_frames, shown}
 use Rattle.client.specs.Private.Steps.{TriesSoFar, FailsAsking, AsksUntilTold, Shows, NotShown, ShowsOthers, BreaksOthers, AsksOne, BreaksOne}
 use Rattle.client.specs.declared.asking.Asking.{Asking}
+use Rattle.client.specs.declared.reply.Due.TheVariants.{AnswerTo, OneOfAll}
 use Rattle.client.specs.declared.asking.Form.{Form}
 use Rattle.client.specs.declared.fault.AskFault.{AskFault}
 use Rattle.client.specs.declared.fault.AskFault.TheVariants.{Server, Front}
@@ -31,13 +32,13 @@ asks_nothing how request from to out none = record {
   refused_is = refl;
 }
 
-unanswered : (form : Form) (error : ClientError) (unsent torn : List ℕ) (left : Option (List ℕ)) → IsUnanswered error unsent torn left → BreaksOff form (Server error) [] torn unsent [] left
-unanswered form error unsent torn left (inl why) = rw why.0 (refl, why.1)
-unanswered form error unsent torn left (inr none) = rw none.0 (no_frame form error [] torn left tt none.1)
+unanswered : (form : Form) (request : List ℕ) (error : ClientError) (unsent torn : List ℕ) (left : Option (List ℕ)) → IsUnanswered error unsent torn left → BreaksOff form request (Server error) [] torn unsent [] left
+unanswered form request error unsent torn left (inl why) = rw why.0 (refl, why.1)
+unanswered form request error unsent torn left (inr none) = rw none.0 (no_frame form request error [] torn left tt none.1)
 
 module _ (how : Asking) (left : ℕ) (request : List ℕ) (from_old from_mid to_old to_mid : Option (List ℕ)) (so : TriesSoFar how.retries left request from_old from_mid to_old to_mid) (some : request ≢ []) (from_new to_new out : Option (List ℕ)) where
   -- one try more, after which no reply came
-  untold : (error : ClientError) (sent unsent torn : List ℕ) → request ≡ sent ++ unsent → Appends to_mid to_new sent → Consumes from_mid from_new torn → BreaksOff how.form (Server error) [] torn unsent [] from_new
+  untold : (error : ClientError) (sent unsent torn : List ℕ) → request ≡ sent ++ unsent → Appends to_mid to_new sent → Consumes from_mid from_new torn → BreaksOff how.form request (Server error) [] torn unsent [] from_new
       → BreaksOne how (Server error) request from_old from_new to_old to_new out out
   untold error sent unsent torn split asks tells why = record {
     done = record { asked = flat_map (λ reply. request) so.transient ++ sent; told = reply_frames so.transient ++ torn; shown = [] };
@@ -64,9 +65,9 @@ module _ (how : Asking) (left : ℕ) (request : List ℕ) (from_old from_mid to_
   }
 
   pub not_told : (error : ClientError) → FailsAsking request (IsUnanswered error) from_mid from_new to_mid to_new → BreaksOne how (Server error) request from_old from_new to_old to_new out out
-  not_told error one = untold error one.sent one.unsent one.torn one.split one.asks one.tells (unanswered how.form error one.unsent one.torn from_new one.why)
+  not_told error one = untold error one.sent one.unsent one.torn one.split one.asks one.tells (unanswered how.form request error one.unsent one.torn from_new one.why)
 
-  pub bad_reply : (payload : List ℕ) → Appends to_mid to_new request → Consumes from_mid from_new (frame payload) → IsNoReply how.form false payload → BreaksOne how (Server client.BadReply) request from_old from_new to_old to_new out out
+  pub bad_reply : (payload : List ℕ) → Appends to_mid to_new request → Consumes from_mid from_new (frame payload) → IsNoReply how.form (AnswerTo (letter_of request)) payload → BreaksOne how (Server client.BadReply) request from_old from_new to_old to_new out out
   bad_reply payload asks tells none = untold client.BadReply request [] (frame payload) (sym (append-nil request)) asks tells (tt, refl, refl, payload, refl, none)
 
 -- ---- what is shown
@@ -97,7 +98,7 @@ no_refusal (Worn shard) is = absurd (cc is)
 no_refusal Memory is = absurd (cc is)
 no_refusal Shut is = absurd (cc is)
 
-none_refused : (form : Form) (others : List Reply) → AllByRecursion (IsTold form true) others → list_any is_refusal others ≡ false
+none_refused : (form : Form) (others : List Reply) → AllByRecursion (IsTold form OneOfAll) others → list_any is_refusal others ≡ false
 none_refused form [] each = refl
 none_refused form (reply ∷ others) each = ap (λ b. b || list_any is_refusal others) (no_refusal reply each.0.1) ∙ none_refused form others each.1
 
@@ -111,9 +112,9 @@ module _ (how : Asking) (request : List ℕ) (reply : Reply) (from_old from_mid 
       ∙ ap (λ f. f ++ rest) (sym (frames_append until.transient (reply ∷ others)))
 
   -- after these replies no more is read or shown
-  breaks_after : (fault : AskFault) (replies : List Reply) (torn showed hidden : List ℕ) (from_new out_old out_new : Option (List ℕ)) → AreBegun how (length until.transient) replies
+  breaks_after : (fault : AskFault) (replies : List Reply) (torn showed hidden : List ℕ) (from_new out_old out_new : Option (List ℕ)) → AreBegun how request (length until.transient) replies
       → Consumes from_old from_new (reply_frames (until.transient ++ replies) ++ torn) → Appends out_old out_new showed → flat_map (shown how.form) replies ≡ showed ++ hidden
-      → BreaksOff how.form fault replies torn [] hidden from_new → BreaksOne how fault request from_old from_new to_old to_new out_old out_new
+      → BreaksOff how.form request fault replies torn [] hidden from_new → BreaksOne how fault request from_old from_new to_old to_new out_old out_new
   breaks_after fault replies torn showed hidden from_new out_old out_new begun tells shows split why = record {
     done = record { asked = flat_map (λ reply. request) until.transient ++ request; told = reply_frames (until.transient ++ replies) ++ torn; shown = showed };
     some = some;
@@ -139,17 +140,17 @@ module _ (how : Asking) (request : List ℕ) (reply : Reply) (from_old from_mid 
   }
 
   -- the first reply cannot be shown
-  pub first_not_shown : (out_old out_new : Option (List ℕ)) (fault : AskFault) → IsPayload (payload_of reply) → IsOnly reply → NotShown how.form reply (IsTold how.form false reply) fault out_old out_new → BreaksOne how fault request from_old from_mid to_old to_new out_old out_new
+  pub first_not_shown : (out_old out_new : Option (List ℕ)) (fault : AskFault) → IsPayload (payload_of reply) → IsOnly reply → NotShown how.form reply (IsTold how.form (AnswerTo (letter_of request)) reply) fault out_old out_new → BreaksOne how fault request from_old from_mid to_old to_new out_old out_new
   first_not_shown out_old out_new fault good only (inl none) =
       rw none.0 (breaks_after (Server client.BadReply) [] (frame (payload_of reply)) [] [] from_mid out_old out_new tt
       (subst (Consumes from_old from_mid) (ap (λ p. reply_frames p ++ frame (payload_of reply)) (sym (append-nil until.transient))) until.tells)
-      (subst (λ o. Appends out_old o []) (sym none.1) (Appends-nil out_old)) refl (tt, refl, refl, payload_of reply, refl, no_other how.form false reply good only none.2))
+      (subst (λ o. Appends out_old o []) (sym none.1) (Appends-nil out_old)) refl (tt, refl, refl, payload_of reply, refl, no_other how.form (AnswerTo (letter_of request)) reply good only none.2))
   first_not_shown out_old out_new fault good only (inr (is, may, wrote)) =
       rw is (breaks_after (Front front.WriteFault) (reply ∷ []) [] wrote.front wrote.missing from_mid out_old out_new (may, until.last, omega arith, tt)
       (subst (Consumes from_old from_mid) (sym (append-nil (reply_frames until.transient ++ frame (payload_of reply))) ∙ told_with [] []) until.tells)
       wrote.appends (append-nil (shown how.form reply) ∙ wrote.split) (([], reply, wrote.front, refl, wrote.split), refl, refl))
 
-  module _ (refused : Bool) (bundles : ℕ) (out_old out_mid : Option (List ℕ)) (first : Shows how.form false reply refused bundles out_old out_mid) where
+  module _ (refused : Bool) (bundles : ℕ) (out_old out_mid : Option (List ℕ)) (first : Shows how.form (AnswerTo (letter_of request)) reply refused bundles out_old out_mid) where
     -- a bundle is not shown
     pub others_broken : (fault : AskFault) (from_new out_new : Option (List ℕ)) → BreaksOthers how.form fault bundles from_mid from_new out_mid out_new → BreaksOne how fault request from_old from_new to_old to_new out_old out_new
     others_broken fault from_new out_new breaks =
@@ -159,7 +160,7 @@ module _ (how : Asking) (request : List ℕ) (reply : Reply) (from_old from_mid 
         (Consumes-trans from_old from_mid from_new (reply_frames until.transient ++ frame (payload_of reply)) (reply_frames breaks.others ++ breaks.torn) until.tells breaks.tells))
         (Appends-trans out_old out_mid out_new (shown how.form reply) breaks.showed first.shows breaks.shows)
         (ap (λ s. shown how.form reply ++ s) breaks.split ∙ sym (append_assoc (shown how.form reply) breaks.showed breaks.hidden))
-        (breaks.why reply first.bundles_is)
+        (breaks.why request reply first.bundles_is)
 
     module _ (from_new out_new : Option (List ℕ)) (all : ShowsOthers how.form bundles from_mid from_new out_mid out_new) where
       abbrev replies : List Reply
@@ -170,7 +171,7 @@ module _ (how : Asking) (request : List ℕ) (reply : Reply) (from_old from_mid 
           subst (Consumes from_old from_new) (ap (λ o. (reply_frames until.transient ++ frame (payload_of reply)) ++ o) (sym (append-nil (reply_frames all.others))) ∙ told_with all.others [] ∙ append-nil (reply_frames (until.transient ++ replies)))
           (Consumes-trans from_old from_mid from_new (reply_frames until.transient ++ frame (payload_of reply)) (reply_frames all.others) until.tells all.tells)
 
-      begun : AreBegun how (length until.transient) replies
+      begun : AreBegun how request (length until.transient) replies
       begun = (first.told, until.last, omega (arith, all.long, first.bundles_is), all.each)
 
       -- and the writer is flushed

@@ -15,6 +15,7 @@ use Rattle.wire.specs.Judge.{judged, request_of}
 use Rattle.wire.specs.Answers.{reply_frames, version_frame}
 use Rattle.wire.proofs.JudgeLemmas.{request_read}
 use Rattle.wire.proofs.Readings.{set_asks, set_if_asks, append_asks, remove_asks, get_asks}
+use Rattle.frame_front.specs.Terms.{for_all}
 use Rattle.frame_front.specs.PlainSession.{text_for, state_for, answers_to, state_after}
 use Rattle.wire.specs.Fields.{version_number}
 use Rattle.client.specs.Client.{reply_bytes, spoken_bytes}
@@ -60,18 +61,18 @@ one_frame p = sym (append-nil (frame p ++ []) ∙ append-nil (frame p))
 
 -- a request alone, which is read as its operation
 module _ (version : Version) (m : PlainMap) (op : Op) (p : List ℕ) (read : request_of version p ≡ Ok (Ask op)) where
-  alone : (concat (answers_to (version, m) (p ∷ [])) ≡ reply_frames (ask m op).reply) × ((state_after (version, m) (p ∷ [])).1 ≡ (ask m op).map)
-  alone = (one_text (text_for (version, m) (request_of version p)) ∙ ap (text_for (version, m)) read, ap (λ r. (state_for (version, m) r).1) read)
+  alone : (concat (answers_to (for_all version, m) (p ∷ [])) ≡ reply_frames (ask m op).reply) × ((state_after (for_all version, m) (p ∷ [])).1 ≡ (ask m op).map)
+  alone = (one_text (text_for (for_all version, m) (request_of version p)) ∙ ap (text_for (for_all version, m)) read, ap (λ r. (state_for (for_all version, m) r).1) read)
 
 -- behind the request for a version
 module _ (version wanted : Version) (m : PlainMap) (op : Op) (p : List ℕ) (read : request_of wanted p ≡ Ok (Ask op)) where
-  behind : (concat (answers_to (version, m) (speak_payload wanted ∷ p ∷ [])) ≡ version_frame wanted ++ reply_frames (ask m op).reply)
-      × ((state_after (version, m) (speak_payload wanted ∷ p ∷ [])).1 ≡ (ask m op).map)
+  behind : (concat (answers_to (for_all version, m) (speak_payload wanted ∷ p ∷ [])) ≡ version_frame wanted ++ reply_frames (ask m op).reply)
+      × ((state_after (for_all version, m) (speak_payload wanted ∷ p ∷ [])).1 ≡ (ask m op).map)
   behind =
       let rest = alone wanted m op p read in
       let set = read_version version wanted in (
-        ap (λ r. text_for (version, m) r ++ concat (answers_to (state_for (version, m) r) (p ∷ []))) set ∙ ap (λ t. version_frame wanted ++ t) rest.0,
-        ap (λ r. (state_after (state_for (version, m) r) (p ∷ [])).1) set ∙ rest.1,
+        ap (λ r. text_for (for_all version, m) r ++ concat (answers_to (state_for (for_all version, m) r) (p ∷ []))) set ∙ ap (λ t. version_frame wanted ++ t) rest.0,
+        ap (λ r. (state_after (state_for (for_all version, m) r) (p ∷ [])).1) set ∙ rest.1,
       )
 
 two_frames : (p q : List ℕ) → frame p ++ frame q ≡ stream_of (p ∷ q ∷ []) []
@@ -89,8 +90,8 @@ module _ (version : Version) (m : PlainMap) (op : Op) (written : is_written op �
 
   by : (needed : Option Version) → version_for op ≡ needed
       → (speak_bytes needed ++ frame p ≡ stream_of (payloads_behind needed p) [])
-      × (concat (answers_to (version, m) (payloads_behind needed p)) ≡ spoken_bytes needed ++ reply_frames (ask m op).reply)
-      × ((state_after (version, m) (payloads_behind needed p)).1 ≡ (ask m op).map)
+      × (concat (answers_to (for_all version, m) (payloads_behind needed p)) ≡ spoken_bytes needed ++ reply_frames (ask m op).reply)
+      × ((state_after (for_all version, m) (payloads_behind needed p)).1 ≡ (ask m op).map)
   by None is =
       let told = alone version m op p (read_asked version op written valid (subst (λ (o : Option Version). least_of o ≤ version_number version) (sym is) (from_one version))) in
       (one_frame p, told.0, told.1)
@@ -100,6 +101,6 @@ module _ (version : Version) (m : PlainMap) (op : Op) (written : is_written op �
 
 pub session_answers : (version : Version) (m : PlainMap) (op : Op) → is_written op ≡ true → IsValidOp op
     → (request_bytes op ≡ stream_of (request_payloads op) [])
-    × (concat (answers_to (version, m) (request_payloads op)) ≡ reply_bytes op (Ok (ask m op).reply))
-    × ((state_after (version, m) (request_payloads op)).1 ≡ (ask m op).map)
+    × (concat (answers_to (for_all version, m) (request_payloads op)) ≡ reply_bytes op (Ok (ask m op).reply))
+    × ((state_after (for_all version, m) (request_payloads op)).1 ≡ (ask m op).map)
 session_answers version m op written valid = by version m op written valid (version_for op) refl

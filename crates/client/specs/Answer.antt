@@ -1,5 +1,5 @@
 -- Answers, and which of them an operation may have.
-use Rattle.std.specs.Prelude.{◌≡◌, ◌<◌, ◌^◌, ℕ, length, Bool, true, ◌==◌, ◌||◌, None, Result, Ok}
+use Rattle.std.specs.Prelude.{◌≡◌, ◌<◌, ◌^◌, ℕ, length, Bool, true, ◌||◌, None, Result, Ok}
 use Rattle.spiffe_doc.specs.Bundle.{IsBundle}
 use Rattle.map_core.specs.declared.op.Op.{Op}
 use Rattle.map_core.specs.declared.op.Op.TheVariants.{Set, SetIf, Append, Remove, Get, FetchAll, FetchUnless}
@@ -7,7 +7,8 @@ use Rattle.map_core.specs.declared.reply.Reply.{Reply}
 use Rattle.map_core.specs.declared.reply.Reply.TheVariants.{Found, All}
 use Rattle.map_core.specs.declared.reply.AskError.{AskError}
 use Rattle.wire.specs.Answers.{answer_frames, code_of}
-use Rattle.wire.specs.ReplyForm.{is_error_code}
+use Rattle.wire.specs.ReplyForm.{is_error_code, is_one_of}
+use Rattle.client.specs.ReplyCodes.{answer_codes}
 use Rattle.frame_front.specs.Dump.{AreValid}
 use Rattle.map_core.specs.Laws.{Ascends}
 
@@ -17,20 +18,19 @@ Answer = Result Reply AskError
 
 -- ---- which answers an operation may have
 
--- s, u, p, d, f, a and e, and the numbers of refusals
-abbrev pub is_reply_code_for : Op → ℕ → Bool
-is_reply_code_for (Set d b) code = (code == 115) || ((code == 117) || (code == 31))
-is_reply_code_for (SetIf d expect b) code = (code == 115) || ((code == 117) || ((code == 31) || (code == 36)))
-is_reply_code_for (Append d a) code =
-    (code == 112) || ((code == 117) || ((code == 30) || ((code == 32) || ((code == 33) || ((code == 34) || (code == 35))))))
-is_reply_code_for (Remove d) code = (code == 100) || (code == 30)
-is_reply_code_for (Get d) code = (code == 102) || (code == 30)
-is_reply_code_for FetchAll code = code == 97
-is_reply_code_for (FetchUnless known) code = (code == 97) || (code == 101)
+-- the letter of its request
+abbrev pub letter_of : Op → ℕ
+letter_of (Set d b) = 83
+letter_of (SetIf d expect b) = 67
+letter_of (Append d a) = 65
+letter_of (Remove d) = 82
+letter_of (Get d) = 71
+letter_of FetchAll = 70
+letter_of (FetchUnless known) = 85
 
--- those, and the numbers of errors
+-- the codes of what comes of its request, and the numbers of errors
 abbrev pub is_code_for : Op → ℕ → Bool
-is_code_for op code = is_error_code code || is_reply_code_for op code
+is_code_for op code = is_error_code code || is_one_of (answer_codes (letter_of op)) code
 
 -- the answer is of a kind that the operation may have
 abbrev pub MayAnswer : Op → Answer → Type 0

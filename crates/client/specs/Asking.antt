@@ -1,5 +1,5 @@
 -- What asking a server line by line does to its five ends: the lines, the server's input and output, and what is shown.
-use Rattle.std.specs.Prelude.{◌≡◌, ◌≢◌, ◌⊎◌, ℕ, ◌+◌, ◌-◌, ◌^◌, ◌<◌, ◌≤◌, Bool, true, false, ◌||◌, List, [], ◌∷◌, ◌++◌, length, Option, Result, Ok, Err}
+use Rattle.std.specs.Prelude.{◌≡◌, ◌≢◌, ◌⊎◌, ℕ, ◌+◌, ◌-◌, ◌^◌, ◌<◌, ◌≤◌, Bool, true, false, ◌||◌, List, [], ◌∷◌, ◌++◌, length, get_or, Option, Result, Ok, Err}
 use Rattle.std.specs.List.{AllByRecursion, flat_map, list_any}
 use Rattle.std.specs.Io.KnownBytes.{Appends, Consumes, IsAtEnd}
 use Rattle.wire.specs.Counted.{next_count}
@@ -12,6 +12,8 @@ use Rattle.wire.specs.Encoding.{Gives, EncodesLine, IsFrameOf, IsBadLine, NamesU
 use Rattle.wire.specs.ReplyForm.{Reply, payload_of}
 use Rattle.wire.specs.RequestForm.{IsOneLine}
 use Rattle.client.specs.Replies.{is_transient, is_refusal, bundles_after, reply_frames, shown, IsTold}
+use Rattle.client.specs.declared.reply.Due.{Due}
+use Rattle.client.specs.declared.reply.Due.TheVariants.{AnswerTo, OneOfAll}
 use Rattle.client.specs.declared.asking.Asking.{Asking}
 use Rattle.client.specs.declared.asking.Form.{Form}
 use Rattle.client.specs.declared.fault.AskFault.{AskFault}
@@ -23,13 +25,17 @@ use Rattle.client.specs.declared.fault.AskFault.TheVariants.{BadLine, Unreadable
 abbrev pub IsTransient : Reply → Type 0
 IsTransient reply = is_transient reply ≡ true
 
--- After so many transient replies these begin what is shown, from no reply to all: the first says how many bundles follow it, and is
--- transient itself only if the retries are used up.
-abbrev pub AreBegun : Asking → ℕ → List Reply → Type 0
-AreBegun how transient [] = Unit {0}
-AreBegun how transient (first ∷ others) =
-    IsTold how.form false first × (is_transient first ≡ true → transient ≡ how.retries)
-    × (length others ≤ bundles_after first) × AllByRecursion (IsTold how.form true) others
+-- the letter of a request follows its length
+abbrev pub letter_of : List ℕ → ℕ
+letter_of request = get_or request 4 0
+
+-- After so many transient replies these begin what is shown of a request, from no reply to all: the first is one that the request
+-- may have, says how many bundles follow it, and is transient itself only if the retries are used up.
+abbrev pub AreBegun : Asking → List ℕ → ℕ → List Reply → Type 0
+AreBegun how request transient [] = Unit {0}
+AreBegun how request transient (first ∷ others) =
+    IsTold how.form (AnswerTo (letter_of request)) first × (is_transient first ≡ true → transient ≡ how.retries)
+    × (length others ≤ bundles_after first) × AllByRecursion (IsTold how.form OneOfAll) others
 
 -- one more reply is due after these: the first, or a bundle
 abbrev pub IsDue : List Reply → Type 0
@@ -41,7 +47,7 @@ abbrev pub IsAnswered : Asking → List ℕ → List Reply → List Reply → Ty
 IsAnswered how request transient replies =
     ((request ≡ []) × (transient ≡ []) × (replies ≡ []))
     ⊎ ((request ≢ []) × AllByRecursion IsTransient transient × (length transient ≤ how.retries)
-    × AreBegun how (length transient) replies × (IsDue replies → ⊥))
+    × AreBegun how request (length transient) replies × (IsDue replies → ⊥))
 
 -- ---- an exchange
 
@@ -100,30 +106,30 @@ count_after count (x ∷ items) = count_after (next_count count) items
 abbrev pub IsUnanswered : ClientError → List ℕ → List ℕ → Option (List ℕ) → Type 0
 IsUnanswered why unsent torn left = ((why ≡ client.WriteFault) × (torn ≡ [])) ⊎ ((unsent ≡ []) × NoFrame why torn left)
 
--- whether the next reply is one of the bundles
-abbrev pub is_later : List Reply → Bool
-is_later [] = false
-is_later (first ∷ others) = true
+-- where the next reply to a request comes: behind the first there are only bundles
+abbrev pub due_after : List ℕ → List Reply → Due
+due_after request [] = AnswerTo (letter_of request)
+due_after request (first ∷ others) = OneOfAll
 
 -- the payload is not that of a reply that may come there
-abbrev pub IsNoReply : Form → Bool → List ℕ → Type 0
-IsNoReply form later payload = IsPayload payload × ((reply : Reply) → payload ≡ payload_of reply → IsTold form later reply → ⊥)
+abbrev pub IsNoReply : Form → Due → List ℕ → Type 0
+IsNoReply form due payload = IsPayload payload × ((reply : Reply) → payload ≡ payload_of reply → IsTold form due reply → ⊥)
 
 -- Only of the last reply something may be hidden.
 abbrev pub HidesLast : Form → List Reply → List ℕ → Type 0
 HidesLast form replies hidden =
     (earlier : List Reply) × (last : Reply) × (begun : List ℕ) × (replies ≡ earlier ++ last ∷ []) × (shown form last ≡ begun ++ hidden)
 
--- Why an exchange breaks off after these replies, what was read behind them, what of the request was not sent, what of the replies
+-- Why an exchange breaks off after these replies to a request, what was read behind them, what of the request was not sent, what of the replies
 -- is not shown, and what the server's output has left. A fault of the server is told in place of the reply that is due. A request
 -- may be sent whole although its fault is told: the writer may fail as it is flushed.
-abbrev pub BreaksOff : Form → AskFault → List Reply → List ℕ → List ℕ → List ℕ → Option (List ℕ) → Type 0
-BreaksOff form (Server client.WriteFault) replies torn unsent hidden left = (replies ≡ []) × (torn ≡ [])
-BreaksOff form (Server client.BadReply) replies torn unsent hidden left =
-    IsDue replies × (unsent ≡ []) × (hidden ≡ []) × (payload : List ℕ) × (torn ≡ frame payload) × IsNoReply form (is_later replies) payload
-BreaksOff form (Server why) replies torn unsent hidden left = IsDue replies × (unsent ≡ []) × (hidden ≡ []) × NoFrame why torn left
-BreaksOff form (Front front.WriteFault) replies torn unsent hidden left = HidesLast form replies hidden × (unsent ≡ []) × (torn ≡ [])
-BreaksOff form fault replies torn unsent hidden left = ⊥
+abbrev pub BreaksOff : Form → List ℕ → AskFault → List Reply → List ℕ → List ℕ → List ℕ → Option (List ℕ) → Type 0
+BreaksOff form request (Server client.WriteFault) replies torn unsent hidden left = (replies ≡ []) × (torn ≡ [])
+BreaksOff form request (Server client.BadReply) replies torn unsent hidden left =
+    IsDue replies × (unsent ≡ []) × (hidden ≡ []) × (payload : List ℕ) × (torn ≡ frame payload) × IsNoReply form (due_after request replies) payload
+BreaksOff form request (Server why) replies torn unsent hidden left = IsDue replies × (unsent ≡ []) × (hidden ≡ []) × NoFrame why torn left
+BreaksOff form request (Front front.WriteFault) replies torn unsent hidden left = HidesLast form replies hidden × (unsent ≡ []) × (torn ≡ [])
+BreaksOff form request fault replies torn unsent hidden left = ⊥
 
 -- What an exchange did that broke off: the request was asked again after each transient reply, and the last time a front of it was
 -- sent; whole replies were read, and then what is torn; and a front of what the replies show was shown.
@@ -136,12 +142,12 @@ pub record IsBroken (how : Asking) (fault : AskFault) (request : List ℕ) (done
   pub hidden : List ℕ
   pub each : AllByRecursion IsTransient transient
   pub few : length transient ≤ how.retries
-  pub begun : AreBegun how (length transient) replies
+  pub begun : AreBegun how request (length transient) replies
   pub split : request ≡ sent ++ unsent
   pub asks : done.asked ≡ flat_map (λ reply. request) transient ++ sent
   pub tells : done.told ≡ reply_frames (transient ++ replies) ++ torn
   pub shows : flat_map (shown how.form) replies ≡ done.shown ++ hidden
-  pub why : BreaksOff how.form fault replies torn unsent hidden left
+  pub why : BreaksOff how.form request fault replies torn unsent hidden left
 
 -- ---- a stream of lines
 

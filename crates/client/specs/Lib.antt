@@ -1,6 +1,7 @@
 pub mod ClientError
 pub mod Request
 pub mod Reading
+pub mod ReplyCodes
 pub mod Answer
 pub mod Client
 pub mod Replies

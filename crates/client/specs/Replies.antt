@@ -1,8 +1,11 @@
 -- Replies as a client takes and shows them.
-use Rattle.std.specs.Prelude.{◌≡◌, ℕ, Bool, true, false, List, [], ◌∷◌, ◌++◌, if◌then◌else◌}
+use Rattle.std.specs.Prelude.{◌≡◌, ℕ, Bool, true, false, List, [], ◌∷◌, ◌++◌, get_or, if◌then◌else◌}
 use Rattle.std.specs.List.{flat_map}
 use Rattle.wire.specs.Frame.{frame}
 use Rattle.wire.specs.ReplyForm.{Reply, All, Bundle, Found, Counts, Refused, Moved, Held, Worn, Memory, Shut, HasPayload, IsLined, line_of, payload_of, text_of}
+use Rattle.client.specs.ReplyCodes.{may_come}
+use Rattle.client.specs.declared.reply.Due.{Due}
+use Rattle.client.specs.declared.reply.Due.TheVariants.{AnswerTo, OneOfAll}
 use Rattle.client.specs.declared.asking.Form.{Form}
 use Rattle.client.specs.declared.asking.Form.TheVariants.{Lines, Texts, Frames}
 
@@ -53,6 +56,15 @@ CanBeShown Lines reply = IsLined reply
 CanBeShown Texts reply = IsLined reply
 CanBeShown Frames reply = Unit {0}
 
--- A reply that may come: a bundle behind the number of all, and there only.
-abbrev pub IsTold : Form → Bool → Reply → Type 0
-IsTold form later reply = HasPayload reply × (is_bundle reply ≡ later) × CanBeShown form reply
+-- the code of a reply is the first byte of its payload
+abbrev pub code_of : Reply → ℕ
+code_of reply = get_or (payload_of reply) 0 0
+
+-- the code of the answer is one that the request may have, or the reply is a bundle
+abbrev pub comes_at : Due → Reply → Bool
+comes_at (AnswerTo letter) reply = may_come letter (code_of reply)
+comes_at OneOfAll reply = is_bundle reply
+
+-- A reply that may come there, and be shown.
+abbrev pub IsTold : Form → Due → Reply → Type 0
+IsTold form due reply = HasPayload reply × (comes_at due reply ≡ true) × CanBeShown form reply

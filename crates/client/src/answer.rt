@@ -5,11 +5,12 @@ ghost use Rattle.spiffe_doc.specs.Text.{text_of};
 ghost use Rattle.wire.specs.Frame.{IsPayload, frame};
 ghost use Rattle.wire.specs.Answers.{answer_frames, refusal_form, error_form};
 ghost use Rattle.wire.specs.ReplyForm.{Refused, reply as said};
-ghost use Rattle.client.specs.Answer.{is_code_for as code_for};
+ghost use Rattle.client.specs.Answer.{is_code_for as code_for, letter_of as request_letter};
 ghost use Rattle.client.specs.Client.{Breaks};
 ghost use Rattle.client.specs.Private.Answers.{refusal_of, error_of, found_of, first_of, Says, Begins};
 
 use crate::ClientError;
+use crate::reply_codes::is_answer_code;
 use map_core::{AskError, MapRefusal, Op, Reply};
 use spiffe_doc::{Bundle, DocError, read_document};
 use std::alloc::{AllocError, Global};
@@ -29,16 +30,22 @@ pub(crate) enum First {
 fn is_code_for(op: &Op, code: u8) -> bool
     ensures { result ≡ code_for op.now code }
 {
-    is_error_code(code)
-        || match op {
-            Op::Set(_, _) => matches!(code, b's' | b'u' | 31),
-            Op::SetIf(_, _, _) => matches!(code, b's' | b'u' | 31 | 36),
-            Op::Append(_, _) => matches!(code, b'p' | b'u' | 30 | 32 | 33 | 34 | 35),
-            Op::Remove(_) => matches!(code, b'd' | 30),
-            Op::Get(_) => matches!(code, b'f' | 30),
-            Op::FetchAll => code == b'a',
-            Op::FetchUnless(_) => matches!(code, b'a' | b'e'),
-        }
+    is_error_code(code) || is_answer_code(letter_of(op), code)
+}
+
+/// The letter of the request that says the operation.
+fn letter_of(op: &Op) -> u8
+    ensures { result ≡ request_letter op.now }
+{
+    match op {
+        Op::Set(_, _) => b'S',
+        Op::SetIf(_, _, _) => b'C',
+        Op::Append(_, _) => b'A',
+        Op::Remove(_) => b'R',
+        Op::Get(_) => b'G',
+        Op::FetchAll => b'F',
+        Op::FetchUnless(_) => b'U',
+    }
 }
 
 /// The refusal of a map that a number and what stands beside it tell.

@@ -16,6 +16,7 @@ mod line;
 mod listing;
 mod reading;
 mod reply;
+mod reply_codes;
 mod reply_room;
 mod request;
 mod server_streams;

@@ -6,7 +6,7 @@ ghost use Rattle.client.specs.Private.Steps.{AsksFirst, AsksOne, BreaksOne, Blam
 use crate::asking::Asking;
 use crate::exchange::ask_once;
 use crate::fault::AskFault;
-use crate::reply::is_asked_again;
+use crate::reply::{due_to, is_asked_again};
 use crate::reply_room::ReplyRoom;
 use crate::showing::{Shown, show, show_others};
 use crate::{ClientError, ServerStreams};
@@ -35,7 +35,7 @@ fn ask_until_told<R: Read, W: Write, O: Write>(
             return Err(AskFault::Server(ClientError::BadReply));
         };
         if !is_asked_again(left, &reply) {
-            return show(how.form, false, &reply, payload, out);
+            return show(how.form, due_to(request), &reply, payload, out);
         }
         left -= 1;
     }

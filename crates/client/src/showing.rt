@@ -13,7 +13,7 @@ ghost use Rattle.client.specs.declared.fault.AskFault.TheVariants.{Front};
 
 use crate::asking::Form;
 use crate::fault::AskFault;
-use crate::reply::{bundles_after, is_bundle, is_refusal, is_text};
+use crate::reply::{Due, bundles_after, comes_at, is_refusal, is_text};
 use crate::reply_room::ReplyRoom;
 use crate::{ClientError, ServerStreams};
 use std::io::{Read, Write};
@@ -27,10 +27,10 @@ pub(crate) struct Shown {
     pub bundles: u64,
 }
 
-/// Shows a reply, which is one of many bundles or begins what is told.
+/// Shows a reply, if it may come there.
 pub(crate) fn show<O: Write>(
     form: Form,
-    later: bool,
+    due: Due,
     reply: &ReplyForm<'_>,
     payload: &[u8],
     out: &mut Counted<O>,
@@ -38,12 +38,12 @@ pub(crate) fn show<O: Write>(
     requires payload { payload.now ≡ payload_of (said reply.now) }
     requires good { IsPayload payload.now }
     requires has { HasPayload (said reply.now) }
-    ensures ok { IfOk result (λ told. Shows form later (said reply.now) told.refused told.bundles (O.contents (end_in out.old)) (O.contents (end_in out.new))) }
+    ensures ok { IfOk result (λ told. Shows form due (said reply.now) told.refused told.bundles (O.contents (end_in out.old)) (O.contents (end_in out.new))) }
     ensures quiet { OnOk result (faults_in out.new ≡ faults_in out.old) }
-    ensures err { IfErr result (λ fault. NotShown form (said reply.now) (IsTold form later (said reply.now)) fault (O.contents (end_in out.old)) (O.contents (end_in out.new))) }
+    ensures err { IfErr result (λ fault. NotShown form (said reply.now) (IsTold form due (said reply.now)) fault (O.contents (end_in out.old)) (O.contents (end_in out.new))) }
     ensures counted { result ≡ Err (Front WriteFault) → faults_in out.new ≡ next_count (faults_in out.old) }
 {
-    if is_bundle(reply) != later {
+    if !comes_at(due, reply, payload) {
         return Err(AskFault::Server(ClientError::BadReply));
     }
     write_reply(form, reply, payload, out)?;
@@ -144,7 +144,7 @@ pub(crate) fn show_others<R: Read, W: Write, O: Write>(
         let Some(reply) = reply_of_payload(payload) else {
             return Err(AskFault::Server(ClientError::BadReply));
         };
-        show(form, true, &reply, payload, out)?;
+        show(form, Due::OneOfAll, &reply, payload, out)?;
     }
     Ok(())
 }

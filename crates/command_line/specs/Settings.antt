@@ -24,7 +24,7 @@ AreSettings (Race seconds) = (0 < seconds) × (seconds ≤ 60)
 AreSettings (Refresh wanted) = Unit {0}
 AreSettings (Snapshot wanted) = Unit {0}
 AreSettings (Stats wanted) = Unit {0}
-AreSettings (Serve places load save log settings) = FitPlaces settings.connections places × (0 < settings.workers) × (settings.workers ≤ 64)
+AreSettings (Serve places load save log says_connections settings) = FitPlaces settings.connections places × (0 < settings.workers) × (settings.workers ≤ 64)
     × AreConnections settings.connections × IsLimit settings.connections settings.turns
     × (0 < settings.shards) × (settings.shards ≤ 256) × (0 < settings.rounds) × (settings.rounds ≤ 16)
     × (0 < settings.tries) × (settings.tries ≤ 1000000) × (settings.retries ≤ 1000000)

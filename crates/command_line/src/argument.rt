@@ -21,6 +21,8 @@ pub enum Kind {
     OptionalNumber(&'static str, Number),
     /// `--name VALUE`: such a number, or a word in its place. So any text is taken, and judged as it is read.
     NumberOrWord(&'static str, Number),
+    /// `--name` or `--name VALUE`, which may be left out: one of these words, of which the first is meant if none stands there.
+    Choice(&'static str, &'static [&'static str]),
     /// `--name VALUE`, which may be left out.
     Optional(&'static str, ValueParser<'static>),
     /// `--name VALUE`, which has to be given.

@@ -68,6 +68,12 @@ pub const RETRY: Argument = Argument {
     help: "How often a request is asked again that others were in the way of",
 };
 
+pub const TIMEOUT: Argument = Argument {
+    name: "timeout",
+    kind: Kind::Number("SECONDS", ranges::TIMEOUT),
+    help: "How long to wait for the server: to connect, and for each request with its whole reply",
+};
+
 pub const RAW: Argument = Argument {
     name: "raw",
     kind: Kind::Switch,
@@ -154,8 +160,8 @@ pub const UNTIL_EOF: Argument = Argument {
 
 pub const LOG: Argument = Argument {
     name: "log",
-    kind: Kind::Switch,
-    help: "Tell of each change, of each that 31, 36 or 56 refuses, and of each end of a connection on standard error",
+    kind: Kind::Choice("WHAT", &["all", "changes"]),
+    help: "Tell of each change, of each that 31, 36 or 56 refuses, and unless only changes are wanted, of each end of a connection on standard error",
 };
 
 pub const LISTENED_PORT: Argument = Argument {
@@ -204,6 +210,18 @@ pub const IDLE: Argument = Argument {
     name: "idle",
     kind: Kind::Number("SECONDS", ranges::IDLE),
     help: "If connections are unlimited: how long a client may take to send a request, or take nothing of a reply",
+};
+
+pub const REPLY_SECONDS: Argument = Argument {
+    name: "reply-seconds",
+    kind: Kind::Number("SECONDS", ranges::REPLY_SECONDS),
+    help: "If connections are unlimited: how long a client may take to read a long reply",
+};
+
+pub const MOMENTS: Argument = Argument {
+    name: "moments",
+    kind: Kind::Number("COUNT", ranges::MOMENTS),
+    help: "If connections are unlimited: of how many moments each worker keeps the bundles for clients that read them",
 };
 
 pub const LOAD: Argument = Argument {

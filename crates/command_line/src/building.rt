@@ -43,6 +43,10 @@ fn arg_of<'a>(alloc: Global, argument: &Argument) -> Arg<'a> {
             ValueParser::Unsigned(number.least, number.most),
         ),
         Kind::NumberOrWord(value, number) => option(arg, name, value).default_value(number.text),
+        Kind::Choice(value, words) => option(arg, name, value)
+            .value_parser(ValueParser::Names(words))
+            .num_args(0..=1)
+            .default_missing_value(first_of(words)),
         Kind::Optional(value, parser) => option(arg, name, value).value_parser(parser),
         Kind::Required(value, parser) => option(arg, name, value)
             .value_parser(parser)
@@ -53,6 +57,11 @@ fn arg_of<'a>(alloc: Global, argument: &Argument) -> Arg<'a> {
             .num_args(1..)
             .action(ArgAction::Append),
     }
+}
+
+/// The first of the words; there is one.
+fn first_of(words: &[&'static str]) -> &'static str {
+    words.first().copied().unwrap_or_default()
 }
 
 fn option<'a>(arg: Arg<'a>, name: &'static str, value: &'static str) -> Arg<'a> {

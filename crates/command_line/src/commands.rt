@@ -2,10 +2,10 @@
 use crate::argument::Argument;
 use crate::arguments::{
     ASKED_PORT, ASKED_SOCKET, AT_LEAST, AT_LEAST_DOMAINS, CONNECTIONS, DOCUMENTS, EVERY, FILES,
-    IDLE, LISTENED_PORT, LISTENED_SOCKET, LOAD, LOG, MAX_OPEN, NAME, NAMES, NEW, NOW, NUMBER, OLD,
-    OUT, PICTURE, PROMETHEUS, RAW, READ_PORT, READ_SOCKET, REFRESHED_PORT, RELATIONSHIPS, REQUEST,
-    RETRIES, RETRY, ROUNDS, SAVE, SECONDS, SERVED_TURNS, SHARDS, TEXT, TRIES, TURNS, UNLESS,
-    UNTIL_EOF, WORKERS, X509,
+    IDLE, LISTENED_PORT, LISTENED_SOCKET, LOAD, LOG, MAX_OPEN, MOMENTS, NAME, NAMES, NEW, NOW,
+    NUMBER, OLD, OUT, PICTURE, PROMETHEUS, RAW, READ_PORT, READ_SOCKET, REFRESHED_PORT,
+    RELATIONSHIPS, REPLY_SECONDS, REQUEST, RETRIES, RETRY, ROUNDS, SAVE, SECONDS, SERVED_TURNS,
+    SHARDS, TEXT, TIMEOUT, TRIES, TURNS, UNLESS, UNTIL_EOF, WORKERS, X509,
 };
 use crate::texts;
 
@@ -100,7 +100,16 @@ static ASK: Row = Row {
     name: "ask",
     about: "Asks a server, and writes its replies",
     notes: texts::ASKING,
-    arguments: &[ASKED_PORT, ASKED_SOCKET, RETRY, RAW, TEXT, UNLESS, REQUEST],
+    arguments: &[
+        ASKED_PORT,
+        ASKED_SOCKET,
+        TIMEOUT,
+        RETRY,
+        RAW,
+        TEXT,
+        UNLESS,
+        REQUEST,
+    ],
 };
 
 static ENCODE: Row = Row {
@@ -135,6 +144,7 @@ static REFRESH: Row = Row {
         AT_LEAST,
         REFRESHED_PORT,
         ASKED_SOCKET,
+        TIMEOUT,
     ],
 };
 
@@ -160,6 +170,8 @@ static SERVE: Row = Row {
         READ_SOCKET,
         UNTIL_EOF,
         IDLE,
+        REPLY_SECONDS,
+        MOMENTS,
     ],
 };
 
@@ -167,14 +179,21 @@ static SNAPSHOT: Row = Row {
     name: "snapshot",
     about: "Writes the bundles of a server as files, all as they stood at one moment",
     notes: texts::SNAPSHOTS,
-    arguments: &[ASKED_PORT, ASKED_SOCKET, OUT, EVERY, AT_LEAST_DOMAINS],
+    arguments: &[
+        ASKED_PORT,
+        ASKED_SOCKET,
+        TIMEOUT,
+        OUT,
+        EVERY,
+        AT_LEAST_DOMAINS,
+    ],
 };
 
 static STATS: Row = Row {
     name: "stats",
     about: "Tells what a server has counted: requests, refusals, changes, connections and bytes",
     notes: texts::COUNTS,
-    arguments: &[ASKED_PORT, ASKED_SOCKET, PROMETHEUS],
+    arguments: &[ASKED_PORT, ASKED_SOCKET, TIMEOUT, PROMETHEUS],
 };
 
 static CHECK: Row = Row {

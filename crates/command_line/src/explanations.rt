@@ -294,7 +294,8 @@ What to do: See whether the file is there and may be read.
         "\
 54 WriteFault
 The output could not be written, since its reader has gone or takes nothing, or the disk is
-full.
+full; or a client had not read a long reply --reply-seconds after it was begun, or read one as
+the oldest of more than --moments.
 What to do: See where the output goes.
 ",
     ),

@@ -21,4 +21,6 @@ mod wanted;
 
 pub use reading::wanted_by;
 pub use settings::{Connections, Lasting, Settings};
-pub use wanted::{Counting, Inquiry, Place, Places, Refreshing, ReplyStyle, Snapshotting, Wanted};
+pub use wanted::{
+    Counting, Inquiry, LogScope, Place, Places, Refreshing, ReplyStyle, Snapshotting, Wanted,
+};

@@ -45,7 +45,13 @@ pub const RETRIES: Number = number!(0..=1000000, 1000);
 
 pub const IDLE: Number = number!(1..=86400, 60);
 
+pub const REPLY_SECONDS: Number = number!(1..=86400, 60);
+
+pub const MOMENTS: Number = number!(1..=1000, 64);
+
 pub const RETRY: Number = number!(0..=1000000, 100);
+
+pub const TIMEOUT: Number = number!(1..=86400, 30);
 
 pub const SECONDS: Number = number!(1..=60, 5);
 

@@ -8,7 +8,7 @@ use crate::building::program;
 use crate::commands::{VERBS, Verb};
 use crate::explanations::explanation;
 use crate::places::{place_if_named, place_of};
-use crate::ranges::{AT_LEAST, RETRY, ROUNDS, SECONDS, SHARDS, TURNS};
+use crate::ranges::{AT_LEAST, RETRY, ROUNDS, SECONDS, SHARDS, TIMEOUT, TURNS};
 use crate::refusal::{name_refusal, refusal};
 use crate::serving::serving_of;
 use crate::wanted::{Counting, Inquiry, Refreshing, ReplyStyle, Snapshotting, Wanted};
@@ -93,6 +93,7 @@ fn inquiry_of<'a>(alloc: Global, verb: Verb, answers: &ArgMatches<'a>) -> Result
     match place_of(answers) {
         Ok(place) => Ok(Wanted::Ask(Inquiry {
             place,
+            timeout: TIMEOUT.of(answers, "timeout"),
             retries: RETRY.of(answers, "retry") as u32,
             style,
             unless,
@@ -186,6 +187,7 @@ fn refreshing_of<'a>(
             now: answers.get_one::<u64>("now"),
             at_least: AT_LEAST.of(answers, "at-least"),
             place,
+            timeout: TIMEOUT.of(answers, "timeout"),
         })),
         Err(reason) => Err(refusal(alloc, verb, reason)),
     }
@@ -201,6 +203,7 @@ fn snapshotting_of<'a>(
     match place_of(answers) {
         Ok(place) => Ok(Wanted::Snapshot(Snapshotting {
             place,
+            timeout: TIMEOUT.of(answers, "timeout"),
             folder: text_of(answers, "out"),
             every: answers.get_one::<u64>("every"),
             at_least: answers.get_one::<u64>("at-least").unwrap_or(0),
@@ -215,6 +218,7 @@ fn counting_of<'a>(alloc: Global, verb: Verb, answers: &ArgMatches<'a>) -> Resul
     match place_of(answers) {
         Ok(place) => Ok(Wanted::Stats(Counting {
             place,
+            timeout: TIMEOUT.of(answers, "timeout"),
             prometheus: answers.get_flag("prometheus"),
         })),
         Err(reason) => Err(refusal(alloc, verb, reason)),

@@ -11,15 +11,15 @@ use crate::places::places_of;
 use crate::ranges;
 use crate::refusal::refusal;
 use crate::settings::{Connections, Lasting, Settings};
-use crate::wanted::Wanted;
+use crate::wanted::{LogScope, Wanted};
 use clap::{ArgMatches, Error};
 use std::alloc::Global;
 
 const NO_COUNT: &str = "--connections takes a number in 1..=1000, or `unlimited`";
 
 const OTHER_FORM: &str =
-    "--max-open, --read-port, --read-socket, --until-eof and --idle belong to --connections unlimited: \
-with a number of connections each worker serves one client after the other";
+    "--max-open, --read-port, --read-socket, --until-eof, --idle, --reply-seconds and --moments belong \
+to --connections unlimited: with a number of connections each worker serves one client after the other";
 
 /// A server, by the answers of `serve`.
 pub fn serving_of<'a>(
@@ -45,9 +45,19 @@ fn server_of<'a>(answers: &ArgMatches<'a>) -> Result<Wanted<'a>, &'static str>
         places,
         load: answers.get_str("load"),
         save: answers.get_str("save"),
-        log: answers.get_flag("log"),
+        log: scope_of(answers.get_str("log")),
+        says_connections: is_given(answers, "connections"),
         settings: settings_of(answers, connections),
     })
+}
+
+/// What the log tells, by the word of its option, if that stands on the line.
+fn scope_of(word: Option<&str>) -> LogScope {
+    match word {
+        None => LogScope::Nothing,
+        Some("changes") => LogScope::Changes,
+        Some(_) => LogScope::All,
+    }
 }
 
 /// Which connections each worker takes; or why the answers are refused.
@@ -87,15 +97,19 @@ fn asks_to_last(answers: &ArgMatches<'_>) -> bool
         || is_given(answers, "read-socket")
         || is_given(answers, "until-eof")
         || is_given(answers, "idle")
+        || is_given(answers, "reply-seconds")
+        || is_given(answers, "moments")
 }
 
 fn lasting_of(answers: &ArgMatches<'_>) -> Lasting
-    ensures { (result.most_open ≤ 1000000) × (result.idle ≤ 86400) }
+    ensures { (result.most_open ≤ 1000000) × (result.idle ≤ 86400) × (result.reply_seconds ≤ 86400) × (result.moments ≤ 1000) }
 {
     Lasting {
         most_open: ranges::MAX_OPEN.of(answers, "max-open"),
         until_eof: answers.get_flag("until-eof"),
         idle: ranges::IDLE.of(answers, "idle"),
+        reply_seconds: ranges::REPLY_SECONDS.of(answers, "reply-seconds"),
+        moments: ranges::MOMENTS.of(answers, "moments"),
     }
 }
 

@@ -40,5 +40,9 @@ pub struct Lasting {
     pub until_eof: bool,
     /// For how many seconds a client may send one frame, and take nothing of the replies that wait: at least one.
     pub idle: u64,
-    pub ghost some: { (0 < most_open) × (0 < idle) },
+    /// For how many seconds a client may take a reply of which a part is not stored yet: at least one.
+    pub reply_seconds: u64,
+    /// Of how many ages each worker keeps such replies: at least one.
+    pub moments: u64,
+    pub ghost some: { (0 < most_open) × (0 < idle) × (0 < reply_seconds) × (0 < moments) },
 }

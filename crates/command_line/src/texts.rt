@@ -11,7 +11,7 @@ The exit status:
      something that is ignored, `diff` a change, or `snapshot` fewer domains than --at-least
 
 A fault is a line `fault NUMBER` on standard error, with what it tells behind the number: `bundled explain NUMBER` says
-what it means. The frames that `run` and `serve` answer are in bundled run --help.";
+what it means. Most commands say in a second line what they could not have, and why. The frames that `run` and `serve` answer are in bundled run --help.";
 
 pub const FRAMES: &str = "\
 A frame is a length of 4 bytes, big-endian, and a payload of that many bytes. Each request is
@@ -103,8 +103,11 @@ dump.
 Version 3 of the session is set first. Each reply is written before the next request is sent. A request that is answered
 `memory`, `moved` or `held` has changed nothing, and is asked again, up to COUNT times.
 
+If standard output is a terminal, all but printable ASCII is written escaped, except with --raw.
+
 The status is 0 if each request was done, 3 if some reply is a refusal, and 1 after a fault: `fault 78` if no server
-listens, 50, 52, 53, 54 or 58 if the exchange with it failed: whether its request took effect is not known. A word with
+listens, 50, 52, 53, 54 or 58 if the exchange with it failed or took longer than --timeout: whether its request took
+effect is not known. `fault 58` is also a reply that the request cannot have. A word with
 a line feed is `fault 70 1`, and nothing is asked: give such a document as @FILE.";
 
 pub const COUNTS: &str = "\
@@ -223,9 +226,10 @@ that whoever acts on each line acts on it. Only if a line cannot be printed the 
 a time may write to a folder.";
 
 pub const SERVING: &str = "\
-With a number of --connections each worker serves so many clients one after the other, and then the server ends. With
---connections unlimited it lasts, and each worker serves many clients beside each other: --max-open, --read-port,
---read-socket, --until-eof and --idle belong to this form only.
+With a number of --connections each worker serves so many clients one after the other, and then the server ends. Without
+--connections the number is 1, and standard error is told how many clients that makes. With --connections unlimited it
+lasts, and each worker serves many clients beside each other: --max-open, --read-port, --read-socket, --until-eof,
+--idle, --reply-seconds and --moments belong to this form only.
 
 Each worker is a thread. All share one store, which is empty at the start, or holds what --load gives it: a dump of any
 length, judged whole and stored before anybody can connect. A connection carries the frames that `run` reads and
@@ -247,13 +251,14 @@ FILE. FILE keeps its mode; what stands at FILE.new is removed before. It is trie
 that is `fault 59`, and FILE is as it was. With --until-eof a server that lasts has an end.
 
 With --log each change of a bundle is a line on standard error, with the sequence before and after it, and so is each one
-that was refused by 31, 36 or 56, and each end of a connection, with its client's port. The settings are told first:
+that was refused by 31, 36 or 56, and each end of a connection, with its client's port. Each line has the number of the
+client, from 1 on. With --log changes the ends of connections are left out. The settings are told first:
 
   2026-11-30T05:23:30Z settings workers 2 shards 4 connections 1
-  2026-11-30T05:23:33Z worker 0 set a.example absent to 7
-  2026-11-30T05:23:33Z worker 1 appended a.example 7 to 8
-  2026-11-30T05:23:34Z worker 0 refused a.example 31 8
-  2026-11-30T05:23:35Z worker 1 session ended after 3 replies from 40312
+  2026-11-30T05:23:33Z worker 0 client 1 set a.example absent to 7
+  2026-11-30T05:23:33Z worker 1 client 2 appended a.example 7 to 8
+  2026-11-30T05:23:34Z worker 0 client 1 refused a.example 31 8
+  2026-11-30T05:23:35Z worker 1 client 2 session ended after 3 replies from 40312
 
   bundled serve --port 8443 --read-port 8444 --connections unlimited
   bundled serve --socket /run/bundles/all --read-socket /run/bundles/reads --connections unlimited

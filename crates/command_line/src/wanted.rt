@@ -52,14 +52,39 @@ pub enum Wanted<'a> {
     /// What a server has counted.
     Stats(Counting<'a>),
     /// A server that listens at these places. Its store is filled with the dump in a file, if one is named, and at the end
-    /// its map is kept as a dump in a file, if one is named.
+    /// its map is kept as a dump in a file, if one is named. `says_connections` is whether the line says which connections are
+    /// served, in place of the default.
     Serve {
         places: Places<'a>,
         load: Option<&'a str>,
         save: Option<&'a str>,
-        log: bool,
+        log: LogScope,
+        says_connections: bool,
         settings: Settings,
     },
+}
+
+/// What the log of a server tells.
+#[derive(Clone, Copy, Debug, PartialEq, Eq)]
+pub enum LogScope {
+    /// Nothing: there is no log.
+    Nothing,
+    /// The changes, and those that were refused.
+    Changes,
+    /// These, and the ends of connections.
+    All,
+}
+
+impl LogScope {
+    ghost use Rattle.std.specs.Prelude.{◌≡◌};
+    ghost use Rattle.command_line.specs.Serving.{has_changes};
+
+    /// Whether changes are told.
+    pub fn has_changes(self) -> bool
+        ensures { result ≡ has_changes self }
+    {
+        self != LogScope::Nothing
+    }
 }
 
 /// A place on this machine where a server listens.
@@ -85,6 +110,8 @@ pub struct Places<'a> {
 pub struct Snapshotting<'a> {
     /// Where the server listens.
     pub place: Place<'a>,
+    /// How many seconds the server is waited for: to connect, and for each request with its whole reply.
+    pub timeout: u64,
     /// The folder of the snapshots.
     pub folder: &'a str,
     /// In how many seconds another one is made; without it, there is one.
@@ -98,6 +125,8 @@ pub struct Snapshotting<'a> {
 pub struct Counting<'a> {
     /// Where the server listens.
     pub place: Place<'a>,
+    /// How many seconds the server is waited for: to connect, and for each request with its whole reply.
+    pub timeout: u64,
     /// Whether they are written as Prometheus reads them.
     pub prometheus: bool,
 }
@@ -107,6 +136,8 @@ pub struct Counting<'a> {
 pub struct Inquiry<'a> {
     /// Where the server listens.
     pub place: Place<'a>,
+    /// How many seconds the server is waited for: to connect, and for each request with its whole reply.
+    pub timeout: u64,
     /// How often a request is asked again that others were in the way of.
     pub retries: u32,
     /// How the replies are written.
@@ -141,4 +172,6 @@ pub struct Refreshing<'a> {
     pub at_least: u64,
     /// Where the server listens. Without it, requests go to standard output.
     pub place: Option<Place<'a>>,
+    /// How many seconds the server is waited for: to connect, and for each request with its whole reply.
+    pub timeout: u64,
 }

@@ -6,8 +6,9 @@ ghost use Rattle.commands.specs.Pem.{DigestOf};
 ghost use Rattle.commands.specs.Reading.{Filtered, Filters, Unread};
 ghost use Rattle.wire.specs.Output.{end_of};
 
-use crate::{Extent, Fault, ended, read_input, write_flushed};
-use dump_views::dump_digest_line;
+use crate::{DumpSink, Fault, ended, read_dump_into, write_flushed};
+use dump_views::PieceDigest;
+use spiffe_doc::{Bundle, Memory, TrustDomain};
 use std::alloc::Global;
 use std::io::{Read, Write};
 use wire::Counted;
@@ -35,7 +36,25 @@ fn digest_input<R: Read, W: Write>(
     ensures { Filtered Any DigestOf (Unread Any) result (source_of R.remaining reader.old) (source_of R.remaining reader.new)
         (end_of W.contents out.old) (end_of W.contents out.new) }
 {
-    let input = read_input(alloc, Extent::Any, reader)?;
-    let line = dump_digest_line(alloc, input.as_slice())?;
+    let mut digest = PieceDigest::new();
+    read_dump_into(alloc, reader, &mut digest)?;
+    let line = digest.line();
     write_flushed(out, &line)
+}
+
+/// The digest is of the bytes, whatever the domains are.
+impl DumpSink for PieceDigest {
+    ghost use Rattle.dump_views.specs.Digest.{HasHashed};
+
+    ghost holds = { λ digest came items. HasHashed digest came };
+
+    ghost kept = { λ _. tt };
+
+    fn take_bytes(&mut self, piece: &[u8]) {
+        self.take(piece);
+    }
+
+    fn take_domain(&mut self, _domain: TrustDomain, _bundle: Bundle) -> Result<(), Memory> {
+        Ok(())
+    }
 }

@@ -11,7 +11,7 @@ use std::io::Read;
 use wire::{Counted, FrontError};
 
 /// The most bytes of one read.
-const PIECE_BYTES: usize = 65_536;
+pub(crate) const PIECE_BYTES: usize = 65_536;
 
 /// How long an input may be.
 #[derive(Clone, Copy)]
@@ -34,7 +34,7 @@ impl Extent {
     }
 
     /// The most reads that an input may take.
-    fn most_reads(self) -> u64
+    pub(crate) fn most_reads(self) -> u64
         ensures { result ≡ most_reads self }
     {
         match self {

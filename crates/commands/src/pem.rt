@@ -7,10 +7,9 @@ ghost use Rattle.commands.specs.Pem.{NoPem, PemOf};
 ghost use Rattle.commands.specs.Reading.{Filtered, Filters};
 ghost use Rattle.wire.specs.Output.{end_of};
 
-use crate::{Extent, Fault, ended, read_input, write_flushed};
-use dump_views::{PemError, put_dump_pem};
-use frame_front::DumpError;
-use spiffe_doc::TrustDomain;
+use crate::{DumpSink, Fault, ended, read_dump_into, write_flushed};
+use dump_views::put_pem;
+use spiffe_doc::{Bundle, Memory, TrustDomain};
 use std::alloc::Global;
 use std::io::{Read, Write};
 use wire::{Counted, FrontError};
@@ -40,13 +39,45 @@ fn pem_input<R: Read, W: Write>(
     ensures { Filtered Any (PemOf name.now) (NoPem name.now) result (source_of R.remaining reader.old) (source_of R.remaining reader.new)
         (end_of W.contents out.old) (end_of W.contents out.new) }
 {
-    let input = read_input(alloc, Extent::Any, reader)?;
+    let mut sought = Sought { name, bundle: None };
+    read_dump_into(alloc, reader, &mut sought)?;
+    let Sought { bundle, .. } = sought;
+    let Some(bundle) = bundle else {
+        return Err(Fault::NotInDump(1));
+    };
     let mut text = Vec::new(alloc);
-    match put_dump_pem(alloc, input.as_slice(), name, &mut text) {
-        Ok(()) => {}
-        Err(PemError::BadDump(frame)) => return Err(Fault::Dump(DumpError::BadDump(frame))),
-        Err(PemError::NoDomain) => return Err(Fault::NotInDump(1)),
-        Err(PemError::Memory) => return Err(Fault::Front(FrontError::Memory)),
-    }
+    put_pem(&bundle, &mut text)?;
     write_flushed(out, text.as_slice())
+}
+
+/// The bundle of a domain, once it has come.
+#[derive(Drop)]
+struct Sought<'a> {
+    name: &'a TrustDomain,
+    bundle: Option<Bundle>,
+}
+
+/// Of all domains that of the name is kept.
+impl DumpSink for Sought<'_> {
+    ghost use Rattle.std.specs.Prelude.{◌≡◌, ℕ, List};
+    ghost use Rattle.dump_views.specs.Changes.{held_under};
+
+    ghost holds = { λ sought came items. held_under items sought.name.now ≡ sought.bundle };
+
+    ghost Kept = { List ℕ };
+
+    ghost kept = { λ sought. sought.name.now };
+
+    fn take_bytes(&mut self, _piece: &[u8]) {}
+
+    fn take_domain(&mut self, domain: TrustDomain, bundle: Bundle) -> Result<(), Memory> {
+        if let Some(_) = &self.bundle {
+            return Ok(());
+        }
+        if domain == *self.name {
+            self.bundle = Some(bundle);
+            return Ok(());
+        }
+        Ok(())
+    }
 }

@@ -1,7 +1,8 @@
 //! The digest of a dump (FIPS 180-4).
-ghost use Rattle.std.specs.Prelude.{◌≡◌, IfOk, IfErr};
+ghost use Rattle.std.specs.Prelude.{◌≡◌, ◌++◌, ◌∷◌, [], ℕ, List, IfOk, IfErr};
 ghost use Rattle.frame_front.specs.Dump.{Domains, IsDump, FaultOfDump};
-ghost use Rattle.dump_views.specs.Digest.{digest_line_of};
+ghost use Rattle.hex.specs.Hex.{encode_lower};
+ghost use Rattle.dump_views.specs.Digest.{HasHashed, digest_line_of};
 
 use frame_front::{DumpError, read_dump};
 use sha2::{Digest, Sha256};
@@ -15,10 +16,48 @@ const DIGITS: usize = 64;
 pub fn digest_line(dump: &[u8]) -> [u8; DIGITS + 1]
     ensures { result ≡ digest_line_of dump.now }
 {
-    let digest = Sha256::digest(dump);
+    line_of(Sha256::digest(dump))
+}
+
+/// The line of these bytes of a digest.
+fn line_of(digest: [u8; DIGITS / 2]) -> [u8; DIGITS + 1]
+    ensures { result ≡ encode_lower digest ++ 10 ∷ [] }
+{
     let mut line = [b'\n'; DIGITS + 1];
     let _fits = hex::encode_to_slice(digest, &mut line[..DIGITS]);
     line
+}
+
+/// The digest of bytes that come in pieces.
+#[derive(Drop)]
+pub struct PieceDigest {
+    hasher: Sha256,
+}
+
+impl PieceDigest {
+    /// Nothing has come.
+    pub fn new() -> PieceDigest
+        ensures { HasHashed result [] }
+    {
+        PieceDigest {
+            hasher: Sha256::new(),
+        }
+    }
+
+    /// Takes the next piece.
+    pub fn take(&mut self, piece: &[u8])
+        ensures { (came : List ℕ) → HasHashed self.old came → HasHashed self.new (came ++ piece.now) }
+    {
+        self.hasher.update(piece);
+    }
+
+    /// The line that tells the digest of all that came, as `digest_line` does.
+    pub fn line(self) -> [u8; DIGITS + 1]
+        ensures { (came : List ℕ) → HasHashed self came → result ≡ digest_line_of came }
+    {
+        let PieceDigest { hasher } = self;
+        line_of(hasher.finalize())
+    }
 }
 
 /// The line that tells the digest of a dump, as `digest_line` does, if the bytes are a dump.

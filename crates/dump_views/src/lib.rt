@@ -23,7 +23,7 @@ mod tree;
 
 pub use choice::{ChoiceError, choose};
 pub use diff::{DiffError, put_diff, put_dump_diff};
-pub use digest::{digest_line, dump_digest_line};
+pub use digest::{PieceDigest, digest_line, dump_digest_line};
 pub use error::{MapError, MemberFault};
 pub use import::requests_of_map;
 pub use map::write_map;

@@ -6,8 +6,9 @@ use Rattle.spiffe_doc.specs.Authority.{BundleValue}
 use Rattle.spiffe_doc.specs.Bundle.{IsBundle}
 use Rattle.map_core.specs.Name.{Name}
 use Rattle.wire.specs.Frame.{IsPayload, HasFrames, frame, stream_of}
-use Rattle.frame_front.specs.Dump.{Domains, HaveValidBundles, count_of, ReadsItems, IsDump, IsDumpFront, IsBadDump}
+use Rattle.frame_front.specs.Dump.{Domains, count_of, ReadsItems, IsDump, IsDumpFront, IsBadDump}
 use Rattle.wire.specs.Items.{item_of}
+use Rattle.frame_front.specs.Private.DumpReading.{HasRead}
 use Rattle.frame_front.specs.Private.Refusals.{NoItem, NoCount, last_of}
 use Rattle.map_core.specs.Laws.{IsAfter, Ascends}
 use Rattle.std.proofs.Math.Seq.{drop-append_seam}
@@ -17,18 +18,6 @@ use Rattle.wire.proofs.FrameLemmas.{frames_unique, frame_first}
 use Rattle.wire.proofs.FramesExist.{frames, has_frames}
 use Rattle.frame_front.proofs.SessionLemmas.{stream_of-append, each-append, fewer_than_bytes}
 use Rattle.frame_front.proofs.DomainLists.{cons_head, cons_tail, ReadsItems-length, ReadsItems-one, Ascends-one, valid-one, stream-one}
-
--- These domains of a dump are read, and this rest is left.
-pub record HasRead (dump : List ℕ) (count : ℕ) (rest : List ℕ) (place : ℕ) (items : Domains) : Type 0 where
-  pub head : List ℕ
-  pub payloads : List (List ℕ)
-  pub whole : dump ≡ stream_of (head ∷ payloads) rest
-  pub each : AllByRecursion IsPayload (head ∷ payloads)
-  pub counted : count_of head ≡ Some count
-  pub read : ReadsItems payloads items
-  pub ascending : Ascends None items
-  pub valid : HaveValidBundles items
-  pub placed : place ≡ length items
 
 -- what follows the domains read is one more, if the payloads are read further
 next_read : (ps : List (List ℕ)) (items others : Domains) (p : List ℕ) (more : List (List ℕ)) (last : Option Name)

@@ -8,9 +8,11 @@ pub mod PlainLemmas
 pub mod DomainLists
 pub mod DumpLemmas
 pub mod DumpPlaces
+pub mod DecoderLemmas
 pub mod DumpTexts
 pub mod MigrationLemmas
 pub mod LiveLemmas
 pub mod LiveTables
 pub mod ShownLemmas
 pub mod SessionLines
+pub mod ChangeLetters

@@ -18,12 +18,25 @@ use Rattle.frame_front.specs.Private.Steps.{AnswersFrame}
 use Rattle.wire.proofs.FrameLemmas.{longer_by_frame}
 use Rattle.frame_front.proofs.SessionLemmas.{Serves-none, Serves-one, Serves-then, concat-one}
 
+nil_if-length : (bytes : List ℕ) → length bytes ≡ 0 → bytes ≡ []
+nil_if-length [] none = refl
+nil_if-length (byte ∷ bytes) none = absurd (omega (arith, none))
+
 -- if not all domains are stored, some bytes are left
 pub items_left-some : (items : List (Name × BundleValue)) (stored : ℕ) → stored < length items → items_left items stored ≢ []
 items_left-some [] stored few = absurd (omega (arith, few))
 items_left-some (item ∷ items) zero few = λ none.
     omega (arith, ap length none, longer_by_frame (105 ∷ length item.0 ∷ item.0 ++ text_of item.1) (flat_map item_frame items))
 items_left-some (item ∷ items) (suc stored) few = items_left-some items stored (omega (arith, few))
+
+-- behind any bytes
+pub front_and_items-some : (head : List ℕ) (items : List (Name × BundleValue)) (stored : ℕ) → stored < length items → head ++ items_left items stored ≢ []
+front_and_items-some head items stored few = λ none.
+    items_left-some items stored few (nil_if-length (items_left items stored) (omega (arith, ap length none, length-append head (items_left items stored))))
+
+-- with some bytes in front, something is left
+pub front-some : (head body : List ℕ) → 0 < length head → head ++ body ≢ []
+front-some head body some = λ none. omega (arith, some, ap length none, length-append head body)
 
 pub items_left-err : {A E : Type 0} (result : Result A E) (items : List (Name × BundleValue)) (stored : ℕ)
     → OnErr result (stored < length items) → OnErr result (items_left items stored ≢ [])
@@ -45,7 +58,7 @@ pub record Answering {S : Type 0} (answers : S → Op → Result Reply AskError 
     (start now : LiveView) (map_start map_now : S) (count : ℕ) : Type 0 where
   pub payloads : List (List ℕ)
   pub texts : List (List ℕ)
-  pub serves : Serves answers start.kept payloads texts now.kept (start.version, map_start) (now.version, map_now)
+  pub serves : Serves answers start.kept payloads texts now.kept (start.terms, map_start) (now.terms, map_now)
   pub grew : waiting now ≡ waiting start ++ concat texts
   pub few : ComeBelowLimit (waiting start) texts
   pub counted : count ≡ length payloads
@@ -56,7 +69,7 @@ module _ {S : Type 0} (answers : S → Op → Result Reply AskError → S → Ty
   Answering-none = record {
     payloads = [];
     texts = [];
-    serves = Serves-none answers start.kept (start.version, map_start);
+    serves = Serves-none answers start.kept (start.terms, map_start);
     grew = sym (append-nil (waiting start));
     few = inl refl;
     counted = refl;
@@ -70,8 +83,8 @@ module _ {S : Type 0} (answers : S → Op → Result Reply AskError → S → Ty
       payloads = so_far.payloads ++ step.payload ∷ [];
       texts = so_far.texts ++ step.text ∷ [];
       serves = Serves-then answers start.kept now.kept new.kept so_far.payloads (step.payload ∷ []) so_far.texts (step.text ∷ [])
-          (start.version, map_start) (now.version, map_now) (new.version, map_new) so_far.serves
-          (Serves-one answers now.kept new.kept step.payload step.text (now.version, map_now) (new.version, map_new) step.stands step.good step.answered);
+          (start.terms, map_start) (now.terms, map_now) (new.terms, map_new) so_far.serves
+          (Serves-one answers now.kept new.kept step.payload step.text (now.terms, map_now) (new.terms, map_new) step.stands step.good step.answered);
       grew = step.waits ∙ ap (λ w. w ++ step.text) so_far.grew ∙ append_assoc (waiting start) (concat so_far.texts) step.text
           ∙ ap (λ t. waiting start ++ t) (sym (concat-one so_far.texts step.text));
       few = inr (so_far.texts, step.text, refl, omega (arith, step.below, ap length so_far.grew));
@@ -85,11 +98,11 @@ wants_room live unfinished = grind (arith, unfinished.good, unfinished.short)
 
 -- so a piece of at most 4096 bytes is fed whole
 pub fed_whole : (live new : LiveView) (piece : List ℕ) (count : ℕ) → IsUnfinished live.kept → length piece ≤ 4096 → count ≡ min (length piece) (room_of live)
-    → Feeds (take count piece) live new → new ≡ live_view (live.kept ++ piece) live.version live.ready live.later
+    → Feeds (take count piece) live new → new ≡ live_view (live.kept ++ piece) live.terms live.ready live.later
 fed_whole live new piece count unfinished few is feeds =
     let room : 4096 ≤ room_of live = wants_room live unfinished in
     let all : length piece ≤ count = grind (arith, is, few, room) in
-    feeds ∙ ap (λ p. live_view (live.kept ++ p) live.version live.ready live.later) (take_all count piece all)
+    feeds ∙ ap (λ p. live_view (live.kept ++ p) live.terms live.ready live.later) (take_all count piece all)
 
 -- a step that answers a frame leaves fewer bytes
 pub AnswersFrame-smaller : {S : Type 0} (answers : S → Op → Result Reply AskError → S → Type 0) (is_error : Bool) (old new : LiveView) (map_old map_new : S)

@@ -33,6 +33,7 @@ use Rattle.wire.specs.RequestForm as form
 use Rattle.wire.specs.PayloadReading.{split_named}
 use Rattle.wire.specs.Judge.{◌>>=◌, name_or_refusal, parse_name, parse_bundle, named_bundle, judged, request_of}
 use Rattle.wire.specs.Judge as requests
+use Rattle.frame_front.specs.Terms.{for_all}
 use Rattle.wire.specs.Answers.{reply_frames, version_frame}
 use Rattle.frame_front.specs.PlainSession.{text_for, state_for, answers_to, state_after}
 use Rattle.frame_front.specs.Dump.{Domains, ReadsItems, IsDump, AreValid, request_for, requests_for, held_of, map_of}
@@ -146,17 +147,17 @@ module _ (item : Name × BundleValue) (m : Domains) (ascending : Ascends None m)
   stored_map = ap (λ held. put (map_of m) item.0 (set_if Absent item.1 held).held) not_there ∙ sym one_more
 
 all_stored : (items m : Domains) → AreValid items → Ascends None m → Ascends (last_of None m) items
-    → (answers_to (Two, map_of m) (map request_for items) ≡ map (λ item. reply_frames Stored) items)
-    × (state_after (Two, map_of m) (map request_for items) ≡ (Two, map_of (m ++ items)))
-all_stored [] m valid below ascending = (refl, ap (λ n. (Two, map_of n)) (sym (append-nil m)))
+    → (answers_to (for_all Two, map_of m) (map request_for items) ≡ map (λ item. reply_frames Stored) items)
+    × (state_after (for_all Two, map_of m) (map request_for items) ≡ (for_all Two, map_of (m ++ items)))
+all_stored [] m valid below ascending = (refl, ap (λ n. (for_all Two, map_of n)) (sym (append-nil m)))
 all_stored (item ∷ items) m valid below ascending =
     let read = set_read item valid.0.0 valid.0.1 in
-    let text : text_for (Two, map_of m) (request_of Two (request_for item)) ≡ reply_frames Stored = ap (text_for (Two, map_of m)) read ∙ ap reply_frames (stored_reply item m below ascending.0) in
-    let state : state_for (Two, map_of m) (request_of Two (request_for item)) ≡ (Two, map_of (m ++ item ∷ [])) = ap (state_for (Two, map_of m)) read ∙ ap (λ n. (Two, n)) (stored_map item m below ascending.0) in
+    let text : text_for (for_all Two, map_of m) (request_of Two (request_for item)) ≡ reply_frames Stored = ap (text_for (for_all Two, map_of m)) read ∙ ap reply_frames (stored_reply item m below ascending.0) in
+    let state : state_for (for_all Two, map_of m) (request_of Two (request_for item)) ≡ (for_all Two, map_of (m ++ item ∷ [])) = ap (state_for (for_all Two, map_of m)) read ∙ ap (λ n. (for_all Two, n)) (stored_map item m below ascending.0) in
     let others = all_stored items (m ++ item ∷ []) valid.1 (Ascends-one None m item below ascending.0) (subst (λ l. Ascends l items) (sym (last_of-one None m item)) ascending.1) in (
-      ap (λ t. t ∷ answers_to (state_for (Two, map_of m) (request_of Two (request_for item))) (map request_for items)) text
+      ap (λ t. t ∷ answers_to (state_for (for_all Two, map_of m) (request_of Two (request_for item))) (map request_for items)) text
           ∙ ap (λ s. reply_frames Stored ∷ answers_to s (map request_for items)) state ∙ ap (λ ts. reply_frames Stored ∷ ts) others.0,
-      ap (λ s. state_after s (map request_for items)) state ∙ others.1 ∙ ap (λ n. (Two, map_of n)) (append_assoc m (item ∷ []) items),
+      ap (λ s. state_after s (map request_for items)) state ∙ others.1 ∙ ap (λ n. (for_all Two, map_of n)) (append_assoc m (item ∷ []) items),
     )
 
 -- ---- the map has these domains, in their order
@@ -196,8 +197,8 @@ version_read = request_read One (form.Speak Two) tt
 pub migration : (dump : List ℕ) (items : Domains) → IsDump dump items
     → AreValid items
     × HasFrames (stream_of (requests_for items) []) (requests_for items) []
-    × (answers_to (One, finite.empty) (requests_for items) ≡ version_frame Two ∷ map (λ item. reply_frames Stored) items)
-    × (state_after (One, finite.empty) (requests_for items) ≡ (Two, map_of items))
+    × (answers_to (for_all One, finite.empty) (requests_for items) ≡ version_frame Two ∷ map (λ item. reply_frames Stored) items)
+    × (state_after (for_all One, finite.empty) (requests_for items) ≡ (for_all Two, map_of items))
     × (bundles (map_of items) ≡ items)
 migration dump items is =
     let valid = valid_items is.payloads items is.read in
@@ -208,8 +209,8 @@ migration dump items is =
         each = ((omega arith, omega arith), are_payloads items valid);
         ends = inl (record { good = λ h. absurd (omega (arith, h)); short = λ h. absurd (omega (arith, h)) });
       },
-      ap (λ r. text_for (One, finite.empty) r ∷ answers_to (state_for (One, finite.empty) r) (map request_for items)) version_read
+      ap (λ r. text_for (for_all One, finite.empty) r ∷ answers_to (state_for (for_all One, finite.empty) r) (map request_for items)) version_read
           ∙ ap (λ ts. version_frame Two ∷ ts) stored.0,
-      ap (λ r. state_after (state_for (One, finite.empty) r) (map request_for items)) version_read ∙ stored.1,
+      ap (λ r. state_after (state_for (for_all One, finite.empty) r) (map request_for items)) version_read ∙ stored.1,
       ap bundles_among (kept_order None items is.ascending) ∙ published_all items,
     )

@@ -1,6 +1,6 @@
 -- Sessions over a map that shows a plain map.
 use Rattle.std.proofs.Common.{◌≡◌, ℕ, zero, suc, ◌-◌, ◌≤◌, List, [], ◌∷◌, ◌++◌, length, take, drop, append-nil, append_assoc, length-append, arith, refl, sym, ap, ◌∙◌, inl, inr, subst, Result, Ok, Err, Some, Bool, true, false}
-use Rattle.std.specs.Prelude.{Option}
+use Rattle.std.specs.Prelude.{Option, if◌then◌else◌}
 use Rattle.std.specs.Io.KnownBytes.{Appends}
 use Rattle.std.specs.List.{AllByRecursion, concat}
 use Rattle.std.proofs.lemmas.Bool.{cases_lt}
@@ -14,15 +14,16 @@ use Rattle.map_core.specs.Ask.{AnswersPlainly}
 use Rattle.wire.specs.Frame.{IsPayload, frame, stream_of}
 use Rattle.wire.specs.declared.error.FrontError.{FrontError}
 use Rattle.wire.specs.declared.error.FrontError.TheVariants.{BadLength, Truncated, ReadFault, WriteFault, TurnsUsed, Memory}
-use Rattle.wire.specs.declared.version.Version.TheVariants.{One}
+use Rattle.frame_front.specs.declared.terms.Terms.{Terms}
+use Rattle.frame_front.specs.Terms.{begun, is_turned_away}
 use Rattle.wire.specs.declared.judge.Judged.{Judged}
 use Rattle.wire.specs.declared.judge.Judged.TheVariants.{Ask, SetVersion, TellCounts}
 use Rattle.wire.specs.declared.refusal.Refusal.{Refusal}
 use Rattle.wire.specs.Judge.{request_of}
 use Rattle.wire.specs.Answers.{is_error_reply}
-use Rattle.frame_front.specs.Session.{SessionState, AnswersRequest, Answers, AnswersAll}
+use Rattle.frame_front.specs.Session.{SessionState, AnswersRequest, AnswersUnless, Answers, AnswersAll, shut_frame}
 use Rattle.frame_front.specs.Transcript.{Transcript}
-use Rattle.frame_front.specs.PlainSession.{AskNoCounts, text_for, state_for, answers_to, state_after, TellsError, PlainTranscript, texts_within, WritesTexts}
+use Rattle.frame_front.specs.PlainSession.{AskNoCounts, text_for, state_for, text_to, state_to, answers_to, state_after, TellsError, PlainTranscript, texts_within, WritesTexts}
 use Rattle.frame_front.proofs.SessionLemmas.{stream_of-append, concat-one}
 use Rattle.frame_front.proofs.BegunTexts.{NoErrors, no_errors-append, each_before, begun_before, begun_reaches}
 use Rattle.frame_front.proofs.ReplyLemmas.{not_both, want_is_error, version_answers, plain_goes_out, errors_keep, one_answers}
@@ -31,6 +32,34 @@ use Rattle.frame_front.proofs.ReplyLemmas.{not_both, want_is_error, version_answ
 pub record PlainStep (state : SessionState PlainMap) (read : Result Judged Refusal) (text : List ℕ) (new : SessionState PlainMap) : Type 0 where
   pub text_is : text ≡ text_for state read
   pub new_is : new ≡ state_for state read
+
+-- no text has the code of an error, but maybe those to payloads that are turned away
+abbrev pub HaveNoErrors : Bool → List (List ℕ) → List (List ℕ) → Type 0
+HaveNoErrors reads_only [] texts = Unit {0}
+HaveNoErrors reads_only (payload ∷ payloads) [] = Unit {0}
+HaveNoErrors reads_only (payload ∷ payloads) (text ∷ texts) =
+    (is_turned_away reads_only payload ≡ false → is_error_reply text ≡ false) × HaveNoErrors reads_only payloads texts
+
+none_have : (payloads texts : List (List ℕ)) → NoErrors texts → HaveNoErrors false payloads texts
+none_have [] texts none = tt
+none_have (payload ∷ payloads) [] none = tt
+none_have (payload ∷ payloads) (text ∷ texts) none = (λ here. none.0, none_have payloads texts none.1)
+
+module _ {S : Type 0} (answers : S → Op → Result Reply AskError → S → Type 0) where
+  request_stays : (read : Result Judged Refusal) (old new : SessionState S) (text : List ℕ) → AnswersRequest answers read old text new → new.0.reads_only ≡ old.0.reads_only
+  request_stays (Err refusal) old new text answer = ap (λ (s : SessionState S). s.0.reads_only) answer.1
+  request_stays (Ok (SetVersion version)) old new text answer = ap (λ (s : SessionState S). s.0.reads_only) answer.1
+  request_stays (Ok TellCounts) old new text answer = ap (λ (s : SessionState S). s.0.reads_only) answer.3
+  request_stays (Ok (Ask op)) old new text answer = ap (λ (t : Terms). t.reads_only) answer.3
+
+  unless_stays : (away : Bool) (payload : List ℕ) (old new : SessionState S) (text : List ℕ) → AnswersUnless answers away old payload text new → new.0.reads_only ≡ old.0.reads_only
+  unless_stays true payload old new text answer = ap (λ (s : SessionState S). s.0.reads_only) answer.1
+  unless_stays false payload old new text (inl request) = request_stays (request_of old.0.version payload) old new text request
+  unless_stays false payload old new text (inr want) = ap (λ (s : SessionState S). s.0.reads_only) want.1
+
+  -- a session that may only read stays one
+  pub reads_only_stays : (payload : List ℕ) (old new : SessionState S) (text : List ℕ) → Answers answers old payload text new → new.0.reads_only ≡ old.0.reads_only
+  reads_only_stays payload old new text answer = unless_stays (is_turned_away old.0.reads_only payload) payload old new text answer
 
 module _ {S : Type 0} (answers : S → Op → Result Reply AskError → S → Type 0) (shows : S → Option PlainMap)
     (plainly : AnswersPlainly answers shows) where
@@ -63,44 +92,56 @@ module _ {S : Type 0} (answers : S → Op → Result Reply AskError → S → Ty
       (errors_keep answer.0 m (shows new.1) op text (plainly old.1 op answer.0 new.1 m shown answer.1) answer.2 tells, answer.3)
 
   -- one payload
-  plain_one : (payload : List ℕ) (old new : SessionState S) (text : List ℕ) (m : PlainMap) → shows old.1 ≡ Some m → Answers answers old payload text new
-      → (n : PlainMap) × (shows new.1 ≡ Some n) × (is_error_reply text ≡ false → ¬ (request_of old.0 payload ≡ Ok TellCounts) → PlainStep (old.0, m) (request_of old.0 payload) text (new.0, n))
-  plain_one payload old new text m shown (inl request) = plain_request (request_of old.0 payload) old new text m shown request
-  plain_one payload old new text m shown (inr want) =
-      (m, ap (λ (s : SessionState S). shows s.1) want.1 ∙ shown, λ none no. absurd (not_both (is_error_reply text) (want_is_error text want.0) none))
+  plain_one : (away : Bool) (payload : List ℕ) (old new : SessionState S) (text : List ℕ) (m : PlainMap) → shows old.1 ≡ Some m → AnswersUnless answers away old payload text new
+      → (n : PlainMap) × (shows new.1 ≡ Some n) × ((away ≡ false → is_error_reply text ≡ false) → ¬ (request_of old.0.version payload ≡ Ok TellCounts)
+      → (text ≡ (if away then shut_frame else text_for (old.0, m) (request_of old.0.version payload)))
+      × ((new.0, n) ≡ (if away then (old.0, m) else state_for (old.0, m) (request_of old.0.version payload))))
+  plain_one true payload old new text m shown answer =
+      (m, ap (λ (s : SessionState S). shows s.1) answer.1 ∙ shown, λ none no. (answer.0, ap (λ (s : SessionState S). (s.0, m)) answer.1))
+  plain_one false payload old new text m shown (inl request) =
+      let read = plain_request (request_of old.0.version payload) old new text m shown request in
+      (read.0, read.1, λ none no. let step = read.2 (none refl) no in (step.text_is, step.new_is))
+  plain_one false payload old new text m shown (inr want) =
+      (m, ap (λ (s : SessionState S). shows s.1) want.1 ∙ shown, λ none no. absurd (not_both (is_error_reply text) (want_is_error text want.0) (none refl)))
 
   -- a payload answered by a text that tells an error changes nothing
   pub errors_change_nothing : (payload : List ℕ) (old new : SessionState S) (text : List ℕ) (m : PlainMap) → shows old.1 ≡ Some m
       → Answers answers old payload text new → is_error_reply text ≡ true → (shows new.1 ≡ Some m) × (new.0 ≡ old.0)
-  errors_change_nothing payload old new text m shown (inr want) tells = (ap (λ (s : SessionState S). shows s.1) want.1 ∙ shown, ap (λ (s : SessionState S). s.0) want.1)
-  errors_change_nothing payload old new text m shown (inl request) tells = error_request (request_of old.0 payload) old new text m shown request tells
+  errors_change_nothing payload old new text m shown answer tells = unless (is_turned_away old.0.reads_only payload) answer
+    where
+      unless : (away : Bool) → AnswersUnless answers away old payload text new → (shows new.1 ≡ Some m) × (new.0 ≡ old.0)
+      unless true turned = (ap (λ (s : SessionState S). shows s.1) turned.1 ∙ shown, ap (λ (s : SessionState S). s.0) turned.1)
+      unless false (inr want) = (ap (λ (s : SessionState S). shows s.1) want.1 ∙ shown, ap (λ (s : SessionState S). s.0) want.1)
+      unless false (inl request) = error_request (request_of old.0.version payload) old new text m shown request tells
 
-  -- if no text that is begun tells an error, none of their codes says so
-  begun_answer : (payloads texts : List (List ℕ)) (old new : SessionState S) (n : ℕ) → AnswersAll answers old payloads texts new
+  -- if no text that is begun tells an error, none of their codes says so, in a session that may do all
+  begun_answer : (payloads texts : List (List ℕ)) (old new : SessionState S) (n : ℕ) → old.0.reads_only ≡ false → AnswersAll answers old payloads texts new
       → AllByRecursion (λ text. ¬ (TellsError answers text)) (texts_within n texts) → NoErrors (texts_within n texts)
-  begun_answer payloads texts old new zero answered none = tt
-  begun_answer payloads [] old new (suc n) answered none = tt
-  begun_answer [] (text ∷ texts) old new (suc n) answered none = absurd answered
-  begun_answer (payload ∷ payloads) (text ∷ texts) old new (suc n) answered none =
-      (one_answers answers payload old answered.0 text answered.1 none.0, begun_answer payloads texts answered.0 new (suc n - length text) answered.2 none.1)
+  begun_answer payloads texts old new zero all answered none = tt
+  begun_answer payloads [] old new (suc n) all answered none = tt
+  begun_answer [] (text ∷ texts) old new (suc n) all answered none = absurd answered
+  begun_answer (payload ∷ payloads) (text ∷ texts) old new (suc n) all answered none = (
+    one_answers answers payload old answered.0 text answered.1 (ap (λ reads_only. is_turned_away reads_only payload) all) none.0,
+    begun_answer payloads texts answered.0 new (suc n - length text) (reads_only_stays answers payload old answered.0 text answered.1 ∙ all) answered.2 none.1,
+  )
 
   -- all payloads
-  pub plain_all : (payloads texts : List (List ℕ)) (old new : SessionState S) (m : PlainMap) → shows old.1 ≡ Some m → AnswersAll answers old payloads texts new
-      → (n : PlainMap) × (shows new.1 ≡ Some n) × (NoErrors texts → AskNoCounts payloads
+  pub plain_all : (reads_only : Bool) (payloads texts : List (List ℕ)) (old new : SessionState S) (m : PlainMap) → old.0.reads_only ≡ reads_only → shows old.1 ≡ Some m → AnswersAll answers old payloads texts new
+      → (n : PlainMap) × (shows new.1 ≡ Some n) × (HaveNoErrors reads_only payloads texts → AskNoCounts payloads
       → (texts ≡ answers_to (old.0, m) payloads) × (n ≡ (state_after (old.0, m) payloads).1))
-  plain_all [] [] old new m shown answered = (m, ap (λ (s : SessionState S). shows s.1) answered ∙ shown, λ others no. (refl, refl))
-  plain_all [] (text ∷ texts) old new m shown answered = absurd answered
-  plain_all (payload ∷ payloads) [] old new m shown answered = absurd answered
-  plain_all (payload ∷ payloads) (text ∷ texts) old new m shown answered =
-      let first = plain_one payload old answered.0 text m shown answered.1 in
-      let rest = plain_all payloads texts answered.0 new first.0 first.1 answered.2 in
-      let read = request_of old.0 payload in (
+  plain_all reads_only [] [] old new m is shown answered = (m, ap (λ (s : SessionState S). shows s.1) answered ∙ shown, λ others no. (refl, refl))
+  plain_all reads_only [] (text ∷ texts) old new m is shown answered = absurd answered
+  plain_all reads_only (payload ∷ payloads) [] old new m is shown answered = absurd answered
+  plain_all reads_only (payload ∷ payloads) (text ∷ texts) old new m is shown answered =
+      let first = plain_one (is_turned_away old.0.reads_only payload) payload old answered.0 text m shown answered.1 in
+      let rest = plain_all reads_only payloads texts answered.0 new first.0 (reads_only_stays answers payload old answered.0 text answered.1 ∙ is) first.1 answered.2 in (
         rest.0,
         rest.1,
-        λ others no. let one = first.2 others.0 (no.0 old.0) in let more = rest.2 others.1 no.1 in (
-          ap (λ t. t ∷ texts) one.text_is ∙ ap (λ ts. text_for (old.0, m) read ∷ ts) (more.0 ∙ ap (λ s. answers_to s payloads) one.new_is),
-          more.1 ∙ ap (λ (s : SessionState PlainMap). (state_after s payloads).1) one.new_is,
-        ),
+        λ others no. let here = subst (λ b. is_turned_away b payload ≡ false → is_error_reply text ≡ false) (sym is) others.0 in
+            let one = first.2 here (no.0 old.0.version) in let more = rest.2 others.1 no.1 in (
+              ap (λ t. t ∷ texts) one.0 ∙ ap (λ ts. text_to (old.0, m) payload ∷ ts) (more.0 ∙ ap (λ s. answers_to s payloads) one.1),
+              more.1 ∙ ap (λ (s : SessionState PlainMap). (state_after s payloads).1) one.1,
+            ),
       )
 
   -- the last of several payloads
@@ -122,16 +163,16 @@ module _ {S : Type 0} (answers : S → Op → Result Reply AskError → S → Ty
     pub whole : read ≡ stream_of payloads rest
     pub each : AllByRecursion IsPayload payloads
     pub stands : (missing : List ℕ) × (concat texts ≡ written ++ missing)
-    pub told : AskNoCounts payloads → AllByRecursion (λ text. ¬ (TellsError answers text)) (texts_within (length written) texts) → (texts ≡ answers_to (One, old) payloads) × (new ≡ (state_after (One, old) payloads).1)
+    pub told : AskNoCounts payloads → AllByRecursion (λ text. ¬ (TellsError answers text)) (texts_within (length written) texts) → (texts ≡ answers_to (begun false, old) payloads) × (new ≡ (state_after (begun false, old) payloads).1)
 
   module _ (payloads before gathered : List (List ℕ)) (rest front : List ℕ) (old : S) (new : SessionState S) (m : PlainMap) (shown : shows old ≡ Some m)
       (each : AllByRecursion IsPayload payloads) (no_errors : NoErrors gathered) where
-    all_kept : (alone : List (List ℕ)) (missing : List ℕ) → AnswersAll answers (One, old) payloads ((before ++ gathered) ++ alone) new
+    all_kept : (alone : List (List ℕ)) (missing : List ℕ) → AnswersAll answers (begun false, old) payloads ((before ++ gathered) ++ alone) new
         → concat (gathered ++ alone) ≡ front ++ missing
         → (NoErrors (texts_within (length (concat before ++ front)) ((before ++ gathered) ++ alone)) → NoErrors alone)
         → (n : PlainMap) × (shows new.1 ≡ Some n) × PlainCut (stream_of payloads rest) (concat before ++ front) m n
     all_kept alone missing answered cut alone_answers =
-        let all = plain_all payloads ((before ++ gathered) ++ alone) (One, old) new m shown answered in (
+        let all = plain_all false payloads ((before ++ gathered) ++ alone) (begun false, old) new m refl shown answered in (
           all.0,
           all.1,
           record {
@@ -145,22 +186,22 @@ module _ {S : Type 0} (answers : S → Op → Result Reply AskError → S → Ty
               ap concat (append_assoc before gathered alone) ∙ concat-append before (gathered ++ alone) ∙ ap (λ c. concat before ++ c) cut
                   ∙ sym (append_assoc (concat before) front missing),
             );
-            told = λ no none_tells. let none_begun = begun_answer payloads ((before ++ gathered) ++ alone) (One, old) new (length (concat before ++ front)) answered none_tells in
-                all.2 (no_errors-append (before ++ gathered) alone
+            told = λ no none_tells. let none_begun = begun_answer payloads ((before ++ gathered) ++ alone) (begun false, old) new (length (concat before ++ front)) refl answered none_tells in
+                all.2 (none_have payloads ((before ++ gathered) ++ alone) (no_errors-append (before ++ gathered) alone
                 (no_errors-append before gathered
                 (begun_before before (gathered ++ alone) (length (concat before ++ front)) (omega (arith, length-append (concat before) front))
                 (subst (λ ts. NoErrors (texts_within (length (concat before ++ front)) ts)) (append_assoc before gathered alone) none_begun)) no_errors)
-                (alone_answers none_begun)) no;
+                (alone_answers none_begun))) no;
           },
         )
 
     -- the last text gives up, and is not begun: its payload is left out
-    last_left : (text : List ℕ) (missing : List ℕ) → AnswersAll answers (One, old) payloads ((before ++ gathered) ++ text ∷ []) new
+    last_left : (text : List ℕ) (missing : List ℕ) → AnswersAll answers (begun false, old) payloads ((before ++ gathered) ++ text ∷ []) new
         → concat (gathered ++ text ∷ []) ≡ front ++ missing → is_error_reply text ≡ true → length front ≤ length (concat gathered)
         → (n : PlainMap) × (shows new.1 ≡ Some n) × PlainCut (stream_of payloads rest) (concat before ++ front) m n
     last_left text missing answered cut tells short =
-        let last = last_answered payloads (before ++ gathered) text (One, old) new answered in
-        let all = plain_all last.0 (before ++ gathered) (One, old) last.2 m shown last.4 in
+        let last = last_answered payloads (before ++ gathered) text (begun false, old) new answered in
+        let all = plain_all false last.0 (before ++ gathered) (begun false, old) last.2 m refl shown last.4 in
         let same = errors_change_nothing last.1 last.2 new text all.0 all.1 last.5 tells in
         let stands : concat gathered ≡ front ++ drop (length front) (concat gathered) =
         sym (take-append-drop (length front) (concat gathered)) ∙ ap (λ f. f ++ drop (length front) (concat gathered))
@@ -178,14 +219,14 @@ module _ {S : Type 0} (answers : S → Op → Result Reply AskError → S → Ty
               concat-append before gathered ∙ ap (λ c. concat before ++ c) stands
                   ∙ sym (append_assoc (concat before) front (drop (length front) (concat gathered))),
             );
-            told = λ no none_tells. let none_begun = begun_answer last.0 (before ++ gathered) (One, old) last.2 (length (concat before ++ front)) last.4 none_tells in
-                all.2 (no_errors-append before gathered
-                (begun_before before gathered (length (concat before ++ front)) (omega (arith, length-append (concat before) front)) none_begun) no_errors) no;
+            told = λ no none_tells. let none_begun = begun_answer last.0 (before ++ gathered) (begun false, old) last.2 (length (concat before ++ front)) refl last.4 none_tells in
+                all.2 (none_have last.0 (before ++ gathered) (no_errors-append before gathered
+                (begun_before before gathered (length (concat before ++ front)) (omega (arith, length-append (concat before) front)) none_begun) no_errors)) no;
           },
         )
 
     -- one text was not gathered
-    one_alone : (text : List ℕ) (missing : List ℕ) (b : Bool) → is_error_reply text ≡ b → AnswersAll answers (One, old) payloads ((before ++ gathered) ++ text ∷ []) new
+    one_alone : (text : List ℕ) (missing : List ℕ) (b : Bool) → is_error_reply text ≡ b → AnswersAll answers (begun false, old) payloads ((before ++ gathered) ++ text ∷ []) new
         → concat (gathered ++ text ∷ []) ≡ front ++ missing
         → (n : PlainMap) × (shows new.1 ≡ Some n) × PlainCut (stream_of payloads rest) (concat before ++ front) m n
     one_alone text missing false tells answered cut = all_kept (text ∷ []) missing answered cut (λ none_begun. (tells, tt))
@@ -198,7 +239,7 @@ module _ {S : Type 0} (answers : S → Op → Result Reply AskError → S → Ty
       | inr short ↦ last_left text missing answered cut tells short
     ]
 
-    plain_cut : (alone : List (List ℕ)) (missing : List ℕ) → length alone ≤ 1 → AnswersAll answers (One, old) payloads ((before ++ gathered) ++ alone) new
+    plain_cut : (alone : List (List ℕ)) (missing : List ℕ) → length alone ≤ 1 → AnswersAll answers (begun false, old) payloads ((before ++ gathered) ++ alone) new
         → concat (gathered ++ alone) ≡ front ++ missing
         → (n : PlainMap) × (shows new.1 ≡ Some n) × PlainCut (stream_of payloads rest) (concat before ++ front) m n
     plain_cut [] missing few answered cut = all_kept [] missing answered cut (λ none_begun. tt)
@@ -212,7 +253,7 @@ module _ {S : Type 0} (answers : S → Op → Result Reply AskError → S → Ty
         → (n : PlainMap) × (shows new ≡ Some n) × PlainTranscript answers result turns left_old left_new held_old held_new m n
     plain_whole result t written stands =
         let s = t.session in
-        let all = plain_all s.payloads s.texts (One, old) (t.version, new) m shown s.serves.answered in (
+        let all = plain_all false s.payloads s.texts (begun false, old) (t.terms, new) m refl shown s.serves.answered in (
           all.0,
           all.1,
           record {
@@ -230,9 +271,9 @@ module _ {S : Type 0} (answers : S → Op → Result Reply AskError → S → Ty
             used = t.used;
             ended = t.ended;
             stands = stands;
-            told = λ no none_tells. let none_begun = begun_answer s.payloads s.texts (One, old) (t.version, new) (length t.written) s.serves.answered none_tells in
-                all.2 (begun_before s.texts [] (length t.written) (omega (arith, ap length written))
-                (subst (λ ts. NoErrors (texts_within (length t.written) ts)) (sym (append-nil s.texts)) none_begun)) no;
+            told = λ no none_tells. let none_begun = begun_answer s.payloads s.texts (begun false, old) (t.terms, new) (length t.written) refl s.serves.answered none_tells in
+                all.2 (none_have s.payloads s.texts (begun_before s.texts [] (length t.written) (omega (arith, ap length written))
+                (subst (λ ts. NoErrors (texts_within (length t.written) ts)) (sym (append-nil s.texts)) none_begun))) no;
           },
         )
 
@@ -241,8 +282,8 @@ module _ {S : Type 0} (answers : S → Op → Result Reply AskError → S → Ty
     plain_fault t =
         let s = t.session in
         let w = s.writes in
-        let cut = plain_cut s.payloads w.before w.gathered s.rest w.front old (t.version, new) m shown s.serves.each w.no_errors w.alone w.missing w.one
-        (subst (λ ts. AnswersAll answers (One, old) s.payloads ts (t.version, new)) w.texts_are s.serves.answered) w.cut in
+        let cut = plain_cut s.payloads w.before w.gathered s.rest w.front old (t.terms, new) m shown s.serves.each w.no_errors w.alone w.missing w.one
+        (subst (λ ts. AnswersAll answers (begun false, old) s.payloads ts (t.terms, new)) w.texts_are s.serves.answered) w.cut in
         let k = cut.2 in (
           cut.0,
           cut.1,

@@ -24,7 +24,8 @@ use Rattle.wire.specs.Frame.{frame}
 use Rattle.wire.specs.Judge.{request_of}
 use Rattle.wire.specs.Answers.{answer_frames, reply_frames, GoesOut, memory_frame, refusal_frame, version_frame, counts_frame, is_error_reply}
 use Rattle.wire.specs.ReplyForm.{is_error_code}
-use Rattle.frame_front.specs.Session.{SessionState, AnswersRequest, Answers}
+use Rattle.frame_front.specs.Session.{SessionState, AnswersRequest, AnswersUnless, Answers}
+use Rattle.frame_front.specs.Terms.{is_turned_away}
 use Rattle.frame_front.specs.PlainSession.{TellsError}
 
 pub not_both : (b : Bool) → b ≡ true → b ≡ false → ⊥
@@ -139,11 +140,15 @@ module _ {S : Type 0} (answers : S → Op → Result Reply AskError → S → Ty
   request_answers (Ok TellCounts) old new text answer none = ap is_error_reply answer.2 ∙ counts_answer answer.0
   request_answers (Ok (Ask op)) old new text answer none = answer_answers op answer.0 old.1 new.1 text answer.1 answer.2 none
 
-  -- a text that tells no error has no code that says so
+  -- a text that tells no error has no code that says so, unless its payload is turned away
   pub one_answers : (payload : List ℕ) (old new : SessionState S) (text : List ℕ) → Answers answers old payload text new
-      → ¬ (TellsError answers text) → is_error_reply text ≡ false
-  one_answers payload old new text (inl request) none = request_answers (request_of old.0 payload) old new text request none
-  one_answers payload old new text (inr want) none = absurd (none (inl want.0))
+      → is_turned_away old.0.reads_only payload ≡ false → ¬ (TellsError answers text) → is_error_reply text ≡ false
+  one_answers payload old new text answer here none = unless (is_turned_away old.0.reads_only payload) here answer
+    where
+      unless : (away : Bool) → away ≡ false → AnswersUnless answers away old payload text new → is_error_reply text ≡ false
+      unless true here turned = absurd (not_both true refl here)
+      unless false here (inl request) = request_answers (request_of old.0.version payload) old new text request none
+      unless false here (inr want) = absurd (none (inl want.0))
 
 -- over one map out of memory is the only error
 pub one_map_tells : (text : List ℕ) → TellsError ContentsAnswer text → text ≡ memory_frame

@@ -84,7 +84,7 @@ pub record Gathering {S : Type 0} (answers : S → Op → Result Reply AskError 
   pub payloads : List (List ℕ)
   pub before : List (List ℕ)
   pub gathered : List (List ℕ)
-  pub serves : Serves answers start.kept payloads (before ++ gathered) now.kept (start.version, map_start) (now.version, map_now)
+  pub serves : Serves answers start.kept payloads (before ++ gathered) now.kept (start.terms, map_start) (now.terms, map_now)
   pub appends : Appends held_old held (concat before)
   pub waits : waiting now ≡ concat gathered
   pub no_errors : NoErrors gathered
@@ -97,7 +97,7 @@ pub record Due {S : Type 0} (answers : S → Op → Result Reply AskError → S 
   pub before : List (List ℕ)
   pub gathered : List (List ℕ)
   pub alone : List (List ℕ)
-  pub serves : Serves answers start.kept payloads ((before ++ gathered) ++ alone) now.kept (start.version, map_start) (now.version, map_now)
+  pub serves : Serves answers start.kept payloads ((before ++ gathered) ++ alone) now.kept (start.terms, map_start) (now.terms, map_now)
   pub appends : Appends held_old held (concat before)
   pub waits : waiting now ≡ concat (gathered ++ alone)
   pub no_errors : NoErrors gathered
@@ -110,7 +110,7 @@ module _ {S : Type 0} (answers : S → Op → Result Reply AskError → S → Ty
     payloads = [];
     before = [];
     gathered = [];
-    serves = Serves-none answers start.kept (start.version, map_start);
+    serves = Serves-none answers start.kept (start.terms, map_start);
     appends = Appends-nil held_old;
     waits = none;
     no_errors = tt;
@@ -120,11 +120,11 @@ module _ {S : Type 0} (answers : S → Op → Result Reply AskError → S → Ty
   module _ (held : Option (List ℕ)) (now new : LiveView) (map_now map_new : S) (count : ℕ) (so_far : Gathering answers held_old held start now map_start map_now count) where
     -- one more frame is answered
     module _ (is_error : Bool) (step : AnswersFrame answers is_error now new map_now map_new) where
-      one_more : Serves answers start.kept (so_far.payloads ++ step.payload ∷ []) ((so_far.before ++ so_far.gathered) ++ step.text ∷ []) new.kept (start.version, map_start) (new.version, map_new)
+      one_more : Serves answers start.kept (so_far.payloads ++ step.payload ∷ []) ((so_far.before ++ so_far.gathered) ++ step.text ∷ []) new.kept (start.terms, map_start) (new.terms, map_new)
       one_more =
           Serves-then answers start.kept now.kept new.kept so_far.payloads (step.payload ∷ []) (so_far.before ++ so_far.gathered) (step.text ∷ [])
-          (start.version, map_start) (now.version, map_now) (new.version, map_new) so_far.serves
-          (Serves-one answers now.kept new.kept step.payload step.text (now.version, map_now) (new.version, map_new) step.stands step.good step.answered)
+          (start.terms, map_start) (now.terms, map_now) (new.terms, map_new) so_far.serves
+          (Serves-one answers now.kept new.kept step.payload step.text (now.terms, map_now) (new.terms, map_new) step.stands step.good step.answered)
 
       one_waits : waiting new ≡ concat (so_far.gathered ++ step.text ∷ [])
       one_waits = step.waits ∙ ap (λ w. w ++ step.text) so_far.waits ∙ sym (concat-one so_far.gathered step.text)
@@ -138,7 +138,7 @@ module _ {S : Type 0} (answers : S → Op → Result Reply AskError → S → Ty
         payloads = so_far.payloads ++ step.payload ∷ [];
         before = so_far.before;
         gathered = so_far.gathered ++ step.text ∷ [];
-        serves = subst (λ ts. Serves answers start.kept (so_far.payloads ++ step.payload ∷ []) ts new.kept (start.version, map_start) (new.version, map_new))
+        serves = subst (λ ts. Serves answers start.kept (so_far.payloads ++ step.payload ∷ []) ts new.kept (start.terms, map_start) (new.terms, map_new))
             (append_assoc so_far.before so_far.gathered (step.text ∷ [])) one_more;
         appends = so_far.appends;
         waits = one_waits;
@@ -168,7 +168,7 @@ module _ {S : Type 0} (answers : S → Op → Result Reply AskError → S → Ty
       before = so_far.before;
       gathered = so_far.gathered;
       alone = [];
-      serves = rw (stays.0, stays.1, stays.3) (subst (λ ts. Serves answers start.kept so_far.payloads ts now.kept (start.version, map_start) (now.version, map_now))
+      serves = rw (stays.0, stays.1, stays.3) (subst (λ ts. Serves answers start.kept so_far.payloads ts now.kept (start.terms, map_start) (now.terms, map_now))
           (sym (append-nil (so_far.before ++ so_far.gathered))) so_far.serves);
       appends = so_far.appends;
       waits = stays.2 ∙ so_far.waits ∙ ap concat (sym (append-nil so_far.gathered));
@@ -186,13 +186,13 @@ module _ {S : Type 0} (answers : S → Op → Result Reply AskError → S → Ty
         (Appends-trans held_old held held_new (concat due.before) (waiting now) due.appends wrote)
 
     -- all that waits is written
-    pub Due-sent : (new : LiveView) → Appends held held_new (waiting now) → new ≡ live_view now.kept now.version [] []
+    pub Due-sent : (new : LiveView) → Appends held held_new (waiting now) → new ≡ live_view now.kept now.terms [] []
         → Gathering answers held_old held_new start new map_start map_now count
     Due-sent new wrote is = record {
       payloads = due.payloads;
       before = (due.before ++ due.gathered) ++ due.alone;
       gathered = [];
-      serves = rw is (subst (λ ts. Serves answers start.kept due.payloads ts now.kept (start.version, map_start) (now.version, map_now))
+      serves = rw is (subst (λ ts. Serves answers start.kept due.payloads ts now.kept (start.terms, map_start) (now.terms, map_now))
           (sym (append-nil ((due.before ++ due.gathered) ++ due.alone))) due.serves);
       appends = all_written wrote;
       waits = ap waiting is;
@@ -201,10 +201,10 @@ module _ {S : Type 0} (answers : S → Op → Result Reply AskError → S → Ty
     }
 
     -- all is written, and the round ends
-    pub Round-sent : (result : Result ℕ FrontError) (new : LiveView) → Appends held held_new (waiting now) → new ≡ live_view now.kept now.version [] []
+    pub Round-sent : (result : Result ℕ FrontError) (new : LiveView) → Appends held held_new (waiting now) → new ≡ live_view now.kept now.terms [] []
         → RoundEndsAt result (length due.payloads) now.kept now.kept
         → Writes result ((due.before ++ due.gathered) ++ due.alone) (concat ((due.before ++ due.gathered) ++ due.alone))
-        → (written : List ℕ) × Appends held_old held_new written × Round answers result start.kept new.kept (start.version, map_start) (new.version, map_now) written
+        → (written : List ℕ) × Appends held_old held_new written × Round answers result start.kept new.kept (start.terms, map_start) (new.terms, map_now) written
     Round-sent result new wrote is ends writes = rw is (
       concat ((due.before ++ due.gathered) ++ due.alone),
       all_written wrote,
@@ -219,8 +219,8 @@ module _ {S : Type 0} (answers : S → Op → Result Reply AskError → S → Ty
     )
 
     -- the session stops with an error, which is that of a bad length or of a reply for which there is no memory
-    pub stopped_round : (fault : FrontError) (new : LiveView) → Appends held held_new (waiting now) → new ≡ live_view now.kept now.version [] [] → StopsAt (Err fault) now
-        → (written : List ℕ) × Appends held_old held_new written × Round answers (Err fault) start.kept new.kept (start.version, map_start) (new.version, map_now) written
+    pub stopped_round : (fault : FrontError) (new : LiveView) → Appends held held_new (waiting now) → new ≡ live_view now.kept now.terms [] [] → StopsAt (Err fault) now
+        → (written : List ℕ) × Appends held_old held_new written × Round answers (Err fault) start.kept new.kept (start.terms, map_start) (new.terms, map_now) written
     stopped_round BadLength new wrote is stops = Round-sent (Err BadLength) new wrote is stops.0 refl
     stopped_round Memory new wrote is stops = Round-sent (Err Memory) new wrote is tt refl
     stopped_round Truncated new wrote is stops = absurd stops
@@ -229,8 +229,8 @@ module _ {S : Type 0} (answers : S → Op → Result Reply AskError → S → Ty
     stopped_round TurnsUsed new wrote is stops = absurd stops
 
     -- the writer fails
-    pub Round-unsent : (new : LiveView) → WritesFront held held_new (waiting now) → new.version ≡ now.version
-        → (written : List ℕ) × Appends held_old held_new written × Round answers (Err WriteFault) start.kept new.kept (start.version, map_start) (new.version, map_now) written
+    pub Round-unsent : (new : LiveView) → WritesFront held held_new (waiting now) → new.terms ≡ now.terms
+        → (written : List ℕ) × Appends held_old held_new written × Round answers (Err WriteFault) start.kept new.kept (start.terms, map_start) (new.terms, map_now) written
     Round-unsent new wrote same = rw same (
       concat due.before ++ wrote.front,
       Appends-trans held_old held held_new (concat due.before) wrote.front due.appends wrote.appends,

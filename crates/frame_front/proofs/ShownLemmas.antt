@@ -14,6 +14,7 @@ use Rattle.wire.specs.declared.refusal.Refusal.{Refusal}
 use Rattle.wire.specs.declared.judge.Judged.{Judged}
 use Rattle.wire.specs.declared.judge.Judged.TheVariants.{Ask, TellCounts}
 use Rattle.wire.specs.declared.version.Version.{Version}
+use Rattle.frame_front.specs.declared.terms.Terms.{Terms}
 use Rattle.wire.specs.Answers.{reply_frames, counts_frame}
 use Rattle.wire.specs.RequestForm as form
 use Rattle.wire.specs.RequestForm.{IsOneLine}
@@ -34,12 +35,12 @@ module _ {S : Type 0} (answers : S → Op → Result Reply AskError → S → Ty
   shown_none none shows = subst (λ (o : Option Reply). ShowsGet {E = AskError} stores_found (λ (answer : Result Reply AskError). answers old (Get d) answer new) ready (Ok o) ready_new) none shows
 
   -- the reply has come after what was ready
-  pub shown_now : (version : Version) (name : List ℕ) → parse_name name ≡ Ok d → shown ≡ None
+  pub shown_now : (terms : Terms) (name : List ℕ) → parse_name name ≡ Ok d → shown ≡ None
       → ShowsGet {E = AskError} stores_found (λ (answer : Result Reply AskError). answers old (Get d) answer new) ready (Ok shown) ready_new
-      → AnswersNow answers None (version, old) (judged version (form.Get name)) (version, new) ready ready_new
-  shown_now version name is none shows = let s = shown_none none shows in let text : List ℕ = 102 ∷ text_of s.0 in (
+      → AnswersNow answers None (terms, old) (judged terms.version (form.Get name)) (terms, new) ready ready_new
+  shown_now terms name is none shows = let s = shown_none none shows in let text : List ℕ = 102 ∷ text_of s.0 in (
     reply_frames (Found s.0),
-    inl (subst (λ (r : Result Judged Refusal). AnswersRequest answers r (version, old) (reply_frames (Found s.0)) (version, new)) (sym (request_get version name d is)) (Ok (Found s.0), s.1, inl refl, refl)),
+    inl (subst (λ (r : Result Judged Refusal). AnswersRequest answers r (terms, old) (reply_frames (Found s.0)) (terms, new)) (sym (request_get terms.version name d is)) (Ok (Found s.0), s.1, inl refl, refl)),
     omega (arith, length-frame text [], ap length (append-nil (reply_frames (Found s.0)))),
     reply_answers (Found s.0),
     s.2.0,

@@ -1,6 +1,6 @@
 -- Lemmas on a call of `serve`: what stands after some turns, and each way to end.
 use Rattle.std.proofs.Common.{◌≡◌, ℕ, ◌+◌, ◌*◌, ◌<◌, ◌≤◌, List, [], ◌++◌, length, refl, sym, ap, ◌∙◌, arith, append_assoc, length-append, subst, Result, Ok, Err}
-use Rattle.std.specs.Prelude.{Option}
+use Rattle.std.specs.Prelude.{Option, false}
 use Rattle.std.specs.List.{concat}
 use Rattle.std.specs.Io.KnownBytes.{Appends, Consumes}
 use Rattle.std.proofs.KnownBytes.{Appends-nil, Appends-trans, Consumes-nil, Consumes-trans}
@@ -10,8 +10,8 @@ use Rattle.map_core.specs.declared.reply.Reply.{Reply}
 use Rattle.map_core.specs.declared.reply.AskError.{AskError}
 use Rattle.wire.specs.declared.error.FrontError.{FrontError}
 use Rattle.wire.specs.declared.error.FrontError.TheVariants.{BadLength, Truncated, ReadFault, WriteFault, TurnsUsed, Memory}
-use Rattle.wire.specs.declared.version.Version.{Version}
-use Rattle.wire.specs.declared.version.Version.TheVariants.{One}
+use Rattle.frame_front.specs.declared.terms.Terms.{Terms}
+use Rattle.frame_front.specs.Terms.{begun}
 use Rattle.wire.specs.Frame.{IsUnfinished}
 use Rattle.frame_front.specs.Session.{SessionState, Serves, EndsAt, Writes}
 use Rattle.frame_front.specs.Private.Round.{Round, RoundEndsAt}
@@ -117,19 +117,19 @@ module _ {S : Type 0} (answers : S → Op → Result Reply AskError → S → Ty
     at_most = omega (arith, ap length none);
   }
 
-  module _ (left_old left held_old held : Option (List ℕ)) (start now : S) (version : Version) (kept : List ℕ) (turn answered : ℕ)
-      (so_far : SoFar answers left_old left held_old held (One, start) (version, now) kept turn answered) where
-    joined : (piece kept_new : List ℕ) (payloads texts : List (List ℕ)) (new : SessionState S) → Serves answers (kept ++ piece) payloads texts kept_new (version, now) new
-        → Serves answers (so_far.read ++ piece) (so_far.payloads ++ payloads) (so_far.texts ++ texts) kept_new (One, start) new
+  module _ (left_old left held_old held : Option (List ℕ)) (start now : S) (terms : Terms) (kept : List ℕ) (turn answered : ℕ)
+      (so_far : SoFar answers left_old left held_old held (begun false, start) (terms, now) kept turn answered) where
+    joined : (piece kept_new : List ℕ) (payloads texts : List (List ℕ)) (new : SessionState S) → Serves answers (kept ++ piece) payloads texts kept_new (terms, now) new
+        → Serves answers (so_far.read ++ piece) (so_far.payloads ++ payloads) (so_far.texts ++ texts) kept_new (begun false, start) new
     joined piece kept_new payloads texts new more =
-        Serves-then answers (so_far.read ++ piece) (kept ++ piece) kept_new so_far.payloads payloads so_far.texts texts (One, start) (version, now) new
-        (Serves-read answers so_far.read kept piece so_far.payloads so_far.texts (One, start) (version, now) so_far.serves) more
+        Serves-then answers (so_far.read ++ piece) (kept ++ piece) kept_new so_far.payloads payloads so_far.texts texts (begun false, start) (terms, now) new
+        (Serves-read answers so_far.read kept piece so_far.payloads so_far.texts (begun false, start) (terms, now) so_far.serves) more
 
     -- what a round after one more piece leaves
     pub SoFar-then : (left_new held_new : Option (List ℕ)) (piece written kept_new : List ℕ) (new : SessionState S) (count : ℕ)
         → Consumes left left_new piece → 0 < length piece → length piece ≤ 4096 → Appends held held_new written
-        → Round answers (Ok count) (kept ++ piece) kept_new (version, now) new written
-        → SoFar answers left_old left_new held_old held_new (One, start) new kept_new (turn + 1) (answered + count)
+        → Round answers (Ok count) (kept ++ piece) kept_new (terms, now) new written
+        → SoFar answers left_old left_new held_old held_new (begun false, start) new kept_new (turn + 1) (answered + count)
     SoFar-then left_new held_new piece written kept_new new count took some few wrote round = record {
       read = so_far.read ++ piece;
       payloads = so_far.payloads ++ round.payloads;
@@ -137,7 +137,7 @@ module _ {S : Type 0} (answers : S → Op → Result Reply AskError → S → Ty
       consumes = Consumes-trans left_old left left_new so_far.read piece so_far.consumes took;
       appends = subst (Appends held_old held_new) (both_whole so_far.texts round.texts written round.writes)
           (Appends-trans held_old held held_new (concat so_far.texts) written so_far.appends wrote);
-      serves = subst (λ r. Serves answers (so_far.read ++ piece) (so_far.payloads ++ round.payloads) (so_far.texts ++ round.texts) r (One, start) new) round.ends.1
+      serves = subst (λ r. Serves answers (so_far.read ++ piece) (so_far.payloads ++ round.payloads) (so_far.texts ++ round.texts) r (begun false, start) new) round.ends.1
           (joined piece round.rest round.payloads round.texts new round.serves);
       unfinished = subst IsUnfinished round.ends.1 round.ends.2;
       counted = omega (arith, so_far.counted, round.ends.0, length-append so_far.payloads round.payloads);
@@ -150,14 +150,14 @@ module _ {S : Type 0} (answers : S → Op → Result Reply AskError → S → Ty
     read_in piece turns few = omega (arith, few, so_far.at_most, length-append so_far.read piece)
 
     -- a round after one more piece failed
-    pub Transcript-round : (left_new held_new : Option (List ℕ)) (piece written kept_new : List ℕ) (new : S) (last : Version) (fault : FrontError) (turns : ℕ)
+    pub Transcript-round : (left_new held_new : Option (List ℕ)) (piece written kept_new : List ℕ) (new : S) (last : Terms) (fault : FrontError) (turns : ℕ)
         → 4096 * turn + length piece ≤ 4096 * turns → Consumes left left_new piece → Appends held held_new written
-        → Round answers (Err fault) (kept ++ piece) kept_new (version, now) (last, new) written
+        → Round answers (Err fault) (kept ++ piece) kept_new (terms, now) (last, new) written
         → Transcript answers (Err fault) turns left_old left_new held_old held_new start new
     Transcript-round left_new held_new piece written kept_new new last fault turns few took wrote round = record {
       read = so_far.read ++ piece;
       written = concat so_far.texts ++ written;
-      version = last;
+      terms = last;
       consumes = Consumes-trans left_old left left_new so_far.read piece so_far.consumes took;
       appends = Appends-trans held_old held held_new (concat so_far.texts) written so_far.appends wrote;
       session = record {
@@ -179,14 +179,14 @@ module _ {S : Type 0} (answers : S → Op → Result Reply AskError → S → Ty
     Transcript-unkept left_new piece turns few took = record {
       read = so_far.read ++ piece;
       written = concat so_far.texts;
-      version = version;
+      terms = terms;
       consumes = Consumes-trans left_old left left_new so_far.read piece so_far.consumes took;
       appends = so_far.appends;
       session = record {
         payloads = so_far.payloads;
         texts = so_far.texts;
         rest = kept ++ piece;
-        serves = Serves-read answers so_far.read kept piece so_far.payloads so_far.texts (One, start) (version, now) so_far.serves;
+        serves = Serves-read answers so_far.read kept piece so_far.payloads so_far.texts (begun false, start) (terms, now) so_far.serves;
         ends = tt;
         writes = refl;
       };

@@ -6,34 +6,34 @@ use Rattle.map_core.specs.declared.reply.Reply.{Reply}
 use Rattle.map_core.specs.declared.reply.AskError.{AskError}
 use Rattle.wire.specs.declared.error.FrontError.{FrontError}
 use Rattle.wire.specs.declared.error.FrontError.TheVariants.{BadLength, Truncated, Memory}
-use Rattle.wire.specs.declared.version.Version.{Version}
-use Rattle.wire.specs.declared.version.Version.TheVariants.{One}
 use Rattle.frame_front.specs.declared.answered.Wants.{Wants}
 use Rattle.frame_front.specs.declared.answered.Wants.TheVariants.{Read, Write}
 use Rattle.frame_front.specs.declared.answered.Answered.{Answered}
 use Rattle.wire.specs.Frame.{IsUnfinished, IsBadLength, most_payload}
 use Rattle.wire.specs.Decoder.{BeginsWithFrame}
+use Rattle.frame_front.specs.declared.terms.Terms.{Terms}
+use Rattle.frame_front.specs.Terms.{begun}
 use Rattle.frame_front.specs.Session.{Serves}
 
--- A session between two calls: the bytes of its input that belong to no frame answered, its version, the bytes of
+-- A session between two calls: the bytes of its input that belong to no frame answered, its terms, the bytes of
 -- replies that are ready to be sent, and those of the last reply that come after them.
 pub record LiveView : Type 0 where
   pub kept : List ℕ
-  pub version : Version
+  pub terms : Terms
   pub ready : List ℕ
   pub later : List ℕ
 
 -- a session of these parts
-abbrev pub live_view : List ℕ → Version → List ℕ → List ℕ → LiveView
-live_view kept version ready later = record { kept = kept; version = version; ready = ready; later = later }
+abbrev pub live_view : List ℕ → Terms → List ℕ → List ℕ → LiveView
+live_view kept terms ready later = record { kept = kept; terms = terms; ready = ready; later = later }
 
 -- the bytes of replies that wait
 abbrev pub waiting : LiveView → List ℕ
 waiting live = live.ready ++ live.later
 
--- nothing has come yet
-abbrev pub live_start : LiveView
-live_start = live_view [] One [] []
+-- nothing has come yet to a session that may only read, or do all
+abbrev pub live_start : Bool → LiveView
+live_start reads_only = live_view [] (begun reads_only) [] []
 
 -- the most bytes of input that are kept: a frame, and a piece of 4096 bytes
 abbrev pub most_kept : ℕ
@@ -61,11 +61,11 @@ most_frames = 39322
 
 -- a piece of the input is kept
 abbrev pub Feeds : List ℕ → LiveView → LiveView → Type 0
-Feeds piece old new = new ≡ live_view (old.kept ++ piece) old.version old.ready old.later
+Feeds piece old new = new ≡ live_view (old.kept ++ piece) old.terms old.ready old.later
 
 -- a front of what is ready is sent
 abbrev pub Sends : List ℕ → LiveView → LiveView → Type 0
-Sends bytes old new = (old.ready ≡ bytes ++ new.ready) × (new.kept ≡ old.kept) × (new.version ≡ old.version) × (new.later ≡ old.later)
+Sends bytes old new = (old.ready ≡ bytes ++ new.ready) × (new.kept ≡ old.kept) × (new.terms ≡ old.terms) × (new.later ≡ old.later)
 
 -- why no further frame is answered
 abbrev pub StopsAt : Result Wants FrontError → LiveView → Type 0
@@ -85,10 +85,11 @@ pub record LiveAnswers {S : Type 0} (answers : S → Op → Result Reply AskErro
     (old new : LiveView) (map_old map_new : S) : Type 0 where
   pub payloads : List (List ℕ)
   pub texts : List (List ℕ)
-  pub serves : Serves answers old.kept payloads texts new.kept (old.version, map_old) (new.version, map_new)
+  pub serves : Serves answers old.kept payloads texts new.kept (old.terms, map_old) (new.terms, map_new)
   pub waits : waiting new ≡ waiting old ++ concat texts
   pub few : ComeBelowLimit (waiting old) texts
   pub counted : result.frames ≡ length payloads
+  pub bytes : result.bytes ≡ length old.kept - length new.kept
   pub stops : StopsAt result.next new
 
 -- whether the input may end with these bytes kept, or still has frames to be answered

@@ -1,23 +1,29 @@
 -- What a session may answer, over any map that can be asked.
-use Rattle.std.specs.Prelude.{◌≡◌, ◌≢◌, ℕ, List, [], ◌∷◌, ◌++◌, length, Result, Ok, Err, ◌⊎◌, ◌≤◌, false}
+use Rattle.std.specs.Prelude.{◌≡◌, ◌≢◌, ℕ, List, [], ◌∷◌, ◌++◌, length, Result, Ok, Err, ◌⊎◌, ◌≤◌, Bool, true, false}
 use Rattle.std.specs.List.{concat, AllByRecursion}
 use Rattle.map_core.specs.declared.op.Op.{Op}
 use Rattle.map_core.specs.declared.reply.Reply.{Reply}
 use Rattle.map_core.specs.declared.reply.AskError.{AskError}
+use Rattle.map_core.specs.declared.reply.AskError.TheVariants.{GateShut}
 use Rattle.wire.specs.declared.error.FrontError.{FrontError}
 use Rattle.wire.specs.declared.error.FrontError.TheVariants.{BadLength, Truncated, ReadFault, WriteFault, TurnsUsed, Memory}
-use Rattle.wire.specs.declared.version.Version.{Version}
 use Rattle.wire.specs.declared.judge.Judged.{Judged}
 use Rattle.wire.specs.declared.judge.Judged.TheVariants.{Ask, SetVersion, TellCounts}
 use Rattle.wire.specs.declared.refusal.Refusal.{Refusal}
 use Rattle.wire.specs.Frame.{stream_of, IsPayload, IsUnfinished, IsBadLength}
 use Rattle.wire.specs.Judge.{request_of}
 use Rattle.wire.specs.RequestForm.{IsOneLine}
-use Rattle.wire.specs.Answers.{refusal_frame, version_frame, counts_frame, memory_frame, is_error_reply, GoesOut}
+use Rattle.wire.specs.Answers.{answer_frames, refusal_frame, version_frame, counts_frame, memory_frame, is_error_reply, GoesOut}
+use Rattle.frame_front.specs.declared.terms.Terms.{Terms}
+use Rattle.frame_front.specs.Terms.{is_turned_away}
 
--- the state of a session: its version, and the state of the map that it asks
+-- the state of a session: its terms, and the state of the map that it asks
 abbrev pub SessionState : Type 0 → Type 0
-SessionState S = Version × S
+SessionState S = Terms × S
+
+-- the reply to a payload that is turned away: that the gate is shut
+abbrev pub shut_frame : List ℕ
+shut_frame = answer_frames (Err GateShut)
 
 module _ {S : Type 0} (answers : S → Op → Result Reply AskError → S → Type 0) where
   -- A payload that reads so may be answered by this text, when memory suffices to read it.
@@ -25,17 +31,25 @@ module _ {S : Type 0} (answers : S → Op → Result Reply AskError → S → Ty
   -- a refusal asks nothing
   AnswersRequest (Err refusal) old text new = (text ≡ refusal_frame refusal) × (new ≡ old)
   -- a version is set, and nothing is asked
-  AnswersRequest (Ok (SetVersion version)) old text new = (text ≡ version_frame version) × (new ≡ (version, old.1))
+  AnswersRequest (Ok (SetVersion version)) old text new = (text ≡ version_frame version) × (new ≡ (record old.0 { version = version }, old.1))
   -- counts are told, in one line, and nothing is asked
   AnswersRequest (Ok TellCounts) old text new = (counts : List ℕ) × IsOneLine counts × (text ≡ counts_frame counts) × (new ≡ old)
   -- an operation is asked once, and one answer goes out
   AnswersRequest (Ok (Ask op)) old text new =
       (answer : Result Reply AskError) × answers old.1 op answer new.1 × GoesOut answer text × (new.0 ≡ old.0)
 
+  -- The same, whether memory suffices or not.
+  abbrev pub AnswersRead : Result Judged Refusal → SessionState S → List ℕ → SessionState S → Type 0
+  AnswersRead read old text new = AnswersRequest read old text new ⊎ ((text ≡ memory_frame) × (new ≡ old))
+
+  -- A payload that is turned away, or is not, may be answered by this text. To be turned away takes no memory, and asks nothing.
+  abbrev pub AnswersUnless : Bool → SessionState S → List ℕ → List ℕ → SessionState S → Type 0
+  AnswersUnless true old payload text new = (text ≡ shut_frame) × (new ≡ old)
+  AnswersUnless false old payload text new = AnswersRead (request_of old.0.version payload) old text new
+
   -- From the old state the payload may be answered by this text, which leaves the new one.
   abbrev pub Answers : SessionState S → List ℕ → List ℕ → SessionState S → Type 0
-  Answers old payload text new =
-      AnswersRequest (request_of old.0 payload) old text new ⊎ ((text ≡ memory_frame) × (new ≡ old))
+  Answers old payload text new = AnswersUnless (is_turned_away old.0.reads_only payload) old payload text new
 
   -- The payloads may be answered by these texts, one after the other.
   abbrev pub AnswersAll : SessionState S → List (List ℕ) → List (List ℕ) → SessionState S → Type 0

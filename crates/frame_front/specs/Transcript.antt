@@ -1,13 +1,13 @@
 -- What a call of `serve` did to its reader, its writer and the map that it asks.
-use Rattle.std.specs.Prelude.{ℕ, ◌≤◌, ◌*◌, List, length, Result, Ok, Err, Option}
+use Rattle.std.specs.Prelude.{ℕ, ◌≤◌, ◌*◌, List, length, Result, Ok, Err, Option, false}
 use Rattle.std.specs.Io.KnownBytes.{Appends, Consumes, IsAtEnd}
 use Rattle.map_core.specs.declared.op.Op.{Op}
 use Rattle.map_core.specs.declared.reply.Reply.{Reply}
 use Rattle.map_core.specs.declared.reply.AskError.{AskError}
 use Rattle.wire.specs.declared.error.FrontError.{FrontError}
 use Rattle.wire.specs.declared.error.FrontError.TheVariants.{Truncated, TurnsUsed}
-use Rattle.wire.specs.declared.version.Version.{Version}
-use Rattle.wire.specs.declared.version.Version.TheVariants.{One}
+use Rattle.frame_front.specs.declared.terms.Terms.{Terms}
+use Rattle.frame_front.specs.Terms.{begun}
 use Rattle.frame_front.specs.Session.{Session}
 
 -- at these ends of a session the reader has no byte left
@@ -25,16 +25,16 @@ UsesTurns ended turns bytes = Unit {0}
 abbrev pub IsReadIn : ℕ → List ℕ → Type 0
 IsReadIn turns read = length read ≤ 4096 * turns
 
--- A session in version one from the start: what it took from the reader and gave to the writer, and from which
+-- A session in version one from the start, which may do all: what it took from the reader and gave to the writer, and from which
 -- state of the map to which.
 pub record Transcript {S : Type 0} (answers : S → Op → Result Reply AskError → S → Type 0) (result : Result ℕ FrontError) (turns : ℕ)
     (left_old left_new held_old held_new : Option (List ℕ)) (old new : S) : Type 0 where
   pub read : List ℕ
   pub written : List ℕ
-  pub version : Version
+  pub terms : Terms
   pub consumes : Consumes left_old left_new read
   pub appends : Appends held_old held_new written
-  pub session : Session answers result (One, old) (version, new) read written
+  pub session : Session answers result (begun false, old) (terms, new) read written
   pub few_read : IsReadIn turns read
   pub used : UsesTurns result turns (length read)
   pub ended : EndsInput result left_new

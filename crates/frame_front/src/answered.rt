@@ -15,6 +15,11 @@ pub enum Wants {
 pub struct Answered {
     /// How many frames it answered.
     pub frames: u64,
+    /// How many bytes of the input these had, with their lengths.
+    pub bytes: usize,
+    /// Of how many the payload was turned away: the session may only read, and they began with the letter of a change. It is a
+    /// figure for a log, and no contract speaks of it.
+    pub turned_away: u64,
     /// What the session wants then, or why it ends.
     pub next: Result<Wants, FrontError>,
 }

@@ -1,9 +1,9 @@
 //! Dumps of version 1: the domains that they hold, and the requests of version 2 that they become.
-ghost use Rattle.std.specs.Prelude.{◌≡◌, ◌≤◌, ◌++◌, ℕ, length, List, [], ◌∷◌, Some, None, true, false, IfOk, IfErr, IfSome, IfNone, OnOk};
+ghost use Rattle.std.specs.Prelude.{◌≡◌, ◌≤◌, ◌++◌, ℕ, length, List, [], ◌∷◌, Some, None, true, false, IfOk, IfErr, IfSome, IfNone, OnOk, OnErr};
 ghost use Rattle.spiffe_doc.specs.Bundle.{IsBundle};
 ghost use Rattle.spiffe_doc.specs.Text.{text_of};
 ghost use Rattle.wire.specs.Frame.{IsPayload, frame, stream_of};
-ghost use Rattle.frame_front.specs.Dump.{Domains, IsDump, HaveValidBundles, FaultOfDump, count_of, requests_for, dump_number};
+ghost use Rattle.frame_front.specs.Dump.{Domains, IsDump, HaveValidBundles, FaultOfDump, count_of, request_for, requests_for, dump_number};
 ghost use Rattle.wire.specs.Items.{item_of};
 ghost use Rattle.frame_front.specs.Private.Refusals.{NoItem, NoCount, last_of};
 ghost use Rattle.map_core.specs.Laws.{IsAfter};
@@ -11,6 +11,7 @@ ghost use Rattle.map_core.specs.Laws.{IsAfter};
 use map_core::Snapshot;
 use spiffe_doc::{Bundle, DocumentReader, Memory, TrustDomain};
 use std::alloc::{AllocError, Global};
+use std::marker::Model;
 use thiserror::Error;
 use wire::{LENGTH_BYTES, first_frame, put_frame, put_request, read_item};
 
@@ -83,12 +84,52 @@ pub fn migrate(alloc: Global, dump: &[u8]) -> Result<Vec<u8>, DumpError>
     ensures err { IfErr result (λ fault. FaultOfDump fault dump.now) }
 {
     let domains = read_dump(alloc, dump)?;
-    let mut stream = Vec::new(alloc);
-    put_frame(&mut stream, b"V", &[2])?;
+    let mut migration = Migration::new(alloc)?;
     for item in domains.pairs() {
-        put_request(&mut stream, b'C', &item.0, &[0], &item.1)?;
+        migration.add(&item.0, &item.1)?;
     }
-    Ok(stream)
+    Ok(migration.into_requests())
+}
+
+/// The requests of version 2 that store domains again. Contracts see it as their bytes.
+#[derive(Drop)]
+pub struct Migration {
+    stream: Vec<u8>,
+}
+
+impl Model for Migration {
+    ghost use Rattle.std.specs.Prelude.{ℕ, List};
+
+    ghost Value = { List ℕ };
+
+    ghost view = { λ migration. migration.stream.items };
+}
+
+impl Migration {
+    /// Only the request for version 2.
+    pub fn new(alloc: Global) -> Result<Migration, AllocError>
+        ensures { IfOk result (λ made. made ≡ stream_of (requests_for []) []) }
+    {
+        let mut stream = Vec::new(alloc);
+        put_frame(&mut stream, b"V", &[2])?;
+        Ok(Migration { stream })
+    }
+
+    /// Adds the request that stores a domain again, if it is absent. If memory is refused, nothing is added.
+    pub fn add(&mut self, domain: &TrustDomain, bundle: &Bundle) -> Result<(), AllocError>
+        ensures ok { OnOk result (self.new ≡ self.old ++ frame (request_for (domain.now, bundle.now))) }
+        ensures err { OnErr result (self.new ≡ self.old) }
+    {
+        put_request(&mut self.stream, b'C', domain, &[0], bundle)
+    }
+
+    /// The requests.
+    pub fn into_requests(self) -> Vec<u8>
+        ensures { result.items ≡ self }
+    {
+        let Migration { stream } = self;
+        stream
+    }
 }
 
 /// The first frame's payload, and the bytes after the frame.
@@ -106,7 +147,8 @@ fn split_frame(bytes: &[u8]) -> Option<(&[u8], &[u8])>
     }
 }
 
-fn read_count(payload: &[u8]) -> Option<u64>
+/// The number of domains, if the payload of the first frame tells it.
+pub(crate) fn read_count(payload: &[u8]) -> Option<u64>
     ensures { result ≡ count_of payload.now }
 {
     let [b'a', a, b, c, d, e, f, g, h] = payload else {

@@ -1,5 +1,5 @@
 //! Sessions without ends: bytes come in, bytes go out, and whoever has the ends says when.
-ghost use Rattle.std.specs.Prelude.{◌≡◌, ◌≢◌, ◌≤◌, ◌++◌, [], length, take, drop, min, IfOk, IfErr, OnOk, OnErr};
+ghost use Rattle.std.specs.Prelude.{◌≡◌, ◌≢◌, ◌≤◌, ◌++◌, [], length, take, drop, min, true, false, IfOk, IfErr, OnOk, OnErr};
 ghost use Rattle.std.specs.Io.KnownBytes.{Appends};
 ghost use Rattle.wire.specs.Counted.{end_in, faults_in, next_count};
 ghost use Rattle.frame_front.specs.Live.{LiveAnswers, FinishesAt, Feeds, Sends, live_start, most_frames, most_kept, most_ready, room_of, live_view, waiting};
@@ -57,19 +57,20 @@ impl Model for LiveSession {
 
     ghost use Rattle.frame_front.specs.Private.Pending.{reply_left};
 
-    ghost view = { λ s. record { kept = s.decoder; version = s.replies.version; ready = s.replies.ready.bytes.items; later = reply_left s.replies.pending } };
+    ghost view = { λ s. record { kept = s.decoder; terms = s.replies.terms; ready = s.replies.ready.bytes.items; later = reply_left s.replies.pending } };
 
     ghost invariant = { λ s. (length s.decoder ≤ most_kept) × (length s.replies.ready.bytes.items ≤ most_ready) };
 }
 
 impl LiveSession {
-    /// Nothing has come yet.
-    pub fn new(alloc: Global) -> Result<LiveSession, Memory>
-        ensures { IfOk result (λ live. live ≡ live_start) }
+    /// Nothing has come yet. The session may only read, or do all: one that may only read answers each change that the gate is
+    /// shut (number 56) as soon as it has seen its letter. It judges neither the name nor the document then.
+    pub fn new(alloc: Global, reads_only: bool) -> Result<LiveSession, Memory>
+        ensures { IfOk result (λ live. live ≡ live_start reads_only) }
     {
         Ok(LiveSession {
             decoder: Decoder::new(alloc)?,
-            replies: Replies::new(alloc),
+            replies: Replies::new(alloc, reads_only),
         })
     }
 
@@ -101,14 +102,22 @@ impl LiveSession {
     pub fn answer<A: Ask>(&mut self, documents: &mut DocumentReader, ask: &mut A) -> Answered
         ensures answers { LiveAnswers A.answers result self.old self.new ask.old ask.new }
         ensures share { result.frames ≤ most_frames }
+        ensures judged { result.bytes ≤ most_kept }
     {
+        let (kept, turned_away) = (self.decoder.len(), self.replies.turned_away);
         let mut frames = 0;
         loop {
             match self.step(documents, ask) {
                 Step::Answered(_) => frames += 1,
                 Step::Stops(next) => {
+                    let answered = Answered {
+                        frames,
+                        bytes: kept - self.decoder.len(),
+                        turned_away: self.replies.turned_away.saturating_sub(turned_away),
+                        next,
+                    };
                     self.decoder.shrink(MOST_INPUT_HELD);
-                    return Answered { frames, next };
+                    return answered;
                 }
             }
         }
@@ -149,8 +158,8 @@ impl LiveSession {
     /// Writes all replies that wait, and sees that the writer keeps nothing back. This needs no memory.
     pub(crate) fn write<W: Write>(&mut self, writer: &mut Counted<W>) -> Result<(), FrontError>
         ensures ok { OnOk result (Appends (W.contents (end_in writer.old)) (W.contents (end_in writer.new)) (waiting self.old)) }
-        ensures sent { OnOk result (self.new ≡ live_view self.old.kept self.old.version [] []) }
-        ensures same { (self.new.kept ≡ self.old.kept) × (self.new.version ≡ self.old.version) }
+        ensures sent { OnOk result (self.new ≡ live_view self.old.kept self.old.terms [] []) }
+        ensures same { (self.new.kept ≡ self.old.kept) × (self.new.terms ≡ self.old.terms) }
         ensures quiet { OnOk result (faults_in writer.new ≡ faults_in writer.old) }
         ensures fault { IfErr result (λ fault. (fault ≡ FrontError.WriteFault) × (faults_in writer.new ≡ next_count (faults_in writer.old))) }
         ensures front { WritesFront (W.contents (end_in writer.old)) (W.contents (end_in writer.new)) (waiting self.old) }
@@ -165,6 +174,15 @@ impl LiveSession {
         ensures few { length result.now ≤ most_ready }
     {
         self.replies.ready.bytes.as_slice()
+    }
+
+    /// Whether a part of the last reply is not stored yet. As long as one is, the bundles of that reply are held: of a fetch-all
+    /// all of one moment.
+    pub fn has_more(&self) -> bool
+        ensures some { result ≡ true → self.now.later ≢ [] }
+        ensures none { result ≡ false → self.now.later ≡ [] }
+    {
+        self.replies.pending.has_more()
     }
 
     /// So many bytes of the replies are sent.

@@ -75,10 +75,33 @@ impl PendingReply {
         }
         self.store_front(ready)?;
         self.store_items(ready)?;
-        if ready.len() < REPLY_LIMIT {
+        if !self.has_more() {
             *self = PendingReply::nothing();
         }
         Ok(())
+    }
+
+    /// Whether some of the first bytes are left.
+    fn has_front(&self) -> bool
+        ensures some { result ≡ true → 0 < length self.now.head.items }
+        ensures none { result ≡ false → self.now.head.items ≡ [] }
+    {
+        !self.head.is_empty()
+    }
+
+    /// Whether a part is left. What is stored whole is held no longer, so it is also whether bundles are held for a reply.
+    pub(crate) fn has_more(&self) -> bool
+        ensures some { result ≡ true → reply_left self.now ≢ [] }
+        ensures none { result ≡ false → reply_left self.now ≡ [] }
+    {
+        if self.has_front() {
+            return true;
+        }
+        match &self.body {
+            Body::Empty => false,
+            Body::Canonical(bundle) => !canonical_text(bundle).is_empty(),
+            Body::All(snapshot) => self.stored < snapshot.pairs().len(),
+        }
     }
 
     /// Stores the first bytes and the text.

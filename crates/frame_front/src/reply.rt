@@ -4,6 +4,7 @@ ghost use Rattle.wire.specs.Answers.{refusal_frame, version_frame, code_of, is_e
 ghost use Rattle.wire.specs.ReplyForm.{is_bundle, payload_of, reply, text_of};
 ghost use Rattle.wire.specs.Frame.{frame};
 ghost use Rattle.frame_front.specs.Private.Storage.{body_text};
+ghost use Rattle.frame_front.specs.Session.{shut_frame};
 
 use map_core::{AskError, Reply, Snapshot};
 use spiffe_doc::Bundle;
@@ -90,6 +91,13 @@ pub(crate) fn version_reply(version: Version) -> ReplyBytes
     ensures { result ≡ version_frame version }
 {
     ReplyBytes::short(&ReplyForm::Speaks(version))
+}
+
+/// The reply to a payload that is turned away.
+pub(crate) fn shut_reply() -> ReplyBytes
+    ensures { result ≡ shut_frame }
+{
+    ReplyBytes::short(&ReplyForm::Shut)
 }
 
 /// The answer as it goes out.

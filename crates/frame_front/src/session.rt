@@ -31,7 +31,7 @@ fn answer_all<W: Write, A: Ask>(
 ) -> Result<u64, FrontError>
     requires nothing_waits { waiting live.old ≡ [] }
     ensures round { (written : List ℕ) × Appends (W.contents (end_in writer.old)) (W.contents (end_in writer.new)) written
-        × Round A.answers result live.old.kept live.new.kept (live.old.version, ask.old) (live.new.version, ask.new) written }
+        × Round A.answers result live.old.kept live.new.kept (live.old.terms, ask.old) (live.new.terms, ask.new) written }
     ensures all_sent { OnOk result (waiting live.new ≡ []) }
     ensures quiet { OnOk result (faults_in writer.new ≡ faults_in writer.old) }
     ensures fault { result ≡ Err FrontError.WriteFault → faults_in writer.new ≡ next_count (faults_in writer.old) }
@@ -75,7 +75,7 @@ fn take_turns<R: Read, W: Write, A: Ask>(
     ensures write_fault { result ≡ Err FrontError.WriteFault → faults_in writer.new ≡ next_count (faults_in writer.old) }
 {
     let _begun = reader.reads();
-    let Ok(mut live) = LiveSession::new(alloc) else {
+    let Ok(mut live) = LiveSession::new(alloc, false) else {
         return Err(FrontError::Memory);
     };
     // Taken before the first read, so that nothing grows for a short reply after a change.

@@ -1,5 +1,5 @@
 //! Command lines: which command they want, with which settings.
-use command_line::{Connections, Place, Places, ReplyStyle, Settings, Wanted, wanted_by};
+use command_line::{Connections, LogScope, Place, Places, ReplyStyle, Settings, Wanted, wanted_by};
 use spiffe_doc::TrustDomain;
 use std::alloc::{AllocError, Global};
 use std::process::Abort;
@@ -61,16 +61,18 @@ fn told_map(alloc: Global, names: &[TrustDomain], x509: bool) -> Result<String, 
     told(alloc, "map", texts.as_slice(), &[Some(u64::from(x509))])
 }
 
-/// Those of a server end with its form: how many connections each worker takes, or the numbers of one that lasts.
+/// Those of a server begin with what its log tells and whether the line says which connections are served, and end with its form: how many connections each worker takes, or the numbers of one that lasts.
 fn told_server(
     alloc: Global,
     places: &Places<'_>,
     files: [Option<&str>; 2],
-    log: bool,
+    first: [u64; 2],
     settings: &Settings,
 ) -> Result<String, AllocError> {
+    let [log, says_connections] = first;
     let numbers = [
-        u64::from(log),
+        log,
+        says_connections,
         settings.workers,
         settings.turns,
         settings.shards as u64,
@@ -107,9 +109,19 @@ fn push_form(numbers: &mut Vec<Option<u64>>, connections: Connections) -> Result
             numbers.push(Some(lasting.most_open))?;
             numbers.push(Some(u64::from(lasting.until_eof)))?;
             numbers.push(Some(lasting.idle))?;
+            numbers.push(Some(lasting.reply_seconds))?;
+            numbers.push(Some(lasting.moments))?;
         }
     }
     Ok(())
+}
+
+fn number_of_scope(scope: LogScope) -> u64 {
+    match scope {
+        LogScope::Nothing => 0,
+        LogScope::Changes => 1,
+        LogScope::All => 2,
+    }
 }
 
 fn number_of_style(style: ReplyStyle) -> u64 {
@@ -150,7 +162,8 @@ fn told_wanted(alloc: Global, wanted: &Wanted<'_>) -> Result<String, AllocError>
             )
         }
         Wanted::Ask(it) => {
-            let numbers = [Some(u64::from(it.retries)), Some(number_of_style(it.style))];
+            let (retries, style) = (u64::from(it.retries), number_of_style(it.style));
+            let numbers = [Some(retries), Some(style), Some(it.timeout)];
             match it.unless {
                 Some(dump) => told_at(alloc, "ask unless", &[dump], it.place, &numbers),
                 None => told_at(alloc, "ask", it.words.as_slice(), it.place, &numbers),
@@ -159,10 +172,15 @@ fn told_wanted(alloc: Global, wanted: &Wanted<'_>) -> Result<String, AllocError>
         Wanted::Refresh(it) => {
             let place = told_place(alloc, it.place)?;
             let texts = [it.list, it.folder, place.as_str()];
-            told(alloc, "refresh", &texts, &[it.now, Some(it.at_least)])
+            told(
+                alloc,
+                "refresh",
+                &texts,
+                &[it.now, Some(it.at_least), Some(it.timeout)],
+            )
         }
         Wanted::Snapshot(it) => {
-            let numbers = [it.every, Some(it.at_least)];
+            let numbers = [it.every, Some(it.at_least), Some(it.timeout)];
             told_at(alloc, "snapshot", &[it.folder], it.place, &numbers)
         }
         Wanted::Stats(it) => {
@@ -171,7 +189,7 @@ fn told_wanted(alloc: Global, wanted: &Wanted<'_>) -> Result<String, AllocError>
                 "stats",
                 &[],
                 it.place,
-                &[Some(u64::from(it.prometheus))],
+                &[Some(u64::from(it.prometheus)), Some(it.timeout)],
             )
         }
         Wanted::Serve {
@@ -179,8 +197,12 @@ fn told_wanted(alloc: Global, wanted: &Wanted<'_>) -> Result<String, AllocError>
             load,
             save,
             log,
+            says_connections,
             settings,
-        } => told_server(alloc, places, [*load, *save], *log, settings),
+        } => {
+            let first = [number_of_scope(*log), u64::from(*says_connections)];
+            told_server(alloc, places, [*load, *save], first, settings)
+        }
     }
 }
 
@@ -254,11 +276,11 @@ static NUMBERS: [Line; 14] = [
     ("run --shards 256", "run|256|1000000"),
     (
         "refresh --relationships l --documents f",
-        "refresh|l|f|-|-|60",
+        "refresh|l|f|-|-|60|30",
     ),
     (
         "refresh --documents=f/g --relationships=-l --now=18446744073709551615 --at-least=0 --port=65535",
-        "refresh|-l|f/g|65535|18446744073709551615|0",
+        "refresh|-l|f/g|65535|18446744073709551615|0|30",
     ),
     ("trace", "trace|4|3|0"),
     ("trace --shards=1 --rounds=16", "trace|1|16|0"),
@@ -282,31 +304,31 @@ const NO_COUNT: &str =
     "error: --connections takes a number in 1..=1000, or `unlimited`\n\nUsage: serve [OPTIONS]\n\nFor more information, try '--help'.\n";
 
 const OTHER_FORM: &str =
-    "error: --max-open, --read-port, --read-socket, --until-eof and --idle belong to --connections unlimited: with a number of connections each worker serves one client after the other\n\nUsage: serve [OPTIONS]\n\nFor more information, try '--help'.\n";
+    "error: --max-open, --read-port, --read-socket, --until-eof, --idle, --reply-seconds and --moments belong to --connections unlimited: with a number of connections each worker serves one client after the other\n\nUsage: serve [OPTIONS]\n\nFor more information, try '--help'.\n";
 
 /// Where a server listens: at a port or at a Unix socket, and the same for reads.
 static PLACES: [Line; 15] = [
     (
         "serve --socket run/a",
-        "serve each|-|-|run/a|-|0|2|1000000|4|3|1000|1000|1",
+        "serve each|-|-|run/a|-|0|0|2|1000000|4|3|1000|1000|1",
     ),
     (
         "serve --socket=run/a --read-socket=-b --connections unlimited",
-        "serve unlimited|-|-|run/a|-b|0|2|18446744073709551615|4|3|1000|1000|1000|0|60",
+        "serve unlimited|-|-|run/a|-b|0|1|2|18446744073709551615|4|3|1000|1000|1000|0|60|60|64",
     ),
     (
         "serve --port=0 --read-socket b --connections unlimited",
-        "serve unlimited|-|-|0|b|0|2|18446744073709551615|4|3|1000|1000|1000|0|60",
+        "serve unlimited|-|-|0|b|0|1|2|18446744073709551615|4|3|1000|1000|1000|0|60|60|64",
     ),
     (
         "serve --socket a --read-port 0 --connections unlimited",
-        "serve unlimited|-|-|a|0|0|2|18446744073709551615|4|3|1000|1000|1000|0|60",
+        "serve unlimited|-|-|a|0|0|1|2|18446744073709551615|4|3|1000|1000|1000|0|60|60|64",
     ),
-    ("ask --socket a fetch", "ask|fetch|a|100|0"),
-    ("snapshot --socket a --out b", "snapshot|b|a|-|0"),
+    ("ask --socket a fetch", "ask|fetch|a|100|0|30"),
+    ("snapshot --socket a --out b", "snapshot|b|a|-|0|30"),
     (
         "refresh --relationships=l --documents=f --socket=a",
-        "refresh|l|f|a|-|60",
+        "refresh|l|f|a|-|60|30",
     ),
     (
         "serve",
@@ -345,30 +367,42 @@ fn reads_where_a_server_listens(rt: HostRuntime) -> Result<(), AllocError> {
 }
 
 /// The two forms of a server. What belongs to the one that lasts is refused in the other, also if it is the default.
-static SERVERS: [Line; 17] = [
+static SERVERS: [Line; 20] = [
     (
         "serve --port 0",
-        "serve each|-|-|0|-|0|2|1000000|4|3|1000|1000|1",
+        "serve each|-|-|0|-|0|0|2|1000000|4|3|1000|1000|1",
     ),
     (
         "serve --port=65535 --workers=64 --connections=1000 --turns=1000000000 --shards=256 --rounds=16 --tries=1000000 --retries=1000000 --load=dumps/a --log",
-        "serve each|dumps/a|-|65535|-|1|64|1000000000|256|16|1000000|1000000|1000",
+        "serve each|dumps/a|-|65535|-|2|1|64|1000000000|256|16|1000000|1000000|1000",
     ),
     (
         "serve --port 1 --turns 1",
-        "serve each|-|-|1|-|0|2|1|4|3|1000|1000|1",
+        "serve each|-|-|1|-|0|0|2|1|4|3|1000|1000|1",
     ),
     (
         "serve --port=1 --connections=unlimited",
-        "serve unlimited|-|-|1|-|0|2|18446744073709551615|4|3|1000|1000|1000|0|60",
+        "serve unlimited|-|-|1|-|0|1|2|18446744073709551615|4|3|1000|1000|1000|0|60|60|64",
     ),
     (
-        "serve --port=1 --connections unlimited --max-open=1000000 --read-port=8444 --until-eof --idle=86400 --turns=1000000 --log --load=a",
-        "serve unlimited|a|-|1|8444|1|2|1000000|4|3|1000|1000|1000000|1|86400",
+        "serve --port=1 --connections unlimited --max-open=1000000 --read-port=8444 --until-eof --idle=86400 --reply-seconds=1 --moments=1000 --turns=1000000 --log --load=a",
+        "serve unlimited|a|-|1|8444|2|1|2|1000000|4|3|1000|1000|1000000|1|86400|1|1000",
     ),
     (
         "serve --port=1 --connections unlimited --max-open=1 --read-port=0 --idle=1 --save=dumps/b",
-        "serve unlimited|-|dumps/b|1|0|0|2|18446744073709551615|4|3|1000|1000|1|0|1",
+        "serve unlimited|-|dumps/b|1|0|0|1|2|18446744073709551615|4|3|1000|1000|1|0|1|60|64",
+    ),
+    (
+        "serve --port 1 --log changes --workers 1",
+        "serve each|-|-|1|-|1|0|1|1000000|4|3|1000|1000|1",
+    ),
+    (
+        "serve --port 1 --log=all --connections 1",
+        "serve each|-|-|1|-|2|1|2|1000000|4|3|1000|1000|1",
+    ),
+    (
+        "serve --port 1 --log some",
+        "error: invalid value 'some' for '--log [<WHAT>]'\n  [possible values: all, changes]\n\nFor more information, try '--help'.\n",
     ),
     ("serve --port 1 --connections 0", NO_COUNT),
     ("serve --port 1 --connections 1001", NO_COUNT),
@@ -399,9 +433,9 @@ fn reads_both_forms_of_a_server(rt: HostRuntime) -> Result<(), AllocError> {
 
 /// Which counts are wanted.
 static COUNTS: [Line; 4] = [
-    ("stats --port 1", "stats|1|0"),
-    ("stats --prometheus --port=65535", "stats|65535|1"),
-    ("stats --socket a/b", "stats|a/b|0"),
+    ("stats --port 1", "stats|1|0|30"),
+    ("stats --prometheus --port=65535", "stats|65535|1|30"),
+    ("stats --socket a/b", "stats|a/b|0|30"),
     (
         "stats --port 1 --prometheus=1",
         "error: unexpected value '1' for '--prometheus' found; no more were expected\n\nUsage: bundled stats --prometheus\n\nFor more information, try '--help'.\n",
@@ -415,14 +449,14 @@ fn reads_which_counts_are_wanted(rt: HostRuntime) -> Result<(), AllocError> {
 
 /// Which snapshots are wanted.
 static SNAPSHOTS: [Line; 7] = [
-    ("snapshot --port 1 --out a/b", "snapshot|a/b|1|-|0"),
+    ("snapshot --port 1 --out a/b", "snapshot|a/b|1|-|0|30"),
     (
-        "snapshot --port=65535 --every=86400 --out=-",
-        "snapshot|-|65535|86400|0",
+        "snapshot --port=65535 --every=86400 --timeout=1 --out=-",
+        "snapshot|-|65535|86400|0|1",
     ),
     (
         "snapshot --port=1 --out=a --at-least=18446744073709551615",
-        "snapshot|a|1|-|18446744073709551615",
+        "snapshot|a|1|-|18446744073709551615|30",
     ),
     (
         "snapshot --port=1 --out=a --at-least=0",
@@ -448,18 +482,18 @@ fn reads_which_snapshots_are_wanted(rt: HostRuntime) -> Result<(), AllocError> {
 }
 
 /// What is asked of a server. The words have `|` between, since a document may have spaces.
-static INQUIRIES: [Line; 11] = [
-    ("ask|--port|1", "ask|1|100|0"),
-    ("ask|--port=65535|--retry=0|get|a", "ask|get|a|65535|0|0"),
-    ("ask|--port=1|--raw|fetch", "ask|fetch|1|100|1"),
-    ("ask|--text|--port=1|get|a", "ask|get|a|1|100|2"),
+static INQUIRIES: [Line; 12] = [
+    ("ask|--port|1", "ask|1|100|0|30"),
+    ("ask|--port=65535|--retry=0|get|a", "ask|get|a|65535|0|0|30"),
+    ("ask|--port=1|--raw|fetch", "ask|fetch|1|100|1|30"),
+    ("ask|--text|--port=1|get|a", "ask|get|a|1|100|2|30"),
     (
         "ask|--port=1|--text|--raw|get|a",
         "error: --raw and --text exclude each other\n\nUsage: ask [OPTIONS] [REQUEST]...\n\nFor more information, try '--help'.\n",
     ),
     (
         "ask|--port=1|--unless=all.dump|fetch",
-        "ask unless|all.dump|1|100|0",
+        "ask unless|all.dump|1|100|0|30",
     ),
     (
         "ask|--port=1|--unless=all.dump|get|a",
@@ -471,11 +505,15 @@ static INQUIRIES: [Line; 11] = [
     ),
     (
         "ask|--port=1|set|a|{\"keys\": []}",
-        "ask|set|a|{\"keys\": []}|1|100|0",
+        "ask|set|a|{\"keys\": []}|1|100|0|30",
     ),
     (
         "ask|--port=0|fetch",
         "error: invalid value '0' for '--port <PORT>': 0 is not in 1..=65535\n\nFor more information, try '--help'.\n",
+    ),
+    (
+        "ask|--port=1|--timeout=86401",
+        "error: invalid value '86401' for '--timeout <SECONDS>': 86401 is not in 1..=86400\n\nFor more information, try '--help'.\n",
     ),
     (
         "ask|--port=1|--retry=1000001",

@@ -10,7 +10,7 @@ use Rattle.server.specs.Serve.{IsOffered}
 abbrev pub log_end : {C N : Type 0} → (N → Option (List ℕ)) → LineLog C N → End
 log_end held_of log = record { bytes = held_of log.end; faults = log.left_out }
 
--- The line of the change is written whole; or only a front of it, and it is counted.
+-- The line of the change, with the number of a client, is written whole; or only a front of it, and it is counted.
 abbrev pub TellsChange : {C N : Type 0} → (N → Option (List ℕ)) → ℕ → ChangeView → LineLog C N → LineLog C N → Type 0
 TellsChange held_of worker change old new =
-    (taken : Bool) × IsOffered taken (change_line worker change) (log_end held_of old) (log_end held_of new) × (new.is_on ≡ old.is_on)
+    (client : ℕ) × (taken : Bool) × IsOffered taken (change_line worker client change) (log_end held_of old) (log_end held_of new) × (new.scope ≡ old.scope)

@@ -1,6 +1,6 @@
--- The lines of the log of a server: one for each change of a bundle, for each that was refused by 31 or 36, or at a port for
--- reads only, and for each end of a session.
-use Rattle.std.specs.Prelude.{ℕ, List, [], ◌∷◌, ◌++◌, codes, decimal, Option, None, Some, Result, Ok, Err}
+-- The lines of the log of a server: one for each change of a bundle, for each that was refused by 31 or 36, for those that a session
+-- at a port for reads only refused in a turn, and for each end of a session.
+use Rattle.std.specs.Prelude.{ℕ, List, [], ◌∷◌, ◌++◌, codes, decimal, Option, None, Some, option_and_then, option_map, Result, Ok, Err}
 use Rattle.map_core.specs.declared.op.Expect.{Expect}
 use Rattle.map_core.specs.declared.op.Expect.TheVariants.{Absent, Unnumbered, Sequence}
 use Rattle.map_core.specs.Reply.{refusal_number}
@@ -10,6 +10,7 @@ use Rattle.workers.specs.Log.{ChangeView}
 use Rattle.workers.specs.declared.log.How.{How}
 use Rattle.workers.specs.declared.log.How.TheVariants.{Set, Appended, Removed}
 use Rattle.workers.specs.declared.log.ChangeRefusal.{ChangeRefusal}
+use Rattle.workers.specs.declared.log.Client.{Client}
 use Rattle.workers.specs.declared.log.ChangeRefusal.TheVariants.{Map, ReadOnly}
 use Rattle.workers.specs.declared.ended.SessionFault.{SessionFault}
 
@@ -29,10 +30,15 @@ abbrev pub before_word : Option Expect → List ℕ
 before_word None = codes "unknown"
 before_word (Some state) = state_word state
 
--- such as `worker 3 set a.example absent to 7`; a line feed ends it
-abbrev pub change_line : ℕ → ChangeView → List ℕ
-change_line worker change =
-    codes "worker " ++ decimal worker ++ codes " " ++ how_word change.how ++ codes " " ++ change.domain ++ codes " "
+-- the worker, and the number of its client, if the line tells of one
+abbrev pub who_words : ℕ → Option ℕ → List ℕ
+who_words worker None = codes "worker " ++ (decimal worker ++ codes " ")
+who_words worker (Some client) = codes "worker " ++ (decimal worker ++ (codes " client " ++ (decimal client ++ codes " ")))
+
+-- such as `worker 3 client 17 set a.example absent to 7`; a line feed ends it
+abbrev pub change_line : (worker client : ℕ) → ChangeView → List ℕ
+change_line worker client change =
+    who_words worker (Some client) ++ how_word change.how ++ codes " " ++ change.domain ++ codes " "
     ++ before_word change.before ++ codes " to " ++ state_word change.after ++ 10 ∷ []
 
 -- the number of a refusal; with 31 the sequence that stands there, and with 36 what stands there
@@ -42,21 +48,26 @@ refusal_words (Map (NotExpected found)) = codes "36 " ++ state_word found
 refusal_words (Map refusal) = decimal (refusal_number refusal)
 refusal_words ReadOnly = codes "56"
 
--- such as `worker 3 refused a.example 31 7`; a line feed ends it
-abbrev pub refusal_line : ℕ → List ℕ → ChangeRefusal → List ℕ
-refusal_line worker domain refusal =
-    codes "worker " ++ decimal worker ++ codes " refused " ++ domain ++ codes " " ++ refusal_words refusal ++ 10 ∷ []
+-- such as `worker 3 client 17 refused a.example 31 7`; a line feed ends it
+abbrev pub refusal_line : (worker client : ℕ) → List ℕ → ChangeRefusal → List ℕ
+refusal_line worker client domain refusal =
+    who_words worker (Some client) ++ codes "refused " ++ domain ++ codes " " ++ refusal_words refusal ++ 10 ∷ []
 
--- such as `worker 3 session ended after 12 replies`, or `worker 3 session fault 53`
-abbrev pub end_words : ℕ → Result ℕ SessionFault → List ℕ
-end_words worker (Ok count) = codes "worker " ++ decimal worker ++ codes " session ended after " ++ decimal count ++ codes " replies"
-end_words worker (Err fault) = codes "worker " ++ decimal worker ++ codes " session fault " ++ decimal (session_number fault)
+-- such as `worker 3 client 17 refused 12 changes 56`: a session for reads only turned so many away, of names that nobody has read
+abbrev pub turned_away_line : (worker client count : ℕ) → List ℕ
+turned_away_line worker client count = who_words worker (Some client) ++ codes "refused " ++ decimal count ++ codes " changes 56" ++ 10 ∷ []
+
+-- such as `session ended after 12 replies`, or `session fault 53`
+abbrev pub end_words : Result ℕ SessionFault → List ℕ
+end_words (Ok count) = codes "session ended after " ++ decimal count ++ codes " replies"
+end_words (Err fault) = codes "session fault " ++ decimal (session_number fault)
 
 -- such as ` from 40312`, if the client has a port; a line feed ends it
 abbrev pub peer_words : Option ℕ → List ℕ
 peer_words None = 10 ∷ []
 peer_words (Some port) = codes " from " ++ decimal port ++ 10 ∷ []
 
--- how a session of the worker ended, and the port of its client
-abbrev pub end_line : ℕ → Result ℕ SessionFault → Option ℕ → List ℕ
-end_line worker end peer = end_words worker end ++ peer_words peer
+-- how a session of the worker ended, and the port of its client; or, if no client came, that none did
+abbrev pub end_line : ℕ → Result ℕ SessionFault → Option Client → List ℕ
+end_line worker end client =
+    who_words worker (option_map (λ c. c.number) client) ++ end_words end ++ peer_words (option_and_then (λ c. c.peer) client)

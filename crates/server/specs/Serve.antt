@@ -24,6 +24,7 @@ use Rattle.workers.specs.declared.ended.SessionFault.TheVariants as session
 use Rattle.workers.specs.declared.ended.Worked.{Worked}
 use Rattle.commands.specs.Fault.{fault_line}
 use Rattle.commands.specs.Input.{InputFault}
+use Rattle.commands.specs.Reading.{Unread}
 use Rattle.commands.specs.declared.input.Extent.TheVariants.{Any}
 use Rattle.command_line.specs.declared.settings.Settings.{Settings}
 use Rattle.workers.specs.Filling.{Fills, NotFills}
@@ -119,7 +120,7 @@ abbrev pub IsLoad : {A : Type 0} → Option A → List ℕ → Type 0
 IsLoad None requests = requests ≡ []
 IsLoad (Some file) requests = (dump : List ℕ) × (items : AllDomains) × IsDump dump items × HaveValidBundles items × (requests ≡ stream_of (requests_for items) [])
 
--- why a file loads nothing: it is not read, since memory ran out or for a fault of an input, or what it holds is not a dump
+-- why a file gives no dump: it is not read, since memory ran out or for a fault of an input, or what it holds is not a dump
 abbrev pub IsLoadFault : Fault → Type 0
 IsLoadFault fault =
     ((left_old : Option (List ℕ)) × (left_new : Option (List ℕ)) × InputFault Any fault left_old left_new)
@@ -162,6 +163,10 @@ NotSetUp requests error = (error ≡ Memory) ⊎ ((store : StoreView) × (fresh 
 abbrev pub IsWords : List ℕ → Type 0
 IsWords line = (text : List ℕ) × All (λ byte. 32 ≤ byte) text × (line ≡ text ++ 10 ∷ [])
 
+-- it may be that a line of words is written
+abbrev pub AddsWords : End → End → Type 0
+AddsWords old new = (new ≡ old) ⊎ ((line : List ℕ) × IsWords line × Tells old new line)
+
 -- The line of a fault is told; and it may be that a line of words comes behind it.
 abbrev pub TellsFault : Fault → End → End → Type 0
 TellsFault fault old new = Tells old new (fault_line fault) ⊎ ((words : List ℕ) × IsWords words × Tells old new (fault_line fault ++ words))
@@ -173,7 +178,7 @@ EndsEarly fault status out_old out_new err_old err_new = (status ≡ 1) × (out_
 -- what is to fill the store is not a dump, or can't be read
 abbrev pub IsNotLoaded : {A : Type 0} → Option A → Fault → Type 0
 IsNotLoaded None fault = ⊥
-IsNotLoaded (Some file) fault = IsLoadFault fault
+IsNotLoaded (Some file) fault = (left_old : Option (List ℕ)) × (left_new : Option (List ℕ)) × Unread Any fault left_old left_new
 
 -- why there is no store that is set up: what is to fill it is not loaded; or memory ran out, or the store was not filled with it
 abbrev pub IsNotBegun : {A : Type 0} → Option A → Fault → Type 0

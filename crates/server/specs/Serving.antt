@@ -10,6 +10,7 @@ use Rattle.workers.specs.declared.run.Finished.{Finished}
 use Rattle.workers.specs.declared.sessions.ListenFault.{ListenFault}
 use Rattle.workers.specs.declared.session.Session.{Session}
 use Rattle.workers.specs.Followed.{AllServed}
+use Rattle.workers.specs.declared.limits.Patience.{Patience}
 use Rattle.command_line.specs.declared.settings.Connections.{Connections}
 use Rattle.command_line.specs.declared.settings.Connections.TheVariants.{Each, Unlimited}
 use Rattle.command_line.specs.declared.settings.Lasting.{Lasting}
@@ -50,10 +51,14 @@ most_taken (Unlimited lasting) = 18446744073709551615
 abbrev pub most_turns : ℕ → ℕ
 most_turns turns = min turns 1000000000
 
--- after how many ticks a client is given up that does not get on: a second has four
-abbrev pub most_silent : Lasting → ℕ
-most_silent lasting = counted (lasting.idle * 4)
+-- so many seconds in ticks: a second has four
+abbrev pub ticks : ℕ → ℕ
+ticks seconds = counted (seconds * 4)
+
+-- for how many ticks a client may not get on, and may take a reply that is not stored whole, and of how many ages there may be such
+abbrev pub patience : Lasting → Patience
+patience lasting = record { most_silent = ticks lasting.idle; reply_ticks = ticks lasting.reply_seconds; moments = lasting.moments }
 
 -- Each worker has served its clients beside each other, has made at most so many reads of each, and has given each up then, and none before.
 abbrev pub ServedBeside : Lasting → ℕ → StoreView → List PassView → List Worked → Type 0
-ServedBeside lasting turns store passes worked = AllServed always_open (most_silent lasting) turns store 0 passes worked
+ServedBeside lasting turns store passes worked = AllServed always_open (patience lasting) turns store 0 passes worked

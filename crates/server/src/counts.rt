@@ -7,6 +7,7 @@ mod line;
 
 use crate::counts::line::line_of;
 use crate::limit::LogLimit;
+use crate::numbering::Numbering;
 use shard_store::Tally;
 use spiffe_doc::Memory;
 use std::alloc::{AllocError, Global};
@@ -173,6 +174,8 @@ pub struct Counts {
     slots: Vec<Slot>,
     /// What the workers share of the log.
     limit: LogLimit,
+    /// By which numbers it knows their clients.
+    numbering: Numbering,
 }
 
 impl Counts {
@@ -188,12 +191,18 @@ impl Counts {
             begun: Instant::now(clock).ok(),
             slots,
             limit: LogLimit::new(),
+            numbering: Numbering::new(alloc, workers)?,
         })
     }
 
     /// What the workers share of the log.
     pub(crate) fn limit(&self) -> &LogLimit {
         &self.limit
+    }
+
+    /// By which numbers the log knows their clients.
+    pub(crate) fn numbering(&self) -> &Numbering {
+        &self.numbering
     }
 
     /// Where the worker counts it, if there is such a worker and it is counted.

@@ -10,8 +10,10 @@ mod limit;
 mod lines;
 mod load;
 mod log;
+mod numbering;
 mod saved_file;
 mod saving;
+mod server_log;
 mod serving;
 mod set_up;
 mod stamped;
@@ -27,10 +29,11 @@ pub use load::set_up_of;
 pub use log::LineLog;
 pub use saved_file::{SavedFile, save_fault};
 pub use saving::Keeper;
+pub use server_log::ServerLog;
 pub use serving::{
     Host, InTurn, Listener, NOBODY, Ports, Task, WorkerPolls, serve_at, serve_on, tell_early,
 };
 pub use set_up::SetUp;
 pub use stamped::Stamped;
 pub use start::tell_start;
-pub use told::tell_in_words;
+pub use told::{tell_in_words, tell_words};

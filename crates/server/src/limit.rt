@@ -1,8 +1,12 @@
-//! How many refusals and ends of sessions a log tells within a second, and how many lines it has left out.
+//! How many refusals and ends of sessions a log tells within a second, how many lines it has left out, and how often it tells
+//! that no client can be taken.
 use std::sync::atomic::{AtomicU64, Ordering};
 
 /// The most refusals and ends of sessions that are told within a second, of all workers together.
 const MOST_A_SECOND: u64 = 100;
+
+/// In how many seconds it is told once that no client can be taken.
+const ALARM_SECONDS: u64 = 60;
 
 /// What the workers of a server share of its log. (Where two of them come at the turn of a second, one line more or less may be
 /// told in it.)
@@ -14,6 +18,8 @@ pub(crate) struct LogLimit {
     come: AtomicU64,
     /// How many lines were left out since that was told.
     left_out: AtomicU64,
+    /// The second from which on it may be told that no client can be taken.
+    next_alarm: AtomicU64,
 }
 
 impl LogLimit {
@@ -23,6 +29,7 @@ impl LogLimit {
             second: AtomicU64::new(0),
             come: AtomicU64::new(0),
             left_out: AtomicU64::new(0),
+            next_alarm: AtomicU64::new(0),
         }
     }
 
@@ -32,6 +39,18 @@ impl LogLimit {
             self.come.store(0, Ordering::SeqCst);
         }
         self.come.fetch_add(1, Ordering::SeqCst) < MOST_A_SECOND
+    }
+
+    /// Whether it may be told in this second that no client can be taken.
+    pub fn admits_alarm(&self, second: u64) -> bool {
+        let next = self.next_alarm.load(Ordering::SeqCst);
+        if second < next {
+            return false;
+        }
+        let after = second.saturating_add(ALARM_SECONDS);
+        let alarm = &self.next_alarm;
+        let taken = alarm.compare_exchange(next, after, Ordering::SeqCst, Ordering::SeqCst);
+        taken.is_ok()
     }
 
     /// So many lines are left out.

@@ -1,13 +1,12 @@
 //! What fills the store of a server before anything is accepted.
-ghost use Rattle.std.specs.Prelude.{◌≢◌, None, List, ℕ, IfOk, IfErr};
+ghost use Rattle.std.specs.Prelude.{List, ℕ, IfOk, IfErr};
 ghost use Rattle.std.specs.List.{All};
 ghost use Rattle.shard_store.specs.Pass.{IsOf};
-ghost use Rattle.server.specs.Serve.{IsLoad, IsLoadFault, IsNotBegun, IsSetUp};
+ghost use Rattle.server.specs.Serve.{IsLoad, IsNotBegun, IsNotLoaded, IsSetUp};
 
 use crate::set_up::SetUp;
 use command_line::Settings;
-use commands::{Extent, Fault, read_input};
-use frame_front::migrate;
+use commands::{Fault, read_requests};
 use std::alloc::Global;
 use std::fs::{File, Files};
 use wire::{Counted, FrontError};
@@ -15,8 +14,7 @@ use wire::{Counted, FrontError};
 /// The requests that store again what the dump of the file holds; none without a file.
 fn requests_of<H: Files>(alloc: Global, host: &H, load: Option<&str>) -> Result<Vec<u8>, Fault>
     ensures ok { IfOk result (λ requests. IsLoad load.entry requests.items) }
-    ensures none { IfErr result (λ _. load.entry ≢ None) }
-    ensures err { IfErr result (λ fault. IsLoadFault fault) }
+    ensures err { IfErr result (λ fault. IsNotLoaded load.entry fault) }
 {
     let Some(path) = load else {
         return Ok(Vec::new(alloc));
@@ -24,8 +22,8 @@ fn requests_of<H: Files>(alloc: Global, host: &H, load: Option<&str>) -> Result<
     let Ok(file) = File::open(host, path) else {
         return Err(Fault::Front(FrontError::ReadFault));
     };
-    let dump = read_input(alloc, Extent::Any, &mut Counted::new(file))?;
-    Ok(migrate(alloc, dump.as_slice())?)
+    let requests = read_requests(alloc, &mut Counted::new(file))?;
+    Ok(requests)
 }
 
 /// A store of these settings with a pass for each worker, filled with the dump of the file, if one is named: of any length.

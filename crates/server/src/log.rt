@@ -1,14 +1,16 @@
-//! The log of a server: a line for each change of a bundle, for each that was refused by 31 or 36, or at a port for reads only,
-//! and for each end of a session. It also counts what it is told.
-ghost use Rattle.std.specs.Prelude.{◌≡◌, IfSome, OnOk};
+//! The log of a server: a line for each change of a bundle, for each that was refused by 31 or 36, for those that a session at a
+//! port for reads only refused in a turn, and for each end of a session. It also counts what it is told.
+ghost use Rattle.std.specs.Prelude.{◌≡◌, IfSome, OnOk, Some, option_and_then, option_map};
 ghost use Rattle.std.specs.Bool.{OnTrue};
 ghost use Rattle.std.specs.Io.KnownBytes.{Appends};
 ghost use Rattle.wire.specs.Output.{WritesFront};
-ghost use Rattle.server.specs.LogLine.{before_word, change_line, end_line, end_words, how_word, peer_words, refusal_line, refusal_words, state_word};
+ghost use Rattle.server.specs.LogLine.{before_word, change_line, end_line, end_words, how_word, peer_words, refusal_line, refusal_words, state_word, turned_away_line, who_words};
 ghost use Rattle.workers.specs.Log.{change_view};
 
 use crate::counts::{Count, Counts};
+use crate::server_log::ServerLog;
 use arrayvec::ArrayVec;
+use command_line::LogScope;
 use map_core::{Expect, MapRefusal};
 use shard_store::Tally;
 use spiffe_doc::Memory;
@@ -16,9 +18,9 @@ use std::alloc::{AllocError, Global};
 use std::io;
 use std::io::Write;
 use std::time::Clock;
-use workers::{ChangeRefusal, Changed, How, Log, RefusedChange, SessionFault};
+use workers::{ChangeRefusal, Changed, Client, How, Log, RefusedChange, SessionFault};
 
-/// The most bytes of a line. The longest has a name of 255 bytes and three numbers of 20 digits.
+/// The most bytes of a line. The longest has a name of 255 bytes and four numbers of 20 digits.
 const LINE_BYTES: usize = 384;
 
 type Line = ArrayVec<u8, LINE_BYTES>;
@@ -33,25 +35,25 @@ pub struct LineLog<'c, C, N> {
     counts: &'c Counts,
     clock: &'c C,
     end: N,
-    is_on: bool,
+    scope: LogScope,
     /// How many lines of changes the end did not take whole. Only by such a count a contract tells a line that was refused from
     /// one that was never written.
     left_out: u64,
 }
 
 impl<'c, C, N> LineLog<'c, C, N> {
-    /// A log on this end, from which no line was left out yet. Changes are told to it only if it is on. The clock tells how
-    /// long it has counted.
-    pub fn new(counts: &'c Counts, clock: &'c C, end: N, is_on: bool) -> LineLog<'c, C, N>
+    /// A log on this end, from which no line was left out yet. Changes are told to it only if its scope has them. The clock
+    /// tells how long it has counted.
+    pub fn new(counts: &'c Counts, clock: &'c C, end: N, scope: LogScope) -> LineLog<'c, C, N>
         ensures end { result.end ≡ end }
-        ensures is_on { result.is_on ≡ is_on }
+        ensures scope { result.scope ≡ scope }
         ensures left_out { result.left_out ≡ 0 }
     {
         LineLog {
             counts,
             clock,
             end,
-            is_on,
+            scope,
             left_out: 0,
         }
     }
@@ -80,6 +82,12 @@ impl<C: Clock, N: Write + Copy + Drop> LineLog<'_, C, N> {
         admits
     }
 
+    /// Writes a line that is told whether the log is on or not. One that is not taken is not counted.
+    fn notify(&self, line: &Line) {
+        let mut all = self.end;
+        let _is_taken = offer(&mut all, line);
+    }
+
     /// Writes the line of a refusal or of an end of a session, and then how many lines were left out before.
     fn tell(&self, line: &Line) {
         let mut all = self.end;
@@ -105,7 +113,7 @@ impl<'c, C, N: Copy> Clone for LineLog<'c, C, N> {
             counts: self.counts,
             clock: self.clock,
             end: self.end,
-            is_on: self.is_on,
+            scope: self.scope,
             left_out: self.left_out,
         })
     }
@@ -140,11 +148,27 @@ fn word_of(how: How) -> &'static str
     }
 }
 
-fn write_change<W: Write>(line: &mut W, worker: u64, change: &Changed<'_>) -> io::Result<()>
-    ensures { OnOk result (Appends (W.contents line.old) (W.contents line.new) (change_line worker (change_view change.now))) }
+/// Writes of which worker a line tells, and of which of its clients, if it tells of one.
+fn write_who<W: Write>(line: &mut W, worker: u64, client: Option<u64>) -> io::Result<()>
+    ensures { OnOk result (Appends (W.contents line.old) (W.contents line.new) (who_words worker client)) }
+{
+    match client {
+        Some(client) => write!(line, "worker {worker} client {client} "),
+        None => write!(line, "worker {worker} "),
+    }
+}
+
+fn write_change<W: Write>(
+    line: &mut W,
+    worker: u64,
+    client: u64,
+    change: &Changed<'_>,
+) -> io::Result<()>
+    ensures { OnOk result (Appends (W.contents line.old) (W.contents line.new) (change_line worker client (change_view change.now))) }
 {
     let how = word_of(change.how);
-    write!(line, "worker {worker} {how} {} ", change.domain)?;
+    write_who(line, worker, Some(client))?;
+    write!(line, "{how} {} ", change.domain)?;
     write_before(line, change.before)?;
     write!(line, " to ")?;
     write_state(line, change.after)?;
@@ -166,24 +190,26 @@ fn write_refusal<W: Write>(line: &mut W, refusal: ChangeRefusal) -> io::Result<(
     }
 }
 
-fn write_refused<W: Write>(line: &mut W, worker: u64, refused: &RefusedChange<'_>) -> io::Result<()>
-    ensures { OnOk result (Appends (W.contents line.old) (W.contents line.new) (refusal_line worker refused.now.domain.now refused.now.refusal)) }
+fn write_refused<W: Write>(
+    line: &mut W,
+    worker: u64,
+    client: u64,
+    refused: &RefusedChange<'_>,
+) -> io::Result<()>
+    ensures { OnOk result (Appends (W.contents line.old) (W.contents line.new) (refusal_line worker client refused.now.domain.now refused.now.refusal)) }
 {
-    write!(line, "worker {worker} refused {} ", refused.domain)?;
+    write_who(line, worker, Some(client))?;
+    write!(line, "refused {} ", refused.domain)?;
     write_refusal(line, refused.refusal)?;
     writeln!(line)
 }
 
-fn write_end_words<W: Write>(
-    line: &mut W,
-    worker: u64,
-    end: &Result<u64, SessionFault>,
-) -> io::Result<()>
-    ensures { OnOk result (Appends (W.contents line.old) (W.contents line.new) (end_words worker end.now)) }
+fn write_end_words<W: Write>(line: &mut W, end: &Result<u64, SessionFault>) -> io::Result<()>
+    ensures { OnOk result (Appends (W.contents line.old) (W.contents line.new) (end_words end.now)) }
 {
     match end {
-        Ok(count) => write!(line, "worker {worker} session ended after {count} replies"),
-        Err(fault) => write!(line, "worker {worker} session fault {}", fault.number()),
+        Ok(count) => write!(line, "session ended after {count} replies"),
+        Err(fault) => write!(line, "session fault {}", fault.number()),
     }
 }
 
@@ -197,46 +223,83 @@ fn write_peer<W: Write>(line: &mut W, peer: Option<u16>) -> io::Result<()>
     }
 }
 
+/// The number of a client and its port, if one came.
+fn parts_of(client: Option<Client>) -> (Option<u64>, Option<u16>)
+    ensures number { result.0 ≡ option_map (λ c. c.number) client }
+    ensures peer { result.1 ≡ option_and_then (λ c. c.peer) client }
+{
+    match client {
+        Some(client) => (Some(client.number), client.peer),
+        None => (None, None),
+    }
+}
+
 fn write_end<W: Write>(
     line: &mut W,
     worker: u64,
     end: &Result<u64, SessionFault>,
-    peer: Option<u16>,
+    client: Option<Client>,
 ) -> io::Result<()>
-    ensures { OnOk result (Appends (W.contents line.old) (W.contents line.new) (end_line worker end.now peer)) }
+    ensures { OnOk result (Appends (W.contents line.old) (W.contents line.new) (end_line worker end.now client)) }
 {
-    write_end_words(line, worker, end)?;
+    let (number, peer) = parts_of(client);
+    write_who(line, worker, number)?;
+    write_end_words(line, end)?;
     write_peer(line, peer)
 }
 
 /// The line of a change, if it has room.
-fn text_of_change(worker: u64, change: &Changed<'_>) -> Option<Line>
-    ensures { IfSome result (λ line. line.items ≡ change_line worker (change_view change.now)) }
+fn text_of_change(worker: u64, client: u64, change: &Changed<'_>) -> Option<Line>
+    ensures { IfSome result (λ line. line.items ≡ change_line worker client (change_view change.now)) }
 {
     let mut line = Line::new();
-    match write_change(&mut line, worker, change) {
+    match write_change(&mut line, worker, client, change) {
         Ok(()) => Some(line),
         Err(_) => None,
     }
 }
 
 /// The line of a refusal, if it has room.
-fn text_of_refused(worker: u64, refused: &RefusedChange<'_>) -> Option<Line>
-    ensures { IfSome result (λ line. line.items ≡ refusal_line worker refused.now.domain.now refused.now.refusal) }
+fn text_of_refused(worker: u64, client: u64, refused: &RefusedChange<'_>) -> Option<Line>
+    ensures { IfSome result (λ line. line.items ≡ refusal_line worker client refused.now.domain.now refused.now.refusal) }
 {
     let mut line = Line::new();
-    match write_refused(&mut line, worker, refused) {
+    match write_refused(&mut line, worker, client, refused) {
         Ok(()) => Some(line),
         Err(_) => None,
     }
 }
 
 /// The line of an end of a session, if it has room.
-fn text_of_end(worker: u64, end: &Result<u64, SessionFault>, peer: Option<u16>) -> Option<Line>
-    ensures { IfSome result (λ line. line.items ≡ end_line worker end.now peer) }
+fn text_of_end(worker: u64, end: &Result<u64, SessionFault>, client: Option<Client>) -> Option<Line>
+    ensures { IfSome result (λ line. line.items ≡ end_line worker end.now client) }
 {
     let mut line = Line::new();
-    match write_end(&mut line, worker, end, peer) {
+    match write_end(&mut line, worker, end, client) {
+        Ok(()) => Some(line),
+        Err(_) => None,
+    }
+}
+
+fn write_turned_away<W: Write>(
+    line: &mut W,
+    worker: u64,
+    client: u64,
+    count: u64,
+) -> io::Result<()>
+    ensures { OnOk result (Appends (W.contents line.old) (W.contents line.new) (turned_away_line worker client count)) }
+{
+    write_who(line, worker, Some(client))?;
+    write!(line, "refused {count} changes 56")?;
+    writeln!(line)
+}
+
+/// The line of changes that were turned away, if it has room.
+fn text_of_turned_away(worker: u64, client: u64, count: u64) -> Option<Line>
+    ensures { IfSome result (λ line. line.items ≡ turned_away_line worker client count) }
+{
+    let mut line = Line::new();
+    match write_turned_away(&mut line, worker, client, count) {
         Ok(()) => Some(line),
         Err(_) => None,
     }
@@ -263,11 +326,11 @@ fn offer_left_out<N: Write>(end: &mut N, count: u64) -> bool {
 }
 
 /// Writes the line of a change, in one write. Answers whether all of it was taken.
-fn offer_change<N: Write>(end: &mut N, worker: u64, change: &Changed<'_>) -> bool
-    ensures whole { OnTrue result (Appends (N.contents end.old) (N.contents end.new) (change_line worker (change_view change.now))) }
-    ensures front { WritesFront (N.contents end.old) (N.contents end.new) (change_line worker (change_view change.now)) }
+fn offer_change<N: Write>(end: &mut N, worker: u64, client: u64, change: &Changed<'_>) -> bool
+    ensures whole { OnTrue result (Appends (N.contents end.old) (N.contents end.new) (change_line worker client (change_view change.now))) }
+    ensures front { WritesFront (N.contents end.old) (N.contents end.new) (change_line worker client (change_view change.now)) }
 {
-    match text_of_change(worker, change) {
+    match text_of_change(worker, client, change) {
         Some(line) => offer(end, &line),
         None => false,
     }
@@ -275,17 +338,19 @@ fn offer_change<N: Write>(end: &mut N, worker: u64, change: &Changed<'_>) -> boo
 
 impl<C: Clock, N: Write + Copy + Drop> Log for LineLog<'_, C, N> {
     ghost use Rattle.server.specs.Log.{TellsChange};
+    ghost use Rattle.command_line.specs.Serving.{has_changes};
 
-    ghost wants = { λ log. log.is_on };
+    ghost wants = { λ log. has_changes log.scope };
 
     ghost tells = { λ old worker change new. TellsChange N.contents worker change old new };
 
     fn is_on(&self) -> bool {
-        self.is_on
+        self.scope.has_changes()
     }
 
     fn changed(&mut self, worker: u64, change: &Changed<'_>) {
-        if offer_change(&mut self.end, worker, change) {
+        let client = self.counts.numbering().served_by(worker);
+        if offer_change(&mut self.end, worker, client, change) {
             self.tell_left_out();
         } else {
             self.left_out = self.left_out.saturating_add(1);
@@ -293,29 +358,45 @@ impl<C: Clock, N: Write + Copy + Drop> Log for LineLog<'_, C, N> {
         }
     }
 
-    fn began(&self, worker: u64) {
+    fn began(&self, worker: u64) -> u64 {
         self.counts.add(worker, Count::ConnectionsOpen, 1);
         self.counts.add(worker, Count::ConnectionsOpened, 1);
+        self.counts.numbering().next()
     }
 
-    fn ended(&self, worker: u64, end: &Result<u64, SessionFault>, peer: Option<u16>) {
+    fn serves(&self, worker: u64, client: Client) {
+        self.counts.numbering().serve(worker, client.number);
+    }
+
+    fn ended(&self, worker: u64, end: &Result<u64, SessionFault>, client: Option<Client>) {
         // No session ends if none came.
         if !matches!(end, Err(SessionFault::Listen)) {
             self.counts.take_one(worker, Count::ConnectionsOpen);
         }
-        if !self.is_on || !self.admits() {
+        if self.scope != LogScope::All || !self.admits() {
             return;
         }
-        if let Some(line) = text_of_end(worker, end, peer) {
+        if let Some(line) = text_of_end(worker, end, client) {
             self.tell(&line);
         }
     }
 
     fn refused(&self, worker: u64, refused: &RefusedChange<'_>) {
-        if !self.is_on || !self.admits() {
+        if !self.scope.has_changes() || !self.admits() {
             return;
         }
-        if let Some(line) = text_of_refused(worker, refused) {
+        let client = self.counts.numbering().served_by(worker);
+        if let Some(line) = text_of_refused(worker, client, refused) {
+            self.tell(&line);
+        }
+    }
+
+    fn turned_away(&self, worker: u64, count: u64) {
+        if !self.scope.has_changes() || !self.admits() {
+            return;
+        }
+        let client = self.counts.numbering().served_by(worker);
+        if let Some(line) = text_of_turned_away(worker, client, count) {
             self.tell(&line);
         }
     }
@@ -343,5 +424,34 @@ impl<C: Clock, N: Write + Copy + Drop> Log for LineLog<'_, C, N> {
 
     fn counts(&self, alloc: Global) -> Result<Vec<u8>, Memory> {
         self.counts.line(alloc, self.clock)
+    }
+}
+
+impl<C: Clock, N: Write + Copy + Drop> ServerLog for LineLog<'_, C, N> {
+    fn ends_after(&self, clients: u64) {
+        let mut line = Line::new();
+        let all = if clients == 1 { "client" } else { "clients" };
+        let text = writeln!(
+            line,
+            "serving {clients} {all}, then it ends; --connections unlimited stays"
+        );
+        if text.is_ok() {
+            self.notify(&line);
+        }
+    }
+
+    fn takes_no_more(&self, open: u64) {
+        let second = self.counts.seconds(self.clock);
+        if !self.counts.limit().admits_alarm(second) {
+            return;
+        }
+        let mut line = Line::new();
+        let text = writeln!(
+            line,
+            "no more connections: the limit of open files (ulimit -n) is reached; {open} are open"
+        );
+        if text.is_ok() {
+            self.notify(&line);
+        }
     }
 }

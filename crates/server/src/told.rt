@@ -1,7 +1,7 @@
 //! A fault that is told in words as well: behind its line comes one that says what could not be had, where and why.
 ghost use Rattle.std.specs.Prelude.{◌≡◌, ◌≤◌, ◌<◌, ◌-◌, ◌^◌, IfSome};
 ghost use Rattle.wire.specs.Counted.{faults_in};
-ghost use Rattle.server.specs.Serve.{IsWords, TellsFault};
+ghost use Rattle.server.specs.Serve.{AddsWords, IsWords, TellsFault};
 ghost use Rattle.wire.specs.Output.{TellsUnlessFailed, end_of};
 
 use commands::Fault;
@@ -35,6 +35,16 @@ fn tell_line<E: Write>(err: &mut Counted<E>, before: u64, line: &[u8])
     if err.faults() == before {
         tell(err, line);
     }
+}
+
+/// Writes the text as a line of words. Without memory for it nothing is written.
+pub fn tell_words<E: Write>(alloc: Global, text: &str, err: &mut Counted<E>)
+    ensures { AddsWords (end_of E.contents err.old) (end_of E.contents err.new) }
+{
+    let Some(line) = words_line(alloc, text) else {
+        return;
+    };
+    tell(err, line.as_slice());
 }
 
 /// Writes the line of the fault, and behind it the text, if there is one, as a line of words. Answers the exit status that goes

@@ -19,7 +19,7 @@ use std::io::{ErrorKind, Read, Write};
 use std::process::Abort;
 use std::test::Fail;
 use workers::{
-    Arrival, Arrivals, AtPort, Limits, Quiet, SessionEnds, SessionFault, Stream, Worker,
+    Arrival, Arrivals, AtPort, Limits, Patience, Quiet, SessionEnds, SessionFault, Stream, Worker,
     serve_arrivals,
 };
 
@@ -92,10 +92,14 @@ fn sends(input: &[u8], piece: usize) -> Plan<'_> {
 /// How often an arrival may come.
 const MOST_ARRIVALS: u64 = 100_000;
 
-/// A client is given up after three ticks, and reads have no limit.
+/// A client is given up after three ticks, and if it takes a reply, after twenty; reads have no limit.
 const LIMITS: Limits = Limits {
     retries: 1_000_000,
-    most_silent: 3,
+    patience: Patience {
+        most_silent: 3,
+        reply_ticks: 20,
+        moments: 2,
+    },
     turns: u64::MAX,
 };
 

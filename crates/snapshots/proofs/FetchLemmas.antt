@@ -20,8 +20,8 @@ use Rattle.snapshots.specs.Fetch.{fetch_op}
 
 -- a reply to a fetch-all has the code a, or e if a digest is known
 fetch_codes : (known : Option (List ℕ)) (code : ℕ) → (code == 97) ≡ false → (code == 101) ≡ false → is_error_code code ≡ false → is_code_for (fetch_op known) code ≡ false
-fetch_codes None code all same no_error = λ i. no_error i || all i
-fetch_codes (Some digest) code all same no_error = λ i. no_error i || (all i || same i)
+fetch_codes None code all same no_error = λ i. no_error i || (all i || false)
+fetch_codes (Some digest) code all same no_error = λ i. no_error i || (all i || (same i || false))
 
 module _ (known : Option (List ℕ)) where
   other_code : (code : ℕ) (rest : List ℕ) → (code == 97) ≡ false → (code == 101) ≡ false → is_error_code code ≡ false → is_code_for (fetch_op known) (code_of (frame (code ∷ rest))) ≡ true → ⊥

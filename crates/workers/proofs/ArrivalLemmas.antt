@@ -1,6 +1,6 @@
 -- What came to a worker.
 use Rattle.std.proofs.Common.{◌≡◌, ℕ, List, [], ◌∷◌, ◌++◌, refl, ap, ◌∙◌, subst, inl, inr}
-use Rattle.std.specs.Prelude.{◌⊎◌}
+use Rattle.std.specs.Prelude.{◌⊎◌, Bool}
 use Rattle.std.proofs.lemmas.List.{map-append}
 use Rattle.workers.specs.Connection.{ConnectionView}
 use Rattle.workers.specs.declared.arrivals.Arrival.{Arrival}
@@ -20,7 +20,7 @@ pub goes_on : {E P : Type 0} (arrival : Arrival E) → IsStop arrival ⊎ P → 
 goes_on arrival (inl stop) other = absurd (other (stop_is arrival stop))
 goes_on arrival (inr p) other = p
 
-module _ {E V : Type 0} (start : E → ConnectionView) (comes : V → ℕ → Arrival E → V → Type 0) where
+module _ {E V : Type 0} (start : Bool → E → ConnectionView) (comes : V → ℕ → Arrival E → V → Type 0) where
   comes_then : (xs ys : List (ℕ × Arrival E)) (a b c : V) → ComesAll comes xs a b → ComesAll comes ys b c → ComesAll comes (xs ++ ys) a c
   comes_then [] ys a b c p q = subst (λ (v : V). ComesAll comes ys v c) p q
   comes_then (x ∷ xs) ys a b c p q = (p.0, p.1, comes_then xs ys p.0 b c p.2 q)

@@ -60,7 +60,7 @@ out_of_memory : (turns : ℕ) (a b c d : Option (List ℕ)) (s t : SeatedView)
 out_of_memory turns a b c d s t session = record {
   read = session.read;
   written = session.written;
-  version = session.version;
+  terms = session.terms;
   consumes = session.consumes;
   appends = session.appends;
   session = record {

@@ -1,6 +1,6 @@
 -- What every answer keeps is kept along sessions.
 use Rattle.std.proofs.Common.{◌≡◌, List, [], ◌∷◌, sym, ap, subst, inl, inr}
-use Rattle.std.specs.Prelude.{ℕ, Option, Result, Ok, Err}
+use Rattle.std.specs.Prelude.{ℕ, Option, Result, Ok, Err, Bool, true, false}
 use Rattle.map_core.specs.declared.op.Op.{Op}
 use Rattle.map_core.specs.declared.reply.Reply.{Reply}
 use Rattle.map_core.specs.declared.reply.AskError.{AskError}
@@ -10,7 +10,8 @@ use Rattle.wire.specs.declared.judge.Judged.{Judged}
 use Rattle.wire.specs.declared.judge.Judged.TheVariants.{Ask, SetVersion, TellCounts}
 use Rattle.wire.specs.declared.refusal.Refusal.{Refusal}
 use Rattle.wire.specs.Judge.{request_of}
-use Rattle.frame_front.specs.Session.{SessionState, AnswersRequest, Answers, AnswersAll}
+use Rattle.frame_front.specs.Session.{SessionState, AnswersRequest, AnswersUnless, Answers, AnswersAll}
+use Rattle.frame_front.specs.Terms.{is_turned_away}
 use Rattle.frame_front.specs.Transcript.{Transcript}
 use Rattle.workers.specs.declared.sessions.ListenFault.{ListenFault}
 use Rattle.workers.specs.declared.ended.SessionFault.{SessionFault}
@@ -30,8 +31,12 @@ module _ {S : Type 0} (answers : S → Op → Result Reply AskError → S → Ty
   request_keeps (Ok (Ask op)) old text new a = each old.1 op a.0 new.1 a.1
 
   answer_keeps : (old : SessionState S) (payload text : List ℕ) (new : SessionState S) → Answers answers old payload text new → Keeps old.1 new.1
-  answer_keeps old payload text new (inl a) = request_keeps (request_of old.0 payload) old text new a
-  answer_keeps old payload text new (inr a) = kept_where_same old.1 new.1 (ap (λ (s : SessionState S). s.1) a.1)
+  answer_keeps old payload text new a = unless (is_turned_away old.0.reads_only payload) a
+    where
+      unless : (away : Bool) → AnswersUnless answers away old payload text new → Keeps old.1 new.1
+      unless true a = kept_where_same old.1 new.1 (ap (λ (s : SessionState S). s.1) a.1)
+      unless false (inl a) = request_keeps (request_of old.0.version payload) old text new a
+      unless false (inr a) = kept_where_same old.1 new.1 (ap (λ (s : SessionState S). s.1) a.1)
 
   pub all_keep : (old : SessionState S) (payloads texts : List (List ℕ)) (new : SessionState S) → AnswersAll answers old payloads texts new → Keeps old.1 new.1
   all_keep old [] [] new a = kept_where_same old.1 new.1 (ap (λ (s : SessionState S). s.1) a)

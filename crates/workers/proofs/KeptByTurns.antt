@@ -13,7 +13,8 @@ use Rattle.map_core.specs.Op.{is_read}
 use Rattle.workers.specs.AtPort.{PortAnswer}
 use Rattle.workers.specs.Connection.{ConnectionView, Turn, turn_rounds, last_rounds}
 use Rattle.workers.specs.declared.turn_end.TurnEnd.{TurnEnd}
-use Rattle.workers.specs.Places.{Places, Step, Opens, Turns, Misses, Ticks, Skips, Spares, Closes, GivesUp, Ends, Fails, Takes, TakesAll, ServedAll, nobody}
+use Rattle.workers.specs.declared.limits.Patience.{Patience}
+use Rattle.workers.specs.Places.{Places, Step, Opens, Turns, Misses, Ticks, Skips, Spares, Closes, GivesUp, Expires, Ends, Fails, Takes, TakesAll, ServedAll, nobody}
 
 module _ {S : Type 0} (answers : S → Op → Result Reply AskError → S → Type 0) (Keeps : S → S → Type 0)
     (same : (s : S) → Keeps s s) (further : (s t u : S) → Keeps s t → Keeps t u → Keeps s u)
@@ -54,11 +55,12 @@ module _ {S : Type 0} (answers : S → Op → Result Reply AskError → S → Ty
   step_keeps (Opens place start reads_only) old new a = stays old.1 new.1 a.3
   step_keeps (Turns place ready after) old new a = turn_keeps turn_rounds a.0.reads_only after _ a.1.connection old.1 new.1 a.4
   step_keeps (Misses place is_closing) old new a = stays old.1 new.1 a.2
-  step_keeps (Ticks places) old new a = stays old.1 new.1 a.2
+  step_keeps (Ticks places moments most oldest) old new a = stays old.1 new.1 a.3
   step_keeps (Skips place) old new a = stays old.1 new.1 a.2
-  step_keeps (Spares place most) old new a = stays old.1 new.1 a.2
+  step_keeps (Spares place most oldest) old new a = stays old.1 new.1 a.2
   step_keeps (Closes place result) old new a = stays old.1 new.1 a.5
   step_keeps (GivesUp place ticks error) old new a = stays old.1 new.1 a.6
+  step_keeps (Expires place age) old new a = stays old.1 new.1 a.3
   step_keeps (Ends place result) old new a = turn_keeps last_rounds a.0.reads_only a.3.0 _ a.1 old.1 new.1 a.3.1
   step_keeps Fails old new a = stays old.1 new.1 a.1
 
@@ -67,5 +69,5 @@ module _ {S : Type 0} (answers : S → Op → Result Reply AskError → S → Ty
   steps_keep (step ∷ steps) old new a = further old.1 a.0.1 new.1 (step_keeps step old a.0 a.1) (steps_keep steps a.0 new a.2)
 
   -- what each answer keeps, sessions keep
-  pub sessions_keep : (most_silent turns : ℕ) (kept : EndsView) (old new : S) → ServedAll answers most_silent turns kept old new → Keeps old new
-  sessions_keep most_silent turns kept old new a = steps_keep (a.before ++ a.last) (nobody, old) (nobody, new) a.takes
+  pub sessions_keep : (patience : Patience) (turns : ℕ) (kept : EndsView) (old new : S) → ServedAll answers patience turns kept old new → Keeps old new
+  sessions_keep patience turns kept old new a = steps_keep (a.before ++ a.last) (nobody, old) (nobody, new) a.takes

@@ -15,6 +15,7 @@ mod ReadLemmas
 mod TurnLemmas
 mod ArrivalLemmas
 mod ServingLemmas
+mod HeldReplies
 mod StepLemmas
 mod WaitingLemmas
 pub mod FinishedLists

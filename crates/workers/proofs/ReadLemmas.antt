@@ -12,7 +12,7 @@ use Rattle.workers.specs.Connection.{ConnectionView, MakesReads, has_bytes}
 use Rattle.workers.specs.Private.Goes.{ReadsAs, ReadsUntil}
 
 pub feeds_nothing : (live : LiveView) → Feeds [] live live
-feeds_nothing live = ap (λ (kept : List ℕ). live_view kept live.version live.ready live.later) (sym (append-nil live.kept))
+feeds_nothing live = ap (λ (kept : List ℕ). live_view kept live.terms live.ready live.later) (sym (append-nil live.kept))
 
 -- some reads, and then others
 pub makes_then : (m n total : ℕ) (a b c : ConnectionView) → MakesReads m a b → MakesReads n b c → m + n ≡ total → MakesReads total a c

@@ -10,7 +10,8 @@ use Rattle.map_core.specs.declared.op.Op.{Op}
 use Rattle.map_core.specs.declared.reply.Reply.{Reply}
 use Rattle.map_core.specs.declared.reply.AskError.{AskError}
 use Rattle.wire.specs.declared.error.FrontError.{FrontError}
-use Rattle.workers.specs.Connection.{ConnectionView, LastTurn, Owes, StopsFor, Turn, ended, last_rounds, opened, silent_after, told, turn_rounds}
+use Rattle.wire.specs.declared.error.FrontError.TheVariants.{WriteFault}
+use Rattle.workers.specs.Connection.{ConnectionView, LastTurn, Owes, StopsFor, Turn, age_after, ended, last_rounds, opened, silent_after, told, turn_rounds}
 use Rattle.workers.specs.Stream.{StreamLimits}
 use Rattle.workers.specs.declared.turn_end.TurnEnd.{TurnEnd}
 use Rattle.workers.specs.declared.turn_end.TurnEnd.TheVariants.{Over}
@@ -19,7 +20,7 @@ use Rattle.workers.specs.declared.at_port.AtPort.{AtPort}
 use Rattle.workers.specs.Arrivals.{News, NewClient, IsReady, HasTicked, HasFailed}
 use Rattle.workers.specs.declared.limits.Limits.{Limits}
 use Rattle.workers.specs.Ended.{EndsView, Notes}
-use Rattle.workers.specs.Places.{Place, Places, Step, Opens, Turns, Misses, Ticks, Skips, Spares, Closes, GivesUp, Ends, Fails, AllStay, AllTick, Follows, HasNoReplies, IsLast, IsSpared, Judges, JudgesAll, OthersStay, ServesFirst, TakesAll, TriesWrite, told_by, closing_of, front_end, ticked, turn_steps, waiting_after, without}
+use Rattle.workers.specs.Places.{Place, Places, Step, Opens, Turns, Misses, Ticks, Skips, Spares, Closes, GivesUp, Expires, Ends, Fails, AllStay, AllTick, Follows, HasNoReplies, HoldsReply, IsHeard, IsLast, IsOldest, IsSpared, IsTimely, Judges, JudgesAll, OthersStay, ServesFirst, TakesAll, TriesWrite, told_by, closing_of, front_end, ticked, turn_steps, waiting_after, without}
 use Rattle.workers.specs.Private.Serving.{AreOpen, Asks, HadTurn, HadLastTurn, IsTurn, NobodyThere, Serves, Work}
 use Rattle.workers.proofs.SimulatedTurns.{turn_seen}
 use Rattle.workers.proofs.StepLemmas.{all_stay, all_then, serves_as, serves_none, serves_one, serves_quietly, serves_then, stay_then}
@@ -54,25 +55,27 @@ module _ {S : Type 0} (answers : S → Op → Result Reply AskError → S → Ty
       (turn_seen (AtItsPort answers) (PortAnswer answers reads_only) (λ s. s.ask) (λ s. s.reads_only ≡ reads_only)
       (λ s op answer t stays a. (a.0 ∙ stays, subst (λ r. PortAnswer answers r s.ask op answer t.ask) stays a.1)) rounds after a b s t at turn).1
 
-abbrev place_of : ConnectionView → (reads_only : Bool) → (silent : ℕ) → Place
-place_of connection reads_only silent = record { connection = connection; reads_only = reads_only; silent = silent }
+abbrev place_of : ConnectionView → (reads_only : Bool) → (silent age : ℕ) → Place
+place_of connection reads_only silent age = record { connection = connection; reads_only = reads_only; silent = silent; age = age }
 
 -- the connection at a place has a turn
 pub has_turn : {S : Type 0} (answers : S → Op → Result Reply AskError → S → Type 0) (slab : Slab Place) (place : ℕ) (is_closing : Bool) (after : TurnEnd) (p q : Place) (s t : S)
     → get slab place ≡ Some p → Turn turn_rounds (PortAnswer answers p.reads_only) after (told is_closing p.connection) q.connection s t
-    → q.reads_only ≡ p.reads_only → q.silent ≡ silent_after p.connection q.connection p.silent
+    → q.reads_only ≡ p.reads_only → q.silent ≡ silent_after p.connection q.connection p.silent → q.age ≡ age_after p.connection q.connection p.age
     → HadTurn answers place is_closing (Some after) (get slab) (get (with_value slab place q)) s t
-has_turn answers slab place is_closing after p q s t was turn reads silent =
+has_turn answers slab place is_closing after p q s t was turn reads silent age =
     let put = put_back slab place p q was in
-    let is : q ≡ place_of q.connection p.reads_only (silent_after p.connection q.connection p.silent) = ap (λ (b : Bool). place_of q.connection b q.silent) reads ∙ ap (place_of q.connection p.reads_only) silent in
+    let is : q ≡ place_of q.connection p.reads_only (silent_after p.connection q.connection p.silent) (age_after p.connection q.connection p.age) =
+    ap (λ (b : Bool). place_of q.connection b q.silent q.age) reads ∙ (ap (λ (n : ℕ). place_of q.connection p.reads_only n q.age) silent
+    ∙ ap (place_of q.connection p.reads_only (silent_after p.connection q.connection p.silent)) age) in
     record { before = p; behind = q.connection; was = was; is = put.changed ∙ ap Some is; does = turn; others = put.others }
 
 -- or its last turn
 pub has_last_turn : {S : Type 0} (answers : S → Op → Result Reply AskError → S → Type 0) (slab : Slab Place) (place : ℕ) (end : Result ℕ FrontError) (p : Place) (c : ConnectionView) (s t : AtPort S)
     → get slab place ≡ Some p → s.reads_only ≡ p.reads_only → LastTurn (AtItsPort answers) end p.connection c s t
-    → HadLastTurn answers place (Some end) (get slab) (get (with_value slab place (record { connection = c; reads_only = p.reads_only; silent = p.silent }))) s.ask t.ask
+    → HadLastTurn answers place (Some end) (get slab) (get (with_value slab place (record { connection = c; reads_only = p.reads_only; silent = p.silent; age = p.age }))) s.ask t.ask
 has_last_turn answers slab place end p c s t was at last =
-    let put = put_back slab place p (record { connection = c; reads_only = p.reads_only; silent = p.silent }) was in
+    let put = put_back slab place p (record { connection = c; reads_only = p.reads_only; silent = p.silent; age = p.age }) was in
     record { before = p; behind = c; was = was; is = put.changed; does = (last.0, turn_behind answers last_rounds last.0 (ended p.connection) c p.reads_only s t at last.1, last.2); others = put.others }
 
 -- ---- turns and ends as steps
@@ -102,7 +105,7 @@ module _ {S : Type 0} (answers : S → Op → Result Reply AskError → S → Ty
       → Serves answers limits (λ steps. steps ≡ Turns place ready after ∷ []) old new s t
   had_turn place is_closing ready found after old new s t is closes h waits kept =
       serves_quietly answers limits (λ steps. steps ≡ Turns place ready after ∷ []) (Turns place ready after) old new s t refl
-      (h.before, record { connection = h.behind; reads_only = h.before.reads_only; silent = silent_after h.before.connection h.behind h.before.silent }, h.was, h.is, told_so, refl, refl, h.others) waits refl kept tt
+      (h.before, record { connection = h.behind; reads_only = h.before.reads_only; silent = silent_after h.before.connection h.behind h.before.silent; age = age_after h.before.connection h.behind h.before.age }, h.was, h.is, told_so, refl, refl, refl, h.others) waits refl kept tt
     where
       told_so : Turn turn_rounds (PortAnswer answers h.before.reads_only) after (told (closing_of ready) h.before.connection) h.behind s t
       told_so =
@@ -130,7 +133,7 @@ module _ {S : Type 0} (answers : S → Op → Result Reply AskError → S → Ty
       (λ xs ys line p q. is_turn place ready (Over end) (old.places place) h.before (xs ++ ys) h.was (ap (λ (l : List Step). l ++ ys) p ∙ ap (λ (l : List Step). turn ++ l) q))
       (had_turn place is_closing ready found (Over end) old mid s t is closes h waits kept)
       (serves_one answers limits (λ steps. steps ≡ close) (Closes place end) mid new t t refl
-      (record { connection = h.behind; reads_only = h.before.reads_only; silent = silent_after h.before.connection h.behind h.before.silent }, h.is, ends, left, others, refl) leaves notes tt)
+      (record { connection = h.behind; reads_only = h.before.reads_only; silent = silent_after h.before.connection h.behind h.before.silent; age = age_after h.before.connection h.behind h.before.age }, h.is, ends, left, others, refl) leaves notes tt)
     where
       ends : StopsFor end h.behind
       ends = (subst (λ a. Turn turn_rounds (PortAnswer answers h.before.reads_only) a (told is_closing h.before.connection) h.behind s t) is h.does).why
@@ -148,46 +151,52 @@ module _ {S : Type 0} (answers : S → Op → Result Reply AskError → S → Ty
   still_anywhere p q s a = (a.0, refl)
 
   -- clients may be judged in any run
-  judged_anywhere : (place : ℕ) (steps : List Step) (p q : Places) (s : S) → Judges place steps → TakesAll Asks steps (p, tt) (q, tt) → TakesAll answers steps (p, s) (q, s)
-  judged_anywhere place steps p q s (inl spared) a =
+  judged_anywhere : (oldest place : ℕ) (steps : List Step) (p q : Places) (s : S) → Judges oldest place steps → TakesAll Asks steps (p, tt) (q, tt) → TakesAll answers steps (p, s) (q, s)
+  judged_anywhere oldest place steps p q s (inl spared) a =
       subst (λ (l : List Step). TakesAll Asks l (p, tt) (q, tt) → TakesAll answers l (p, s) (q, s)) (sym spared.1)
       (λ b. ((b.0.0, s), (b.1.0, b.1.1, refl), still_anywhere b.0.0 q s b.2)) a
-  judged_anywhere place steps p q s (inr given_up) a =
+  judged_anywhere oldest place steps p q s (inr (inl given_up)) a =
       subst (λ (l : List Step). TakesAll Asks l (p, tt) (q, tt) → TakesAll answers l (p, s) (q, s)) (sym given_up.2)
       (λ b. ((b.0.0, s), (b.1.0, b.1.1, b.1.2, b.1.3, b.1.4, b.1.5, refl), still_anywhere b.0.0 q s b.2)) a
+  judged_anywhere oldest place steps p q s (inr (inr expired)) a =
+      subst (λ (l : List Step). TakesAll Asks l (p, tt) (q, tt) → TakesAll answers l (p, s) (q, s)) (sym expired.1)
+      (λ b. ((b.0.0, s), (b.1.0, b.1.1, b.1.2, refl), still_anywhere b.0.0 q s b.2)) a
 
-  judges : (place : ℕ) (old new : Work) (s : S) → Serves Asks limits (Judges place) old new tt tt → Serves answers limits (Judges place) old new s s
-  judges place old new s j =
-      record { steps = j.steps; are = j.are; takes = judged_anywhere place j.steps old.places new.places s j.are j.takes; waits = j.waits; notes = j.notes; limited = j.limited }
+  judges : (oldest place : ℕ) (old new : Work) (s : S) → Serves Asks limits (Judges oldest place) old new tt tt → Serves answers limits (Judges oldest place) old new s s
+  judges oldest place old new s j =
+      record { steps = j.steps; are = j.are; takes = judged_anywhere oldest place j.steps old.places new.places s j.are j.takes; waits = j.waits; notes = j.notes; limited = j.limited }
 
   -- A tick is counted, and so many places have been judged since.
-  abbrev pub TicksTo : (places place : ℕ) → List Step → Type 0
-  TicksTo places place steps = (judged : List Step) × (steps ≡ Ticks places ∷ judged) × JudgesAll place judged
+  abbrev pub TicksTo : (places oldest place : ℕ) → List Step → Type 0
+  TicksTo places oldest place steps = (moments : ℕ) × (most : ℕ) × (judged : List Step) × (steps ≡ Ticks places moments most oldest ∷ judged) × JudgesAll oldest place judged
 
   -- a tick is counted
-  pub ticks_serve : (places : ℕ) (old new : Work) (s : S) → AllTick old.places new.places → ((place : ℕ) → places ≤ place → old.places place ≡ None) → new.waiting ≡ old.waiting → new.kept ≡ old.kept
-      → Serves answers limits (TicksTo places 0) old new s s
-  ticks_serve places old new s ticks beyond waits kept =
-      serves_quietly answers limits (TicksTo places 0) (Ticks places) old new s s ([], refl, refl) (ticks, beyond, refl) waits refl kept tt
+  pub ticks_serve : (places oldest : ℕ) (old new : Work) (s : S) → AllTick old.places new.places → ((place : ℕ) → places ≤ place → old.places place ≡ None)
+      → IsOldest new.places limits.patience.moments 0 limits.patience.reply_ticks oldest → new.waiting ≡ old.waiting → new.kept ≡ old.kept
+      → Serves answers limits (TicksTo places oldest 0) old new s s
+  ticks_serve places oldest old new s ticks beyond is waits kept =
+      let moments = limits.patience.moments in
+      let most = limits.patience.reply_ticks in
+      serves_quietly answers limits (TicksTo places oldest 0) (Ticks places moments most oldest) old new s s (moments, most, [], refl, refl) (ticks, beyond, is, refl) waits refl kept (refl, refl)
 
   -- one place more is judged
-  pub ticks_more : (places place : ℕ) (a b c d : Work) (s t u : S) → Serves answers limits (TicksTo places place) a b s t → Serves answers limits (TriesWrite place) b c t u
-      → Serves Asks limits (Judges place) c d tt tt → Serves answers limits (TicksTo places (place + 1)) a d s u
-  ticks_more places place a b c d s t u before tries judged =
-      serves_then answers limits (TicksTo places place) Both (TicksTo places (place + 1)) a b d s t u
-      (λ xs ys waits p q. (p.0 ++ ys, ap (λ (l : List Step). l ++ ys) p.1, subst (λ (n : ℕ). JudgesAll n (p.0 ++ ys)) next (p.0, q.0, q.1, ap (λ (l : List Step). p.0 ++ l) q.2, p.2, q.3, q.4))) before
-      (serves_then answers limits (TriesWrite place) (Judges place) Both b c d t u u (λ xs ys waits p q. (xs, ys, refl, p, q)) tries (judges place c d u judged))
+  pub ticks_more : (places oldest place : ℕ) (a b c d : Work) (s t u : S) → Serves answers limits (TicksTo places oldest place) a b s t → Serves answers limits (TriesWrite place) b c t u
+      → Serves Asks limits (Judges oldest place) c d tt tt → Serves answers limits (TicksTo places oldest (place + 1)) a d s u
+  ticks_more places oldest place a b c d s t u before tries judged =
+      serves_then answers limits (TicksTo places oldest place) Both (TicksTo places oldest (place + 1)) a b d s t u
+      (λ xs ys waits p q. (p.0, p.1, p.2 ++ ys, ap (λ (l : List Step). l ++ ys) p.3, subst (λ (n : ℕ). JudgesAll oldest n (p.2 ++ ys)) next (p.2, q.0, q.1, ap (λ (l : List Step). p.2 ++ l) q.2, p.4, q.3, q.4)))
+      before (serves_then answers limits (TriesWrite place) (Judges oldest place) Both b c d t u u (λ xs ys waits p q. (xs, ys, refl, p, q)) tries (judges oldest place c d u judged))
     where
       next : suc place ≡ place + 1
       next = omega arith
 
       Both : List Step → Type 0
-      Both steps = (write : List Step) × (judge : List Step) × (steps ≡ write ++ judge) × TriesWrite place write × Judges place judge
+      Both steps = (write : List Step) × (judge : List Step) × (steps ≡ write ++ judge) × TriesWrite place write × Judges oldest place judge
 
-  pub ticks_follow : (places place : ℕ) (old new : Work) (s t : S) → place ≡ places → Serves answers limits (TicksTo places place) old new s t → Serves answers limits (Follows HasTicked) old new s t
-  ticks_follow places place old new s t all done =
-      serves_as answers limits (TicksTo places place) (Follows HasTicked)
-      (λ steps p. (places, p.0, p.1, subst (λ (n : ℕ). JudgesAll n p.0) all p.2)) old new s t done
+  pub ticks_follow : (places oldest place : ℕ) (old new : Work) (s t : S) → place ≡ places → Serves answers limits (TicksTo places oldest place) old new s t → Serves answers limits (Follows HasTicked) old new s t
+  ticks_follow places oldest place old new s t all done =
+      serves_as answers limits (TicksTo places oldest place) (Follows HasTicked)
+      (λ steps p. (places, p.0, p.1, oldest, p.2, p.3, subst (λ (n : ℕ). JudgesAll oldest n p.2) all p.4)) old new s t done
 
   -- no write is tried where no reply waits
   pub skips_write : (place : ℕ) (old : Work) (s : S) → HasNoReplies (old.places place) → Serves answers limits (TriesWrite place) old old s s
@@ -205,10 +214,10 @@ module _ {S : Type 0} (answers : S → Op → Result Reply AskError → S → Ty
 
   -- a free place is taken
   pub take_serves : (place : ℕ) (may : StreamLimits) (left held : Option (List ℕ)) (reads_only : Bool) (old new : Work) (s : S) → old.places place ≡ None
-      → new.places place ≡ Some (record { connection = opened limits.turns may left held; reads_only = reads_only; silent = 0 }) → OthersStay place old.places new.places
-      → new.waiting ≡ old.waiting ++ place ∷ [] → new.kept ≡ old.kept → Serves answers limits (Follows (NewClient place (opened limits.turns may left held) reads_only)) old new s s
+      → new.places place ≡ Some (record { connection = opened reads_only limits.turns may left held; reads_only = reads_only; silent = 0; age = 0 }) → OthersStay place old.places new.places
+      → new.waiting ≡ old.waiting ++ place ∷ [] → new.kept ≡ old.kept → Serves answers limits (Follows (NewClient place (opened reads_only limits.turns may left held) reads_only)) old new s s
   take_serves place may left held reads_only old new s free taken others waits kept =
-      let start = opened limits.turns may left held in
+      let start = opened reads_only limits.turns may left held in
       serves_quietly answers limits (Follows (NewClient place start reads_only)) (Opens place start reads_only) old new s s refl (free, taken, others, refl) waits refl kept (may, left, held, refl)
 
   pub by_news : (h k : News) (old new : Work) (s t : S) → k ≡ h → Serves answers limits (Follows h) old new s t → Serves answers limits (Follows k) old new s t
@@ -235,16 +244,24 @@ first_served places (first ∷ others) place steps are_there some is turn =
 
 module _ (limits : Limits) where
   -- a client is spared
-  pub spares : (place : ℕ) (old : Work) → IsSpared limits.most_silent (old.places place) → Serves Asks limits (Judges place) old old tt tt
-  spares place old spared =
-      serves_quietly Asks limits (Judges place) (Spares place limits.most_silent) old old tt tt (inl (limits.most_silent, refl)) (spared, all_stay old.places, refl) refl refl refl refl
+  pub spares : (oldest place : ℕ) (old : Work) → IsHeard limits.patience.most_silent (old.places place) → IsTimely oldest (old.places place) → Serves Asks limits (Judges oldest place) old old tt tt
+  spares oldest place old heard timely =
+      serves_quietly Asks limits (Judges oldest place) (Spares place limits.patience.most_silent oldest) old old tt tt (inl (limits.patience.most_silent, refl))
+      ((heard, timely), all_stay old.places, refl) refl refl refl refl
 
-  -- or given up
-  pub gives_up : (place : ℕ) (error : FrontError) (old new : Work) (p : Place) → old.places place ≡ Some p → Owes (Some error) p.connection → limits.most_silent ≤ p.silent
+  -- or given up for its silence
+  pub gives_up : (oldest place : ℕ) (error : FrontError) (old new : Work) (p : Place) → old.places place ≡ Some p → Owes (Some error) p.connection → limits.patience.most_silent ≤ p.silent
       → new.places place ≡ None → OthersStay place old.places new.places → new.waiting ≡ without place old.waiting → Notes (front_end (Err error) ∷ []) old.kept new.kept
-      → Serves Asks limits (Judges place) old new tt tt
-  gives_up place error old new p was owes long left others leaves notes =
-      serves_one Asks limits (Judges place) (GivesUp place p.silent error) old new tt tt (inr (p.silent, error, refl)) (p, was, owes, refl, left, others, refl) leaves notes long
+      → Serves Asks limits (Judges oldest place) old new tt tt
+  gives_up oldest place error old new p was owes long left others leaves notes =
+      serves_one Asks limits (Judges oldest place) (GivesUp place p.silent error) old new tt tt (inr (inl (p.silent, error, refl))) (p, was, owes, refl, left, others, refl) leaves notes long
+
+  -- or since it holds a reply that is too old
+  pub expires : (oldest place age : ℕ) (old new : Work) → HoldsReply age (old.places place) → oldest ≤ age
+      → new.places place ≡ None → OthersStay place old.places new.places → new.waiting ≡ without place old.waiting → Notes (front_end (Err WriteFault) ∷ []) old.kept new.kept
+      → Serves Asks limits (Judges oldest place) old new tt tt
+  expires oldest place age old new held long left others leaves notes =
+      serves_one Asks limits (Judges oldest place) (Expires place age) old new tt tt (inr (inr (age, refl, long))) (held, left, others, refl) leaves notes tt
 
 -- ---- places one after the other
 

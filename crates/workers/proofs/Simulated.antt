@@ -1,6 +1,6 @@
 -- Sessions over one state are sessions over what is seen of it.
 use Rattle.std.proofs.Common.{◌≡◌, List, [], ◌∷◌, sym, ap, subst, inl, inr}
-use Rattle.std.specs.Prelude.{ℕ, Option, Result, Ok, Err}
+use Rattle.std.specs.Prelude.{ℕ, Option, Result, Ok, Err, Bool, true, false}
 use Rattle.map_core.specs.declared.op.Op.{Op}
 use Rattle.map_core.specs.declared.reply.Reply.{Reply}
 use Rattle.map_core.specs.declared.reply.AskError.{AskError}
@@ -10,7 +10,8 @@ use Rattle.wire.specs.declared.judge.Judged.{Judged}
 use Rattle.wire.specs.declared.judge.Judged.TheVariants.{Ask, SetVersion, TellCounts}
 use Rattle.wire.specs.declared.refusal.Refusal.{Refusal}
 use Rattle.wire.specs.Judge.{request_of}
-use Rattle.frame_front.specs.Session.{SessionState, AnswersRequest, Answers, AnswersAll}
+use Rattle.frame_front.specs.Session.{SessionState, AnswersRequest, AnswersUnless, Answers, AnswersAll}
+use Rattle.frame_front.specs.Terms.{is_turned_away}
 use Rattle.workers.specs.declared.sessions.ListenFault.{ListenFault}
 use Rattle.workers.specs.declared.ended.SessionFault.{SessionFault}
 use Rattle.workers.specs.declared.session.Session.{Session}
@@ -28,14 +29,18 @@ module _ {S T : Type 0} (answers : S → Op → Result Reply AskError → S → 
   request_seen : (r : Result Judged Refusal) (old : SessionState S) (text : List ℕ) (new : SessionState S) → Stays old.1
       → AnswersRequest answers r old text new → Stays new.1 × AnswersRequest answers_seen r (seen_state old) text (seen_state new)
   request_seen (Err refusal) old text new stays a = let s = same_seen old new stays a.1 in (s.0, (a.0, s.1))
-  request_seen (Ok (SetVersion version)) old text new stays a = let s = same_seen (version, old.1) new stays a.1 in (s.0, (a.0, s.1))
+  request_seen (Ok (SetVersion version)) old text new stays a = let s = same_seen (record old.0 { version = version }, old.1) new stays a.1 in (s.0, (a.0, s.1))
   request_seen (Ok TellCounts) old text new stays a = let s = same_seen old new stays a.3 in (s.0, (a.0, a.1, a.2, s.1))
   request_seen (Ok (Ask op)) old text new stays a = let s = each old.1 op a.0 new.1 stays a.1 in (s.0, (a.0, s.1, a.2, a.3))
 
   answer_seen : (old : SessionState S) (payload text : List ℕ) (new : SessionState S) → Stays old.1
       → Answers answers old payload text new → Stays new.1 × Answers answers_seen (seen_state old) payload text (seen_state new)
-  answer_seen old payload text new stays (inl a) = let s = request_seen (request_of old.0 payload) old text new stays a in (s.0, inl s.1)
-  answer_seen old payload text new stays (inr a) = let s = same_seen old new stays a.1 in (s.0, inr (a.0, s.1))
+  answer_seen old payload text new stays a = unless (is_turned_away old.0.reads_only payload) a
+    where
+      unless : (away : Bool) → AnswersUnless answers away old payload text new → Stays new.1 × AnswersUnless answers_seen away (seen_state old) payload text (seen_state new)
+      unless true a = let s = same_seen old new stays a.1 in (s.0, (a.0, s.1))
+      unless false (inl a) = let s = request_seen (request_of old.0.version payload) old text new stays a in (s.0, inl s.1)
+      unless false (inr a) = let s = same_seen old new stays a.1 in (s.0, inr (a.0, s.1))
 
   all_seen : (old : SessionState S) (payloads texts : List (List ℕ)) (new : SessionState S) → Stays old.1
       → AnswersAll answers old payloads texts new → Stays new.1 × AnswersAll answers_seen (seen_state old) payloads texts (seen_state new)
@@ -62,7 +67,7 @@ module _ {S T : Type 0} (answers : S → Op → Result Reply AskError → S → 
             transcript = record {
               read = t.read;
               written = t.written;
-              version = t.version;
+              terms = t.terms;
               consumes = t.consumes;
               appends = t.appends;
               session = record {

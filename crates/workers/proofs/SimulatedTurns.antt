@@ -8,7 +8,8 @@ use Rattle.wire.specs.declared.judge.Judged.{Judged}
 use Rattle.wire.specs.declared.judge.Judged.TheVariants.{Ask, SetVersion, TellCounts}
 use Rattle.wire.specs.declared.refusal.Refusal.{Refusal}
 use Rattle.wire.specs.Judge.{request_of}
-use Rattle.frame_front.specs.Session.{SessionState, AnswersRequest, Answers, AnswersAll}
+use Rattle.frame_front.specs.Session.{SessionState, AnswersRequest, AnswersUnless, Answers, AnswersAll}
+use Rattle.frame_front.specs.Terms.{is_turned_away}
 use Rattle.workers.specs.Ended.{EndsView}
 use Rattle.frame_front.specs.Live.{LiveView}
 use Rattle.frame_front.specs.LiveCalls.{LiveCall, Does, DoesAll, Feed, Answer, Send}
@@ -17,7 +18,8 @@ use Rattle.map_core.specs.Op.{is_read}
 use Rattle.workers.specs.AtPort.{PortAnswer}
 use Rattle.workers.specs.Connection.{ConnectionView, Turn, turn_rounds, last_rounds}
 use Rattle.workers.specs.declared.turn_end.TurnEnd.{TurnEnd}
-use Rattle.workers.specs.Places.{Places, Step, Opens, Turns, Misses, Ticks, Skips, Spares, Closes, GivesUp, Ends, Fails, Takes, TakesAll, ServedAll, nobody}
+use Rattle.workers.specs.declared.limits.Patience.{Patience}
+use Rattle.workers.specs.Places.{Places, Step, Opens, Turns, Misses, Ticks, Skips, Spares, Closes, GivesUp, Expires, Ends, Fails, Takes, TakesAll, ServedAll, nobody}
 
 module _ {S T : Type 0} (answers : S → Op → Result Reply AskError → S → Type 0) (answers_seen : T → Op → Result Reply AskError → T → Type 0)
     (seen : S → T) (Stays : S → Type 0)
@@ -31,14 +33,18 @@ module _ {S T : Type 0} (answers : S → Op → Result Reply AskError → S → 
   request_seen : (r : Result Judged Refusal) (old : SessionState S) (text : List ℕ) (new : SessionState S) → Stays old.1
       → AnswersRequest answers r old text new → Stays new.1 × AnswersRequest answers_seen r (seen_state old) text (seen_state new)
   request_seen (Err refusal) old text new stays a = let s = same_seen old new stays a.1 in (s.0, (a.0, s.1))
-  request_seen (Ok (SetVersion version)) old text new stays a = let s = same_seen (version, old.1) new stays a.1 in (s.0, (a.0, s.1))
+  request_seen (Ok (SetVersion version)) old text new stays a = let s = same_seen (record old.0 { version = version }, old.1) new stays a.1 in (s.0, (a.0, s.1))
   request_seen (Ok TellCounts) old text new stays a = let s = same_seen old new stays a.3 in (s.0, (a.0, a.1, a.2, s.1))
   request_seen (Ok (Ask op)) old text new stays a = let s = each old.1 op a.0 new.1 stays a.1 in (s.0, (a.0, s.1, a.2, a.3))
 
   answer_seen : (old : SessionState S) (payload text : List ℕ) (new : SessionState S) → Stays old.1
       → Answers answers old payload text new → Stays new.1 × Answers answers_seen (seen_state old) payload text (seen_state new)
-  answer_seen old payload text new stays (inl a) = let s = request_seen (request_of old.0 payload) old text new stays a in (s.0, inl s.1)
-  answer_seen old payload text new stays (inr a) = let s = same_seen old new stays a.1 in (s.0, inr (a.0, s.1))
+  answer_seen old payload text new stays a = unless (is_turned_away old.0.reads_only payload) a
+    where
+      unless : (away : Bool) → AnswersUnless answers away old payload text new → Stays new.1 × AnswersUnless answers_seen away (seen_state old) payload text (seen_state new)
+      unless true a = let s = same_seen old new stays a.1 in (s.0, (a.0, s.1))
+      unless false (inl a) = let s = request_seen (request_of old.0.version payload) old text new stays a in (s.0, inl s.1)
+      unless false (inr a) = let s = same_seen old new stays a.1 in (s.0, inr (a.0, s.1))
 
   all_seen : (old : SessionState S) (payloads texts : List (List ℕ)) (new : SessionState S) → Stays old.1
       → AnswersAll answers old payloads texts new → Stays new.1 × AnswersAll answers_seen (seen_state old) payloads texts (seen_state new)
@@ -64,6 +70,7 @@ module _ {S T : Type 0} (answers : S → Op → Result Reply AskError → S → 
           waits = d.waits;
           few = d.few;
           counted = d.counted;
+          bytes = d.bytes;
           stops = d.stops;
         },
       )
@@ -92,6 +99,7 @@ module _ {S T : Type 0} (answers : S → Op → Result Reply AskError → S → 
           makes = t.makes;
           answered = t.answered;
           share = t.share;
+          judges = t.judges;
           may = t.may;
           closing = t.closing;
           loses = t.loses;
@@ -127,13 +135,14 @@ module _ {S T : Type 0} (answers : S → Op → Result Reply AskError → S → 
   step_seen (Opens place start reads_only) old new stays a = (subst Stays (sym a.3) stays, (a.0, a.1, a.2, ap seen a.3))
   step_seen (Turns place ready after) old new stays a =
       let t = port_turn_seen turn_rounds a.0.reads_only after _ a.1.connection old.1 new.1 stays a.4 in
-      (t.0, (a.0, a.1, a.2, a.3, t.1, a.5, a.6, a.7))
+      (t.0, (a.0, a.1, a.2, a.3, t.1, a.5, a.6, a.7, a.8))
   step_seen (Misses place is_closing) old new stays a = (subst Stays (sym a.2) stays, (a.0, a.1, ap seen a.2))
-  step_seen (Ticks places) old new stays a = (subst Stays (sym a.2) stays, (a.0, a.1, ap seen a.2))
+  step_seen (Ticks places moments most oldest) old new stays a = (subst Stays (sym a.3) stays, (a.0, a.1, a.2, ap seen a.3))
   step_seen (Skips place) old new stays a = (subst Stays (sym a.2) stays, (a.0, a.1, ap seen a.2))
-  step_seen (Spares place most) old new stays a = (subst Stays (sym a.2) stays, (a.0, a.1, ap seen a.2))
+  step_seen (Spares place most oldest) old new stays a = (subst Stays (sym a.2) stays, (a.0, a.1, ap seen a.2))
   step_seen (Closes place result) old new stays a = (subst Stays (sym a.5) stays, (a.0, a.1, a.2, a.3, a.4, ap seen a.5))
   step_seen (GivesUp place ticks error) old new stays a = (subst Stays (sym a.6) stays, (a.0, a.1, a.2, a.3, a.4, a.5, ap seen a.6))
+  step_seen (Expires place age) old new stays a = (subst Stays (sym a.3) stays, (a.0, a.1, a.2, ap seen a.3))
   step_seen (Ends place result) old new stays a =
       let t = port_turn_seen last_rounds a.0.reads_only a.3.0 _ a.1 old.1 new.1 stays a.3.1 in
       (t.0, (a.0, a.1, a.2, (a.3.0, t.1, a.3.2), a.4, a.5))
@@ -148,8 +157,8 @@ module _ {S T : Type 0} (answers : S → Op → Result Reply AskError → S → 
       (rest.0, ((a.0.0, seen a.0.1), one.1, rest.1))
 
   -- sessions over one state are sessions over what is seen of it, by the same steps
-  pub sessions_seen : (most_silent turns : ℕ) (kept : EndsView) (old new : S) → Stays old → (a : ServedAll answers most_silent turns kept old new)
-      → Stays new × ((b : ServedAll answers_seen most_silent turns kept (seen old) (seen new)) × (b.news ≡ a.news))
-  sessions_seen most_silent turns kept old new stays a =
+  pub sessions_seen : (patience : Patience) (turns : ℕ) (kept : EndsView) (old new : S) → Stays old → (a : ServedAll answers patience turns kept old new)
+      → Stays new × ((b : ServedAll answers_seen patience turns kept (seen old) (seen new)) × (b.news ≡ a.news))
+  sessions_seen patience turns kept old new stays a =
       let all = steps_seen (a.before ++ a.last) (nobody, old) (nobody, new) stays a.takes in
       (all.0, (record { news = a.news; before = a.before; last = a.last; follows = a.follows; ending = a.ending; takes = all.1; ends = a.ends; limited = a.limited }, refl))

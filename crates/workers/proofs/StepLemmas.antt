@@ -7,7 +7,7 @@ use Rattle.std.proofs.lemmas.List.Sums.{fold-append}
 use Rattle.map_core.specs.declared.op.Op.{Op}
 use Rattle.map_core.specs.declared.reply.Reply.{Reply}
 use Rattle.map_core.specs.declared.reply.AskError.{AskError}
-use Rattle.workers.specs.Places.{Places, Step, Opens, Turns, Misses, Ticks, Skips, Spares, Closes, GivesUp, Ends, Fails, GoesSoFar, HasNoReplies, IsSpared, OthersStay, AllStay, Takes, TakesAll, told_all, told_by, ticked, waiting_after}
+use Rattle.workers.specs.Places.{Places, Step, Opens, Turns, Misses, Ticks, Skips, Spares, Closes, GivesUp, Expires, Ends, Fails, GoesSoFar, HasNoReplies, HoldsReply, IsSpared, OthersStay, AllStay, Takes, TakesAll, told_all, told_by, ticked, waiting_after}
 use Rattle.workers.specs.Private.Serving.{Serves, Work}
 use Rattle.workers.specs.declared.limits.Limits.{Limits}
 use Rattle.workers.specs.Ended.{EndsView, Notes, kept_of}
@@ -39,13 +39,14 @@ module _ {S : Type 0} (answers : S → Op → Result Reply AskError → S → Ty
   -- places that are the same are left in the same way
   step_from : (step : Step) (old also : Places) (s : S) (new : Places × S) → AllStay old also → Takes answers step (old, s) new → Takes answers step (also, s) new
   step_from (Opens place start reads_only) old also s new same a = (same place ∙ a.0, a.1, λ other else. a.2 other else ∙ sym (same other), a.3)
-  step_from (Turns place ready after) old also s new same a = (a.0, a.1, same place ∙ a.2, a.3, a.4, a.5, a.6, λ other else. a.7 other else ∙ sym (same other))
+  step_from (Turns place ready after) old also s new same a = (a.0, a.1, same place ∙ a.2, a.3, a.4, a.5, a.6, a.7, λ other else. a.8 other else ∙ sym (same other))
   step_from (Misses place is_closing) old also s new same a = (same place ∙ a.0, λ other. a.1 other ∙ sym (same other), a.2)
-  step_from (Ticks places) old also s new same a = (λ place. a.0 place ∙ ap ticked (sym (same place)), λ place far. same place ∙ a.1 place far, a.2)
+  step_from (Ticks places moments most oldest) old also s new same a = (λ place. a.0 place ∙ ap ticked (sym (same place)), λ place far. same place ∙ a.1 place far, a.2, a.3)
   step_from (Skips place) old also s new same a = (subst HasNoReplies (sym (same place)) a.0, λ other. a.1 other ∙ sym (same other), a.2)
-  step_from (Spares place most) old also s new same a = (subst (IsSpared most) (sym (same place)) a.0, λ other. a.1 other ∙ sym (same other), a.2)
+  step_from (Spares place most oldest) old also s new same a = (subst (IsSpared most oldest) (sym (same place)) a.0, λ other. a.1 other ∙ sym (same other), a.2)
   step_from (Closes place result) old also s new same a = (a.0, same place ∙ a.1, a.2, a.3, λ other else. a.4 other else ∙ sym (same other), a.5)
   step_from (GivesUp place ticks error) old also s new same a = (a.0, same place ∙ a.1, a.2, a.3, a.4, λ other else. a.5 other else ∙ sym (same other), a.6)
+  step_from (Expires place age) old also s new same a = (subst (HoldsReply age) (sym (same place)) a.0, a.1, λ other else. a.2 other else ∙ sym (same other), a.3)
   step_from (Ends place result) old also s new same a = (a.0, a.1, same place ∙ a.2, a.3, a.4, λ other else. a.5 other else ∙ sym (same other))
   step_from Fails old also s new same a = (λ place. a.0 place ∙ sym (same place), a.1)
 
@@ -78,7 +79,7 @@ module _ {S : Type 0} (answers : S → Op → Result Reply AskError → S → Ty
 
   -- one step
   pub serves_one : (Are : List Step → Type 0) (step : Step) (old new : Work) (s t : S) → Are (step ∷ []) → Takes answers step (old.places, s) (new.places, t)
-      → new.waiting ≡ waiting_after old.waiting step → Notes (told_by step) old.kept new.kept → GoesSoFar limits.most_silent limits.turns step → Serves answers limits Are old new s t
+      → new.waiting ≡ waiting_after old.waiting step → Notes (told_by step) old.kept new.kept → GoesSoFar limits.patience limits.turns step → Serves answers limits Are old new s t
   serves_one Are step old new s t are a waits notes limited = record {
     steps = step ∷ [];
     are = are;
@@ -90,7 +91,7 @@ module _ {S : Type 0} (answers : S → Op → Result Reply AskError → S → Ty
 
   -- one step that ends no session
   pub serves_quietly : (Are : List Step → Type 0) (step : Step) (old new : Work) (s t : S) → Are (step ∷ []) → Takes answers step (old.places, s) (new.places, t)
-      → new.waiting ≡ waiting_after old.waiting step → told_by step ≡ [] → new.kept ≡ old.kept → GoesSoFar limits.most_silent limits.turns step → Serves answers limits Are old new s t
+      → new.waiting ≡ waiting_after old.waiting step → told_by step ≡ [] → new.kept ≡ old.kept → GoesSoFar limits.patience limits.turns step → Serves answers limits Are old new s t
   serves_quietly Are step old new s t are a waits none kept limited =
       serves_one Are step old new s t are a waits
       (subst (λ (n : EndsView). Notes (told_by step) old.kept n) (sym kept) (notes_by [] (told_by step) old.kept old.kept (sym none) (notes_none old.kept))) limited
@@ -104,7 +105,7 @@ module _ {S : Type 0} (answers : S → Op → Result Reply AskError → S → Ty
     takes = steps_then answers p.steps q.steps (a.places, s) (b.places, t) (c.places, u) p.takes q.takes;
     waits = q.waits ∙ (ap (λ w. fold waiting_after w q.steps) p.waits ∙ sym (fold-append waiting_after a.waiting p.steps q.steps));
     notes = notes_then p.steps q.steps a.kept b.kept c.kept p.notes q.notes;
-    limited = all_then (GoesSoFar limits.most_silent limits.turns) p.steps q.steps p.limited q.limited;
+    limited = all_then (GoesSoFar limits.patience limits.turns) p.steps q.steps p.limited q.limited;
   }
 
   -- of some kind, and so of another

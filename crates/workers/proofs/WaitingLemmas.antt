@@ -10,7 +10,7 @@ use Rattle.map_core.specs.declared.reply.AskError.{AskError}
 use Rattle.workers.specs.declared.turn_end.TurnEnd.{TurnEnd}
 use Rattle.workers.specs.declared.turn_end.TurnEnd.TheVariants.{Waits, Again, Over}
 use Rattle.workers.specs.Arrivals.{News}
-use Rattle.workers.specs.Places.{Place, Places, Step, Opens, Turns, Misses, Ticks, Skips, Spares, Closes, GivesUp, Ends, Fails, Follows, FollowsAll, OthersStay, ServesFirst, Takes, TakesAll, ticked, waiting_after, without}
+use Rattle.workers.specs.Places.{Place, Places, Step, Opens, Turns, Misses, Ticks, Skips, Spares, Closes, GivesUp, Expires, Ends, Fails, Follows, FollowsAll, OthersStay, ServesFirst, Takes, TakesAll, ticked, waiting_after, without}
 use Rattle.workers.specs.Private.Serving.{AreOpen, Serves, Work}
 use Rattle.workers.specs.declared.limits.Limits.{Limits}
 use Rattle.workers.proofs.StepLemmas.{all_then, serves_then}
@@ -60,17 +60,18 @@ module _ {S : Type 0} (answers : S → Op → Result Reply AskError → S → Ty
   step_open (Opens place start reads_only) old new a waiting are_there =
       let here = some_there (new.0 place) _ a.1 in
       all_then (λ other. IsSome (new.0 other)) waiting (place ∷ []) (all_so (λ other. IsSome (old.0 other)) (λ other. IsSome (new.0 other)) (stay_open place old.0 new.0 here a.2) waiting are_there) (here, tt)
-  step_open (Turns place ready after) old new a waiting are_there = turn_open place ready after old.0 new.0 (some_there (new.0 place) a.1 a.3) a.7 waiting are_there
+  step_open (Turns place ready after) old new a waiting are_there = turn_open place ready after old.0 new.0 (some_there (new.0 place) a.1 a.3) a.8 waiting are_there
   step_open (Misses place is_closing) old new a waiting are_there =
       all_so (λ other. IsSome (old.0 other)) (λ other. IsSome (new.0 other)) (λ other there. subst IsSome (sym (a.1 other)) there) waiting are_there
   step_open (Skips place) old new a waiting are_there =
       all_so (λ other. IsSome (old.0 other)) (λ other. IsSome (new.0 other)) (λ other there. subst IsSome (sym (a.1 other)) there) waiting are_there
-  step_open (Spares place most) old new a waiting are_there =
+  step_open (Spares place most oldest) old new a waiting are_there =
       all_so (λ other. IsSome (old.0 other)) (λ other. IsSome (new.0 other)) (λ other there. subst IsSome (sym (a.1 other)) there) waiting are_there
-  step_open (Ticks places) old new a waiting are_there =
+  step_open (Ticks places moments most oldest) old new a waiting are_there =
       all_so (λ other. IsSome (old.0 other)) (λ other. IsSome (new.0 other)) (λ other there. subst IsSome (sym (a.0 other)) (ticked_open (old.0 other) there)) waiting are_there
   step_open (Closes place result) old new a waiting are_there = left_open place old.0 new.0 a.4 waiting are_there
   step_open (GivesUp place ticks error) old new a waiting are_there = left_open place old.0 new.0 a.5 waiting are_there
+  step_open (Expires place age) old new a waiting are_there = left_open place old.0 new.0 a.2 waiting are_there
   step_open (Ends place result) old new a waiting are_there = left_open place old.0 new.0 a.5 waiting are_there
   step_open Fails old new a waiting are_there =
       all_so (λ other. IsSome (old.0 other)) (λ other. IsSome (new.0 other)) (λ other there. subst IsSome (sym (a.0 other)) there) waiting are_there

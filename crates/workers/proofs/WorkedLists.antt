@@ -1,6 +1,6 @@
 -- Lists of passes and of what workers gave back.
 use Rattle.std.proofs.Common.{◌≡◌, ℕ, zero, suc, ◌+◌, ◌<◌, List, [], ◌∷◌, ◌++◌, Bool, length, get_or, map, All, subst, arith, sym, ap, ◌∙◌, refl}
-use Rattle.std.specs.Prelude.{Result, Ok, Err, IfOk}
+use Rattle.std.specs.Prelude.{Bool, Result, Ok, Err, IfOk}
 use Rattle.std.specs.List.{flat_map}
 use Rattle.workers.specs.Closing.{ranges_of}
 use Rattle.std.proofs.lemmas.List.{get_or-map, length-map, map_push}
@@ -12,6 +12,7 @@ use Rattle.workers.specs.Private.Numbers.{AreNumbered}
 use Rattle.shard_store.specs.Pass.{StoreView, PassView, IsOf}
 use Rattle.workers.specs.declared.lasting.Task.{Task}
 use Rattle.workers.specs.declared.ended.Worked.{Worked}
+use Rattle.workers.specs.declared.limits.Patience.{Patience}
 
 pub nil_if : {X : Type 0} (xs : List X) → length xs ≡ 0 → xs ≡ []
 nil_if [] e = refl
@@ -44,28 +45,28 @@ pass_in_place {S} store workers passes same own i x l is =
     let at : get_or passes i x.pass ≡ x.pass = ap (λ (ps : List PassView). get_or ps i x.pass) (sym same) ∙ (get_or-map pass_of workers i x x.pass l ∙ ap pass_of (sym is)) in
     subst (λ (p : PassView). IsOf p store) at (own i x.pass (omega arith))
 
-module _ (opens : ℕ → ℕ → Bool → Type 0) (most_silent turns : ℕ) (store : StoreView) where
+module _ (opens : ℕ → ℕ → Bool → Type 0) (patience : Patience) (turns : ℕ) (store : StoreView) where
   -- what holds at each place holds of the two lists
   all_from_places : (first : ℕ) (passes : List PassView) (all : List Worked) → length all ≡ length passes
-      → ((i : ℕ) (p : PassView) (w : Worked) → i < length passes → HasServed opens most_silent turns store (first + i) (get_or passes i p) (get_or all i w))
-      → AllServed opens most_silent turns store first passes all
+      → ((i : ℕ) (p : PassView) (w : Worked) → i < length passes → HasServed opens patience turns store (first + i) (get_or passes i p) (get_or all i w))
+      → AllServed opens patience turns store first passes all
   all_from_places first [] [] long each = tt
   all_from_places first [] (w ∷ all) long each = absurd (omega arith)
   all_from_places first (p ∷ passes) [] long each = absurd (omega arith)
   all_from_places first (p ∷ passes) (w ∷ all) long each = (
-    subst (λ (n : ℕ). HasServed opens most_silent turns store n p w) (omega arith) (each 0 p w (omega arith)),
+    subst (λ (n : ℕ). HasServed opens patience turns store n p w) (omega arith) (each 0 p w (omega arith)),
     all_from_places (suc first) passes all (omega arith)
-        (λ i q v l. subst (λ (n : ℕ). HasServed opens most_silent turns store n (get_or passes i q) (get_or all i v)) (omega arith) (each (suc i) q v (omega arith))),
+        (λ i q v l. subst (λ (n : ℕ). HasServed opens patience turns store n (get_or passes i q) (get_or all i v)) (omega arith) (each (suc i) q v (omega arith))),
   )
 
   -- what was given in each place was worked for the pass in that place, under that number, and follows what came there
-  pub followed_in_place : {E V F : Type 0} (start : E → ConnectionView) (comes : V → ℕ → Arrival E → V → Type 0) (workers : List (Task V)) (passes : List PassView) (arrivals : List V)
+  pub followed_in_place : {E V F : Type 0} (start : Bool → E → ConnectionView) (comes : V → ℕ → Arrival E → V → Type 0) (workers : List (Task V)) (passes : List PassView) (arrivals : List V)
       (given : List (Result Worked F)) (all : List Worked)
       → map (λ (w : Task V). w.pass) workers ≡ passes → map (λ (w : Task V). w.arrivals) workers ≡ arrivals → AreNumbered 0 (map (λ (w : Task V). w.number) workers)
       → map Ok all ≡ given → length given ≡ length workers
       → ((i : ℕ) (r : Result Worked F) → i < length workers
-      → (job : Task V) × (job ≡ get_or workers i job) × IfOk (get_or given i r) (λ w. HasFollowed opens most_silent turns start comes store job.number job.pass job.arrivals w))
-      → AllFollowed opens most_silent turns start comes store passes arrivals all
+      → (job : Task V) × (job ≡ get_or workers i job) × IfOk (get_or given i r) (λ w. HasFollowed opens patience turns start comes store job.number job.pass job.arrivals w))
+      → AllFollowed opens patience turns start comes store passes arrivals all
   followed_in_place {E} {V} {F} start comes workers passes arrivals given all same same_arrivals numbered gave long each =
       let pass_of : Task V → PassView = λ w. w.pass in
       let arrivals_of : Task V → V = λ w. w.arrivals in
@@ -84,19 +85,19 @@ module _ (opens : ℕ → ℕ → Bool → Type 0) (most_silent turns : ℕ) (st
       ∙ number_in_place 0 (map number_of workers) i e.0.number numbered (omega (arith, length-map workers number_of)) in
       let number_is : e.0.number ≡ i = omega (arith, number_first) in
       let gave_is : get_or given i (Ok w) ≡ Ok (get_or all i w) = ap (λ (gs : List (Result Worked F)). get_or gs i (Ok w)) (sym gave) ∙ get_or-map Ok all i w (Ok w) in_all in
-      subst (λ (n : ℕ). HasFollowed opens most_silent turns start comes store n (get_or passes i p) (get_or arrivals i v) (get_or all i w)) number_is
-      (subst (λ (q : PassView). HasFollowed opens most_silent turns start comes store e.0.number q (get_or arrivals i v) (get_or all i w)) (sym pass_is)
-      (subst (λ (u : V). HasFollowed opens most_silent turns start comes store e.0.number e.0.pass u (get_or all i w)) (sym arrivals_is)
-      (subst (λ (r : Result Worked F). IfOk r (λ x. HasFollowed opens most_silent turns start comes store e.0.number e.0.pass e.0.arrivals x)) gave_is e.2)))
+      subst (λ (n : ℕ). HasFollowed opens patience turns start comes store n (get_or passes i p) (get_or arrivals i v) (get_or all i w)) number_is
+      (subst (λ (q : PassView). HasFollowed opens patience turns start comes store e.0.number q (get_or arrivals i v) (get_or all i w)) (sym pass_is)
+      (subst (λ (u : V). HasFollowed opens patience turns start comes store e.0.number e.0.pass u (get_or all i w)) (sym arrivals_is)
+      (subst (λ (r : Result Worked F). IfOk r (λ x. HasFollowed opens patience turns start comes store e.0.number e.0.pass e.0.arrivals x)) gave_is e.2)))
 
   -- who has followed all has served
-  pub served_in_place : {E V : Type 0} (start : E → ConnectionView) (comes : V → ℕ → Arrival E → V → Type 0) (passes : List PassView) (arrivals : List V) (all : List Worked)
-      → length all ≡ length passes → ((i : ℕ) → Worked → i < length passes → V) → AllFollowed opens most_silent turns start comes store passes arrivals all → AllServed opens most_silent turns store 0 passes all
+  pub served_in_place : {E V : Type 0} (start : Bool → E → ConnectionView) (comes : V → ℕ → Arrival E → V → Type 0) (passes : List PassView) (arrivals : List V) (all : List Worked)
+      → length all ≡ length passes → ((i : ℕ) → Worked → i < length passes → V) → AllFollowed opens patience turns start comes store passes arrivals all → AllServed opens patience turns store 0 passes all
   served_in_place start comes passes arrivals all long some each =
-      all_from_places 0 passes all long (λ i p w l. subst (λ (n : ℕ). HasServed opens most_silent turns store n (get_or passes i p) (get_or all i w)) (omega arith) (each i p (some i w l) w l).0)
+      all_from_places 0 passes all long (λ i p w l. subst (λ (n : ℕ). HasServed opens patience turns store n (get_or passes i p) (get_or all i w)) (omega arith) (each i p (some i w l) w l).0)
 
   -- their passes have the numbers that they had
-  pub ranges_same : (first : ℕ) (passes : List PassView) (all : List Worked) → AllServed opens most_silent turns store first passes all
+  pub ranges_same : (first : ℕ) (passes : List PassView) (all : List Worked) → AllServed opens patience turns store first passes all
       → flat_map (λ (w : Worked). w.pass.seen.ranges) all ≡ ranges_of passes
   ranges_same first [] [] h = refl
   ranges_same first [] (w ∷ all) h = absurd h
@@ -105,14 +106,14 @@ module _ (opens : ℕ → ℕ → Bool → Type 0) (most_silent turns : ℕ) (st
       ap (λ (r : List (ℕ × ℕ)). r ++ flat_map (λ (v : Worked). v.pass.seen.ranges) all) h.0.further.0
       ∙ ap (λ (r : List (ℕ × ℕ)). p.seen.ranges ++ r) (ranges_same (suc first) passes all h.1)
 
-  pub all_long : (first : ℕ) (passes : List PassView) (all : List Worked) → AllServed opens most_silent turns store first passes all → length all ≡ length passes
+  pub all_long : (first : ℕ) (passes : List PassView) (all : List Worked) → AllServed opens patience turns store first passes all → length all ≡ length passes
   all_long first [] [] h = refl
   all_long first [] (w ∷ all) h = absurd h
   all_long first (p ∷ passes) [] h = absurd h
   all_long first (p ∷ passes) (w ∷ all) h = ap suc (all_long (suc first) passes all h.1)
 
   -- all passes come from the store
-  pub all_own : (first : ℕ) (passes : List PassView) (all : List Worked) → AllServed opens most_silent turns store first passes all → All (λ w. IsOf w.pass store) all
+  pub all_own : (first : ℕ) (passes : List PassView) (all : List Worked) → AllServed opens patience turns store first passes all → All (λ w. IsOf w.pass store) all
   all_own first [] [] h = λ k d l. absurd (omega arith)
   all_own first [] (w ∷ all) h = absurd h
   all_own first (p ∷ passes) [] h = absurd h

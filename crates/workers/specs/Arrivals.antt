@@ -19,10 +19,10 @@ pub data News : Type 0 where
   IsQuiet : News
   IsToStop : News
 
-module _ {E : Type 0} (start : E → ConnectionView) where
+module _ {E : Type 0} (start : Bool → E → ConnectionView) where
   -- what came after a place was told to be free, as news
   abbrev pub news_in : ℕ → Arrival E → News
-  news_in free (Opens end reads_only) = NewClient free (start end) reads_only
+  news_in free (Opens end reads_only) = NewClient free (start reads_only end) reads_only
   news_in free (Ready place is_closing) = IsReady place is_closing
   news_in free Tick = HasTicked
   news_in free Nothing = IsQuiet
@@ -35,7 +35,7 @@ ComesAll comes [] old new = new ≡ old
 ComesAll {E} {V} comes (both ∷ more) old new = (mid : V) × comes old both.0 both.1 mid × ComesAll comes more mid new
 
 -- A source has brought this news, in this order.
-pub record Brings {E V : Type 0} (start : E → ConnectionView) (comes : V → ℕ → Arrival E → V → Type 0) (news : List News) (old new : V) : Type 0 where
+pub record Brings {E V : Type 0} (start : Bool → E → ConnectionView) (comes : V → ℕ → Arrival E → V → Type 0) (news : List News) (old new : V) : Type 0 where
   pub arrivals : List (ℕ × Arrival E)
   pub came : ComesAll comes arrivals old new
   pub all : map (λ both. news_in start both.0 both.1) arrivals ≡ news

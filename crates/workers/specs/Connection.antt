@@ -8,8 +8,8 @@ use Rattle.wire.specs.declared.error.FrontError.{FrontError}
 use Rattle.wire.specs.declared.error.FrontError.TheVariants.{BadLength, Truncated, ReadFault, WriteFault, TurnsUsed, Memory}
 use Rattle.wire.specs.Frame.{IsUnfinished, IsBadLength}
 use Rattle.wire.specs.Decoder.{BeginsWithFrame}
-use Rattle.frame_front.specs.Live.{LiveView, live_start, most_frames, reply_limit, waiting}
-use Rattle.frame_front.specs.LiveCalls.{LiveCall, Feed, DoesAll, fed, sent, frames_of}
+use Rattle.frame_front.specs.Live.{LiveView, live_start, most_frames, most_kept, reply_limit, waiting}
+use Rattle.frame_front.specs.LiveCalls.{LiveCall, Feed, DoesAll, fed, sent, frames_of, frame_bytes_of}
 use Rattle.workers.specs.Stream.{StreamLimits}
 use Rattle.workers.specs.Reads.{reads_for, reads_of}
 use Rattle.workers.specs.declared.turn_end.TurnEnd.{TurnEnd}
@@ -30,10 +30,10 @@ pub record ConnectionView : Type 0 where
   pub left : Option (List ℕ)
   pub held : Option (List ℕ)
 
--- a new connection over a stream, which may make so many reads
-abbrev pub opened : (turns : ℕ) → StreamLimits → (left held : Option (List ℕ)) → ConnectionView
-opened turns may left held = record {
-  live = live_start;
+-- a new connection over a stream, for reads only or for all, which may make so many reads
+abbrev pub opened : (reads_only : Bool) (turns : ℕ) → StreamLimits → (left held : Option (List ℕ)) → ConnectionView
+opened reads_only turns may left held = record {
+  live = live_start reads_only;
   answered = 0;
   written = 0;
   turns = turns;
@@ -61,6 +61,10 @@ counted n = min n (2 ^ 64 - 1)
 -- A turn has so many rounds. In each no more frames are answered than one call of the session answers.
 abbrev pub turn_rounds : ℕ
 turn_rounds = 8
+
+-- Once the frames that it has answered have so many bytes, a turn ends too.
+abbrev pub turn_bytes : ℕ
+turn_bytes = 131072
 
 -- the last turn is longer
 abbrev pub last_rounds : ℕ
@@ -118,10 +122,11 @@ StopsFor (Err WriteFault) new = (new.live.ready ≢ []) × (new.may.write_fails 
 StopsFor (Err TurnsUsed) new = IsUnfinished new.live.kept × AllSent new × (new.has_ended ≡ false) × (new.turns ≡ 0)
 StopsFor (Err Memory) new = (new.live.later ≢ []) ⊎ (new.has_lost ≡ true)
 
--- why a turn of so many rounds ends, in which these calls were made
+-- Why a turn of so many rounds ends, in which these calls were made. It has more to do then if it had its share of rounds or, unless its
+-- input has ended, of bytes.
 abbrev pub EndsFor : ℕ → TurnEnd → List LiveCall → ConnectionView → Type 0
 EndsFor rounds Waits calls new = WaitsFor (EndsShort calls) new
-EndsFor rounds Again calls new = HadShare rounds calls
+EndsFor rounds Again calls new = HadShare rounds calls ⊎ ((turn_bytes ≤ frame_bytes_of calls) × (new.has_ended ≡ false))
 EndsFor rounds (Over result) calls new = StopsFor result new
 
 -- What a client owes: the rest of a frame, or that it takes replies. It owes nothing if no reply is ready, and nothing is kept
@@ -145,6 +150,10 @@ got_on old new = if has_bytes old.live.ready then not (new.written == old.writte
 abbrev pub silent_after : (old new : ConnectionView) → ℕ → ℕ
 silent_after old new silent = if got_on old new then 0 else silent
 
+-- How old the last reply of a client is after a turn: how many ticks have passed since a frame of it was answered last.
+abbrev pub age_after : (old new : ConnectionView) → ℕ → ℕ
+age_after old new age = if new.answered == old.answered then age else 0
+
 -- bytes are lost only if some were read that reached no session
 abbrev pub LosesOnly : List ℕ → ConnectionView → ConnectionView → Type 0
 LosesOnly lost old new = new.has_lost ≡ true → (old.has_lost ≡ true) ⊎ (0 < length lost)
@@ -167,6 +176,7 @@ pub record Turn (rounds : ℕ) {S : Type 0} (answers : S → Op → Result Reply
   pub makes : MakesReads (reads_of calls + reads_for lost) old new
   pub answered : new.answered ≡ counted (old.answered + frames_of calls)
   pub share : frames_of calls ≤ rounds * most_frames
+  pub judges : old.has_ended ≡ false → frame_bytes_of calls < turn_bytes + most_kept
   pub may : new.may ≡ old.may
   pub closing : new.is_closing ≡ old.is_closing
   pub loses : IsLost result lost

@@ -7,14 +7,20 @@ use std::alloc::Global;
 
 /// Whoever is asked behind a port, and may take note of what the port refuses.
 pub trait BehindPort: Ask {
-    /// The port is for reads only, and this operation came to it. It is not asked.
+    /// The port is for reads only, and this operation came to it. It is not asked. (A session that may only read turns a change
+    /// away before that; so no operation comes here from one.)
     fn refused_at_port(&self, _op: &Op) {}
+
+    /// So many changes were turned away by their letter in a session at a port for reads only.
+    fn turned_away_at_port(&self, _count: u64) {}
 }
 
 impl BehindPort for Contents {}
 
 /// A map that is asked at a port. At a port for reads only, gets and fetch-alls are answered by the map behind it; to each
-/// other operation the answer is that the gate is shut (number 56), and the map behind it is not asked, but told.
+/// other operation the answer is that the gate is shut (number 56), and the map behind it is not asked, but told. This is a
+/// second wall: the sessions of such a port turn changes away themselves, so that they cost no document. What a reader can
+/// change rests on neither alone.
 #[derive(Drop)]
 pub struct AtPort<A> {
     pub ask: A,
@@ -28,6 +34,16 @@ impl<A> AtPort<A> {
         ensures reads_only { result.reads_only ≡ reads_only }
     {
         AtPort { ask, reads_only }
+    }
+}
+
+impl<A: BehindPort> AtPort<A> {
+    /// Tells the map behind it how many changes its sessions have turned away, if some were.
+    pub(crate) fn tell_turned_away(&self, before: u64, after: u64) {
+        let count = after.saturating_sub(before);
+        if count > 0 {
+            self.ask.turned_away_at_port(count);
+        }
     }
 }
 

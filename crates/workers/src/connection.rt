@@ -1,5 +1,5 @@
 //! A stream that never waits, and the session that it carries.
-ghost use Rattle.std.specs.Prelude.{◌≡◌, ◌<◌, [], true, IfOk};
+ghost use Rattle.std.specs.Prelude.{◌≡◌, ◌≢◌, ◌<◌, ◌⊎◌, [], true, false, IfOk};
 ghost use Rattle.wire.specs.Frame.{IsUnfinished};
 ghost use Rattle.frame_front.specs.Live.{waiting};
 ghost use Rattle.workers.specs.Connection.{IsLost, LastTurn, Owes, has_bytes, StopsFor, Turn, ended, opened, told, turn_rounds};
@@ -19,6 +19,10 @@ use wire::FrontError;
 /// How often a connection may read in one turn.
 const TURN_ROUNDS: u64 = 8;
 
+/// How many bytes the frames have that a turn answers, unless the last of them goes beyond. A document may take 0.2 seconds of
+/// a processor for each MiB.
+const TURN_BYTES: usize = 131_072;
+
 /// How often replies may be written in the last turn.
 const LAST_ROUNDS: u64 = 64;
 
@@ -35,6 +39,8 @@ pub struct Connection<E: Stream + Drop> {
     has_lost: bool,
     /// Whether the client is known to have closed its side: then reads are to go on to the end.
     is_closing: bool,
+    /// How many changes were turned away, as a figure for a log. It stays at 2^64 - 1 once there.
+    turned_away: u64,
 }
 
 impl<E: Stream + Drop> Model for Connection<E> {
@@ -58,18 +64,25 @@ impl<E: Stream + Drop> Model for Connection<E> {
 }
 
 impl<E: Stream + Drop> Connection<E> {
-    /// Nothing has come yet. The connection may make so many reads; `u64::MAX` is as good as no limit. A read counts if it
-    /// gives bytes: one that would have to wait does not count, since a stream may be told to be ready and have nothing.
-    pub fn new(alloc: Global, end: E, turns: u64) -> Result<Connection<E>, AllocError>
-        ensures { IfOk result (λ new. new ≡ opened turns (E.may end) (E.left end) (E.held end)) }
+    /// Nothing has come yet. A connection for reads only turns changes away by their letter (`LiveSession::new`). It may make so
+    /// many reads; `u64::MAX` is as good as no limit. A read counts if it gives bytes: one that would have to wait does not
+    /// count, since a stream may be told to be ready and have nothing.
+    pub fn new(
+        alloc: Global,
+        end: E,
+        reads_only: bool,
+        turns: u64,
+    ) -> Result<Connection<E>, AllocError>
+        ensures { IfOk result (λ new. new ≡ opened reads_only turns (E.may end) (E.left end) (E.held end)) }
     {
         Ok(Connection {
             end: Limited::new(end, turns),
-            live: LiveSession::new(alloc)?,
+            live: LiveSession::new(alloc, reads_only)?,
             answered: 0,
             has_ended: false,
             has_lost: false,
             is_closing: false,
+            turned_away: 0,
         })
     }
 
@@ -93,6 +106,14 @@ impl<E: Stream + Drop> Connection<E> {
         !self.live.replies().is_empty()
     }
 
+    /// Whether a part of the last reply is not stored yet: what the reply is made of is held until then.
+    pub(crate) fn has_more(&self) -> bool
+        ensures some { result ≡ true → self.now.live.later ≢ [] }
+        ensures none { result ≡ false → self.now.live.later ≡ [] }
+    {
+        self.live.has_more()
+    }
+
     /// Whether the client has begun a frame that is not answered.
     pub(crate) fn has_begun(&self) -> bool
         ensures { result ≡ has_bytes self.now.live.kept }
@@ -108,6 +129,11 @@ impl<E: Stream + Drop> Connection<E> {
         ensures { result ≡ self.now.answered }
     {
         self.answered
+    }
+
+    /// How many changes were turned away.
+    pub(crate) fn turned_away(&self) -> u64 {
+        self.turned_away
     }
 
     /// How many bytes of replies were written.
@@ -171,7 +197,15 @@ impl<E: Stream + Drop> Connection<E> {
         }
     }
 
-    /// A turn of so many rounds. Each answers what has come, writes the replies, and reads once, unless it ends the turn.
+    /// Whether a turn has had its share, of which so many bytes are left. One whose input has ended never has.
+    fn has_had_share(&self, left: usize) -> bool
+        ensures yes { result ≡ true → (self.now.has_ended ≡ false) × (left ≡ 0) }
+        ensures no { result ≡ false → (self.now.has_ended ≡ true) ⊎ (0 < left) }
+    {
+        left == 0 && !self.has_ended
+    }
+
+    /// A turn of so many rounds. It ends sooner once it has answered its share of bytes. Each round answers what has come, writes the replies, and reads once, unless it ends the turn.
     fn go<A: Ask>(
         &mut self,
         documents: &mut DocumentReader,
@@ -184,10 +218,16 @@ impl<E: Stream + Drop> Connection<E> {
     {
         let mut rounds = 0;
         let mut has_left = false;
+        let mut left = TURN_BYTES;
         while rounds < most {
+            if self.has_had_share(left) {
+                return TurnEnd::Again;
+            }
             rounds += 1;
             let answered = self.live.answer(documents, ask);
+            left = left.saturating_sub(answered.bytes);
             self.answered = self.answered.saturating_add(answered.frames);
+            self.turned_away = self.turned_away.saturating_add(answered.turned_away);
             match self.end.write_replies(&mut self.live) {
                 Ok(true) => {}
                 Ok(false) => return TurnEnd::Waits,
@@ -206,7 +246,7 @@ impl<E: Stream + Drop> Connection<E> {
     }
 
     /// Answers what has come and what comes now, in order, until the stream has no more or takes no more, the session is
-    /// over, or the connection has had its share: 8 reads. A short read is the last of the turn. One exception: the client
+    /// over, or the connection has had its share: 8 reads, or frames of 131,072 bytes. A short read is the last of the turn. One exception: the client
     /// is closing (`is_closing`); then we read until the stream says so. Once the connection has made all reads that it
     /// may, what they gave is answered, the replies are written, and the session ends with `TurnsUsed`. The connections of
     /// one thread can share the room for reading, and the reader of documents.

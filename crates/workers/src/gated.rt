@@ -95,4 +95,8 @@ impl<A: BehindPort, G: Gate> BehindPort for Gated<'_, A, G> {
     fn refused_at_port(&self, op: &Op) {
         self.ask.refused_at_port(op);
     }
+
+    fn turned_away_at_port(&self, count: u64) {
+        self.ask.turned_away_at_port(count);
+    }
 }

@@ -33,7 +33,7 @@ fn work<H: Clock, V: Arrivals + Drop, G: Gate, L: Log + Copy>(
     task: Task<V>,
 ) -> Result<Worked, AllocError>
     requires own { IsOf task.pass store.now }
-    ensures { IfOk result (λ worked. HasFollowed (G.opens gate.now) common.now.limits.most_silent common.now.limits.turns (λ end. opened common.now.limits.turns (V.End.may end) (V.End.left end) (V.End.held end)) V.comes store.now task.number task.pass task.arrivals worked) }
+    ensures { IfOk result (λ worked. HasFollowed (G.opens gate.now) common.now.limits.patience common.now.limits.turns (λ reads_only end. opened reads_only common.now.limits.turns (V.End.may end) (V.End.left end) (V.End.held end)) V.comes store.now task.number task.pass task.arrivals worked) }
 {
     let Task {
         number,
@@ -137,13 +137,13 @@ pub fn run_arrivals<
 ) -> Result<Vec<Worked>, AllocError>
     requires same { vec_len passes ≡ vec_len arrivals }
     requires own { All (λ pass. IsOf pass store.now) passes.items }
-    ensures served { IfOk result (λ all. AllServed (G.opens gate.now) common.now.limits.most_silent common.now.limits.turns store.now 0 passes.items all.items) }
-    ensures followed { IfOk result (λ all. AllFollowed (G.opens gate.now) common.now.limits.most_silent common.now.limits.turns (λ end. opened common.now.limits.turns (V.End.may end) (V.End.left end) (V.End.held end)) V.comes store.now passes.items arrivals.items all.items) }
+    ensures served { IfOk result (λ all. AllServed (G.opens gate.now) common.now.limits.patience common.now.limits.turns store.now 0 passes.items all.items) }
+    ensures followed { IfOk result (λ all. AllFollowed (G.opens gate.now) common.now.limits.patience common.now.limits.turns (λ reads_only end. opened reads_only common.now.limits.turns (V.End.may end) (V.End.left end) (V.End.held end)) V.comes store.now passes.items arrivals.items all.items) }
 {
     let tasks = tasks_of(common.alloc, passes, arrivals)?;
     let run = |task: Task<V>| -> Result<Worked, AllocError>
         requires { IsOf task.pass store.now }
-        ensures { IfOk result (λ worked. HasFollowed (G.opens gate.entry.now) common.entry.now.limits.most_silent common.entry.now.limits.turns (λ end. opened common.entry.now.limits.turns (V.End.may end) (V.End.left end) (V.End.held end)) V.comes store.entry.now task.number task.pass task.arrivals worked) }
+        ensures { IfOk result (λ worked. HasFollowed (G.opens gate.entry.now) common.entry.now.limits.patience common.entry.now.limits.turns (λ reads_only end. opened reads_only common.entry.now.limits.turns (V.End.may end) (V.End.left end) (V.End.held end)) V.comes store.entry.now task.number task.pass task.arrivals worked) }
     { work(common, store, gate, task) };
     let given = thread::map_vec(common.rt, tasks, &run)?;
     all_worked(common.alloc, given)

@@ -41,6 +41,13 @@ pub struct RefusedChange<'a> {
     pub refusal: ChangeRefusal,
 }
 
+/// The client of a session, as a log knows it: by a number that no other client has, and by its port, if it has one.
+#[derive(Clone, Copy, Debug, PartialEq, Eq)]
+pub struct Client {
+    pub number: u64,
+    pub peer: Option<u16>,
+}
+
 /// What takes note of changes and of the ends of sessions. A log that can be copied may be told by many workers: each tells
 /// a copy of its own, and all copies may take note in one place.
 pub trait Log: Drop {
@@ -61,14 +68,23 @@ pub trait Log: Drop {
     fn changed(&mut self, worker: u64, change: &Changed<'_>)
         ensures { tells self.old worker (change_view change.now) self.new };
 
-    /// A session of the worker has begun.
-    fn began(&self, _worker: u64) {}
+    /// A session of the worker has begun. The answer is the number of its client; a log that numbers none answers 0.
+    fn began(&self, _worker: u64) -> u64 {
+        0
+    }
 
-    /// A session of the worker ended so, or none came. Its client had the port `peer`, if it had one.
-    fn ended(&self, worker: u64, end: &Result<u64, SessionFault>, peer: Option<u16>);
+    /// The worker turns to this client: what it changes and is refused from now on is of it.
+    fn serves(&self, _worker: u64, _client: Client) {}
+
+    /// A session of the worker with this client ended so; or none came.
+    fn ended(&self, worker: u64, end: &Result<u64, SessionFault>, client: Option<Client>);
 
     /// The worker was asked for a change that was refused so.
     fn refused(&self, _worker: u64, _refused: &RefusedChange<'_>) {}
+
+    /// Sessions of the worker at a port for reads only have turned so many changes more away (56), by their letter: nobody has read
+    /// of which names.
+    fn turned_away(&self, _worker: u64, _count: u64) {}
 
     /// A session of the worker has read so many bytes more. (Workers that wait in each client do not tell it.)
     fn read(&self, _worker: u64, _bytes: usize) {}
@@ -106,5 +122,5 @@ impl Log for Quiet {
 
     fn changed(&mut self, _worker: u64, _change: &Changed<'_>) {}
 
-    fn ended(&self, _worker: u64, _end: &Result<u64, SessionFault>, _peer: Option<u16>) {}
+    fn ended(&self, _worker: u64, _end: &Result<u64, SessionFault>, _client: Option<Client>) {}
 }

@@ -267,4 +267,8 @@ impl<C: Clock, L: Log> BehindPort for Logged<'_, C, L> {
             self.log.refused(self.worker, &refused);
         }
     }
+
+    fn turned_away_at_port(&self, count: u64) {
+        self.log.turned_away(self.worker, count);
+    }
 }

@@ -3,7 +3,7 @@ ghost use Rattle.std.specs.Prelude.{◌≡◌};
 ghost use Rattle.shard_store.specs.Pass.{IsOf};
 
 use crate::ended::SessionFault;
-use crate::log::Log;
+use crate::log::{Client, Log};
 use crate::logged::Logged;
 use map_core::Ask;
 use shard_store::{Pass, Seated, Store};
@@ -38,11 +38,16 @@ pub trait Seating {
         ensures own { IsOf result (seated seat).store }
         ensures seen { result.seen ≡ (seated seat).seen };
 
-    /// A session of the worker has begun.
-    fn began(&self, _worker: u64) {}
+    /// A session of the worker has begun. The answer is the number of its client, or 0 if clients have none.
+    fn began(&self, _worker: u64) -> u64 {
+        0
+    }
 
-    /// A session of the worker has ended so, or none came. Its client had the port `peer`, if it had one.
-    fn ended(&self, _worker: u64, _end: &Result<u64, SessionFault>, _peer: Option<u16>) {}
+    /// The worker turns to this client.
+    fn serves(&self, _worker: u64, _client: Client) {}
+
+    /// A session of the worker with this client has ended so; or none came.
+    fn ended(&self, _worker: u64, _end: &Result<u64, SessionFault>, _client: Option<Client>) {}
 
     // What a seat answers, the store answers to its pass.
     ghost answers_as_seated: { (old : Self.Seat) (op : Op) (answer : Result Reply AskError) (new : Self.Seat)
@@ -101,11 +106,15 @@ impl<'a, C: Clock + Sync, L: Log + Copy + Send + Sync> Seating for Patient<'a, C
         seat.into_pass()
     }
 
-    fn began(&self, worker: u64) {
-        self.log.began(worker);
+    fn began(&self, worker: u64) -> u64 {
+        self.log.began(worker)
     }
 
-    fn ended(&self, worker: u64, end: &Result<u64, SessionFault>, peer: Option<u16>) {
-        self.log.ended(worker, end, peer);
+    fn serves(&self, worker: u64, client: Client) {
+        self.log.serves(worker, client);
+    }
+
+    fn ended(&self, worker: u64, end: &Result<u64, SessionFault>, client: Option<Client>) {
+        self.log.ended(worker, end, client);
     }
 }

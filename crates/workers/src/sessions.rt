@@ -3,6 +3,7 @@ ghost use Rattle.std.specs.Prelude.{◌≡◌, ◌≤◌, IfOk};
 ghost use Rattle.workers.specs.Sessions.{Runs, ServedAll, session_end};
 
 use crate::ended::SessionFault;
+use crate::log::Client;
 use crate::seating::Seating;
 use crate::session::Session;
 use frame_front::serve;
@@ -125,10 +126,13 @@ pub(crate) fn serve_sessions<S: Sessions, A: Ask, P: Seating>(
     loop {
         match sessions.next() {
             Ok(Some(session)) => {
-                let peer = session.peer;
-                place.began(worker);
+                let client = Client {
+                    number: place.began(worker),
+                    peer: session.peer,
+                };
+                place.serves(worker, client);
                 let end = end_of(serve_session(alloc, sessions, session, ask));
-                place.ended(worker, &end, peer);
+                place.ended(worker, &end, Some(client));
                 results.push(end)?;
             }
             Ok(None) => return Ok(results),

@@ -12,14 +12,13 @@ ghost use Rattle.server.specs.Serving.{ServedBeside};
 use crate::serving::ports::{BoundPorts, ports_or_told};
 use crate::serving::waits::waits_of;
 use command_line::{Lasting, Places, Settings};
-use server::{Host, SavedFile, SetUp, Task, serve_at, tell_early};
+use server::{Host, SavedFile, ServerLog, SetUp, Task, serve_at, tell_early};
 use std::fs::Files;
 use std::io::{Read, Write};
 use std::net::{Net, TcpListener, TcpStream};
 use std::thread::Threads;
 use std::time::Clock;
 use wire::Counted;
-use workers::Log;
 
 /// Where a server listens, how it serves and over which store, which is set up; and in which file its last map is kept, if one
 /// is named.
@@ -39,7 +38,7 @@ pub fn serve_many<
     I: Read,
     W: Write,
     E: Write,
-    L: Log + Copy + Sync,
+    L: ServerLog + Copy + Sync,
 >(
     host: &Host<'_, H, L>,
     at: At<'_, H>,

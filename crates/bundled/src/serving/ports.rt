@@ -14,7 +14,7 @@ use std::alloc::Global;
 use std::fs::Files;
 use std::io;
 use std::io::Write;
-use std::net::{Ipv4Addr, Net, TcpListener, TcpStream};
+use std::net::{Ipv4Addr, Net, SocketAddr, TcpListener, TcpStream};
 use wire::Counted;
 
 /// What listens at one place, and the file of its socket, if it has one.
@@ -38,7 +38,7 @@ fn bind<'a, H: Files + Net<Listener = TcpListener, Stream = TcpStream>>(
 ) -> io::Result<Bound<'a, H>> {
     match place {
         Place::Port(port) => Ok(Bound {
-            listener: Listener::Port(TcpListener::bind(host, (Ipv4Addr::LOCALHOST, port))?),
+            listener: Listener::Port(bind_port(host, port)?),
             file: None,
         }),
         Place::Socket(path) => {
@@ -49,6 +49,15 @@ fn bind<'a, H: Files + Net<Listener = TcpListener, Stream = TcpStream>>(
             })
         }
     }
+}
+
+/// Listens at the port, where as many clients may wait to be accepted as the system allows. (At `std`'s own 128 may.)
+fn bind_port<H: Net>(host: &H, port: u16) -> io::Result<TcpListener> {
+    let address = SocketAddr::from((Ipv4Addr::LOCALHOST, port));
+    let listener = mio::net::TcpListener::bind(host, address)?;
+    let listener = TcpListener::from(listener);
+    listener.set_nonblocking(false)?;
+    Ok(listener)
 }
 
 /// Listens at the place; or tells the place with the error.

@@ -1,13 +1,14 @@
 //! Why a server does not begin, in words: what could not be had, where and why.
+use crate::reasons::{reason, why_unread};
 use crate::serving::socket_file::why_taken;
 use command_line::Place;
 use commands::Fault;
 use frame_front::DumpError;
 use std::alloc::Global;
-use std::fs::{File, Files};
-use std::io::{ErrorKind, Read};
+use std::fs::Files;
+use std::io;
+use std::io::ErrorKind;
 use std::net::Net;
-use std::{fs, io};
 use wire::FrontError;
 
 /// Why a server does not listen at a place.
@@ -40,20 +41,6 @@ impl NotBound<'_> {
     }
 }
 
-/// The usual reasons why a file cannot be had; `absent` is said if a part of its path is not there.
-fn reason(kind: ErrorKind, absent: &'static str) -> &'static str {
-    match kind {
-        ErrorKind::NotFound => absent,
-        ErrorKind::NotADirectory => "a part of the path is not a folder",
-        ErrorKind::PermissionDenied => "permission denied",
-        ErrorKind::IsADirectory => "it is a folder",
-        ErrorKind::ReadOnlyFilesystem => "the file system is read-only",
-        ErrorKind::StorageFull => "the disk is full",
-        ErrorKind::InvalidFilename => "the name is too long",
-        _ => "the system refuses it",
-    }
-}
-
 /// Why no dump can be written for the file, in words.
 pub fn not_written(alloc: Global, path: &str, error: &io::Error) -> Option<String> {
     let why = match error.kind() {
@@ -68,7 +55,8 @@ pub fn not_written(alloc: Global, path: &str, error: &io::Error) -> Option<Strin
 pub fn not_loaded<H: Files>(alloc: Global, host: &H, path: &str, fault: Fault) -> Option<String> {
     match fault {
         Fault::Front(FrontError::ReadFault) => {
-            let why = reason(why_unread(host, path), "no such file");
+            let kind = why_unread(host, path).unwrap_or(ErrorKind::Other);
+            let why = reason(kind, "no such file");
             format!(in alloc; "cannot read the dump \"{path}\": {why}").ok()
         }
         Fault::Dump(DumpError::BadDump(0)) => {
@@ -81,19 +69,4 @@ pub fn not_loaded<H: Files>(alloc: Global, host: &H, path: &str, fault: Fault) -
         }
         _ => None,
     }
-}
-
-/// The kind of the error with which the file is not read. It is read once more for that.
-fn why_unread<H: Files>(host: &H, path: &str) -> ErrorKind {
-    match read_some(host, path) {
-        Ok(()) => ErrorKind::Other,
-        Err(error) => error.kind(),
-    }
-}
-
-fn read_some<H: Files>(host: &H, path: &str) -> io::Result<()> {
-    let mut file = File::open(host, path)?;
-    let mut room = [0];
-    file.read(&mut room)?;
-    Ok(())
 }

@@ -16,7 +16,9 @@ use crate::serving::ports::{Bound, listener_or_told};
 use crate::serving::reasons::{not_loaded, not_written};
 use command_line::{Connections, Places, Settings};
 use commands::Fault;
-use server::{Host, InTurn, SavedFile, SetUp, save_fault, serve_on, set_up_of, tell_in_words};
+use server::{
+    Host, InTurn, SavedFile, ServerLog, SetUp, save_fault, serve_on, set_up_of, tell_in_words,
+};
 use std::alloc::Global;
 use std::fs::Files;
 use std::io::{Read, Write};
@@ -24,15 +26,15 @@ use std::net::{Net, TcpListener, TcpStream};
 use std::thread::Threads;
 use std::time::Clock;
 use wire::Counted;
-use workers::Log;
 
 /// What a server is asked for: where it listens; the file whose dump fills the store before, and the file in which the last
-/// map is kept, if they are named; and its settings.
+/// map is kept, if they are named; its settings, and whether it was said which connections it serves.
 #[derive(Clone, Copy, Debug)]
 pub struct Serving<'a> {
     pub places: Places<'a>,
     pub load: Option<&'a str>,
     pub save: Option<&'a str>,
+    pub says_connections: bool,
     pub settings: Settings,
 }
 
@@ -109,7 +111,7 @@ fn serve_in_turn<
     H: Files + Threads + Clock + Net<Listener = TcpListener, Stream = TcpStream> + Sync,
     W: Write,
     E: Write,
-    L: Log + Copy + Send + Sync,
+    L: ServerLog + Copy + Send + Sync,
 >(host: &Host<'_, H, L>, begun: Begun<'_, H>, out: &mut Counted<W>, err: &mut Counted<E>) -> u8
     requires count { faults_in err.old < 2 ^ 64 - 1 }
     requires workers { vec_len begun.set_up.passes ≡ begun.serving.settings.workers }
@@ -132,6 +134,7 @@ fn serve_in_turn<
     } = begun;
     let task = InTurn {
         listener: &listener,
+        says_connections: serving.says_connections,
         settings: serving.settings,
         set_up,
         keeper,
@@ -145,7 +148,7 @@ fn serve_as<
     I: Read,
     W: Write,
     E: Write,
-    L: Log + Copy + Send + Sync,
+    L: ServerLog + Copy + Send + Sync,
 >(
     host: &Host<'_, H, L>,
     begun: Begun<'_, H>,
@@ -188,7 +191,7 @@ pub fn serve_over<
     I: Read,
     W: Write,
     E: Write,
-    L: Log + Copy + Send + Sync,
+    L: ServerLog + Copy + Send + Sync,
 >(
     host: &Host<'_, H, L>,
     serving: Serving<'_>,

@@ -13,7 +13,9 @@ use Rattle.wire.specs.ReplyForm.{Reply, payload_of}
 use Rattle.wire.specs.declared.encoder.EncodeError.{EncodeError}
 use Rattle.wire.specs.declared.encoder.EncodeError.TheVariants as lines
 use Rattle.client.specs.Replies.{is_transient, is_refusal, bundles_after, reply_frames, shown, IsTold}
-use Rattle.client.specs.Asking.{Exchange, IsTransient, IsAnswered, Traffic, no_traffic, BreaksOff, IsBroken, HasDone, Ends, lines_of, is_refused, count_after}
+use Rattle.client.specs.Asking.{Exchange, IsTransient, IsAnswered, Traffic, no_traffic, BreaksOff, IsBroken, HasDone, Ends, lines_of, is_refused, count_after, letter_of}
+use Rattle.client.specs.declared.reply.Due.{Due}
+use Rattle.client.specs.declared.reply.Due.TheVariants.{AnswerTo, OneOfAll}
 use Rattle.client.specs.declared.asking.Asking.{Asking}
 use Rattle.client.specs.declared.asking.Form.{Form}
 use Rattle.client.specs.declared.fault.AskFault.{AskFault}
@@ -78,8 +80,8 @@ pub record TriesSoFar (retries left : ℕ) (request : List ℕ) (from_old from_n
 -- ---- what is shown
 
 -- a reply that may come there is shown
-pub record Shows (form : Form) (later : Bool) (reply : Reply) (refused : Bool) (bundles : ℕ) (out_old out_new : Option (List ℕ)) : Type 0 where
-  pub told : IsTold form later reply
+pub record Shows (form : Form) (due : Due) (reply : Reply) (refused : Bool) (bundles : ℕ) (out_old out_new : Option (List ℕ)) : Type 0 where
+  pub told : IsTold form due reply
   pub shows : Appends out_old out_new (shown form reply)
   pub refused_is : refused ≡ is_refusal reply
   pub bundles_is : bundles ≡ bundles_after reply
@@ -88,7 +90,7 @@ pub record Shows (form : Form) (later : Bool) (reply : Reply) (refused : Bool) (
 pub record AsksFirst (how : Asking) (request : List ℕ) (refused : Bool) (bundles : ℕ) (from_old from_new to_old to_new out_old out_new : Option (List ℕ)) : Type 0 where
   pub reply : Reply
   pub until : AsksUntilTold how.retries request reply from_old from_new to_old to_new
-  pub first : Shows how.form false reply refused bundles out_old out_new
+  pub first : Shows how.form (AnswerTo (letter_of request)) reply refused bundles out_old out_new
 
 -- a reply is not shown: it must not be, or the place failed
 abbrev pub NotShown : Form → Reply → Type 0 → AskFault → Option (List ℕ) → Option (List ℕ) → Type 0
@@ -100,7 +102,7 @@ NotShown form reply May fault out_old out_new =
 pub record ShowsOthers (form : Form) (count : ℕ) (from_old from_new out_old out_new : Option (List ℕ)) : Type 0 where
   pub others : List Reply
   pub long : length others ≡ count
-  pub each : AllByRecursion (IsTold form true) others
+  pub each : AllByRecursion (IsTold form OneOfAll) others
   pub tells : Consumes from_old from_new (reply_frames others)
   pub shows : Appends out_old out_new (flat_map (shown form) others)
 
@@ -111,11 +113,11 @@ pub record BreaksOthers (form : Form) (fault : AskFault) (count : ℕ) (from_old
   pub showed : List ℕ
   pub hidden : List ℕ
   pub few : length others ≤ count
-  pub each : AllByRecursion (IsTold form true) others
+  pub each : AllByRecursion (IsTold form OneOfAll) others
   pub split : flat_map (shown form) others ≡ showed ++ hidden
   pub tells : Consumes from_old from_new (reply_frames others ++ torn)
   pub shows : Appends out_old out_new showed
-  pub why : (first : Reply) → count ≡ bundles_after first → BreaksOff form fault (first ∷ others) torn [] hidden from_new
+  pub why : (request : List ℕ) (first : Reply) → count ≡ bundles_after first → BreaksOff form request fault (first ∷ others) torn [] hidden from_new
 
 -- ---- one line
 

@@ -1,5 +1,5 @@
 -- What is left to store of a reply.
-use Rattle.std.specs.Prelude.{◌≡◌, ◌⊎◌, ℕ, ◌+◌, ◌≤◌, List, [], ◌++◌, drop, length, Option, Some, None, Result, Bool, false}
+use Rattle.std.specs.Prelude.{◌≡◌, ℕ, ◌+◌, ◌≤◌, List, [], ◌++◌, drop, length, Option, Some, None, Result, Bool, false}
 use Rattle.std.specs.List.{flat_map}
 use Rattle.spiffe_doc.specs.Authority.{BundleValue}
 use Rattle.map_core.specs.Name.{Name}
@@ -8,11 +8,11 @@ use Rattle.map_core.specs.declared.reply.Reply.{Reply}
 use Rattle.map_core.specs.declared.reply.Reply.TheVariants.{Found}
 use Rattle.map_core.specs.declared.reply.AskError.{AskError}
 use Rattle.spiffe_doc.specs.Text.{text_of}
-use Rattle.wire.specs.Answers.{is_error_reply, item_frame, memory_frame, reply_frames}
+use Rattle.wire.specs.Answers.{is_error_reply, item_frame, reply_frames}
 use Rattle.wire.specs.declared.judge.Judged.{Judged}
 use Rattle.wire.specs.declared.refusal.Refusal.{Refusal}
 use Rattle.frame_front.specs.Live.{most_part}
-use Rattle.frame_front.specs.Session.{SessionState, AnswersRequest}
+use Rattle.frame_front.specs.Session.{SessionState, AnswersRead}
 use Rattle.frame_front.specs.declared.pending.PendingReply.{PendingReply}
 use Rattle.frame_front.specs.declared.reply.Body.{Body}
 use Rattle.frame_front.specs.declared.reply.Body.TheVariants.{Empty, Canonical, All}
@@ -50,20 +50,16 @@ reply_left pending = pending.head.items ++ body_left pending.body pending.stored
 abbrev pub stores_found : List ℕ → BundleValue → List ℕ → Type 0
 stores_found ready bundle new = (new ≡ ready ++ reply_frames (Found bundle)) × (length (text_of bundle) ≤ 1048576)
 
--- a payload that reads so is answered by this text
-abbrev pub AnswersRead : {S : Type 0} → (S → Op → Result Reply AskError → S → Type 0) → SessionState S → Result Judged Refusal → List ℕ → SessionState S → Type 0
-AnswersRead answers old read text new = AnswersRequest answers read old text new ⊎ ((text ≡ memory_frame) × (new ≡ old))
-
--- It is answered, by an error of whoever was asked or not, and the text of the answer waits: what is left of it, after what is ready.
-abbrev pub AnswersLater : {S : Type 0} → (S → Op → Result Reply AskError → S → Type 0)
-    → Bool → SessionState S → Result Judged Refusal → SessionState S → List ℕ → List ℕ → List ℕ → Type 0
-AnswersLater answers is_error old read new ready_old ready_new left =
-    (text : List ℕ) × AnswersRead answers old read text new × (5 ≤ length text) × (is_error ≡ is_error_reply text) × (ready_new ++ left ≡ ready_old ++ text)
+-- A payload is answered by one of these texts, which says that whoever was asked gave an error, or does not. It waits: what is left
+-- of it, after what is ready.
+abbrev pub AnswersLater : (List ℕ → Type 0) → Bool → List ℕ → List ℕ → List ℕ → Type 0
+AnswersLater IsAnswer is_error ready_old ready_new left =
+    (text : List ℕ) × IsAnswer text × (5 ≤ length text) × (is_error ≡ is_error_reply text) × (ready_new ++ left ≡ ready_old ++ text)
 
 -- It is answered by this text, which is to come after what is ready; or by that of a bundle, which has come there.
 abbrev pub AnswersNow : {S : Type 0} → (S → Op → Result Reply AskError → S → Type 0)
     → Option (List ℕ) → SessionState S → Result Judged Refusal → SessionState S → List ℕ → List ℕ → Type 0
-AnswersNow answers (Some text) old read new ready_old ready_new = AnswersRead answers old read text new × (ready_new ≡ ready_old)
+AnswersNow answers (Some text) old read new ready_old ready_new = AnswersRead answers read old text new × (ready_new ≡ ready_old)
 AnswersNow answers None old read new ready_old ready_new =
-    (text : List ℕ) × AnswersRead answers old read text new × (5 ≤ length text) × (is_error_reply text ≡ false) × (ready_new ≡ ready_old ++ text)
+    (text : List ℕ) × AnswersRead answers read old text new × (5 ≤ length text) × (is_error_reply text ≡ false) × (ready_new ≡ ready_old ++ text)
     × (length ready_new ≤ length ready_old + most_part)

@@ -17,7 +17,7 @@ module _ {S : Type 0} (answers : S → Op → Result Reply AskError → S → Ty
     pub text : List ℕ
     pub stands : old.kept ≡ frame payload ++ new.kept
     pub good : IsPayload payload
-    pub answered : Answers answers (old.version, map_old) payload text (new.version, map_new)
+    pub answered : Answers answers (old.terms, map_old) payload text (new.terms, map_new)
     pub waits : waiting new ≡ waiting old ++ text
     pub below : length (waiting old) < reply_limit
     pub long : 5 ≤ length text
@@ -25,7 +25,7 @@ module _ {S : Type 0} (answers : S → Op → Result Reply AskError → S → Ty
 
   -- no frame is answered: what waits stays, though more of it may be ready
   abbrev pub Stays : LiveView → LiveView → S → S → Type 0
-  Stays old new map_old map_new = (new.kept ≡ old.kept) × (new.version ≡ old.version) × (waiting new ≡ waiting old) × (map_new ≡ map_old)
+  Stays old new map_old map_new = (new.kept ≡ old.kept) × (new.terms ≡ old.terms) × (waiting new ≡ waiting old) × (map_new ≡ map_old)
 
   abbrev pub Steps : Step → LiveView → LiveView → S → S → Type 0
   Steps (Answered is_error) old new map_old map_new = AnswersFrame is_error old new map_old map_new

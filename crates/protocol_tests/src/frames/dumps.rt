@@ -1,8 +1,9 @@
 //! Dumps and the requests that they become.
 use super::MIGRATED;
 use super::long::{DUMP_300, MIGRATED_300};
-use frame_front::{DumpError, migrate, read_dump};
+use frame_front::{DumpDecoder, DumpError, migrate, read_dump};
 use map_core::Snapshot;
+use spiffe_doc::{Bundle, TrustDomain};
 use std::alloc::Global;
 use std::test::Fail;
 use test_kit::protocol::{ALL_OF_NONE, ALL_OF_ONE, Part, text_of};
@@ -133,6 +134,57 @@ fn refuses_what_is_no_dump(rt: HostRuntime) -> Result<(), Fail> {
         let wanted = Some(DumpError::BadDump(frame));
         is_equal_at(&migrate(rt.alloc(), dump).err(), &wanted, &name)?;
         is_equal_at(&read_dump(rt.alloc(), dump).err(), &wanted, &name)?;
+    }
+    Ok(())
+}
+
+type Items = Vec<(TrustDomain, Bundle)>;
+
+/// Takes out what has come; each domain has taken more than a byte.
+fn take_out(decoder: &mut DumpDecoder, most: usize, domains: &mut Items) -> Result<(), Fail> {
+    for _ in 0..most {
+        let Some(item) = decoder.next_domain()? else {
+            return Ok(());
+        };
+        domains.push(item)?;
+    }
+    Ok(())
+}
+
+/// What comes of a dump byte by byte.
+fn read_by_bytes(alloc: Global, dump: &[u8]) -> Result<(Items, Option<DumpError>), Fail> {
+    let mut decoder = DumpDecoder::new(alloc)?;
+    let mut domains = Vec::new(alloc);
+    for byte in dump {
+        decoder.feed(&[*byte])?;
+        take_out(&mut decoder, dump.len(), &mut domains)?;
+    }
+    Ok((domains, decoder.finish().err()))
+}
+
+#[test]
+fn reads_dumps_byte_by_byte(rt: HostRuntime) -> Result<(), Fail> {
+    for &row in &DOMAINS {
+        let (domains, fault) = read_by_bytes(rt.alloc(), row.0)?;
+        is_equal_at(&fault, &None, &row.0)?;
+        has_domains(&Snapshot::from_pairs(domains), row)?;
+    }
+    for &(name, dump, frame) in &NO_DUMPS {
+        let (_, fault) = read_by_bytes(rt.alloc(), dump)?;
+        is_equal_at(&fault, &Some(DumpError::BadDump(frame)), &name)?;
+    }
+    Ok(())
+}
+
+/// A front of a dump, byte by byte, has the fault that it has as a whole.
+#[test]
+fn reads_cut_dumps_byte_by_byte(rt: HostRuntime) -> Result<(), Fail> {
+    for &(dump, _) in &DOMAINS {
+        for size in 0..dump.len() {
+            let (front, _) = dump.split_at(size);
+            let (_, fault) = read_by_bytes(rt.alloc(), front)?;
+            is_equal_at(&fault, &read_dump(rt.alloc(), front).err(), &size)?;
+        }
     }
     Ok(())
 }

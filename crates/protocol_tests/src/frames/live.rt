@@ -19,8 +19,13 @@ struct Seat {
 
 impl Seat {
     fn new(alloc: Global) -> Result<Seat, AllocError> {
+        Seat::of(alloc, false)
+    }
+
+    /// One that may only read, or do all.
+    fn of(alloc: Global, reads_only: bool) -> Result<Seat, AllocError> {
         Ok(Seat {
-            live: LiveSession::new(alloc)?,
+            live: LiveSession::new(alloc, reads_only)?,
             documents: DocumentReader::new(alloc),
             contents: Contents::new(alloc),
         })
@@ -115,6 +120,23 @@ const REQUESTS: &[u8] =
 \x00\x00\x00\x0fC\x01a\x00{\"keys\":[]}\x00\x00\x00\x02V\x02\x00\x00\x00\x0fC\x01a\x02{\"keys\":[]}\
 \x00\x00\x00\x41A\x01a{\"use\":\"jwt-svid\",\"kty\":\"RSA\",\"kid\":\"k\",\"n\":\"AQAB\",\"e\":\"AQAB\"}\
 \x00\x00\x00\x03G\x01a\x00\x00\x00\x05S\x01a[]\x00\x00\x00\x03R\x01a\x00\x00\x00\x03R\x01a\x00\x00\x00\x01F";
+
+/// What a session that may only read answers to these: each change is turned away, in either version, also one with a malformed
+/// document.
+const READ_REPLIES: &[u8] =
+    b"\x00\x00\x00\x01\x38\x00\x00\x00\x01\x1e\x00\x00\x00\x09a\x00\x00\x00\x00\x00\x00\x00\x00\x00\x00\x00\x01\x33\
+\x00\x00\x00\x01\x38\x00\x00\x00\x02v\x02\x00\x00\x00\x01\x38\x00\x00\x00\x01\x38\
+\x00\x00\x00\x01\x1e\x00\x00\x00\x01\x38\x00\x00\x00\x01\x38\x00\x00\x00\x01\x38\x00\x00\x00\x09a\x00\x00\x00\x00\x00\x00\x00\x00";
+
+#[test]
+fn a_session_that_may_only_read_turns_changes_away(rt: HostRuntime) -> Result<(), Fail> {
+    let mut sent = Vec::new(rt.alloc());
+    let mut seat = Seat::of(rt.alloc(), true)?;
+    let found = seat.run_to_end(REQUESTS, (7, 13), &mut sent);
+    drop(seat);
+    is_equal(&found?, &(13, Ok(true)))?;
+    is_equal(&sent.as_slice(), &READ_REPLIES)
+}
 
 static INPUTS: [&[Part<'static>]; 5] = [
     &[(REQUESTS, 1)],

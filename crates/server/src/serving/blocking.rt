@@ -17,6 +17,7 @@ use crate::counts::{Count, Counts};
 use crate::ending::{Done, report};
 use crate::lines::{ServerLine, say};
 use crate::saving::Keeper;
+use crate::server_log::ServerLog;
 use crate::serving::clients::Clients;
 use crate::serving::host::Host;
 use crate::serving::sockets::{ClientStream, Listener};
@@ -213,11 +214,12 @@ fn run_in_turn<R: Threads + Clock + Sync, L: Log + Copy + Send + Sync>(
     kept_all(host.alloc, finished)
 }
 
-/// Where clients come who are served one after the other, how they are served and over which store, which is set up; and who
-/// keeps the last map, if somebody does.
+/// Where clients come who are served one after the other, how they are served and over which store, which is set up; whether it
+/// was said how many each worker serves; and who keeps the last map, if somebody does.
 #[derive(Drop)]
 pub struct InTurn<'a, K> {
     pub listener: &'a Listener,
+    pub says_connections: bool,
     pub settings: Settings,
     pub set_up: SetUp,
     pub keeper: Option<K>,
@@ -225,12 +227,13 @@ pub struct InTurn<'a, K> {
 
 /// Serves the clients of the listener over the store, each worker so many, one after the other; answers the exit status.
 ///
-/// `listening` goes to the output first, with the address; no client is taken if it is not taken. At the end come `served N`, how many
-/// sessions there were, and `domains M`, how many domains have a bundle then. The faults of sessions are told in between, in
-/// order of the workers; they don't change the status, except that a listener that failed does.
+/// `listening` goes to the output first, with the address; no client is taken if it is not taken. The log is told then how many
+/// clients are served, if nobody has said that. At the end come `served N`, how many sessions there were, and `domains M`, how
+/// many domains have a bundle then. The faults of sessions are told in between, in order of the workers; they don't change the
+/// status, except that a listener that failed does.
 pub fn serve_on<
     R: Threads + Clock + Sync,
-    L: Log + Copy + Send + Sync,
+    L: ServerLog + Copy + Send + Sync,
     K: Keeper,
     W: Write,
     E: Write,
@@ -246,6 +249,7 @@ pub fn serve_on<
     let before = err.faults();
     let InTurn {
         listener,
+        says_connections,
         settings,
         set_up: SetUp { store, passes },
         keeper,
@@ -258,6 +262,10 @@ pub fn serve_on<
     };
     if !say(out, err, before, ServerLine::Listening(&address, None)) {
         return 1;
+    }
+    if !says_connections {
+        let each = most_taken(settings.connections);
+        host.log.ends_after(each.saturating_mul(settings.workers));
     }
     match run_in_turn(host, &store, settings.retries, passes, clients) {
         Ok(worked) => {

@@ -1,6 +1,7 @@
 //! What comes to a worker from the ports.
 ghost use Rattle.std.specs.Prelude.{◌≡◌};
 
+use crate::server_log::ServerLog;
 use crate::serving::ports::Ports;
 use crate::serving::ready::{PollEvent, WorkerPoll};
 use crate::serving::shared::Shared;
@@ -15,9 +16,13 @@ const TICK: u64 = 250;
 /// How many ticks a second has.
 pub const TICKS_A_SECOND: u64 = 4;
 
+/// The error of the system if the program has as many files open as it may: `EMFILE` of Linux.
+const TOO_MANY_FILES: i32 = 24;
+
 /// What comes to one worker.
-pub struct Incoming<'a, C> {
+pub struct Incoming<'a, C, L> {
     clock: &'a C,
+    log: &'a L,
     shared: &'a Shared,
     worker: usize,
     ready: WorkerPoll,
@@ -31,16 +36,18 @@ pub struct Incoming<'a, C> {
     has_failed: bool,
 }
 
-impl<'a, C: Clock> Incoming<'a, C> {
+impl<'a, C: Clock, L: ServerLog> Incoming<'a, C, L> {
     /// What comes to a worker that has not begun yet.
     pub fn new(
         clock: &'a C,
+        log: &'a L,
         shared: &'a Shared,
         worker: usize,
         ready: WorkerPoll,
-    ) -> Incoming<'a, C> {
+    ) -> Incoming<'a, C, L> {
         Incoming {
             clock,
+            log,
             shared,
             worker,
             ready,
@@ -82,6 +89,13 @@ impl<'a, C: Clock> Incoming<'a, C> {
         Ok(Arrival::Opens { end, reads_only })
     }
 
+    /// Tells the log if no client can be taken since the program has as many files open as it may.
+    fn tell_if_used_up(&self, error: &io::Error) {
+        if error.raw_os_error() == Some(TOO_MANY_FILES) {
+            self.log.takes_no_more(self.shared.open());
+        }
+    }
+
     /// Takes a client, if one waits and it is this worker's turn. That a port has failed is told once.
     fn take(&mut self, place: usize) -> Arrival<Stream<'a>>
         ensures { self.new.left ≡ self.old.left }
@@ -91,8 +105,11 @@ impl<'a, C: Clock> Incoming<'a, C> {
         };
         match self.accept(ports, place) {
             Ok(arrival) => arrival,
-            Err(_) if self.has_failed => Arrival::Nothing,
-            Err(_) => {
+            Err(error) => {
+                self.tell_if_used_up(&error);
+                if self.has_failed {
+                    return Arrival::Nothing;
+                }
                 self.has_failed = true;
                 Arrival::Fails
             }
@@ -100,7 +117,7 @@ impl<'a, C: Clock> Incoming<'a, C> {
     }
 }
 
-impl<'a, C: Clock> Incoming<'a, C> {
+impl<'a, C: Clock, L: ServerLog> Incoming<'a, C, L> {
     /// Tells the others whether the worker is busy, if they are told otherwise.
     fn set_busy(&mut self, is_busy: bool)
         ensures { self.new.left ≡ self.old.left }
@@ -136,7 +153,7 @@ impl<'a, C: Clock> Incoming<'a, C> {
     }
 }
 
-impl<'a, C: Clock> Arrivals for Incoming<'a, C> {
+impl<'a, C: Clock, L: ServerLog> Arrivals for Incoming<'a, C, L> {
     type End = Stream<'a>;
 
     ghost use Rattle.std.specs.Prelude.{⊤};
@@ -159,10 +176,11 @@ impl<'a, C: Clock> Arrivals for Incoming<'a, C> {
     }
 }
 
-impl<C> Drop for Incoming<'_, C> {
+impl<C, L> Drop for Incoming<'_, C, L> {
     fn drop(self) {
         let Incoming {
             clock: _,
+            log: _,
             shared,
             worker,
             ready: _,

@@ -9,11 +9,12 @@ ghost use Rattle.wire.specs.Output.{end_of};
 ghost use Rattle.commands.specs.declared.fault.Fault.TheVariants.{Front, Listen};
 ghost use Rattle.wire.specs.Counted.{faults_in};
 ghost use Rattle.wire.specs.declared.error.FrontError.TheVariants.{Memory};
-ghost use Rattle.server.specs.Serving.{ServedBeside};
+ghost use Rattle.server.specs.Serving.{ServedBeside, patience, ticks};
 
 use crate::ending::{Done, report};
 use crate::lines::{ServerLine, say};
 use crate::saving::Keeper;
+use crate::server_log::ServerLog;
 use crate::serving::host::Host;
 use crate::serving::incoming::{Incoming, TICKS_A_SECOND};
 use crate::serving::ports::Ports;
@@ -31,7 +32,7 @@ use std::thread;
 use std::thread::Threads;
 use std::time::Clock;
 use wire::{Counted, FrontError};
-use workers::{Limits, Log, Open, SharedByWorkers, Worked, run_arrivals};
+use workers::{Limits, Open, Patience, SharedByWorkers, Worked, run_arrivals};
 
 /// Why a server that is to stop at the end of the input does not begin.
 const NO_THREAD: &str = "no thread can be made that waits for the end of the input";
@@ -87,27 +88,44 @@ impl WorkerPolls {
 }
 
 /// What comes to each worker.
-fn incoming_of<'a, C: Clock>(
-    alloc: Global,
-    clock: &'a C,
+fn incoming_of<'a, H: Clock, L: ServerLog>(
+    host: &Host<'a, H, L>,
     shared: &'a Shared,
     waits: Vec<WorkerPoll>,
-) -> Result<Vec<Incoming<'a, C>>, AllocError>
+) -> Result<Vec<Incoming<'a, H, L>>, AllocError>
     ensures { IfOk result (λ all. vec_len all ≡ vec_len waits) }
 {
-    let mut all = Vec::new(alloc);
+    let mut all = Vec::new(host.alloc);
     for ready in waits {
         let worker = all.len();
-        all.push(Incoming::new(clock, shared, worker, ready))?;
+        all.push(Incoming::new(host.rt, host.log, shared, worker, ready))?;
     }
     Ok(all)
 }
 
+/// A number of seconds in ticks.
+fn ticks_of(seconds: u64) -> u64
+    ensures { result ≡ ticks seconds }
+{
+    seconds.saturating_mul(TICKS_A_SECOND)
+}
+
+/// How long the workers wait for their clients.
+fn patience_of(lasting: Lasting) -> Patience
+    ensures { result ≡ patience lasting }
+{
+    Patience {
+        most_silent: ticks_of(lasting.idle),
+        reply_ticks: ticks_of(lasting.reply_seconds),
+        moments: lasting.moments,
+    }
+}
+
 /// Runs the workers.
-fn run<H: Threads + Clock + Sync, L: Log + Copy + Sync>(
+fn run<H: Threads + Clock + Sync, L: ServerLog + Copy + Sync>(
     work: &Work<'_, '_, '_, '_, H, L>,
     passes: Vec<Pass>,
-    incoming: Vec<Incoming<'_, H>>,
+    incoming: Vec<Incoming<'_, H, L>>,
 ) -> Result<Vec<Worked>, AllocError>
     requires same { vec_len passes ≡ vec_len incoming }
     requires own { All (λ pass. IsOf pass work.now.store.now) passes.items }
@@ -120,7 +138,7 @@ fn run<H: Threads + Clock + Sync, L: Log + Copy + Sync>(
         log: host.log,
         limits: Limits {
             retries: settings.retries,
-            most_silent: work.lasting.idle.saturating_mul(TICKS_A_SECOND),
+            patience: patience_of(work.lasting),
             turns: settings.turns,
         },
     };
@@ -128,10 +146,10 @@ fn run<H: Threads + Clock + Sync, L: Log + Copy + Sync>(
 }
 
 /// Runs the workers, and beside them waits for the end of the input: then they are to stop.
-fn run_until_end<H: Threads + Clock + Sync, I: Read, L: Log + Copy + Sync>(
+fn run_until_end<H: Threads + Clock + Sync, I: Read, L: ServerLog + Copy + Sync>(
     work: &Work<'_, '_, '_, '_, H, L>,
     passes: Vec<Pass>,
-    incoming: Vec<Incoming<'_, H>>,
+    incoming: Vec<Incoming<'_, H, L>>,
     end: &mut Watch<'_, '_, I>,
 ) -> Result<Vec<Worked>, AllocError>
     requires same { vec_len passes ≡ vec_len incoming }
@@ -148,10 +166,10 @@ fn run_until_end<H: Threads + Clock + Sync, I: Read, L: Log + Copy + Sync>(
 }
 
 /// Runs the workers; if they are to stop at the end of the input, that is waited for beside them.
-fn run_all<H: Threads + Clock + Sync, I: Read, L: Log + Copy + Sync>(
+fn run_all<H: Threads + Clock + Sync, I: Read, L: ServerLog + Copy + Sync>(
     work: &Work<'_, '_, '_, '_, H, L>,
     passes: Vec<Pass>,
-    incoming: Vec<Incoming<'_, H>>,
+    incoming: Vec<Incoming<'_, H, L>>,
     input: &mut Counted<I>,
 ) -> Result<Vec<Worked>, AllocError>
     requires same { vec_len passes ≡ vec_len incoming }
@@ -188,7 +206,7 @@ fn can_make_thread<R: Threads>(rt: &R) -> bool {
 /// sessions while it serves.
 pub fn serve_at<
     H: Threads + Clock + Sync,
-    L: Log + Copy + Sync,
+    L: ServerLog + Copy + Sync,
     K: Keeper,
     I: Read,
     W: Write,
@@ -220,7 +238,7 @@ pub fn serve_at<
         keeper,
     } = task;
     let shared = Shared::new(ports, seats, lasting.most_open);
-    let Ok(incoming) = incoming_of(host.alloc, host.rt, &shared, polls) else {
+    let Ok(incoming) = incoming_of(host, &shared, polls) else {
         return Fault::Front(FrontError::Memory).tell(err);
     };
     if lasting.until_eof && !can_make_thread(host.rt) {

@@ -92,6 +92,11 @@ impl Shared {
         false
     }
 
+    /// How many clients are connected, or may be in this moment.
+    pub fn open(&self) -> u64 {
+        self.open.load(Ordering::SeqCst)
+    }
+
     /// A client that was counted did not come.
     pub fn missed(&self) {
         self.open.fetch_sub(1, Ordering::SeqCst);

@@ -3,7 +3,7 @@ use map_core::Expect;
 use shard_store::Store;
 use std::test::Fail;
 use test_kit::{Shown, holds_at, is_equal, play_line};
-use workers::{Changed, How, Log, Logged, SessionFault};
+use workers::{Changed, Client, How, Log, Logged, SessionFault};
 
 /// A change of a name of one letter.
 type Change = (u64, How, u8, Option<Expect>, Expect);
@@ -33,7 +33,7 @@ impl Log for Kept {
         self.last = Some((worker, change.how, letter, change.before, change.after));
     }
 
-    fn ended(&self, _worker: u64, _end: &Result<u64, SessionFault>, _peer: Option<u16>) {}
+    fn ended(&self, _worker: u64, _end: &Result<u64, SessionFault>, _client: Option<Client>) {}
 }
 
 /// An operation, its reply, and the change that is told of it, if one is.

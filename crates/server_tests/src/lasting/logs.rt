@@ -7,11 +7,11 @@ use std::sync::{Mutex, Wait};
 use std::test::Fail;
 use test_kit::{Shown, play_line};
 use workers::{
-    AtPort, ChangeRefusal, Changed, How, Log, Logged, Open, RefusedChange, SessionFault,
+    AtPort, ChangeRefusal, Changed, Client, How, Log, Logged, Open, RefusedChange, SessionFault,
 };
 
 /// What a log was told: how many changes, the last of them, the last that was refused, how many sessions began and ended, the
-/// last port of a client, how many bytes were read and written, and the last answer.
+/// clients, how many bytes were read and written, and the last answer.
 #[derive(Drop)]
 struct Notes {
     changes: u64,
@@ -19,7 +19,12 @@ struct Notes {
     refused: Option<ChangeRefusal>,
     begun: u64,
     ends: u64,
-    peer: Option<u16>,
+    /// By worker, the number of the client that it served last.
+    served: [u64; 2],
+    /// Of which client the last change was, by the worker that told it.
+    changed_by: u64,
+    /// The last client whose session ended.
+    ended: Option<Client>,
     read: u64,
     written: u64,
     /// The last answer: the worker's number, the letter and the code.
@@ -35,7 +40,9 @@ impl Notes {
             refused: None,
             begun: 0,
             ends: 0,
-            peer: None,
+            served: [0, 0],
+            changed_by: 0,
+            ended: None,
             read: 0,
             written: 0,
             answered: None,
@@ -61,8 +68,9 @@ impl<'a, R: Wait + Copy> Log for Noted<'a, R> {
         true
     }
 
-    fn changed(&mut self, _worker: u64, change: &Changed<'_>) {
+    fn changed(&mut self, worker: u64, change: &Changed<'_>) {
         let mut notes = self.notes.lock(self.rt);
+        notes.changed_by = notes.served.get(worker as usize).copied().unwrap_or(0);
         notes.changes = notes.changes.saturating_add(1);
         notes.last = Some((change.how, change.before, change.after));
     }
@@ -72,15 +80,25 @@ impl<'a, R: Wait + Copy> Log for Noted<'a, R> {
         notes.refused = Some(refused.refusal);
     }
 
-    fn began(&self, _worker: u64) {
+    fn began(&self, _worker: u64) -> u64 {
         let mut notes = self.notes.lock(self.rt);
         notes.begun = notes.begun.saturating_add(1);
+        notes.begun
     }
 
-    fn ended(&self, _worker: u64, _end: &Result<u64, SessionFault>, peer: Option<u16>) {
+    fn serves(&self, worker: u64, client: Client) {
+        let mut notes = self.notes.lock(self.rt);
+        if let Some(served) = notes.served.get_mut(worker as usize) {
+            *served = client.number;
+        }
+    }
+
+    fn ended(&self, worker: u64, _end: &Result<u64, SessionFault>, client: Option<Client>) {
         let mut notes = self.notes.lock(self.rt);
         notes.ends = notes.ends.saturating_add(1);
-        notes.peer = peer;
+        if notes.served.get(worker as usize).copied() == client.map(|client| client.number) {
+            notes.ended = client;
+        }
     }
 
     fn read(&self, _worker: u64, bytes: usize) {
@@ -100,7 +118,7 @@ impl<'a, R: Wait + Copy> Log for Noted<'a, R> {
 }
 
 // Of seven requests three change a bundle, and one comes too late: a set of what stands there, a get and a refused removal are
-// not told. Each session begins and ends, and the port of its client and all bytes are told.
+// not told. Each session begins and ends, and its client and all bytes are told: by the number that the log gave it.
 #[test]
 fn a_log_is_told_of_changes_alone(rt: HostRuntime) -> Result<(), Fail> {
     let notes = Mutex::new(Notes::new());
@@ -122,7 +140,18 @@ fn a_log_is_told_of_changes_alone(rt: HostRuntime) -> Result<(), Fail> {
     assert!(&rt; notes.refused == Some(ChangeRefusal::Map(MapRefusal::Stale(7))));
     is_equal(&rt, &notes.begun, &2);
     is_equal(&rt, &notes.ends, &2);
-    assert!(&rt; notes.peer == Some(40_312));
+    let ([first, second], last) = (notes.served, notes.changed_by);
+    is_equal(&rt, &(first.saturating_add(second)), &3);
+    is_equal(&rt, &last, &first);
+    assert!(&rt;
+        matches!(
+            notes.ended,
+            Some(Client {
+                number: 1..=2,
+                peer: Some(40_312)
+            })
+        )
+    );
     is_equal(&rt, &notes.read, &(requests.len() as u64 + 7));
     is_equal(&rt, &notes.written, &(ended.first.len() as u64 + 5));
     Ok(())

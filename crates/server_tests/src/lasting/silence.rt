@@ -115,7 +115,7 @@ fn is_given_up(
 ) -> Result<(), Fail> {
     let ended = serve(alloc, plan, true)?;
     has_ended(rt, &ended.ends, 1, &[SessionFault::Front(fault)]);
-    is_equal(rt, &ended.ticks, &LIMITS.most_silent);
+    is_equal(rt, &ended.ticks, &LIMITS.patience.most_silent);
     has_got(rt, alloc, ended.output.as_slice(), &[])
 }
 

@@ -1,5 +1,5 @@
 //! How long a connection goes on in a turn.
-use super::{SET_A, STORED, is_equal};
+use super::{FOUND, GET_A, SET_A, STORED, is_equal};
 use map_core::Contents;
 use spiffe_doc::DocumentReader;
 use std::alloc::{AllocError, Global};
@@ -80,7 +80,7 @@ fn steady_turn_of(
         input: input.as_slice(),
         output,
     };
-    let mut connection = Connection::new(alloc, client, turns)?;
+    let mut connection = Connection::new(alloc, client, false, turns)?;
     let mut documents = DocumentReader::new(alloc);
     let mut map = Contents::new(alloc);
     let mut room = [0; ROOM_BYTES];
@@ -137,7 +137,7 @@ fn turn_of(
         output,
         reads: &mut reads,
     };
-    let mut connection = Connection::new(alloc, client, u64::MAX)?;
+    let mut connection = Connection::new(alloc, client, false, u64::MAX)?;
     let mut documents = DocumentReader::new(alloc);
     let mut map = Contents::new(alloc);
     let mut room = [0; ROOM_BYTES];
@@ -171,6 +171,33 @@ fn a_client_that_is_closing_is_read_to_its_end(rt: HostRuntime) -> Result<(), Fa
     is_read_so(&rt, rt.alloc(), true, (TurnEnd::Over(Ok(1)), 2))
 }
 
+/// A set whose document has 140,000 bytes, and then 10,000 gets: all in all 210,007 bytes.
+fn long_set_and_gets(alloc: Global) -> Result<Vec<u8>, AllocError> {
+    let mut input = Vec::new(alloc);
+    input.extend_from_slice(b"\x00\x02\x22\xe3S\x01a{\"keys\":[]}")?;
+    for _ in 0..139_989 {
+        input.push(b' ')?;
+    }
+    for _ in 0..10_000 {
+        input.extend_from_slice(GET_A)?;
+    }
+    Ok(input)
+}
+
+// Three reads give the set and 8,085 gets, which have their share of bytes: the fourth read is the last.
+#[test]
+fn a_turn_ends_after_its_bytes(rt: HostRuntime) -> Result<(), Fail> {
+    let input = long_set_and_gets(rt.alloc())?;
+    let mut output = Vec::new(rt.alloc());
+    let found = turn_of(rt.alloc(), input.as_slice(), &mut output, true)?;
+    is_equal(&rt, &found, &(TurnEnd::Again, 4));
+    let replies = STORED
+        .len()
+        .saturating_add(FOUND.len().saturating_mul(8_085));
+    is_equal(&rt, &output.len(), &replies);
+    Ok(())
+}
+
 /// Sets of 64 trust domains, and then so many fetch-alls, each of which is answered by 1,293 bytes.
 fn many_fetches(alloc: Global, fetches: usize) -> Result<Vec<u8>, AllocError> {
     let mut input = Vec::new(alloc);
@@ -201,7 +228,7 @@ fn last_turn_of(
         output,
         reads: &mut reads,
     };
-    let mut connection = Connection::new(alloc, client, u64::MAX)?;
+    let mut connection = Connection::new(alloc, client, false, u64::MAX)?;
     let mut documents = DocumentReader::new(alloc);
     let mut map = Contents::new(alloc);
     let mut room = [0; ROOM_BYTES];

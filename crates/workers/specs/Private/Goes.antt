@@ -5,7 +5,7 @@ use Rattle.map_core.specs.declared.op.Op.{Op}
 use Rattle.map_core.specs.declared.reply.Reply.{Reply}
 use Rattle.map_core.specs.declared.reply.AskError.{AskError}
 use Rattle.frame_front.specs.Live.{Feeds, most_frames}
-use Rattle.frame_front.specs.LiveCalls.{LiveCall, DoesAll, fed, sent, frames_of}
+use Rattle.frame_front.specs.LiveCalls.{LiveCall, DoesAll, fed, sent, frames_of, frame_bytes_of}
 use Rattle.workers.specs.declared.turn_end.TurnEnd.{TurnEnd}
 use Rattle.workers.specs.declared.turn_end.TurnEnd.TheVariants.{Waits, Again, Over}
 use Rattle.workers.specs.Connection.{ConnectionView, counted, EndsHere, EndsShort, HadShare, IsLost, LosesOnly, MakesReads, StopsFor, WaitsFor}
@@ -48,8 +48,8 @@ StaysShort had_left calls = (had_left ≡ true) × (reads_of calls ≡ 0)
 
 module _ {S : Type 0} (answers : S → Op → Result Reply AskError → S → Type 0) where
   -- Calls of its session, one after the other, fed with what was read, and whose replies were written. At most so many frames
-  -- were answered, and these bytes were lost.
-  pub record Goes (most : ℕ) (lost : List ℕ) (old new : ConnectionView) (map_old map_new : S) : Type 0 where
+  -- were answered, which had so many bytes, and these bytes were lost.
+  pub record Goes (most bytes : ℕ) (lost : List ℕ) (old new : ConnectionView) (map_old map_new : S) : Type 0 where
     pub calls : List LiveCall
     pub does : DoesAll answers calls (old.live, map_old) (new.live, map_new)
     pub consumes : Consumes old.left new.left (fed calls ++ lost)
@@ -58,20 +58,21 @@ module _ {S : Type 0} (answers : S → Op → Result Reply AskError → S → Ty
     pub makes : MakesReads (reads_of calls + reads_for lost) old new
     pub answered : new.answered ≡ counted (old.answered + frames_of calls)
     pub share : frames_of calls ≤ most
+    pub judged : frame_bytes_of calls ≡ bytes
     pub stays : StaysSo old new
     pub quiet : old.has_ended ≡ true → fed calls ++ lost ≡ []
     pub loses_only : LosesOnly lost old new
 
-  -- One round of a turn, which ends the turn, or goes on: then a piece was read, or enough bytes were sent. The last read before it
+  -- One round of a turn, in which frames of so many bytes were answered. It ends the turn, or goes on: then a piece was read, or enough bytes were sent. The last read before it
   -- may have been a short one.
-  abbrev pub Round : Bool → Result Bool TurnEnd → ConnectionView → ConnectionView → S → S → Type 0
-  Round had_left (Err after) old new map_old map_new =
-      (lost : List ℕ) × (goes : Goes most_frames lost old new map_old map_new) × IsLost after lost × EndsHere old new × StopsIn (StaysShort had_left goes.calls) after new
-  Round had_left (Ok has_left) old new map_old map_new =
-      (goes : Goes most_frames [] old new map_old map_new) × (new.has_ended ≡ old.has_ended) × HadShare 1 goes.calls × LeavesAs has_left new.may
+  abbrev pub Round : Bool → ℕ → Result Bool TurnEnd → ConnectionView → ConnectionView → S → S → Type 0
+  Round had_left bytes (Err after) old new map_old map_new =
+      (lost : List ℕ) × (goes : Goes most_frames bytes lost old new map_old map_new) × IsLost after lost × EndsHere old new × StopsIn (StaysShort had_left goes.calls) after new
+  Round had_left bytes (Ok has_left) old new map_old map_new =
+      (goes : Goes most_frames bytes [] old new map_old map_new) × (new.has_ended ≡ old.has_ended) × HadShare 1 goes.calls × LeavesAs has_left new.may
       × (has_left ≡ true → EndsShort goes.calls ⊎ StaysShort had_left goes.calls)
 
-  -- After so many rounds of a turn. In the first one nothing was done yet.
-  abbrev pub GoesOn : ℕ → Bool → ConnectionView → ConnectionView → S → S → Type 0
-  GoesOn rounds has_left old new map_old map_new = ((rounds ≡ 0) × (new ≡ old) × (map_new ≡ map_old) × (has_left ≡ false))
-      ⊎ ((goes : Goes (rounds * most_frames) [] old new map_old map_new) × HadShare rounds goes.calls × (has_left ≡ true → EndsShort goes.calls))
+  -- After so many rounds of a turn, in which frames of so many bytes were answered. In the first one nothing was done yet.
+  abbrev pub GoesOn : ℕ → ℕ → Bool → ConnectionView → ConnectionView → S → S → Type 0
+  GoesOn rounds bytes has_left old new map_old map_new = ((rounds ≡ 0) × (new ≡ old) × (map_new ≡ map_old) × (has_left ≡ false) × (bytes ≡ 0))
+      ⊎ ((goes : Goes (rounds * most_frames) bytes [] old new map_old map_new) × HadShare rounds goes.calls × (has_left ≡ true → EndsShort goes.calls))

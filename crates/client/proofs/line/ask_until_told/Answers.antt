@@ -24,7 +24,7 @@ pub returns-then-not-is_asked_again-clause-ok : goal.returns-then-not-is_asked_a
 returns-then-not-is_asked_again-clause-ok g c =
     let came = subst (Consumes _ _) (ap frame c.in-Some.ensures.found.0) c.in_ok-payload.ensures.tells.1 in
     let until = told_so c.args.how.retries c.loop-payload.left c.args.request.now _ _ _ _ c.loop-payload.invariant.0 _ _ (said c.in-Some.reply) c.in_ok-payload.ensures.asks came (c.is_asked_again.ensures.no c.if-not-is_asked_again.true) in
-    IfOk-weaker c.show.result _ _ (λ told shows. record { reply = said c.in-Some.reply; until = until; first = shows }) (rw c.loop-payload.invariant.1 at c.show.ensures.ok)
+    IfOk-weaker c.show.result _ _ (λ told shows. record { reply = said c.in-Some.reply; until = until; first = shows }) (rw (c.loop-payload.invariant.1, c.due_to.ensures) at c.show.ensures.ok)
 
 pub returns-then-not-is_asked_again-clause-err : goal.returns-then-not-is_asked_again-clause-err
 returns-then-not-is_asked_again-clause-err g c =
@@ -34,7 +34,7 @@ returns-then-not-is_asked_again-clause-err g c =
     IfErr-weaker c.show.result _ _
     (λ fault none. first_not_shown c.args.how c.args.request.now (said c.in-Some.reply) _ _ _ _ until c.requires _ _ fault
     (subst IsPayload same c.in_ok-payload.ensures.tells.0) (λ wanted has other. c.in-Some.ensures.only wanted has (same ∙ other)) none)
-    (rw c.loop-payload.invariant.1 at c.show.ensures.err)
+    (rw (c.loop-payload.invariant.1, c.due_to.ensures) at c.show.ensures.err)
 
 pub loop-payload-preserved : goal.loop-payload-preserved
 loop-payload-preserved g c =

@@ -1,5 +1,6 @@
 use Rattle.std.proofs.Common.{◌≡◌, ◌≢◌, [], refl, subst, sym, arith, rules}
-use Rattle.frame_front.proofs.DumpLemmas.{HasRead, HasRead-none, HasRead-then, HasRead-whole, HasRead-bound, wrong_next, too_much, bad_head, some_left, nothing_left}
+use Rattle.frame_front.specs.Private.DumpReading.{HasRead}
+use Rattle.frame_front.proofs.DumpLemmas.{HasRead-none, HasRead-then, HasRead-whole, HasRead-bound, wrong_next, too_much, bad_head, some_left, nothing_left}
 use Rattle.frame_front.proofs.dump.read_dump.Goals as goal
 
 pub returns-in_default-clause-err : goal.returns-in_default-clause-err

@@ -1,5 +1,5 @@
 use Rattle.std.proofs.Common.{◌≤◌, ◌-◌}
-use Rattle.frame_front.proofs.DumpLemmas.{HasRead}
+use Rattle.frame_front.specs.Private.DumpReading.{HasRead}
 use Rattle.frame_front.proofs.dump.read_dump.Given as goal
 
 abbrev pub invariant-loop-place : goal.invariant-loop-place

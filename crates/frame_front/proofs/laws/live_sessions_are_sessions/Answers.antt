@@ -8,4 +8,4 @@ pub returns-clause-whole : goal.returns-clause-whole
 returns-clause-whole g c = calls_are_session g.A.Ask.answers
 
 pub returns-clause-plain : goal.returns-clause-plain
-returns-clause-plain g c = calls_keep_plain_table g.A.Ask.answers g.A.Ask.shows g.met.A.Ask.answers_plainly
+returns-clause-plain g c = λ reads_only. calls_keep_plain_table g.A.Ask.answers reads_only g.A.Ask.shows g.met.A.Ask.answers_plainly

@@ -1,4 +1,5 @@
 use Rattle.std.proofs.Common.{◌≡◌, [], ◌∷◌, ◌++◌, sym, ap, subst, ◌∙◌}
+use Rattle.std.specs.Prelude.{Bool}
 use Rattle.shard_store.specs.declared.change.Seen.{Seen}
 use Rattle.shard_store.specs.Seated.{SeatedAnswer}
 use Rattle.workers.specs.Gate.{GatedAnswer}
@@ -50,9 +51,9 @@ returns g c =
     let end : at_work ends_at.store ends_at.seen done.calls ≡ at_work store c.into_pass.result.seen done.calls =
     ap (λ x. at_work x ends_at.seen done.calls) store_is ∙ ap (λ x. at_work store x done.calls) (sym c.into_pass.ensures.seen) in
     let news = c.in_ok-ends.ensures.0.news in
-    let all : AtWork → AtWork → Type 0 = λ x y. (b : ServedAll (WorkerAnswer opens number) limits.most_silent limits.turns c.in_ok-ends.ends x y) × (b.news ≡ news) in
+    let all : AtWork → AtWork → Type 0 = λ x y. (b : ServedAll (WorkerAnswer opens number) limits.patience limits.turns c.in_ok-ends.ends x y) × (b.news ≡ news) in
     let both : all (at_work store c.args.task.pass.seen 0) (at_work store c.into_pass.result.seen done.calls) =
     subst (λ s. all s (at_work store c.into_pass.result.seen done.calls)) start (subst (λ s. all (begins_at, begun.calls) s) end served) in
-    let begins : g.row.V-End.Denot → ConnectionView = λ end. opened limits.turns (g.V.End.Stream.may end) (g.V.End.Stream.left end) (g.V.End.Stream.held end) in
+    let begins : Bool → g.row.V-End.Denot → ConnectionView = λ reads_only end. opened reads_only limits.turns (g.V.End.Stream.may end) (g.V.End.Stream.left end) (g.V.End.Stream.held end) in
     let follows = subst (λ l. Brings begins g.V.Arrivals.comes (l ++ IsToStop ∷ []) c.args.task.arrivals c.serve_arrivals.new.arrivals) (sym both.1) c.in_ok-ends.ensures.1 in
     (record { own = own; further = far; calls = done.calls; served = both.0 }, (c.serve_arrivals.new.arrivals, follows))

@@ -1,5 +1,5 @@
 use Rattle.std.proofs.Common.{◌≡◌, ◌++◌, ◌∷◌, ℕ, [], refl, sym, ap, arith, length, subst}
-use Rattle.std.specs.Prelude.{Some}
+use Rattle.std.specs.Prelude.{Bool, Some}
 use Rattle.slab.specs.Slab.{get}
 use Rattle.workers.specs.Connection.{ConnectionView, opened}
 use Rattle.workers.specs.Arrivals.{Brings, IsQuiet, IsReady, News, news_in}
@@ -14,7 +14,7 @@ use Rattle.workers.proofs.serving.serve_arrivals.Goals.{in-Opens+in_ok-take-in-O
 
 pub loop-end-init : goal.loop-end-init
 loop-end-init g c =
-    let start : g.row.V-End.Denot → ConnectionView = λ end. opened c.args.worker.now.limits.turns (g.V.End.Stream.may end) (g.V.End.Stream.left end) (g.V.End.Stream.held end) in
+    let start : Bool → g.row.V-End.Denot → ConnectionView = λ reads_only end. opened reads_only c.args.worker.now.limits.turns (g.V.End.Stream.may end) (g.V.End.Stream.left end) (g.V.End.Stream.held end) in
     let new = c.new-served.ensures in (
       [],
       serves_none g.A.Ask.answers c.args.worker.now.limits (FollowsAll [] []) begun (work_of c.new-served.result) c.args.ask.now.ask c.args.ask.now.ask
@@ -26,7 +26,7 @@ pub loop-end-preserved : goal.loop-end-preserved
 loop-end-preserved g c =
     let answers = g.A.Ask.answers in
     let limits = c.args.worker.now.limits in
-    let start : g.row.V-End.Denot → ConnectionView = λ end. opened limits.turns (g.V.End.Stream.may end) (g.V.End.Stream.left end) (g.V.End.Stream.held end) in
+    let start : Bool → g.row.V-End.Denot → ConnectionView = λ reads_only end. opened reads_only limits.turns (g.V.End.Stream.may end) (g.V.End.Stream.left end) (g.V.End.Stream.held end) in
     let inv = c.loop-end.invariant in
     let old = c.loop-end.served in
     let asked = c.loop-end.ask.ask in
@@ -38,7 +38,7 @@ loop-end-preserved g c =
       | in-Opens+in_ok-take-in-Opens w ↦
           let end = w.in-Opens.end in
           let taken = w.in_ok-take-in-Opens.ensures in
-          let stands = subst (λ (e : g.row.V-End.Denot). get w.take.new.self.open free ≡ Some (record { connection = opened limits.turns (g.V.End.Stream.may e) (g.V.End.Stream.left e) (g.V.End.Stream.held e); reads_only = w.in-Opens.reads_only; silent = 0 }))
+          let stands = subst (λ (e : g.row.V-End.Denot). get w.take.new.self.open free ≡ Some (record { connection = opened w.in-Opens.reads_only limits.turns (g.V.End.Stream.may e) (g.V.End.Stream.left e) (g.V.End.Stream.held e); reads_only = w.in-Opens.reads_only; silent = 0; age = 0 }))
           w.new-metered.ensures taken.taken in
           rw (w.served-is, w.ask-is) (by_news answers limits _ _ _ _ _ _ (ap news w.in-Opens.is)
           (take_serves answers limits free (g.V.End.Stream.may end) (g.V.End.Stream.left end) (g.V.End.Stream.held end) w.in-Opens.reads_only (work_of old) (work_of w.take.new.self) asked
@@ -83,7 +83,7 @@ loop-end-smaller g c =
 
 pub returns : goal.returns
 returns g c =
-    let start : g.row.V-End.Denot → ConnectionView = λ end. opened c.args.worker.now.limits.turns (g.V.End.Stream.may end) (g.V.End.Stream.left end) (g.V.End.Stream.held end) in
+    let start : Bool → g.row.V-End.Denot → ConnectionView = λ reads_only end. opened reads_only c.args.worker.now.limits.turns (g.V.End.Stream.may end) (g.V.End.Stream.left end) (g.V.End.Stream.held end) in
     let inv = c.loop-end.invariant in
     let ended = c.in_ok-end_all.ensures.served in
     let before = inv.1.steps in

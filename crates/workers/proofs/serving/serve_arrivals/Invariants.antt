@@ -8,7 +8,7 @@ use Rattle.workers.proofs.serving.serve_arrivals.Given as goal
 abbrev pub invariant-loop-end : goal.invariant-loop-end
 invariant-loop-end g l =
     (news : List News) × Serves g.A.Ask.answers l.worker.limits (FollowsAll [] news) begun (work_of l.served) l.fn.ask.ask l.ask.ask
-    × Brings (λ end. opened l.worker.limits.turns (g.V.End.Stream.may end) (g.V.End.Stream.left end) (g.V.End.Stream.held end)) g.V.Arrivals.comes news l.fn.arrivals l.arrivals
+    × Brings (λ reads_only end. opened reads_only l.worker.limits.turns (g.V.End.Stream.may end) (g.V.End.Stream.left end) (g.V.End.Stream.held end)) g.V.Arrivals.comes news l.fn.arrivals l.arrivals
 
 abbrev pub decreases-loop-end : goal.decreases-loop-end
 decreases-loop-end g l = g.V.Arrivals.left l.arrivals

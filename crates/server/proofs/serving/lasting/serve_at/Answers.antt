@@ -7,19 +7,19 @@ use Rattle.commands.specs.declared.fault.Fault.TheVariants.{Front}
 use Rattle.wire.specs.Output.{TellsUnlessFailed, end_of}
 use Rattle.wire.specs.declared.error.FrontError.TheVariants.{Memory}
 use Rattle.workers.proofs.WorkedLists.{all_own, all_long, ranges_same}
-use Rattle.server.specs.Serving.{most_silent}
+use Rattle.server.specs.Serving.{patience}
 use Rattle.server.proofs.serving.lasting.serve_at.Goals as goal
 
 pub report-requires-clause-some : goal.report-requires-clause-some
 report-requires-clause-some g c =
-    omega (arith, all_long always_open (most_silent c.args.task.lasting) c.args.task.settings.turns c.args.task.set_up.store 0 c.args.task.set_up.passes.items c.in-Ok-run_all.worked.items c.in-Ok-run_all.ensures.served, c.requires.workers, c.args.task.settings.some.0, c.in-Ok-run_all.worked.ok)
+    omega (arith, all_long always_open (patience c.args.task.lasting) c.args.task.settings.turns c.args.task.set_up.store 0 c.args.task.set_up.passes.items c.in-Ok-run_all.worked.items c.in-Ok-run_all.ensures.served, c.requires.workers, c.args.task.settings.some.0, c.in-Ok-run_all.worked.ok)
 
 pub report-requires-clause-own : goal.report-requires-clause-own
-report-requires-clause-own g c = all_own always_open (most_silent c.args.task.lasting) c.args.task.settings.turns c.args.task.set_up.store 0 c.args.task.set_up.passes.items c.in-Ok-run_all.worked.items c.in-Ok-run_all.ensures.served
+report-requires-clause-own g c = all_own always_open (patience c.args.task.lasting) c.args.task.settings.turns c.args.task.set_up.store 0 c.args.task.set_up.passes.items c.in-Ok-run_all.worked.items c.in-Ok-run_all.ensures.served
 
 pub report-requires-clause-all : goal.report-requires-clause-all
 report-requires-clause-all g c =
-    subst AreAll (sym (ranges_same always_open (most_silent c.args.task.lasting) c.args.task.settings.turns c.args.task.set_up.store 0 c.args.task.set_up.passes.items c.in-Ok-run_all.worked.items c.in-Ok-run_all.ensures.served)) c.requires.all
+    subst AreAll (sym (ranges_same always_open (patience c.args.task.lasting) c.args.task.settings.turns c.args.task.set_up.store 0 c.args.task.set_up.passes.items c.in-Ok-run_all.worked.items c.in-Ok-run_all.ensures.served)) c.requires.all
 
 pub returns-in-Ok-run_all-clause-run : goal.returns-in-Ok-run_all-clause-run
 returns-in-Ok-run_all-clause-run g c =

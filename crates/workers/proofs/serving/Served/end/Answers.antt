@@ -17,8 +17,8 @@ pub returns-clause-served : goal.returns-clause-served
 returns-clause-served g c =
     let inside = c.placed.inside in
     let slab = c.args.self.now.open in
-    let before : Place = record { connection = inside.connection; reads_only = inside.reads_only; silent = inside.silent } in
-    let behind : Place = record { connection = c.last_turn-end.new.self; reads_only = inside.reads_only; silent = inside.silent } in
+    let before : Place = record { connection = inside.connection; reads_only = inside.reads_only; silent = inside.silent; age = inside.age } in
+    let behind : Place = record { connection = c.last_turn-end.new.self; reads_only = inside.reads_only; silent = inside.silent; age = inside.age } in
     let was : get slab c.args.place ≡ Some before = sym c.in-Some.ensures.value ∙ ap Some (sym c.placed.view_is) in
     let turn = has_last_turn g.A.Ask.answers slab c.args.place c.last_turn-end.result before behind.connection _ c.last_turn-end.new.ask was refl c.last_turn-end.ensures in
     let mid : Work = record { places = get (with_value slab c.args.place behind); waiting = c.args.self.now.waiting.items; kept = c.args.self.now.ends } in
@@ -31,8 +31,8 @@ pub returns-clause-others : goal.returns-clause-others
 returns-clause-others g c =
     let inside = c.placed.inside in
     let slab = c.args.self.now.open in
-    let before : Place = record { connection = inside.connection; reads_only = inside.reads_only; silent = inside.silent } in
-    let behind : Place = record { connection = c.last_turn-end.new.self; reads_only = inside.reads_only; silent = inside.silent } in
+    let before : Place = record { connection = inside.connection; reads_only = inside.reads_only; silent = inside.silent; age = inside.age } in
+    let behind : Place = record { connection = c.last_turn-end.new.self; reads_only = inside.reads_only; silent = inside.silent; age = inside.age } in
     let was : get slab c.args.place ≡ Some before = sym c.in-Some.ensures.value ∙ ap Some (sym c.placed.view_is) in
     let turn = has_last_turn g.A.Ask.answers slab c.args.place c.last_turn-end.result before behind.connection _ c.last_turn-end.new.ask was refl c.last_turn-end.ensures in
     stay_then c.args.place (get slab) (get (with_value slab c.args.place behind)) (get c.close.new.self.open) turn.others c.close.ensures.others

@@ -18,7 +18,7 @@ returns-in-Waits g c =
     let slab = c.args.self.now.open in
     let behind : Place = c.turn-after.new.self in
     let had = c.turn-after.ensures in
-    let turn = has_turn g.A.Ask.answers slab c.args.place c.args.is_closing c.turn-after.result c.in-Some.placed.now behind c.args.ask.now.ask c.turn-after.new.ask.ask (sym c.in-Some.ensures.value) had.turn had.reads_only had.silent in
+    let turn = has_turn g.A.Ask.answers slab c.args.place c.args.is_closing c.turn-after.result c.in-Some.placed.now behind c.args.ask.now.ask c.turn-after.new.ask.ask (sym c.in-Some.ensures.value) had.turn had.reads_only had.silent had.age in
     let new : Work = record { places = get (with_value slab c.args.place behind); waiting = c.wait_no_more.new.waiting.items; kept = c.args.self.now.ends } in
     λ ready closes.
     turn_serves g.A.Ask.answers c.args.worker.now.limits c.args.place c.args.is_closing ready c.turn-after.result Waits (work_of c.args.self.now) new c.args.ask.now.ask c.turn-after.new.ask.ask
@@ -29,7 +29,7 @@ returns-in_ok-push_back-in-Again g c =
     let slab = c.args.self.now.open in
     let behind : Place = c.turn-after.new.self in
     let had = c.turn-after.ensures in
-    let turn = has_turn g.A.Ask.answers slab c.args.place c.args.is_closing c.turn-after.result c.in-Some.placed.now behind c.args.ask.now.ask c.turn-after.new.ask.ask (sym c.in-Some.ensures.value) had.turn had.reads_only had.silent in
+    let turn = has_turn g.A.Ask.answers slab c.args.place c.args.is_closing c.turn-after.result c.in-Some.placed.now behind c.args.ask.now.ask c.turn-after.new.ask.ask (sym c.in-Some.ensures.value) had.turn had.reads_only had.silent had.age in
     let new : Work = record { places = get (with_value slab c.args.place behind); waiting = c.push_back.new.self.items; kept = c.args.self.now.ends } in
     λ ready closes.
     turn_serves g.A.Ask.answers c.args.worker.now.limits c.args.place c.args.is_closing ready c.turn-after.result Again (work_of c.args.self.now) new c.args.ask.now.ask c.turn-after.new.ask.ask
@@ -40,7 +40,7 @@ returns-in-Over g c =
     let slab = c.args.self.now.open in
     let behind : Place = c.turn-after.new.self in
     let had = c.turn-after.ensures in
-    let turn = has_turn g.A.Ask.answers slab c.args.place c.args.is_closing c.turn-after.result c.in-Some.placed.now behind c.args.ask.now.ask c.turn-after.new.ask.ask (sym c.in-Some.ensures.value) had.turn had.reads_only had.silent in
+    let turn = has_turn g.A.Ask.answers slab c.args.place c.args.is_closing c.turn-after.result c.in-Some.placed.now behind c.args.ask.now.ask c.turn-after.new.ask.ask (sym c.in-Some.ensures.value) had.turn had.reads_only had.silent had.age in
     let close = c.close.ensures in
     let mid : Work = record { places = get (with_value slab c.args.place behind); waiting = c.wait_no_more.new.waiting.items; kept = c.args.self.now.ends } in
     on_ok_then c.close.result (λ noted ready closes.
