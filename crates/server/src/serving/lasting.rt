@@ -89,16 +89,18 @@ impl WorkerPolls {
 
 /// What comes to each worker.
 fn incoming_of<'a, H: Clock, L: ServerLog>(
-    host: &Host<'a, H, L>,
+    alloc: Global,
+    clock: &'a H,
+    log: &'a L,
     shared: &'a Shared,
     waits: Vec<WorkerPoll>,
 ) -> Result<Vec<Incoming<'a, H, L>>, AllocError>
     ensures { IfOk result (λ all. vec_len all ≡ vec_len waits) }
 {
-    let mut all = Vec::new(host.alloc);
+    let mut all = Vec::new(alloc);
     for ready in waits {
         let worker = all.len();
-        all.push(Incoming::new(host.rt, host.log, shared, worker, ready))?;
+        all.push(Incoming::new(clock, log, shared, worker, ready))?;
     }
     Ok(all)
 }
@@ -238,7 +240,7 @@ pub fn serve_at<
         keeper,
     } = task;
     let shared = Shared::new(ports, seats, lasting.most_open);
-    let Ok(incoming) = incoming_of(host, &shared, polls) else {
+    let Ok(incoming) = incoming_of(host.alloc, host.rt, host.log, &shared, polls) else {
         return Fault::Front(FrontError::Memory).tell(err);
     };
     if lasting.until_eof && !can_make_thread(host.rt) {
