@@ -51,7 +51,7 @@ def told_by_a_number():
             assert received(stream, times * 20) == times * (SHUT + NO_DOMAIN + SHUT + SHUT)
     status, out, err = server.ended()
     assert (status, out) == (0, "served 1\ndomains 0\n"), (status, out)
-    counts = [int(it) for it in re.findall(r"^\S+ worker 0 refused (\d+) changes 56$", err, flags=re.M)]
+    counts = [int(it) for it in re.findall(r"^\S+ worker 0 client 1 refused (\d+) changes 56$", err, flags=re.M)]
     assert sum(counts) == 9 and len(counts) >= 2, err
     assert err.count("refused") == len(counts), err
 
