@@ -22,7 +22,7 @@ returns-in-Map g c = rw c.in-Map.is (rw (sym c.as_slice-in-Map.ensures.value) (r
 no_counts : {A : Type 0} (Kept : List ℕ → Type 0) (Served : StoreView → List PassView → List Worked → Type 0) (load save : Option A) (settings : Settings) (status : ℕ) (out_old out_new err_old err_new : End)
     → EndsEarly (Front Memory) status out_old out_new err_old err_new → ServeCommand Kept Served load save settings status out_old out_new err_old err_new
 no_counts Kept Served None save settings status out_old out_new err_old err_new early = inl (Front Memory, inr (inr ([], Memory, refl, inl refl, refl)), early)
-no_counts Kept Served (Some file) save settings status out_old out_new err_old err_new early = inl (Front Memory, inr (inl (inl (None, None, tt))), early)
+no_counts Kept Served (Some file) save settings status out_old out_new err_old err_new early = inl (Front Memory, inr (inl (None, None, tt)), early)
 
 pub returns-in_default : goal.returns-in_default
 returns-in_default g c =
