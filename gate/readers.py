@@ -12,9 +12,9 @@ sys.dont_write_bytecode = True
 
 from checks import EMPTY, ENTRY, Beside, Lasting, frame, named, received, run_checks  # noqa: E402
 
-SHUT, NO_DOMAIN, STORED, NOT_JSON = frame(b"\x38"), frame(b"\x1e"), frame(b"s"), frame(b"\x0b")
-# A document that takes long to be refused.
-NESTED = 500_000 * b"[" + 500_000 * b"]"
+SHUT, NO_DOMAIN, STORED = frame(b"\x38"), frame(b"\x1e"), frame(b"s")
+# A document that is nested too deep, and one that takes long to be judged: small arrays in a member that nobody keeps.
+NESTED, LONG = 500_000 * b"[" + 500_000 * b"]", b'{"keys":[],"x":[' + 300_000 * b"[]," + b"[]]}"
 # How many clients send it where it is refused by its letter, and where it is judged.
 REFUSED, JUDGED = 40, 24
 LETTERS = b"SCAR"
@@ -63,16 +63,16 @@ def processor_seconds(server):
     return (int(fields[11]) + int(fields[12])) / os.sysconf("SC_CLK_TCK")
 
 
-def send_one(server, port, wanted):
+def send_one(server, port, domain, wanted):
     with server.connect(port) as stream:
-        stream.sendall(named(b"S", "a", NESTED))
+        stream.sendall(named(b"S", domain, LONG))
         assert received(stream, len(wanted)) == wanted
 
 
 def cost_of(server, port, count, wanted):
     """What so many documents cost at a place, each of a client of its own, beside a client that gets at the place for reads."""
     before = processor_seconds(server)
-    clients = [Beside(f"client {number}", send_one, server, port, wanted) for number in range(count)]
+    clients = [Beside(f"client {number}", send_one, server, port, f"d{number}", wanted) for number in range(count)]
     with server.connect(server.read_port) as stream:
         while any(it.thread.is_alive() for it in clients):
             stream.sendall(named(b"G", "a"))
@@ -86,7 +86,7 @@ def cost_of(server, port, count, wanted):
 def documents_cost_little():
     """Long documents at the place for reads are not judged: as many cost the server less than fewer do at the other place."""
     server = Lasting("--workers", "2", "--read-port", "0")
-    judged = cost_of(server, server.port, JUDGED, NOT_JSON)
+    judged = cost_of(server, server.port, JUDGED, STORED)
     refused = cost_of(server, server.read_port, REFUSED, SHUT)
     assert refused < judged, f"{REFUSED} documents took {refused:.2f} s of a processor, and {JUDGED} that were judged {judged:.2f} s"
     return f"; {REFUSED} documents took {refused:.2f} s of a processor, and {JUDGED} that were judged {judged:.2f} s"
