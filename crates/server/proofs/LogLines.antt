@@ -24,7 +24,7 @@ change_line_whole held a b d e f new worker client how change is who first befor
     let pieces = words ++ (how ++ (codes " " ++ (change.domain ++ codes " "))) in
     let line = words ++ how_word change.how ++ codes " " ++ change.domain ++ codes " " in
     let told : pieces ≡ words ++ how ++ codes " " ++ change.domain ++ codes " " =
-        pieces_behind words how (codes " ") (change.domain ++ codes " ") ∙ sym (append_assoc (words ++ how ++ codes " ") change.domain (codes " ")) in
+    pieces_behind words how (codes " ") (change.domain ++ codes " ") ∙ sym (append_assoc (words ++ how ++ codes " ") change.domain (codes " ")) in
     let same : pieces ≡ line = subst (λ (h : List ℕ). pieces ≡ words ++ h ++ codes " " ++ change.domain ++ codes " ") is told in
     let first = subst (Appends held b) same (Appends-trans held a b _ _ who first) in
     Appends-trans held f new _ _ (Appends-trans held e f _ _ (Appends-trans held d e _ _ (Appends-trans held b d _ _ first before) to) after) feed

@@ -281,12 +281,7 @@ fn text_of_end(worker: u64, end: &Result<u64, SessionFault>, client: Option<Clie
     }
 }
 
-fn write_turned_away<W: Write>(
-    line: &mut W,
-    worker: u64,
-    client: u64,
-    count: u64,
-) -> io::Result<()>
+fn write_turned_away<W: Write>(line: &mut W, worker: u64, client: u64, count: u64) -> io::Result<()>
     ensures { OnOk result (Appends (W.contents line.old) (W.contents line.new) (turned_away_line worker client count)) }
 {
     write_who(line, worker, Some(client))?;

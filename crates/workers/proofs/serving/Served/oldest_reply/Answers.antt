@@ -15,7 +15,7 @@ loop-left-preserved g c =
       c.loop-left.age + 1,
       c.youngest-age-in-loop-left.ensures,
       λ oldest is.
-      inv.2 oldest (oldest_next places most c.loop-left.left (c.loop-left.left - 1) inv.0 c.loop-left.age oldest c.loop-left-test.true (omega (arith, c.loop-left-test.true)) inv.1 is),
+          inv.2 oldest (oldest_next places most c.loop-left.left (c.loop-left.left - 1) inv.0 c.loop-left.age oldest c.loop-left-test.true (omega (arith, c.loop-left-test.true)) inv.1 is),
     )
 
 pub returns-then-age-most : goal.returns-then-age-most
